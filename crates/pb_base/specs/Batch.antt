@@ -1,0 +1,43 @@
+-- What a script transaction writes.
+use Rattle.std.specs.Prelude.{ℕ, Bool, true, false, ◌&&◌, nat_lt, nat_le, if◌then◌else◌, List, [], ◌∷◌, length, map, Option, Some, None, is_none}
+use Rattle.std.specs.List.{list_all}
+use Rattle.std.specs.Ordering.{eq_by_cmp}
+use Rattle.pb_base.specs.declared.names.Row.{Row}
+use Rattle.pb_base.specs.declared.cell.Cell.{Cell}
+use Rattle.pb_base.specs.declared.cell.Cell.TheVariants.{Data}
+use Rattle.pb_base.specs.declared.content.Content.{Content}
+use Rattle.pb_base.specs.declared.content.Content.TheVariants.{Value, Deleted, Stamp}
+use Rattle.pb_base.specs.Cell.{cell_cmp}
+
+-- cells with what is written to them
+abbrev pub Writes : Type 0
+Writes = List (Cell × Content)
+
+-- rows, columns and contents as data cells with contents
+abbrev pub writes_of : List (Row × ℕ × Content) → Writes
+writes_of ws = map (λ w. (Data w.0 w.1, w.2)) ws
+
+-- what is written to a cell: the first that names it
+abbrev pub content_in : Writes → Cell → Option Content
+content_in [] x = None
+content_in (w ∷ ws) x = if eq_by_cmp cell_cmp x w.0 then Some w.1 else content_in ws x
+
+-- the first cell
+abbrev pub primary_in : Writes → Option Cell
+primary_in [] = None
+primary_in (w ∷ ws) = Some w.0
+
+-- a value or a deletion
+abbrev pub is_plain : Content → Bool
+is_plain (Value v) = true
+is_plain Deleted = true
+is_plain (Stamp t) = false
+
+-- no cell is named twice
+abbrev pub are_distinct : Writes → Bool
+are_distinct [] = true
+are_distinct (w ∷ ws) = is_none (content_in ws w.0) && are_distinct ws
+
+-- 1 to 16 distinct cells, none with a stamp
+abbrev pub is_batch : Writes → Bool
+is_batch ws = nat_lt 0 (length ws) && nat_le (length ws) 16 && list_all (λ w. is_plain w.1) ws && are_distinct ws

@@ -1,0 +1,71 @@
+-- Cells have one total order: by row, by column, data before acknowledgments, and these by observer.
+use Rattle.std.specs.Prelude.{◌≡◌, ℕ, ◌+◌, ◌⊎◌, refl}
+use Rattle.std.proofs.Common.{sym, inl, inr, arith}
+use Rattle.std.specs.Coded.{Coded, code_by, coded×, coded⊎, coded_ℕ}
+use Rattle.std.specs.FinMap.{IsAntisymmetric, nat_cmp-IsAntisymmetric}
+use Rattle.std.specs.declared.cmp.Ordering.TheVariants.{Less, Equal, Greater}
+use Rattle.std.specs.declared.cmp.Ordering.{Ordering}
+use Rattle.std.specs.Ordering.{nat_cmp, on, then_cmp, ordering_then}
+use Rattle.std.specs.Cmp.{IsTotalOrder, nat_cmp_total}
+use Rattle.std.proofs.lemmas.Cmp.{on_total, then_total}
+use Rattle.pb_base.specs.declared.names.Row.{Row}
+use Rattle.pb_base.specs.declared.cell.Cell.{Cell}
+use Rattle.pb_base.specs.declared.cell.Cell.TheVariants.{Data, Ack}
+
+abbrev pub row_of : Cell → Row
+row_of (Data row column) = row
+row_of (Ack observer row column) = row
+
+abbrev pub column_of : Cell → ℕ
+column_of (Data row column) = column
+column_of (Ack observer row column) = column
+
+-- 0 for data, and one more than its observer for an acknowledgment
+abbrev pub rank_of : Cell → ℕ
+rank_of (Data row column) = 0
+rank_of (Ack observer row column) = observer + 1
+
+abbrev pub cell_cmp : Cell → Cell → Ordering
+cell_cmp = then_cmp (on (λ c. (row_of c).0) nat_cmp) (then_cmp (on column_of nat_cmp) (on rank_of nat_cmp))
+
+pub cell_cmp_total : IsTotalOrder cell_cmp
+cell_cmp_total = then_total (on_total (λ c. (row_of c).0) nat_cmp_total) (then_total (on_total column_of nat_cmp_total) (on_total rank_of nat_cmp_total))
+
+pub both_equal : (a b : Ordering) → ordering_then a b ≡ Equal → (a ≡ Equal) × (b ≡ Equal)
+both_equal Less b e = (e, cc)
+both_equal Equal b e = (refl, e)
+both_equal Greater b e = (e, cc)
+
+suc_same : (a b : ℕ) → a + 1 ≡ b + 1 → a ≡ b
+suc_same a b e = omega arith
+
+no_rank : (a : ℕ) → 0 ≡ a + 1 → ⊥
+no_rank a e = omega arith
+
+same_cells : (x y : Cell) → (row_of x).0 ≡ (row_of y).0 → column_of x ≡ column_of y → rank_of x ≡ rank_of y → x ≡ y
+same_cells (Data r c) (Data s d) p q e = λ i. Data (record { 0 = p i }) (q i)
+same_cells (Data r c) (Ack o s d) p q e = absurd (no_rank o e)
+same_cells (Ack o r c) (Data s d) p q e = absurd (no_rank o (sym e))
+same_cells (Ack o r c) (Ack k s d) p q e = λ i. Ack (suc_same o k e i) (record { 0 = p i }) (q i)
+
+-- cells that compare alike are one
+pub cell_cmp-IsAntisymmetric : IsAntisymmetric cell_cmp
+cell_cmp-IsAntisymmetric x y e =
+    let rows = both_equal _ _ e in
+    let columns = both_equal _ _ rows.1 in
+    same_cells x y (nat_cmp-IsAntisymmetric _ _ rows.0) (nat_cmp-IsAntisymmetric _ _ columns.0) (nat_cmp-IsAntisymmetric _ _ columns.1)
+
+abbrev flat : Cell → (ℕ × (ℕ × ℕ)) ⊎ (ℕ × ℕ)
+flat (Data r c) = inr (r.0, c)
+flat (Ack o r c) = inl (o, (r.0, c))
+
+abbrev unflat : (ℕ × (ℕ × ℕ)) ⊎ (ℕ × ℕ) → Cell
+unflat (inr p) = Data (record { 0 = p.0 }) p.1
+unflat (inl p) = Ack p.0 (record { 0 = p.1.0 }) p.1.1
+
+pub unflat-flat : (c : Cell) → unflat (flat c) ≡ c
+unflat-flat (Data r c) = refl
+unflat-flat (Ack o r c) = refl
+
+abbrev pub coded_cell : Coded Cell
+coded_cell = code_by ((ℕ × (ℕ × ℕ)) ⊎ (ℕ × ℕ)) (coded⊎ (coded× coded_ℕ (coded× coded_ℕ coded_ℕ)) (coded× coded_ℕ coded_ℕ)) flat unflat unflat-flat

@@ -1,0 +1,8 @@
+-- What a write to a sink did.
+use Rattle.std.specs.Prelude.{ℕ, zero, suc, Bool, true, false, Result, Ok, Err}
+
+-- the write failed, or took no byte
+abbrev pub took_none : {E : Type 0} → Result ℕ E → Bool
+took_none (Ok zero) = true
+took_none (Ok (suc n)) = false
+took_none (Err e) = true

@@ -1,0 +1,134 @@
+//! What a script transaction writes.
+ghost use Rattle.std.specs.Prelude.{◌≡◌};
+ghost use Rattle.std.specs.List.{list_all};
+ghost use Rattle.pb_base.specs.Batch.{writes_of, content_in, is_plain, are_distinct};
+
+use crate::cell::Cell;
+use crate::content::Content;
+use crate::names::{Column, Row};
+use crate::refusal::NoMemory;
+use std::marker::Model;
+
+/// The writes of a script transaction: 1 to 16 distinct data cells, each with a value or deleted.
+#[derive(Drop)]
+pub struct Batch {
+    writes: Vec<(Row, Column, Content)>,
+}
+
+impl Model for Batch {
+    ghost use Rattle.pb_base.specs.declared.cell.Cell.{Cell};
+    ghost use Rattle.pb_base.specs.declared.content.Content.{Content};
+    ghost use Rattle.std.specs.Prelude.{List};
+
+    ghost Value = { List (Cell × Content) };
+
+    ghost use Rattle.std.specs.Prelude.{◌≡◌, true};
+    ghost use Rattle.pb_base.specs.Batch.{writes_of, is_batch};
+
+    ghost view = { λ b. writes_of b.writes.items };
+
+    ghost invariant = { λ b. is_batch (writes_of b.writes.items) ≡ true };
+}
+
+// What the writes give a cell.
+fn content_in(writes: &[(Row, Column, Content)], cell: Cell) -> Option<Content>
+    ensures { result ≡ content_in (writes_of writes.now) cell }
+{
+    for write in writes {
+        if cell == Cell::Data(write.0, write.1) {
+            return Some(write.2);
+        }
+    }
+    None
+}
+
+fn is_plain(content: Content) -> bool
+    ensures { result ≡ is_plain content }
+{
+    match content {
+        Content::Value(_) => true,
+        Content::Deleted => true,
+        Content::Stamp(_) => false,
+    }
+}
+
+fn are_plain(writes: &[(Row, Column, Content)]) -> bool
+    ensures { result ≡ list_all (λ w. is_plain w.1) (writes_of writes.now) }
+{
+    for write in writes {
+        if !is_plain(write.2) {
+            return false;
+        }
+    }
+    true
+}
+
+// Whether no cell is named twice.
+fn are_distinct(writes: &[(Row, Column, Content)]) -> bool
+    ensures { result ≡ are_distinct (writes_of writes.now) }
+{
+    match writes {
+        [] => true,
+        [first, rest @ ..] => {
+            content_in(rest, Cell::Data(first.0, first.1)).is_none() && are_distinct(rest)
+        }
+    }
+}
+
+impl Batch {
+    ghost use Rattle.std.specs.Prelude.{◌≡◌, ◌↔◌, ◌<◌, ◌≤◌, IsTrue, IsOk, IfOk, IfErr, OnOk, length, slice_get, Some, true};
+    ghost use Rattle.pb_base.specs.Batch.{writes_of, is_batch, content_in, primary_in};
+
+    /// A batch of these writes, if they are 1 to 16 distinct cells without a stamp; else they are handed back.
+    pub fn new(writes: Vec<(Row, Column, Content)>) -> Result<Batch, Vec<(Row, Column, Content)>>
+        ensures accepted { IsOk result ↔ (is_batch (writes_of writes.items) ≡ true) }
+        ensures ok { IfOk result (λ b. b ≡ writes_of writes.items) }
+        ensures handed_back { IfErr result (λ ws. ws ≡ writes) }
+    {
+        let is_batch = !writes.is_empty()
+            && writes.len() <= 16
+            && are_plain(&writes)
+            && are_distinct(&writes);
+        if is_batch { Ok(Batch { writes }) } else { Err(writes) }
+    }
+
+    /// How many cells it writes.
+    pub fn len(&self) -> usize
+        ensures count { result ≡ length self.now }
+        ensures some { 0 < result }
+        ensures few { result ≤ 16 }
+    {
+        self.writes.len()
+    }
+
+    /// The cell at a place, and what is written to it.
+    pub fn at(&self, place: usize) -> Option<(Cell, Content)>
+        ensures { result ≡ slice_get self.now place }
+    {
+        let write = self.writes.get(place)?;
+        Some((Cell::Data(write.0, write.1), write.2))
+    }
+
+    /// What is written to a cell.
+    pub fn content(&self, cell: Cell) -> Option<Content>
+        ensures { result ≡ content_in self.now cell }
+    {
+        content_in(&self.writes, cell)
+    }
+
+    /// The first cell.
+    pub fn primary(&self) -> Cell
+        ensures { primary_in self.now ≡ Some result }
+    {
+        let first = &self.writes[0];
+        Cell::Data(first.0, first.1)
+    }
+
+    /// Another of the same writes.
+    pub fn copy(&self) -> Result<Batch, NoMemory>
+        ensures { IfOk result (λ b. b ≡ self.now) }
+    {
+        let writes = self.writes.clone()?;
+        Ok(Batch { writes })
+    }
+}

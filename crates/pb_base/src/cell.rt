@@ -1,0 +1,108 @@
+//! Cells, with their order.
+ghost use Rattle.std.specs.Prelude.{◌≡◌};
+
+use crate::names::{Column, ObserverNo, Row};
+use std::cmp::Ordering;
+
+/// A data cell, or the cell in which an observer acknowledges the changes of a data cell (OSDI 2010, section 2.4).
+///
+/// Cells are ordered by row, then column, then data before acknowledgments, then observer.
+#[derive(Clone, Copy, Debug)]
+pub enum Cell {
+    Data(Row, Column),
+    Ack(ObserverNo, Row, Column),
+}
+
+impl Cell {
+    ghost use Rattle.pb_base.specs.Cell.{row_of, column_of, rank_of, cell_cmp};
+
+    /// Its row.
+    pub fn row(&self) -> Row
+        ensures { result ≡ row_of self.now }
+    {
+        match *self {
+            Cell::Data(row, _) => row,
+            Cell::Ack(_, row, _) => row,
+        }
+    }
+
+    /// Its column.
+    pub fn column(&self) -> Column
+        ensures { result ≡ column_of self.now }
+    {
+        match *self {
+            Cell::Data(_, column) => column,
+            Cell::Ack(_, _, column) => column,
+        }
+    }
+
+    fn rank(&self) -> u8
+        ensures { result ≡ rank_of self.now }
+    {
+        match *self {
+            Cell::Data(..) => 0,
+            Cell::Ack(observer, _, _) => observer.number() + 1,
+        }
+    }
+
+    fn compare(&self, other: &Cell) -> Ordering
+        ensures { result ≡ cell_cmp self.now other.now }
+    {
+        self.row()
+            .cmp(&other.row())
+            .then(self.column().cmp(&other.column()))
+            .then(self.rank().cmp(&other.rank()))
+    }
+}
+
+impl PartialEq for Cell {
+    ghost use Rattle.std.specs.Cmp.{partial_equiv_from_equiv, eq_by_cmp_equiv};
+    ghost use Rattle.std.specs.Ordering.{eq_by_cmp};
+    ghost use Rattle.pb_base.specs.Cell.{cell_cmp, cell_cmp_total};
+
+    ghost eq = { eq_by_cmp cell_cmp };
+
+    ghost laws = { partial_equiv_from_equiv (eq_by_cmp_equiv cell_cmp_total) };
+
+    fn eq(&self, other: &Cell) -> bool {
+        self.compare(other).is_eq()
+    }
+}
+
+impl Eq for Cell {
+    ghost use Rattle.std.specs.Cmp.{eq_by_cmp_equiv};
+    ghost use Rattle.pb_base.specs.Cell.{cell_cmp_total};
+
+    ghost laws = { eq_by_cmp_equiv cell_cmp_total };
+}
+
+impl PartialOrd for Cell {
+    ghost use Rattle.std.specs.Cmp.{partial_order_from_total};
+    ghost use Rattle.std.specs.Ordering.{as_partial_cmp};
+    ghost use Rattle.pb_base.specs.Cell.{cell_cmp, cell_cmp_total};
+
+    ghost partial_cmp = { as_partial_cmp cell_cmp };
+
+    ghost laws = { partial_order_from_total cell_cmp_total };
+
+    fn partial_cmp(&self, other: &Cell) -> Option<Ordering> {
+        Some(self.compare(other))
+    }
+}
+
+impl Ord for Cell {
+    ghost use Rattle.std.specs.Prelude.{refl};
+    ghost use Rattle.pb_base.specs.Cell.{cell_cmp, cell_cmp_total};
+
+    ghost cmp = { cell_cmp };
+
+    ghost total = { cell_cmp_total };
+
+    ghost matches_partial_cmp = { λ x y. refl };
+
+    ghost matches_eq = { λ x y. refl };
+
+    fn cmp(&self, other: &Cell) -> Ordering {
+        self.compare(other)
+    }
+}

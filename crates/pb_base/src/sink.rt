@@ -1,0 +1,76 @@
+//! Where bytes are written.
+ghost use Rattle.std.specs.Prelude.{◌≡◌, ◌≤◌, ◌||◌, ◌&&◌, nat_lt, length, List, ℕ, Bool, Option, IfOk};
+ghost use Rattle.std.specs.Io.KnownBytes.{WriteAppends};
+ghost use Rattle.pb_base.specs.Sink.{took_none};
+
+use std::io::Write;
+use thiserror::Error;
+
+/// A write that failed.
+#[derive(Clone, Copy, Debug, PartialEq, Eq, Drop, Error)]
+#[error("the write failed")]
+pub struct SinkFault;
+
+/// Takes bytes, and tells which it has taken so far, where that is known, and whether a write of a piece that isn't
+/// empty has failed or taken no byte so far.
+pub trait Sink {
+    ghost taken: { Self → Option (List ℕ) };
+
+    ghost failed: { Self → Bool };
+
+    /// Takes some bytes from the front of the piece, and answers how many.
+    fn write(&mut self, piece: &[u8]) -> Result<usize, SinkFault>
+        ensures bound { IfOk result (λ n. n ≤ length piece.now) }
+        ensures bytes { WriteAppends (taken self.old) (taken self.new) result piece.now }
+        ensures fails { failed self.new ≡ (failed self.old || (nat_lt 0 (length piece.now) && took_none result)) };
+
+    /// Whether a write of a piece that isn't empty has failed or taken no byte.
+    fn has_failed(&self) -> bool
+        ensures { result ≡ failed self.now };
+}
+
+/// The sink over a writer. It tells what the writer tells.
+#[derive(Drop)]
+pub struct Out<W: Write> {
+    writer: W,
+    failed: bool,
+}
+
+impl<W: Write> Out<W> {
+    ghost use Rattle.std.specs.Prelude.{◌≡◌, false};
+
+    /// A sink over the writer, to which nothing has been written so far.
+    pub fn new(writer: W) -> Out<W>
+        ensures fresh { ⟦<Out<W> as Sink>⟧.failed result ≡ false }
+        ensures same { ⟦<Out<W> as Sink>⟧.taken result ≡ W.contents writer }
+    {
+        Out { writer, failed: false }
+    }
+}
+
+impl<W: Write> Sink for Out<W> {
+    ghost taken = { λ o. W.contents o.writer };
+
+    ghost failed = { λ o. o.failed };
+
+    fn write(&mut self, piece: &[u8]) -> Result<usize, SinkFault> {
+        match self.writer.write(piece) {
+            Ok(count) => {
+                if count == 0 && !piece.is_empty() {
+                    self.failed = true;
+                }
+                Ok(count)
+            }
+            Err(_) => {
+                if !piece.is_empty() {
+                    self.failed = true;
+                }
+                Err(SinkFault)
+            }
+        }
+    }
+
+    fn has_failed(&self) -> bool {
+        self.failed
+    }
+}
