@@ -89,7 +89,11 @@ impl Batch {
             && writes.len() <= 16
             && are_plain(&writes)
             && are_distinct(&writes);
-        if is_batch { Ok(Batch { writes }) } else { Err(writes) }
+        if is_batch {
+            Ok(Batch { writes })
+        } else {
+            Err(writes)
+        }
     }
 
     /// How many cells it writes.

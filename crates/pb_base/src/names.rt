@@ -36,7 +36,11 @@ impl Column {
         ensures some { IfSome result (λ c. c ≡ number) }
         ensures none { IfNone result (16 ≤ number) }
     {
-        if number < 16 { Some(Column { number }) } else { None }
+        if number < 16 {
+            Some(Column { number })
+        } else {
+            None
+        }
     }
 
     /// Its number.

@@ -44,7 +44,10 @@ impl<W: Write> Out<W> {
         ensures fresh { ⟦<Out<W> as Sink>⟧.failed result ≡ false }
         ensures same { ⟦<Out<W> as Sink>⟧.taken result ≡ W.contents writer }
     {
-        Out { writer, failed: false }
+        Out {
+            writer,
+            failed: false,
+        }
     }
 }
 

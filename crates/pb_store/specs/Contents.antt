@@ -1,0 +1,112 @@
+-- What a tablet or a table contains: entries by slot, and marked cells.
+use Rattle.std.specs.Prelude.{◌≡◌, ℕ, ◌<◌, ◌≤◌, Bool, true, false, List, [], ◌∷◌, Option, None, Some, refl, ◌==◌, ◌&&◌}
+use Rattle.std.specs.FinMap as map
+use Rattle.std.specs.declared.cmp.Ordering.TheVariants.{Less}
+use Rattle.pb_base.specs.declared.cell.Cell.{Cell}
+use Rattle.pb_base.specs.declared.names.Ts.{Ts}
+use Rattle.pb_base.specs.Cell.{cell_cmp, row_of}
+use Rattle.pb_store.specs.declared.slot.Slot.{Slot}
+use Rattle.pb_store.specs.declared.slot.Sort.{Sort}
+use Rattle.pb_store.specs.declared.slot.Item.{Item}
+use Rattle.pb_store.specs.declared.slot.Item.TheVariants as items
+use Rattle.pb_store.specs.declared.slot.Sort.TheVariants as sorts
+use Rattle.pb_store.specs.declared.slot.Edit.{Edit}
+use Rattle.pb_store.specs.declared.slot.Edit.TheVariants.{Put, Erase, Mark, Unmark}
+use Rattle.pb_store.specs.Slot.{slot_cmp}
+use Rattle.std.specs.Coded.{Coded, code_by, coded×}
+use base.Stored.{coded_unit}
+use Rattle.pb_base.specs.contracts.cell.Cell as cell
+use Rattle.pb_store.specs.contracts.slot.Slot as slot
+use Rattle.pb_store.specs.contracts.slot.Item as item
+
+abbrev pub Entries : Type 0
+Entries = map.FinMap slot_cmp Item
+
+abbrev pub Marks : Type 0
+Marks = map.FinMap cell_cmp (Unit {0})
+
+pub record Contents : Type 0 where
+  pub entries : Entries
+  pub marks : Marks
+
+abbrev pub coded_contents : Coded Contents
+coded_contents = code_by (Entries × Marks) (coded× (map.code slot.the_row.coded item.the_row.coded) (map.code cell.the_row.coded coded_unit)) (λ c. (c.entries, c.marks)) (λ p. record { entries = p.0; marks = p.1 }) (λ _. refl)
+
+-- no entry and no mark
+abbrev pub is_nothing : Contents → Bool
+is_nothing c = (map.len c.entries == 0) && (map.len c.marks == 0)
+
+abbrev pub nothing : Contents
+nothing = record { entries = map.empty; marks = map.empty }
+
+abbrev pub after_edit : Edit → Contents → Contents
+after_edit (Put slot item) c = record { entries = map.insert c.entries slot item; marks = c.marks }
+after_edit (Erase slot) c = record { entries = map.remove c.entries slot; marks = c.marks }
+after_edit (Mark cell) c = record { entries = c.entries; marks = map.insert c.marks cell tt }
+after_edit (Unmark cell) c = record { entries = c.entries; marks = map.remove c.marks cell }
+
+-- the edits one after another
+abbrev pub after_edits : List Edit → Contents → Contents
+after_edits [] c = c
+after_edits (edit ∷ edits) c = after_edits edits (after_edit edit c)
+
+abbrev pub slot_at : Cell → Sort → ℕ → Slot
+slot_at cell sort t = record { cell = cell; sort = sort; ts = record { 0 = t } }
+
+-- the item is one of the sort
+abbrev pub IsOfSort : Sort → Item → Type 0
+IsOfSort sorts.Data (items.Data content) = Unit {0}
+IsOfSort sorts.Lock (items.Lock primary) = Unit {0}
+IsOfSort sorts.Write (items.Write start) = Unit {0}
+IsOfSort _ _ = ⊥
+
+-- the entry with the greatest timestamp at most high
+abbrev pub IsNewest : Entries → Cell → Sort → Ts → Option (Ts × Item) → Type 0
+IsNewest m cell sort high None = (t : ℕ) → t ≤ high.0 → map.get m (slot_at cell sort t) ≡ None
+IsNewest m cell sort high (Some found) =
+    (found.0.0 ≤ high.0)
+    × (map.get m (slot_at cell sort found.0.0) ≡ Some found.1)
+    × IsOfSort sort found.1
+    × ((t : ℕ) → found.0.0 < t → t ≤ high.0 → map.get m (slot_at cell sort t) ≡ None)
+
+-- whether a cell comes after the given one, or none is given
+abbrev pub ComesAfter : Option Cell → Cell → Type 0
+ComesAfter None cell = Unit {0}
+ComesAfter (Some before) cell = cell_cmp before cell ≡ Less
+
+-- the first marked cell after the given one
+abbrev pub IsNextMark : Marks → Option Cell → Option Cell → Type 0
+IsNextMark marks after None = (cell : Cell) → ComesAfter after cell → map.contains_key marks cell ≡ false
+IsNextMark marks after (Some next) =
+    (map.contains_key marks next ≡ true)
+    × ComesAfter after next
+    × ((cell : Cell) → ComesAfter after cell → cell_cmp cell next ≡ Less → map.contains_key marks cell ≡ false)
+
+abbrev pub edit_row : Edit → ℕ
+edit_row (Put slot item) = (row_of slot.cell).0
+edit_row (Erase slot) = (row_of slot.cell).0
+edit_row (Mark cell) = (row_of cell).0
+edit_row (Unmark cell) = (row_of cell).0
+
+abbrev pub AreOfRow : ℕ → List Edit → Type 0
+AreOfRow row [] = Unit {0}
+AreOfRow row (edit ∷ edits) = (edit_row edit ≡ row) × AreOfRow row edits
+
+-- all edits are of the first one's row
+abbrev pub AreOfOneRow : List Edit → Type 0
+AreOfOneRow [] = Unit {0}
+AreOfOneRow (edit ∷ edits) = AreOfRow (edit_row edit) edits
+
+-- an item is put under its own sort
+abbrev pub PutsOfSort : Edit → Type 0
+PutsOfSort (Put slot item) = IsOfSort slot.sort item
+PutsOfSort _ = Unit {0}
+
+abbrev pub AllPutOfSort : List Edit → Type 0
+AllPutOfSort [] = Unit {0}
+AllPutOfSort (edit ∷ edits) = PutsOfSort edit × AllPutOfSort edits
+
+-- edits that a tablet takes: of one row, each item under its sort
+pub record AreEdits (edits : List Edit) : Type 0 where
+  pub of_row : AreOfOneRow edits
+  pub of_sort : AllPutOfSort edits

@@ -1,0 +1,65 @@
+-- Slots are ordered by cell, then sort, then timestamp.
+use Rattle.std.specs.Prelude.{◌≡◌, ℕ, refl}
+use Rattle.std.proofs.Common.{arith, zero, suc}
+use Rattle.std.specs.Coded.{Coded, code_by, coded×, coded_ℕ}
+use Rattle.std.specs.FinMap.{IsAntisymmetric, nat_cmp-IsAntisymmetric}
+use Rattle.std.specs.declared.cmp.Ordering.{Ordering}
+use Rattle.std.specs.Ordering.{nat_cmp, on, then_cmp}
+use Rattle.std.specs.Cmp.{IsTotalOrder, nat_cmp_total}
+use Rattle.std.proofs.lemmas.Cmp.{on_total, then_total}
+use Rattle.pb_base.specs.declared.names.Ts.{Ts}
+use Rattle.pb_base.specs.Cell.{cell_cmp, cell_cmp_total, cell_cmp-IsAntisymmetric, coded_cell, both_equal}
+use Rattle.pb_store.specs.declared.slot.Slot.{Slot}
+use Rattle.pb_store.specs.declared.slot.Sort as sort
+use Rattle.pb_store.specs.declared.slot.Sort.TheVariants.{Data, Lock, Write}
+
+abbrev pub place_of : sort.Sort → ℕ
+place_of Data = 0
+place_of Lock = 1
+place_of Write = 2
+
+abbrev pub slot_cmp : Slot → Slot → Ordering
+slot_cmp = then_cmp (on (λ s. s.cell) cell_cmp) (then_cmp (on (λ s. place_of s.sort) nat_cmp) (on (λ s. s.ts.0) nat_cmp))
+
+pub slot_cmp_total : IsTotalOrder slot_cmp
+slot_cmp_total = then_total (on_total (λ s. s.cell) cell_cmp_total) (then_total (on_total (λ s. place_of s.sort) nat_cmp_total) (on_total (λ s. s.ts.0) nat_cmp_total))
+
+same_sort : (x y : sort.Sort) → place_of x ≡ place_of y → x ≡ y
+same_sort Data Data e = refl
+same_sort Data Lock e = absurd (omega arith)
+same_sort Data Write e = absurd (omega arith)
+same_sort Lock Data e = absurd (omega arith)
+same_sort Lock Lock e = refl
+same_sort Lock Write e = absurd (omega arith)
+same_sort Write Data e = absurd (omega arith)
+same_sort Write Lock e = absurd (omega arith)
+same_sort Write Write e = refl
+
+-- slots that compare alike are one
+pub slot_cmp-IsAntisymmetric : IsAntisymmetric slot_cmp
+slot_cmp-IsAntisymmetric x y e =
+    let cells = both_equal _ _ e in
+    let sorts = both_equal _ _ cells.1 in
+    let c = cell_cmp-IsAntisymmetric _ _ cells.0 in
+    let s = same_sort _ _ (nat_cmp-IsAntisymmetric _ _ sorts.0) in
+    let t = nat_cmp-IsAntisymmetric _ _ sorts.1 in
+    λ i. record { cell = c i; sort = s i; ts = record { 0 = t i } }
+
+abbrev sort_at : ℕ → sort.Sort
+sort_at zero = Data
+sort_at (suc zero) = Lock
+sort_at (suc (suc n)) = Write
+
+pub sort_at-place_of : (s : sort.Sort) → sort_at (place_of s) ≡ s
+sort_at-place_of Data = refl
+sort_at-place_of Lock = refl
+sort_at-place_of Write = refl
+
+abbrev coded_sort : Coded sort.Sort
+coded_sort = code_by ℕ coded_ℕ place_of sort_at sort_at-place_of
+
+abbrev coded_ts : Coded Ts
+coded_ts = code_by ℕ coded_ℕ (λ t. t.0) (λ n. record { 0 = n }) (λ _. refl)
+
+abbrev pub coded_slot : Coded Slot
+coded_slot = code_by _ (coded× coded_cell (coded× coded_sort coded_ts)) (λ s. (s.cell, (s.sort, s.ts))) (λ p. record { cell = p.0; sort = p.1.0; ts = p.1.1 }) (λ _. refl)

@@ -1,0 +1,8 @@
+//! Tablets, which keep entries and marks, and the table over tablets side by side.
+#![tactic(auto)]
+
+mod slot;
+mod tablet;
+
+pub use slot::{Edit, Item, Slot, Sort};
+pub use tablet::Tablet;
