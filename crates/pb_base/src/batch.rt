@@ -106,11 +106,12 @@ impl Batch {
     }
 
     /// The cell at a place, and what is written to it.
-    pub fn at(&self, place: usize) -> Option<(Cell, Content)>
-        ensures { result ≡ slice_get self.now place }
+    pub fn at(&self, place: usize) -> (Cell, Content)
+        requires { place < length self.now }
+        ensures { slice_get self.now place ≡ Some result }
     {
-        let write = self.writes.get(place)?;
-        Some((Cell::Data(write.0, write.1), write.2))
+        let write = &self.writes[place];
+        (Cell::Data(write.0, write.1), write.2)
     }
 
     /// What is written to a cell.

@@ -1,0 +1,171 @@
+-- Look-ups and changes in pairs that rise by their numbers.
+use Rattle.std.proofs.Common.{◌≡◌, ◌≢◌, ℕ, ◌+◌, ◌<◌, ◌≤◌, inl, inr, Bool, true, false, cond, zero, suc, List, [], ◌∷◌, ◌++◌, length, length-set, get_or, set, Option, Some, None, refl, sym, ap, subst, ◌∙◌, arith}
+use Rattle.std.specs.Ordering.{nat_cmp, eq_by_cmp}
+use Rattle.std.specs.Cmp.{unsigned_tied, nat_cmp_total}
+use Rattle.std.specs.FinMap as map
+use Rattle.std.proofs.lemmas.Bool.{eqb-true, eq-eqb, ne_eqb, cases_lt}
+use Rattle.std.proofs.lemmas.List.{get_or_default, get_or_append_left, length_push, get_or_push}
+use Rattle.pb_state.specs.Starts.{AreRising, IsAt, IsNowhere}
+
+other_number : (q k : ℕ) → q ≢ k → eq_by_cmp nat_cmp q k ≡ false
+other_number q k h = unsigned_tied q k ∙ ne_eqb q k h
+
+same_number : (q k : ℕ) → q ≡ k → eq_by_cmp nat_cmp q k ≡ true
+same_number q k h = unsigned_tied q k ∙ eq-eqb q k h
+
+module _ {X : Type 0} where
+  -- the number at a place is one, whatever stands past the end
+  any_default : (es : List (ℕ × X)) (m : ℕ) (d e : ℕ × X) → m < length es → (get_or es m d).0 ≡ (get_or es m e).0
+  any_default es m d e lt = ap (λ (p : ℕ × X). p.0) (get_or_default es m d e lt)
+
+  -- numbers up to one that is below
+  pub below_here : (es : List (ℕ × X)) (m k : ℕ) (here : ℕ × X) → AreRising es → m < length es → (get_or es m here).0 < k → (i : ℕ) (d : ℕ × X) → i < m + 1 → (get_or es i d).0 < k
+  below_here es m k here r lt below i d up =
+      let same = any_default es m d here lt in
+      elim (cases_lt i m) [
+        | inl less ↦ let h = r.at i m d less lt in omega arith
+        | inr more ↦ let e : i ≡ m = omega arith in subst (λ n. (get_or es n d).0 < k) (sym e) (omega arith)
+      ]
+
+  -- numbers from one that is above on
+  pub above_here : (es : List (ℕ × X)) (m k : ℕ) (here : ℕ × X) → AreRising es → m < length es → k < (get_or es m here).0 → (i : ℕ) (d : ℕ × X) → m ≤ i → i < length es → k < (get_or es i d).0
+  above_here es m k here r lt above i d up within =
+      let same = any_default es m d here lt in
+      elim (cases_lt m i) [
+        | inl less ↦ let h = r.at m i d less within in omega arith
+        | inr more ↦ let e : i ≡ m = omega arith in subst (λ n. k < (get_or es n d).0) (sym e) (omega arith)
+      ]
+
+  pub found_at : (es : List (ℕ × X)) (m k : ℕ) (here : ℕ × X) → m < length es → (get_or es m here).0 ≡ k → IsAt es k m
+  found_at es m k here lt is = record { within = lt; here = λ d. any_default es m d here lt ∙ is }
+
+  tail_rises : (e : ℕ × X) (es : List (ℕ × X)) → AreRising (e ∷ es) → AreRising es
+  tail_rises e es r = record { at = λ i j d lt within. r.at (suc i) (suc j) d (omega arith) (omega arith) }
+
+  pub find_at : (es : List (ℕ × X)) (k i : ℕ) (d : ℕ × X) → AreRising es → IsAt es k i → map.find nat_cmp k es ≡ Some (get_or es i d).1
+  find_at [] k i d r h = let lt = h.within in absurd (omega arith)
+  find_at (e ∷ es) k zero d r h = ap (λ b. cond b (Some e.1) (map.find nat_cmp k es)) (same_number k e.0 (sym (h.here d)))
+  find_at (e ∷ es) k (suc i) d r h =
+      let within = h.within in
+      let lt = r.at 0 (suc i) d (omega arith) within in
+      let is = h.here d in
+      ap (λ b. cond b (Some e.1) (map.find nat_cmp k es)) (other_number k e.0 (λ s. omega (arith, lt, is, s)))
+      ∙ find_at es k i d (tail_rises e es r) (record { within = omega arith; here = h.here })
+
+  pub find_nowhere : (es : List (ℕ × X)) (k : ℕ) → IsNowhere es k → map.find nat_cmp k es ≡ None
+  find_nowhere [] k h = refl
+  find_nowhere (e ∷ es) k h =
+      ap (λ b. cond b (Some e.1) (map.find nat_cmp k es)) (other_number k e.0 (λ s. h.none 0 e (omega arith) (sym s)))
+      ∙ find_nowhere es k (record { none = λ i d lt is. h.none (suc i) d (omega arith) is })
+
+  no_pair : (es : List (ℕ × X)) → length es ≡ 0 → es ≡ []
+  no_pair [] e = refl
+  no_pair (x ∷ es) e = absurd (omega arith)
+
+  -- ---- the pair at a place is replaced by one of the same number
+
+  number_set : (es : List (ℕ × X)) (i : ℕ) (p d : ℕ × X) → i < length es → p.0 ≡ (get_or es i d).0 → (a : ℕ) → (get_or (set es i p) a d).0 ≡ (get_or es a d).0
+  number_set [] i p d lt e a = absurd (omega arith)
+  number_set (x ∷ es) zero p d lt e zero = e
+  number_set (x ∷ es) zero p d lt e (suc a) = refl
+  number_set (x ∷ es) (suc i) p d lt e zero = refl
+  number_set (x ∷ es) (suc i) p d lt e (suc a) = number_set es i p d (omega arith) e a
+
+  pub set_rises : (es : List (ℕ × X)) (i : ℕ) (p d : ℕ × X) → AreRising es → i < length es → p.0 ≡ (get_or es i d).0 → AreRising (set es i p)
+  set_rises es i p d r lt e = record {
+    at = λ a b f less within.
+        let w : b < length es = omega (arith, within, length-set es i p) in
+        let same : p.0 ≡ (get_or es i f).0 = e ∙ any_default es i d f lt in
+        let h = r.at a b f less w in
+        let x = number_set es i p f lt same a in
+        let y = number_set es i p f lt same b in
+        omega arith;
+  }
+
+  either : (a b : Bool) (v x rest : Option X) → (a ≡ true → b ≡ true → ⊥) → cond a x (cond b v rest) ≡ cond b v (cond a x rest)
+  either true true v x rest h = absurd (h refl refl)
+  either true false v x rest h = refl
+  either false b v x rest h = refl
+
+  skipped : (a b : Bool) (v x rest : Option X) → a ≡ b → cond a v rest ≡ cond a v (cond b x rest)
+  skipped true b v x rest e = refl
+  skipped false true v x rest e = cc
+  skipped false false v x rest e = refl
+
+  find_set : (es : List (ℕ × X)) (k i : ℕ) (v : X) (q : ℕ) → AreRising es → IsAt es k i → map.find nat_cmp q (set es i (k, v)) ≡ cond (eq_by_cmp nat_cmp q k) (Some v) (map.find nat_cmp q es)
+  find_set [] k i v q r h = let lt = h.within in absurd (omega arith)
+  find_set (e ∷ es) k zero v q r h = skipped _ _ (Some v) (Some e.1) (map.find nat_cmp q es) (ap (λ n. eq_by_cmp nat_cmp q n) (sym (h.here e)))
+  find_set (e ∷ es) k (suc i) v q r h =
+      let within = h.within in
+      let lt = r.at 0 (suc i) e (omega arith) within in
+      let is = h.here e in
+      let apart : eq_by_cmp nat_cmp q e.0 ≡ true → eq_by_cmp nat_cmp q k ≡ true → ⊥ =
+      (λ a b. let x : q ≡ e.0 = eqb-true q e.0 (sym (unsigned_tied q e.0) ∙ a) in
+      let y : q ≡ k = eqb-true q k (sym (unsigned_tied q k) ∙ b) in omega (arith, lt, is, x, y)) in
+      ap (cond (eq_by_cmp nat_cmp q e.0) (Some e.1)) (find_set es k i v q (tail_rises e es r) (record { within = omega arith; here = h.here }))
+      ∙ either _ _ (Some v) (Some e.1) (map.find nat_cmp q es) apart
+
+  pub inserted : (es : List (ℕ × X)) (k i : ℕ) (v : X) → AreRising es → IsAt es k i → map.from_entries {R = nat_cmp} (set es i (k, v)) ≡ map.insert (map.from_entries es) k v
+  inserted es k i v r h = map.same_map nat_cmp_total map.nat_cmp-IsAntisymmetric _ _ (λ q.
+      map.get-from_entries nat_cmp_total (set es i (k, v)) q
+      ∙ find_set es k i v q r h
+      ∙ ap (cond (eq_by_cmp nat_cmp q k) (Some v)) (sym (map.get-from_entries nat_cmp_total es q))
+      ∙ sym (map.get-insert nat_cmp_total (map.from_entries es) k v q))
+
+  -- ---- one more pair at the end
+
+  pub push_rises : (es : List (ℕ × X)) (p : ℕ × X) → AreRising es → ((i : ℕ) (d : ℕ × X) → i < length es → (get_or es i d).0 < p.0) → AreRising (es ++ p ∷ [])
+  push_rises es p r all = record {
+    at = λ i j d less within.
+        elim (cases_lt j (length es)) [
+          | inl in' ↦
+              let a : get_or (es ++ p ∷ []) i d ≡ get_or es i d = get_or_append_left es (p ∷ []) d i (omega arith) in
+              let b : get_or (es ++ p ∷ []) j d ≡ get_or es j d = get_or_append_left es (p ∷ []) d j in' in
+              let h = r.at i j d less in' in
+              rw (a, b) h
+          | inr out ↦
+              let n : length (es ++ p ∷ []) ≡ length es + 1 = length_push es p in
+              let e : length es ≡ j = omega (arith, n, within, out) in
+              let a : get_or (es ++ p ∷ []) i d ≡ get_or es i d = get_or_append_left es (p ∷ []) d i (omega arith) in
+              let b : get_or (es ++ p ∷ []) j d ≡ p = get_or_push es p d j e in
+              let h = all i d (omega arith) in
+              rw (a, b) h
+        ];
+  }
+
+  pub nowhere_above : (es : List (ℕ × X)) (k : ℕ) → ((i : ℕ) (d : ℕ × X) → i < length es → (get_or es i d).0 < k) → IsNowhere es k
+  nowhere_above es k all = record { none = λ i d lt is. let h = all i d lt in omega (arith, h, is) }
+
+  -- a bound on the numbers that the map has is one on those in the list
+  pub all_below : (es : List (ℕ × X)) (k : ℕ) → AreRising es → ((q : ℕ) (v : X) → map.get (map.from_entries {R = nat_cmp} es) q ≡ Some v → q < k) → (i : ℕ) (d : ℕ × X) → i < length es → (get_or es i d).0 < k
+  all_below es k r low i d lt =
+      let q = (get_or es i d).0 in
+      low q (get_or es i d).1 (map.get-from_entries nat_cmp_total es q ∙ find_at es q i d r (record { within = lt; here = λ e. any_default es i e d lt }))
+
+  pub pushed : (es : List (ℕ × X)) (k : ℕ) (v : X) → IsNowhere es k → map.from_entries {R = nat_cmp} (es ++ (k, v) ∷ []) ≡ map.insert (map.from_entries es) k v
+  pushed es k v h = map.from_entries_push nat_cmp_total map.nat_cmp-IsAntisymmetric es k v (find_nowhere es k h)
+
+  -- ---- the same of the map that they are
+
+  pub held : (es : List (ℕ × X)) (m : map.FinMap nat_cmp X) (k i : ℕ) (e : ℕ × X) → AreRising es → map.from_entries es ≡ m → IsAt es k i → e ≡ get_or es i e → map.get m k ≡ Some e.1
+  held es m k i e r is at here =
+      ap (λ n. map.get n k) (sym is) ∙ map.get-from_entries nat_cmp_total es k ∙ find_at es k i e r at ∙ ap (λ (p : ℕ × X). Some p.1) (sym here)
+
+  pub not_held : (es : List (ℕ × X)) (m : map.FinMap nat_cmp X) (k : ℕ) → map.from_entries es ≡ m → IsNowhere es k → map.get m k ≡ None
+  not_held es m k is none = ap (λ n. map.get n k) (sym is) ∙ map.get-from_entries nat_cmp_total es k ∙ find_nowhere es k none
+
+  pub changed : (es : List (ℕ × X)) (m : map.FinMap nat_cmp X) (k i : ℕ) (e : ℕ × X) (v w : X) → AreRising es → map.from_entries es ≡ m → IsAt es k i → e ≡ get_or es i e → v ≡ w → map.from_entries {R = nat_cmp} (set es i (e.0, v)) ≡ map.insert m k w
+  changed es m k i e v w r is at here same =
+      let number : e.0 ≡ k = ap (λ (p : ℕ × X). p.0) here ∙ at.here e in
+      (λ j. map.from_entries {R = nat_cmp} (set es i (number j, same j))) ∙ inserted es k i w r at ∙ ap (λ n. map.insert n k w) is
+
+  pub changed_rises : (es : List (ℕ × X)) (k i : ℕ) (e : ℕ × X) (v : X) → AreRising es → IsAt es k i → e ≡ get_or es i e → AreRising (set es i (e.0, v))
+  changed_rises es k i e v r at here = set_rises es i (e.0, v) e r at.within (ap (λ (p : ℕ × X). p.0) here)
+
+  pub added : (es : List (ℕ × X)) (m : map.FinMap nat_cmp X) (k : ℕ) (v : X) → AreRising es → map.from_entries es ≡ m → ((q : ℕ) (x : X) → map.get m q ≡ Some x → q < k) → map.from_entries {R = nat_cmp} (es ++ (k, v) ∷ []) ≡ map.insert m k v
+  added es m k v r is low =
+      let below = all_below es k r (λ q x g. low q x (ap (λ n. map.get n q) (sym is) ∙ g)) in
+      pushed es k v (nowhere_above es k below) ∙ ap (λ n. map.insert n k v) is
+
+  pub added_rises : (es : List (ℕ × X)) (m : map.FinMap nat_cmp X) (k : ℕ) (v : X) → AreRising es → map.from_entries es ≡ m → ((q : ℕ) (x : X) → map.get m q ≡ Some x → q < k) → AreRising (es ++ (k, v) ∷ [])
+  added_rises es m k v r is low = push_rises es (k, v) r (all_below es k r (λ q x g. low q x (ap (λ n. map.get n q) (sym is) ∙ g)))

@@ -1,0 +1,4 @@
+pub mod State
+pub mod Starts
+pub mod Refusal
+pub mod Machine

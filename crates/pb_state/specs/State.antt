@@ -1,0 +1,132 @@
+-- The state of the shared table, without journal and books.
+use Rattle.std.specs.Prelude.{◌≡◌, ℕ, ◌<◌, ◌≤◌, ◌^◌, Bool, true, List, [], Option, Some, None, is_some, refl}
+use Rattle.std.specs.Coded.{Coded, code_by, coded×, coded_ℕ, coded_list}
+use base.Stored.{coded_unit}
+use Rattle.std.specs.List.{list_any}
+use Rattle.std.specs.Ordering.{nat_cmp, eq_by_cmp}
+use Rattle.std.specs.FinMap as map
+use Rattle.pb_base.specs.declared.cell.Cell.{Cell}
+use Rattle.pb_base.specs.declared.content.Content.{Content}
+use Rattle.pb_base.specs.Cell.{cell_cmp}
+use Rattle.pb_base.specs.Batch.{Writes}
+use Rattle.pb_store.specs.declared.slot.Item.{Item}
+use Rattle.pb_store.specs.declared.slot.Item.TheVariants as items
+use Rattle.pb_store.specs.declared.slot.Sort.TheVariants as sorts
+use Rattle.pb_store.specs.Contents.{Entries, Marks, slot_at}
+use Rattle.pb_state.specs.declared.step.Work.{Work}
+use Rattle.pb_state.specs.declared.step.Answer.{Answer}
+use Rattle.pb_state.specs.declared.step.Declared.{Declared}
+use Rattle.pb_state.specs.declared.step.Declared.TheVariants as declared
+use Rattle.pb_state.specs.declared.transaction.Phase.{Phase}
+use Rattle.pb_state.specs.declared.transaction.Phase.TheVariants as phases
+use Rattle.pb_base.specs.contracts.cell.Cell as cell
+use Rattle.pb_base.specs.contracts.content.Content as content
+use Rattle.pb_store.specs.contracts.slot.Slot as slot
+use Rattle.pb_store.specs.contracts.slot.Item as item
+use Rattle.pb_state.specs.contracts.step.Work as work
+use Rattle.pb_state.specs.contracts.step.Answer as answer
+use Rattle.pb_state.specs.contracts.transaction.Phase as phase
+
+-- a transaction: whose it is, what for, how far it has come, what it read, and what it writes
+pub record TransactionOf : Type 0 where
+  pub seat : ℕ
+  pub work : Work
+  pub phase : Phase
+  pub reads : List (Cell × Answer)
+  pub declared : Writes
+  pub prewritten : List Cell
+
+abbrev pub Transactions : Type 0
+Transactions = map.FinMap nat_cmp TransactionOf
+
+-- entries and marks of the table, the last timestamp given out, and the transactions by their starts
+pub record StateOf : Type 0 where
+  pub entries : Entries
+  pub marks : Marks
+  pub clock : ℕ
+  pub seats : ℕ
+  pub transactions : Transactions
+
+-- before any step
+abbrev pub opened : ℕ → ℕ → StateOf
+opened seats last = record { entries = map.empty; marks = map.empty; clock = last; seats = seats; transactions = map.empty }
+
+-- the cells that a declaration names, with their contents
+abbrev pub cells_of : Declared → Writes
+cells_of (declared.Script batch) = batch
+
+-- nothing before the declaration
+abbrev pub declared_by : Option Declared → Writes
+declared_by None = []
+declared_by (Some what) = cells_of what
+
+-- as it begins
+abbrev pub begun : ℕ → Work → TransactionOf
+begun seat w = record { seat = seat; work = w; phase = phases.Reading; reads = []; declared = []; prewritten = [] }
+
+-- the cell is in the list
+abbrev pub is_among : List Cell → Cell → Bool
+is_among xs x = list_any (λ y. eq_by_cmp cell_cmp y x) xs
+
+-- ---- what stands in the table
+
+abbrev pub content_of : Option Item → Option Content
+content_of (Some (items.Data c)) = Some c
+content_of _ = None
+
+abbrev pub primary_of : Option Item → Option Cell
+primary_of (Some (items.Lock p)) = Some p
+primary_of _ = None
+
+abbrev pub start_of : Option Item → Option ℕ
+start_of (Some (items.Write s)) = Some s.0
+start_of _ = None
+
+-- the data that start s wrote at x
+abbrev pub data_at : Entries → Cell → ℕ → Option Content
+data_at e x s = content_of (map.get e (slot_at x sorts.Data s))
+
+-- the primary named by the lock of start s on x
+abbrev pub lock_at : Entries → Cell → ℕ → Option Cell
+lock_at e x s = primary_of (map.get e (slot_at x sorts.Lock s))
+
+-- the start named by the write record of commit c at x
+abbrev pub write_at : Entries → Cell → ℕ → Option ℕ
+write_at e x c = start_of (map.get e (slot_at x sorts.Write c))
+
+-- no lock stands on x
+abbrev pub NoLock : Entries → Cell → Type 0
+NoLock e x = (u : ℕ) → u < 2 ^ 64 → lock_at e x u ≡ None
+
+-- some lock stands on x
+abbrev pub SomeLock : Entries → Cell → Type 0
+SomeLock e x = (u : ℕ) × (u < 2 ^ 64) × (is_some (lock_at e x u) ≡ true)
+
+-- x has no write record of commit s or later
+abbrev pub NoWriteFrom : Entries → Cell → ℕ → Type 0
+NoWriteFrom e x s = (c : ℕ) → s ≤ c → c < 2 ^ 64 → write_at e x c ≡ None
+
+-- x has a write record of commit s or later
+abbrev pub SomeWriteFrom : Entries → Cell → ℕ → Type 0
+SomeWriteFrom e x s = (c : ℕ) × (s ≤ c) × (c < 2 ^ 64) × (is_some (write_at e x c) ≡ true)
+
+-- ---- how a model keeps it
+
+abbrev pub transaction_code : Coded TransactionOf
+transaction_code =
+    code_by (ℕ × (Work × (Phase × (_ × (Writes × List Cell)))))
+    (coded× coded_ℕ (coded× work.the_row.coded (coded× phase.the_row.coded (coded× (coded_list (coded× cell.the_row.coded answer.the_row.coded)) (coded× (coded_list (coded× cell.the_row.coded content.the_row.coded)) (coded_list cell.the_row.coded))))))
+    (λ t. (t.seat, (t.work, (t.phase, (t.reads, (t.declared, t.prewritten))))))
+    (λ p. record { seat = p.0; work = p.1.0; phase = p.1.1.0; reads = p.1.1.1.0; declared = p.1.1.1.1.0; prewritten = p.1.1.1.1.1 })
+    (λ _. refl)
+
+abbrev pub transactions_code : Coded Transactions
+transactions_code = map.code coded_ℕ transaction_code
+
+abbrev pub state_code : Coded StateOf
+state_code =
+    code_by (Entries × (Marks × (ℕ × (ℕ × Transactions))))
+    (coded× (map.code slot.the_row.coded item.the_row.coded) (coded× (map.code cell.the_row.coded coded_unit) (coded× coded_ℕ (coded× coded_ℕ transactions_code))))
+    (λ s. (s.entries, (s.marks, (s.clock, (s.seats, s.transactions)))))
+    (λ p. record { entries = p.0; marks = p.1.0; clock = p.1.1.0; seats = p.1.1.1.0; transactions = p.1.1.1.1 })
+    (λ _. refl)
