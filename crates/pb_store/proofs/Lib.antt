@@ -1,0 +1,6 @@
+pub mod Routing
+pub mod Halves
+pub mod Joined
+pub mod Fresh
+pub mod Applying
+pub mod Reading

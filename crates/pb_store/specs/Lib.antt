@@ -1,2 +1,4 @@
 pub mod Slot
 pub mod Contents
+pub mod Tiles
+pub mod Held

@@ -2,7 +2,9 @@
 #![tactic(auto)]
 
 mod slot;
+mod table;
 mod tablet;
 
 pub use slot::{Edit, Item, Slot, Sort};
+pub use table::Table;
 pub use tablet::Tablet;

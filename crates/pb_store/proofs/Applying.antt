@@ -1,0 +1,33 @@
+-- What an application of edits to one tablet, done or refused, does to all.
+use Rattle.std.proofs.Common.{◌≡◌, ℕ, ◌<◌, List, [], ◌∷◌, refl, sym, ap, ◌∙◌, subst, arith, length, get_or, set, Result, Ok, Err, OnOk, OnErr}
+use Rattle.pb_base.specs.declared.names.Row.{Row}
+use Rattle.pb_store.specs.declared.slot.Edit.{Edit}
+use Rattle.pb_store.specs.Contents.{Contents, after_edits, edit_row, AreOfRow, AreOfOneRow}
+use Rattle.pb_store.specs.Tiles.{IsTiling, IsPlace, joined, tiles_of}
+use Rattle.pb_store.proofs.Routing.{tiles_changed}
+use Rattle.pb_store.proofs.Joined.{edits_in_place}
+
+pub all_of_first : (edits : List Edit) (d : Edit) → 0 < length edits → AreOfOneRow edits → AreOfRow (edit_row (get_or edits 0 d)) edits
+all_of_first [] d lt one = absurd (omega arith)
+all_of_first (edit ∷ edits) d lt one = (refl, one)
+
+pub result_cases : {U E : Type 0} (r : Result U E) (P Q G : Type 0) → OnOk r P → OnErr r Q → (P → G) → (Q → G) → G
+result_cases (Ok u) P Q G p q f g = f p
+result_cases (Err e) P Q G p q f g = g q
+
+pub ok_then : {U E : Type 0} (r : Result U E) (P Q : Type 0) → (P → Q) → OnOk r P → OnOk r Q
+ok_then (Ok u) P Q f p = f p
+ok_then (Err e) P Q f p = p
+
+pub err_then : {U E : Type 0} (r : Result U E) (P Q : Type 0) → (P → Q) → OnErr r P → OnErr r Q
+err_then (Ok u) P Q f p = p
+err_then (Err e) P Q f p = f p
+
+-- tablet i, with what stands there, p, becomes t
+module _ {T : Type 0} (c : T → Contents) (parts : List (Row × T)) (i : ℕ) (p : Row × T) (t : T) (lt : i < length parts) (e : p ≡ get_or parts i p) where
+  module _ (edits : List Edit) (row : ℕ) (of : AreOfRow row edits) (tiling : IsTiling (tiles_of c parts)) (place : IsPlace (tiles_of c parts) i row) (done : c t ≡ after_edits edits (c p.1)) where
+    pub tiling_after : IsTiling (tiles_of c (set parts i (p.0, t)))
+    tiling_after = subst IsTiling (sym (tiles_changed c parts i p t lt e (after_edits edits) done)) (edits_in_place edits row (tiles_of c parts) i of tiling place).tiling
+
+    pub joined_after : joined (tiles_of c (set parts i (p.0, t))) ≡ after_edits edits (joined (tiles_of c parts))
+    joined_after = ap joined (tiles_changed c parts i p t lt e (after_edits edits) done) ∙ (edits_in_place edits row (tiles_of c parts) i of tiling place).same

@@ -1,0 +1,94 @@
+-- Tablets that hold nothing, side by side.
+use Rattle.std.proofs.Common.{◌≡◌, ℕ, ◌<◌, Bool, true, false, cond, ◌&&◌, ◌==◌, nat_lt, List, [], ◌∷◌, ◌++◌, None, Some, refl, sym, ap, ◌∙◌, subst, arith, is_some, length}
+use Rattle.std.proofs.lemmas.Bool.Decides.{nat_tests}
+use Rattle.std.specs.declared.cmp.Ordering.{Ordering}
+use Rattle.std.specs.FinMap as map
+use Rattle.pb_base.specs.Cell.{cell_cmp}
+use Rattle.pb_store.specs.Slot.{slot_cmp}
+use Rattle.pb_store.specs.Contents.{Contents, nothing, is_nothing}
+use Rattle.pb_store.specs.Tiles.{Tile, IsTile, AreTiled, IsTiling, IsBelow, all_entries, all_marks, joined, rise, rise_from_zero, all_nothing, refusal_of}
+use Rattle.pb_store.proofs.Joined.{joined-entries, joined-marks}
+
+left_true : (a b : Bool) → (a && b) ≡ true → a ≡ true
+left_true true b e = refl
+left_true false b e = e
+
+right_true : (a b : Bool) → (a && b) ≡ true → b ≡ true
+right_true true b e = e
+right_true false b e = absurd (subst (λ x. cond x ⊥ (Unit {0})) e tt)
+
+same_true : (a b : ℕ) → (a == b) ≡ true → a ≡ b
+same_true a b e = grind (arith, nat_tests)
+
+below_true : (a b : ℕ) → nat_lt a b ≡ true → a < b
+below_true a b e = grind (arith, nat_tests)
+
+pub nothing_from_test : (c : Contents) → is_nothing c ≡ true → c ≡ nothing
+nothing_from_test c e =
+    let m = map.empty_of_len c.entries (same_true _ _ (left_true _ _ e)) in
+    let n = map.empty_of_len c.marks (same_true _ _ (right_true _ _ e)) in
+    λ i. record { entries = m i; marks = n i }
+
+no_length : {A : Type 0} (es : List A) → length es ≡ 0 → es ≡ []
+no_length [] e = refl
+no_length (x ∷ es) e = absurd (omega arith)
+
+entries-empty : {K X : Type 0} (R : K → K → Ordering) → map.entries (map.empty {X = X} {R = R}) ≡ []
+entries-empty {K} {X} R = no_length _ (sym (map.len-entries (map.empty {X = X} {R = R})) ∙ map.len-empty R X)
+
+no_key : {K X : Type 0} (R : K → K → Ordering) (m : map.FinMap R X) (q : K) → m ≡ map.empty → map.contains_key m q ≡ true → ⊥
+no_key R m q e is = subst (λ x. cond x (Unit {0}) ⊥) (sym is ∙ ap (λ n. map.contains_key n q) e ∙ ap is_some (map.get-empty R q)) tt
+
+pub all_entries-nothing : (tiles : List Tile) → all_nothing tiles ≡ true → all_entries tiles ≡ []
+all_entries-nothing [] e = refl
+all_entries-nothing (tile ∷ tiles) e =
+    ap (λ (c : Contents). map.entries c.entries ++ all_entries tiles) (nothing_from_test tile.1 (left_true _ _ e))
+    ∙ ap (λ es. es ++ all_entries tiles) (entries-empty slot_cmp)
+    ∙ all_entries-nothing tiles (right_true _ _ e)
+
+pub all_marks-nothing : (tiles : List Tile) → all_nothing tiles ≡ true → all_marks tiles ≡ []
+all_marks-nothing [] e = refl
+all_marks-nothing (tile ∷ tiles) e =
+    ap (λ (c : Contents). map.entries c.marks ++ all_marks tiles) (nothing_from_test tile.1 (left_true _ _ e))
+    ∙ ap (λ es. es ++ all_marks tiles) (entries-empty cell_cmp)
+    ∙ all_marks-nothing tiles (right_true _ _ e)
+
+pub joined-nothing : (tiles : List Tile) → all_nothing tiles ≡ true → joined tiles ≡ nothing
+joined-nothing tiles e =
+    let m = joined-entries tiles ∙ ap (λ es. map.from_entries es) (all_entries-nothing tiles e) in
+    let n = joined-marks tiles ∙ ap (λ es. map.from_entries es) (all_marks-nothing tiles e) in
+    λ i. record { entries = m i; marks = n i }
+
+rises_below : (low : ℕ) (tiles : List Tile) → rise low tiles ≡ true → IsBelow low tiles
+rises_below low [] r = tt
+rises_below low (tile ∷ tiles) r = below_true low tile.0 (left_true _ _ r)
+
+tile_of_nothing : (tile : Tile) (tiles : List Tile) → rise tile.0 tiles ≡ true → is_nothing tile.1 ≡ true → IsTile tile tiles
+tile_of_nothing tile tiles r e =
+    let c = nothing_from_test tile.1 e in
+    record {
+      rises = rises_below tile.0 tiles r;
+      from_first = λ q is. absurd (no_key slot_cmp tile.1.entries q (ap (λ (x : Contents). x.entries) c) is);
+      before_next = λ q is. absurd (no_key slot_cmp tile.1.entries q (ap (λ (x : Contents). x.entries) c) is);
+      marks_from_first = λ q is. absurd (no_key cell_cmp tile.1.marks q (ap (λ (x : Contents). x.marks) c) is);
+      marks_before_next = λ q is. absurd (no_key cell_cmp tile.1.marks q (ap (λ (x : Contents). x.marks) c) is);
+    }
+
+tiled_nothing : (low : ℕ) (tiles : List Tile) → rise low tiles ≡ true → all_nothing tiles ≡ true → AreTiled tiles
+tiled_nothing low [] r e = tt
+tiled_nothing low (tile ∷ tiles) r e =
+    (tile_of_nothing tile tiles (right_true _ _ r) (left_true _ _ e), tiled_nothing tile.0 tiles (right_true _ _ r) (right_true _ _ e))
+
+pub tiling_of_nothing : (tiles : List Tile) → rise_from_zero tiles ≡ true → all_nothing tiles ≡ true → IsTiling tiles
+tiling_of_nothing [] r e = absurd (subst (λ x. cond x (Unit {0}) ⊥) (sym r) tt)
+tiling_of_nothing (tile ∷ tiles) r e = record {
+  zero_first = same_true tile.0 0 (left_true _ _ r);
+  tiled = (tile_of_nothing tile tiles (right_true _ _ r) (left_true _ _ e), tiled_nothing tile.0 tiles (right_true _ _ r) (right_true _ _ e));
+}
+
+pub refused_unrisen : (tiles : List Tile) → 0 < length tiles → rise_from_zero tiles ≡ false → refusal_of tiles ≡ Some 3
+refused_unrisen [] lt e = absurd (omega arith)
+refused_unrisen (tile ∷ tiles) lt e = ap (λ b. cond b (cond (all_nothing (tile ∷ tiles)) None (Some 4)) (Some 3)) e
+
+pub positive : (n : ℕ) → (n == 0) ≡ false → 0 < n
+positive n e = grind (arith, nat_tests)

@@ -1,0 +1,68 @@
+-- Which tablet has a row, and what stands at a place.
+use Rattle.std.proofs.Common.{◌≡◌, ℕ, ◌+◌, ◌<◌, ◌≤◌, List, [], ◌∷◌, refl, sym, ap, ◌∙◌, arith, zero, suc, length, get_or, set, below_more}
+use Rattle.pb_base.specs.declared.names.Row.{Row}
+use Rattle.pb_store.specs.Contents.{Contents}
+use Rattle.pb_store.specs.Tiles.{Tile, IsBelow, IsPlace, IsTiling, tile_at, first_at, tiles_of, replace}
+
+pub length-tiles_of : {T : Type 0} (c : T → Contents) (parts : List (Row × T)) → length (tiles_of c parts) ≡ length parts
+length-tiles_of c [] = refl
+length-tiles_of c (part ∷ parts) = ap suc (length-tiles_of c parts)
+
+pub first_at-tiles_of : {T : Type 0} (c : T → Contents) (parts : List (Row × T)) (i : ℕ) (d : Row × T) → i < length parts → first_at (tiles_of c parts) i ≡ (get_or parts i d).0.0
+first_at-tiles_of c [] i d lt = absurd (omega arith)
+first_at-tiles_of c (part ∷ parts) zero d lt = refl
+first_at-tiles_of c (part ∷ parts) (suc i) d lt = first_at-tiles_of c parts i d (omega arith)
+
+pub tile_at-tiles_of : {T : Type 0} (c : T → Contents) (parts : List (Row × T)) (i : ℕ) (d : Row × T) → i < length parts → tile_at (tiles_of c parts) i ≡ c (get_or parts i d).1
+tile_at-tiles_of c [] i d lt = absurd (omega arith)
+tile_at-tiles_of c (part ∷ parts) zero d lt = refl
+tile_at-tiles_of c (part ∷ parts) (suc i) d lt = tile_at-tiles_of c parts i d (omega arith)
+
+tiles_of-set : {T : Type 0} (c : T → Contents) (parts : List (Row × T)) (i : ℕ) (p : Row × T) (t : T) → i < length parts → p ≡ get_or parts i p
+    → tiles_of c (set parts i (p.0, t)) ≡ replace (tiles_of c parts) i (c t)
+tiles_of-set c [] i p t lt e = absurd (omega arith)
+tiles_of-set c (part ∷ parts) zero p t lt e = ap (λ (n : ℕ). (n, c t) ∷ tiles_of c parts) (ap (λ x. x.0.0) e)
+tiles_of-set c (part ∷ parts) (suc i) p t lt e = ap (λ ts. (part.0.0, c part.1) ∷ ts) (tiles_of-set c parts i p t (omega arith) e)
+
+pub replace_same : (tiles : List Tile) (i : ℕ) → replace tiles i (tile_at tiles i) ≡ tiles
+replace_same [] i = refl
+replace_same (tile ∷ tiles) zero = refl
+replace_same (tile ∷ tiles) (suc i) = ap (λ ts. tile ∷ ts) (replace_same tiles i)
+
+-- a tablet that is changed in place
+module _ {T : Type 0} (c : T → Contents) (parts : List (Row × T)) (i : ℕ) (p : Row × T) (t : T) (lt : i < length parts) (e : p ≡ get_or parts i p) where
+  here : tile_at (tiles_of c parts) i ≡ c p.1
+  here = tile_at-tiles_of c parts i p lt ∙ ap (λ x. c x.1) (sym e)
+
+  pub tiles_kept : c t ≡ c p.1 → tiles_of c (set parts i (p.0, t)) ≡ tiles_of c parts
+  tiles_kept same = tiles_of-set c parts i p t lt e ∙ ap (replace (tiles_of c parts) i) (same ∙ sym here) ∙ replace_same (tiles_of c parts) i
+
+  pub tiles_changed : (f : Contents → Contents) → c t ≡ f (c p.1) → tiles_of c (set parts i (p.0, t)) ≡ replace (tiles_of c parts) i (f (tile_at (tiles_of c parts) i))
+  tiles_changed f done = tiles_of-set c parts i p t lt e ∙ ap (replace (tiles_of c parts) i) (done ∙ ap f (sym here))
+
+pub some_tile : (tiles : List Tile) → IsTiling tiles → 0 < length tiles
+some_tile [] t = absurd t.zero_first
+some_tile (tile ∷ tiles) t = omega arith
+
+pub zero_low : (tiles : List Tile) → IsTiling tiles → first_at tiles 0 ≡ 0
+zero_low [] t = refl
+zero_low (tile ∷ tiles) t = t.zero_first
+
+-- the first rows of tiles after one, up to another, are above the row
+abbrev pub FirstsAbove : List Tile → ℕ → ℕ → ℕ → Type 0
+FirstsAbove tiles row from upto = (k : ℕ) → from < k → k < upto → row < first_at tiles k
+
+below_next : (row : ℕ) (tile : Tile) (tiles : List Tile) → FirstsAbove (tile ∷ tiles) row 0 (suc (length tiles)) → IsBelow row tiles
+below_next row tile [] above = tt
+below_next row tile (next ∷ tiles) above = above 1 (omega arith) (omega arith)
+
+pub place_from_firsts : (tiles : List Tile) (i row : ℕ) → i < length tiles → first_at tiles i ≤ row → FirstsAbove tiles row i (length tiles) → IsPlace tiles i row
+place_from_firsts [] i row lt low above = absurd (omega arith)
+place_from_firsts (tile ∷ tiles) zero row lt low above = (low, below_next row tile tiles above)
+place_from_firsts (tile ∷ tiles) (suc i) row lt low above = place_from_firsts tiles i row (omega arith) low (λ k a b. above (suc k) (omega arith) (omega arith))
+
+pub none_between : (tiles : List Tile) (row i : ℕ) → FirstsAbove tiles row i (i + 1)
+none_between tiles row i k a b = absurd (omega arith)
+
+pub one_more_above : (tiles : List Tile) (row from i : ℕ) → FirstsAbove tiles row from i → row < first_at tiles i → FirstsAbove tiles row from (i + 1)
+one_more_above tiles row from i above here k a b = below_more (λ n. from < n → row < first_at tiles n) i (λ n lt gt. above n gt lt) (λ _. here) k b a

@@ -1,0 +1,48 @@
+use Rattle.std.proofs.Common.{◌≡◌, ◌<◌, length, sym, ap, ◌∙◌, subst}
+use Rattle.pb_store.specs.Contents.{after_edits, AreOfRow, edit_row}
+use Rattle.pb_store.specs.Held.{Held}
+use Rattle.pb_store.specs.Tiles.{tiles_of, joined, IsTiling, IsPlace}
+use Rattle.pb_store.proofs.Fresh.{positive}
+use Rattle.pb_store.proofs.Routing.{tiles_kept}
+use Rattle.pb_store.proofs.Applying.{result_cases, ok_then, err_then, all_of_first, tiling_after, joined_after}
+use Rattle.pb_store.proofs.table.Table.apply.Given.{Over}
+use Rattle.pb_store.proofs.table.Table.apply.Goals as goal
+
+module _ (g : Over) (c : goal.After-self-1 g) where
+  within : c.place_in-i.result < length c.self.inside.parts.items
+  within = subst (λ ps. c.place_in-i.result < length ps) c.deref.ensures.value c.place_in-i.ensures.within
+
+  of_row : AreOfRow c.row.result.0 c.args.edits.now
+  of_row =
+      let some : 0 < length c.args.edits.now = positive (length c.args.edits.now) (sym c.if-is_empty.ensures) in
+      subst (λ r. AreOfRow r c.args.edits.now) (ap edit_row (sym c.index-edits-0.is) ∙ sym c.row.ensures)
+      (all_of_first c.args.edits.now c.index-edits-0.result some c.requires.of_row)
+
+  place : IsPlace (tiles_of g.T.Tablet.contents c.self.inside.parts.items) c.place_in-i.result c.row.result.0
+  place = subst (λ ps. IsPlace (tiles_of g.T.Tablet.contents ps) c.place_in-i.result c.row.result.0) c.deref.ensures.value c.place_in-i.ensures.place
+
+  held : joined (tiles_of g.T.Tablet.contents c.self.inside.parts.items) ≡ c.args.self.now.contents
+  held = ap (λ (h : Held). h.contents) c.self.view_is
+
+pub invariant_of-self : goal.invariant_of-self
+invariant_of-self g c =
+    result_cases c.apply.result _ _ _ c.apply.ensures.ok c.apply.ensures.err
+    (λ done. tiling_after g.T.Tablet.contents c.self.inside.parts.items c.place_in-i.result c.index_mut-part.result.now c.apply.new.self
+    (within g c) c.index_mut-part.ensures.value c.args.edits.now c.row.result.0 (of_row g c) c.self.invariant (place g c) done)
+    (λ same. subst IsTiling (sym (tiles_kept g.T.Tablet.contents c.self.inside.parts.items c.place_in-i.result c.index_mut-part.result.now c.apply.new.self
+    (within g c) c.index_mut-part.ensures.value same)) c.self.invariant)
+
+pub returns-clause-ok : goal.returns-clause-ok
+returns-clause-ok g c =
+    ok_then c.apply.result _ _
+    (λ done. joined_after g.T.Tablet.contents c.self.inside.parts.items c.place_in-i.result c.index_mut-part.result.now c.apply.new.self
+    (within g c) c.index_mut-part.ensures.value c.args.edits.now c.row.result.0 (of_row g c) c.self.invariant (place g c) done
+    ∙ ap (after_edits c.args.edits.now) (held g c))
+    c.apply.ensures.ok
+
+pub returns-clause-err : goal.returns-clause-err
+returns-clause-err g c =
+    err_then c.apply.result _ _
+    (λ same. ap joined (tiles_kept g.T.Tablet.contents c.self.inside.parts.items c.place_in-i.result c.index_mut-part.result.now c.apply.new.self
+    (within g c) c.index_mut-part.ensures.value same) ∙ held g c)
+    c.apply.ensures.err

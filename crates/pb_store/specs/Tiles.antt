@@ -1,0 +1,97 @@
+-- Tablets side by side, each with the rows from its first up to the next one's first.
+use Rattle.std.specs.Prelude.{◌≡◌, ℕ, ◌<◌, ◌≤◌, Bool, true, List, [], ◌∷◌, ◌++◌, Option, None, Some, false, nat_lt, ◌&&◌, ◌==◌, if◌then◌else◌}
+use Rattle.std.proofs.Common.{zero, suc}
+use Rattle.std.specs.FinMap as map
+use Rattle.pb_base.specs.declared.cell.Cell.{Cell}
+use Rattle.pb_base.specs.declared.names.Row.{Row}
+use Rattle.pb_base.specs.Cell.{row_of}
+use Rattle.pb_store.specs.declared.slot.Slot.{Slot}
+use Rattle.pb_store.specs.declared.slot.Item.{Item}
+use Rattle.pb_store.specs.Contents.{Contents, nothing, is_nothing}
+
+-- the first row, and what the tablet there contains
+abbrev pub Tile : Type 0
+Tile = ℕ × Contents
+
+abbrev pub tiles_of : {T : Type 0} → (T → Contents) → List (Row × T) → List Tile
+tiles_of c [] = []
+tiles_of c (part ∷ parts) = (part.0.0, c part.1) ∷ tiles_of c parts
+
+abbrev pub all_entries : List Tile → List (Slot × Item)
+all_entries [] = []
+all_entries (tile ∷ tiles) = map.entries tile.1.entries ++ all_entries tiles
+
+abbrev pub all_marks : List Tile → List (Cell × Unit {0})
+all_marks [] = []
+all_marks (tile ∷ tiles) = map.entries tile.1.marks ++ all_marks tiles
+
+-- what they contain together
+unfoldable pub joined : List Tile → Contents
+joined tiles = record { entries = map.from_entries (all_entries tiles); marks = map.from_entries (all_marks tiles) }
+
+-- the row comes before all of them
+abbrev pub IsBelow : ℕ → List Tile → Type 0
+IsBelow row [] = Unit {0}
+IsBelow row (tile ∷ tiles) = row < tile.0
+
+pub record IsTile (tile : Tile) (tiles : List Tile) : Type 0 where
+  pub rises : IsBelow tile.0 tiles
+  pub from_first : (slot : Slot) → map.contains_key tile.1.entries slot ≡ true → tile.0 ≤ (row_of slot.cell).0
+  pub before_next : (slot : Slot) → map.contains_key tile.1.entries slot ≡ true → IsBelow (row_of slot.cell).0 tiles
+  pub marks_from_first : (cell : Cell) → map.contains_key tile.1.marks cell ≡ true → tile.0 ≤ (row_of cell).0
+  pub marks_before_next : (cell : Cell) → map.contains_key tile.1.marks cell ≡ true → IsBelow (row_of cell).0 tiles
+
+-- the first rows rise, and each keeps to its rows
+abbrev pub AreTiled : List Tile → Type 0
+AreTiled [] = Unit {0}
+AreTiled (tile ∷ tiles) = IsTile tile tiles × AreTiled tiles
+
+abbrev pub BeginAtZero : List Tile → Type 0
+BeginAtZero [] = ⊥
+BeginAtZero (tile ∷ tiles) = tile.0 ≡ 0
+
+pub record IsTiling (tiles : List Tile) : Type 0 where
+  pub zero_first : BeginAtZero tiles
+  pub tiled : AreTiled tiles
+
+-- tile i is the one of the row
+abbrev pub IsPlace : List Tile → ℕ → ℕ → Type 0
+IsPlace [] i row = ⊥
+IsPlace (tile ∷ tiles) zero row = (tile.0 ≤ row) × IsBelow row tiles
+IsPlace (tile ∷ tiles) (suc i) row = IsPlace tiles i row
+
+abbrev pub tile_at : List Tile → ℕ → Contents
+tile_at [] i = nothing
+tile_at (tile ∷ tiles) zero = tile.1
+tile_at (tile ∷ tiles) (suc i) = tile_at tiles i
+
+-- the first row of tile i
+abbrev pub first_at : List Tile → ℕ → ℕ
+first_at [] i = 0
+first_at (tile ∷ tiles) zero = tile.0
+first_at (tile ∷ tiles) (suc i) = first_at tiles i
+
+-- whether the first rows rise from one above low
+abbrev pub rise : ℕ → List Tile → Bool
+rise low [] = true
+rise low (tile ∷ tiles) = nat_lt low tile.0 && rise tile.0 tiles
+
+abbrev pub rise_from_zero : List Tile → Bool
+rise_from_zero [] = false
+rise_from_zero (tile ∷ tiles) = (tile.0 == 0) && rise tile.0 tiles
+
+abbrev pub all_nothing : List Tile → Bool
+all_nothing [] = true
+all_nothing (tile ∷ tiles) = is_nothing tile.1 && all_nothing tiles
+
+-- why tablets make no table, if they make none
+abbrev pub refusal_of : List Tile → Option ℕ
+refusal_of [] = Some 2
+refusal_of (tile ∷ tiles) =
+    if rise_from_zero (tile ∷ tiles) then (if all_nothing (tile ∷ tiles) then None else Some 4) else Some 3
+
+-- the tiles with other contents in tile i
+abbrev pub replace : List Tile → ℕ → Contents → List Tile
+replace [] i c = []
+replace (tile ∷ tiles) zero c = (tile.0, c) ∷ tiles
+replace (tile ∷ tiles) (suc i) c = tile ∷ replace tiles i c

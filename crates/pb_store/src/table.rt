@@ -1,0 +1,153 @@
+//! Tablets side by side, seen as one.
+ghost use Rattle.std.specs.Prelude.{◌≡◌, ◌<◌, IfOk, IfErr, OnOk, OnErr, IfSome, None, Some, length};
+ghost use Rattle.std.specs.FinMap as map;
+ghost use Rattle.pb_store.specs.Contents.{nothing, is_nothing, after_edits, AreEdits, IsOfSort, IsNewest};
+ghost use Rattle.pb_store.specs.Held.{Held};
+ghost use Rattle.pb_store.specs.Tiles.{tiles_of, IsPlace, IsTiling, rise_from_zero, all_nothing, refusal_of};
+
+use crate::slot::{Edit, Item, Slot, Sort};
+use crate::tablet::Tablet;
+use pb_base::{Cell, NoMemory, Refusal, Row, Ts};
+use std::marker::Model;
+
+/// Tablets side by side: each has the rows from its first up to the next one's first, the last all the rest.
+///
+/// A table ends by `close` alone: to let one go in any other way doesn't compile.
+pub struct Table<T: Tablet> {
+    parts: Vec<(Row, T)>,
+}
+
+impl<T: Tablet> Model for Table<T> {
+    ghost use Rattle.std.specs.Prelude.{vec_len};
+    ghost use Rattle.pb_store.specs.Held.{Held, coded_held};
+
+    ghost Value = { Held };
+
+    ghost coded = { coded_held };
+
+    ghost use Rattle.pb_store.specs.Tiles.{tiles_of, joined, IsTiling};
+
+    ghost view = { λ t. record { contents = joined (tiles_of T.contents t.parts.items); places = vec_len t.parts } };
+
+    ghost invariant = { λ t. IsTiling (tiles_of T.contents t.parts.items) };
+}
+
+// The place of the tablet that has the row.
+fn place_in<T: Tablet>(parts: &[(Row, T)], row: Row) -> usize
+    requires { IsTiling (tiles_of T.contents parts.now) }
+    ensures within { result < length parts.now }
+    ensures place { IsPlace (tiles_of T.contents parts.now) result row.0 }
+{
+    let mut place = 0;
+    for i in 1..parts.len() {
+        if parts[i].0.0 <= row.0 {
+            place = i;
+        }
+    }
+    place
+}
+
+// Whether the first rows rise from 0.
+fn rises<T: Tablet>(parts: &[(Row, T)]) -> bool
+    requires { 0 < length parts.now }
+    ensures { result ≡ rise_from_zero (tiles_of T.contents parts.now) }
+{
+    let mut low = parts[0].0.0;
+    if low != 0 {
+        return false;
+    }
+    for i in 1..parts.len() {
+        let next = parts[i].0.0;
+        if next <= low {
+            return false;
+        }
+        low = next;
+    }
+    true
+}
+
+// Whether no tablet has an entry or a mark.
+fn are_empty<T: Tablet>(parts: &[(Row, T)]) -> bool
+    ensures { result ≡ all_nothing (tiles_of T.contents parts.now) }
+{
+    for i in 0..parts.len() {
+        if !parts[i].1.is_empty() {
+            return false;
+        }
+    }
+    true
+}
+
+impl<T: Tablet> Table<T> {
+    /// The table of tablets made by the caller, each with the first row of its range.
+    ///
+    /// It takes no memory. Refused it hands the list back: with 2 where it is empty, 3 where the first rows don't
+    /// rise from 0, 4 where a tablet isn't empty.
+    pub fn new(parts: Vec<(Row, T)>) -> Result<Table<T>, (Vec<(Row, T)>, Refusal)>
+        ensures contents { IfOk result (λ table. table.contents ≡ nothing) }
+        ensures places { IfOk result (λ table. table.places ≡ length parts.items) }
+        ensures accepted { OnOk result (refusal_of (tiles_of T.contents parts.items) ≡ None) }
+        ensures handed_back { IfErr result (λ e. e.0 ≡ parts) }
+        ensures refused { IfErr result (λ e. refusal_of (tiles_of T.contents parts.items) ≡ Some e.1.0) }
+    {
+        if parts.is_empty() {
+            return Err((parts, Refusal(2)));
+        }
+        if !rises(&parts) {
+            return Err((parts, Refusal(3)));
+        }
+        if !are_empty(&parts) {
+            return Err((parts, Refusal(4)));
+        }
+        Ok(Table { parts })
+    }
+
+    /// What stands in the slot.
+    pub fn get(&self, slot: Slot) -> Option<Item>
+        ensures item { result ≡ map.get self.now.contents.entries slot }
+        ensures sort { IfSome result (IsOfSort slot.sort) }
+    {
+        let i = place_in(&self.parts, slot.cell.row());
+        self.parts[i].1.get(slot)
+    }
+
+    /// The entry of this sort with the greatest timestamp at most `high`.
+    pub fn newest(&self, cell: Cell, sort: Sort, high: Ts) -> Option<(Ts, Item)>
+        ensures { IsNewest self.now.contents.entries cell sort high result }
+    {
+        let i = place_in(&self.parts, cell.row());
+        self.parts[i].1.newest(cell, sort, high)
+    }
+
+    /// Whether it has no entry and no mark.
+    pub fn is_empty(&self) -> bool
+        ensures { result ≡ is_nothing self.now.contents }
+    {
+        are_empty(&self.parts)
+    }
+
+    /// Does all edits in order or, refused for memory, none. They are of one row.
+    pub fn apply(&mut self, edits: &[Edit]) -> Result<(), NoMemory>
+        requires { AreEdits edits.now }
+        ensures ok { OnOk result (self.new.contents ≡ after_edits edits.now self.old.contents) }
+        ensures err { OnErr result (self.new.contents ≡ self.old.contents) }
+        ensures places { self.new.places ≡ self.old.places }
+    {
+        if edits.is_empty() {
+            return Ok(());
+        }
+        let i = place_in(&self.parts, edits[0].row());
+        let part = &mut self.parts[i];
+        part.1.apply(edits)
+    }
+
+    /// Clears and ends all tablets.
+    pub fn close(self) {
+        let Table { mut parts } = self;
+        while let Some((_, mut tablet)) = parts.pop() {
+            tablet.clear();
+            tablet.end();
+        }
+        parts.destroy_empty();
+    }
+}
