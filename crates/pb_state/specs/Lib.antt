@@ -1,4 +1,5 @@
 pub mod State
 pub mod Starts
 pub mod Refusal
+pub mod Kept
 pub mod Machine

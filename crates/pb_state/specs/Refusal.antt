@@ -33,11 +33,6 @@ of_seat seat (Some t) = if t.seat == seat then Some t else None
 abbrev pub own : StateOf → ℕ → ℕ → Option TransactionOf
 own s seat start = of_seat seat (map.get s.transactions start)
 
--- whether a test holds of a transaction that is there
-abbrev pub of_own : Option TransactionOf → (TransactionOf → Bool) → Bool
-of_own None test = false
-of_own (Some t) test = test t
-
 -- no timestamp is left
 abbrev pub is_out : StateOf → Bool
 is_out s = s.clock == 18446744073709551615
@@ -62,27 +57,35 @@ is_early t x = is_before (primary_in t.declared) t.prewritten x
 abbrev pub is_whole : TransactionOf → Bool
 is_whole t = list_all (λ w. is_among t.prewritten w.0) t.declared
 
+-- why a transaction may not prewrite a cell
+abbrev pub prewrite_reasons : TransactionOf → Cell → List (ℕ × Bool)
+prewrite_reasons t x =
+    (42, not (is_declared t.phase) || is_early t x) ∷ (45, is_none (content_in t.declared x)) ∷ (46, is_among t.prewritten x) ∷ []
+
+-- why it may not declare, stamp or commit
+abbrev pub declare_reasons : TransactionOf → List (ℕ × Bool)
+declare_reasons t = (42, not (is_reading t.phase)) ∷ []
+
+abbrev pub stamp_reasons : TransactionOf → List (ℕ × Bool)
+stamp_reasons t = (42, not (is_declared t.phase) || not (is_whole t)) ∷ []
+
+abbrev pub commit_reasons : TransactionOf → List (ℕ × Bool)
+commit_reasons t = (42, not (is_stamped t.phase)) ∷ []
+
+-- the reasons of a transaction that is there
+abbrev pub reasons_of_own : Option TransactionOf → (TransactionOf → List (ℕ × Bool)) → List (ℕ × Bool)
+reasons_of_own None why = []
+reasons_of_own (Some t) why = why t
+
 -- the numbers that a step may be refused with, rising, each with whether it applies:
 -- 40 out of timestamps; 41 no such seat, or no such transaction of this seat; 42 wrong phase, or a secondary before its
 -- primary; 45 cell not declared; 46 cell already prewritten
 abbrev pub reasons : StateOf → ℕ → Step → List (ℕ × Bool)
 reasons s seat (Begin work) = (40, is_out s) ∷ (41, no_seat s seat) ∷ []
-reasons s seat (Declare start what) =
-    (41, is_foreign s seat start.0) ∷ (42, of_own (own s seat start.0) (λ t. not (is_reading t.phase))) ∷ []
-reasons s seat (Prewrite start x) =
-    let t = own s seat start.0 in
-    (41, is_foreign s seat start.0)
-    ∷ (42, of_own t (λ t. not (is_declared t.phase) || is_early t x))
-    ∷ (45, of_own t (λ t. is_none (content_in t.declared x)))
-    ∷ (46, of_own t (λ t. is_among t.prewritten x))
-    ∷ []
-reasons s seat (Stamp start) =
-    (40, is_out s)
-    ∷ (41, is_foreign s seat start.0)
-    ∷ (42, of_own (own s seat start.0) (λ t. not (is_declared t.phase) || not (is_whole t)))
-    ∷ []
-reasons s seat (CommitPrimary start) =
-    (41, is_foreign s seat start.0) ∷ (42, of_own (own s seat start.0) (λ t. not (is_stamped t.phase))) ∷ []
+reasons s seat (Declare start what) = (41, is_foreign s seat start.0) ∷ reasons_of_own (own s seat start.0) declare_reasons
+reasons s seat (Prewrite start x) = (41, is_foreign s seat start.0) ∷ reasons_of_own (own s seat start.0) (λ t. prewrite_reasons t x)
+reasons s seat (Stamp start) = (40, is_out s) ∷ (41, is_foreign s seat start.0) ∷ reasons_of_own (own s seat start.0) stamp_reasons
+reasons s seat (CommitPrimary start) = (41, is_foreign s seat start.0) ∷ reasons_of_own (own s seat start.0) commit_reasons
 
 -- the first that applies
 abbrev pub first_reason : List (ℕ × Bool) → Option Refusal

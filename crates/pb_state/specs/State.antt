@@ -1,5 +1,5 @@
 -- The state of the shared table, without journal and books.
-use Rattle.std.specs.Prelude.{◌≡◌, ℕ, ◌<◌, ◌≤◌, ◌^◌, Bool, true, List, [], Option, Some, None, is_some, refl}
+use Rattle.std.specs.Prelude.{◌≡◌, ℕ, ◌<◌, ◌≤◌, ◌^◌, Bool, true, List, [], Option, Some, None, is_some, option_map, refl}
 use Rattle.std.specs.Coded.{Coded, code_by, coded×, coded_ℕ, coded_list}
 use base.Stored.{coded_unit}
 use Rattle.std.specs.List.{list_any}
@@ -63,6 +63,10 @@ declared_by (Some what) = cells_of what
 -- as it begins
 abbrev pub begun : ℕ → Work → TransactionOf
 begun seat w = record { seat = seat; work = w; phase = phases.Reading; reads = []; declared = []; prewritten = [] }
+
+-- how far the transaction of a start has come
+abbrev pub phase_in : StateOf → ℕ → Option Phase
+phase_in s start = option_map (λ t. t.phase) (map.get s.transactions start)
 
 -- the cell is in the list
 abbrev pub is_among : List Cell → Cell → Bool

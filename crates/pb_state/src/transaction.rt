@@ -1,11 +1,12 @@
 //! Transactions, by their starts.
-ghost use Rattle.std.specs.Prelude.{◌≡◌, MatchOption};
+ghost use Rattle.std.specs.Prelude.{◌≡◌, ◌<◌, ◌++◌, ◌∷◌, [], OnOk, MatchOption, vec_len, vec_capacity};
 ghost use Rattle.std.specs.List.{list_all};
 ghost use Rattle.pb_state.specs.State.{is_among};
 ghost use Rattle.pb_state.specs.Starts.{AreRising, IsAt, IsNowhere};
 
 use crate::step::{Declaration, Declared, Work};
-use pb_base::{Batch, Cell, Content, NoMemory, Ts};
+use pb_base::{Batch, Cell, Content, NoMemory, Refusal, Ts};
+use pb_store::{Edit, Table, Tablet};
 use std::alloc::Global;
 use std::marker::Model;
 
@@ -19,6 +20,28 @@ pub enum Phase {
     /// With its commit timestamp.
     Committed(Ts),
     Failed,
+}
+
+impl Phase {
+    ghost use Rattle.pb_state.specs.Refusal.{is_reading, is_declared, is_stamped};
+
+    pub(crate) fn is_reading(self) -> bool
+        ensures { result ≡ is_reading self }
+    {
+        matches!(self, Phase::Reading)
+    }
+
+    pub(crate) fn is_declared(self) -> bool
+        ensures { result ≡ is_declared self }
+    {
+        matches!(self, Phase::Declared)
+    }
+
+    pub(crate) fn is_stamped(self) -> bool
+        ensures { result ≡ is_stamped self }
+    {
+        matches!(self, Phase::Stamped(_))
+    }
 }
 
 /// A transaction.
@@ -40,13 +63,20 @@ impl Model for Transaction {
     ghost coded = { transaction_code };
 
     ghost view = { λ t. record { seat = t.seat; work = t.work; phase = t.phase; reads = []; declared = declared_by t.declared; prewritten = t.prewritten.items } };
+
+    ghost use Rattle.std.specs.Prelude.{◌≡◌, ◌||◌, true, is_some};
+    ghost use Rattle.pb_state.specs.Refusal.{is_reading};
+
+    // Past reading it has declared what it writes.
+    ghost invariant = { λ t. (is_reading t.phase || is_some t.declared) ≡ true };
 }
 
 impl Transaction {
-    ghost use Rattle.std.specs.Prelude.{◌≡◌, OnOk, OnErr, ◌++◌, ◌∷◌, []};
+    ghost use Rattle.std.specs.Prelude.{◌≡◌, OnOk, OnErr, ◌++◌, ◌∷◌, [], is_some, true, false};
     ghost use Rattle.pb_base.specs.Batch.{content_in, primary_in};
+    ghost use Rattle.pb_store.specs.Contents.{AreEdits, after_edits};
     ghost use Rattle.pb_state.specs.State.{begun, is_among, cells_of};
-    ghost use Rattle.pb_state.specs.Refusal.{is_whole};
+    ghost use Rattle.pb_state.specs.Refusal.{is_whole, is_early, is_reading, prewrite_reasons, first_reason};
 
     pub(crate) fn begun(alloc: Global, seat: u32, work: Work) -> Transaction
         ensures { result ≡ begun seat work }
@@ -84,9 +114,18 @@ impl Transaction {
         }
     }
 
+    /// Whether it declared to write the cell.
+    pub(crate) fn declares(&self, cell: &Cell) -> bool
+        ensures { result ≡ is_some (content_in self.now.declared cell.now) }
+    {
+        let content = self.content(*cell);
+        content.is_some()
+    }
+
     /// The first cell that it declared.
     pub(crate) fn primary(&self) -> Option<Cell>
-        ensures { result ≡ primary_in self.now.declared }
+        ensures first { result ≡ primary_in self.now.declared }
+        ensures some { is_reading self.now.phase ≡ false → is_some result ≡ true }
     {
         match &self.declared {
             None => None,
@@ -96,13 +135,43 @@ impl Transaction {
         }
     }
 
-    pub(crate) fn is_prewritten(&self, cell: Cell) -> bool
-        ensures { result ≡ is_among self.now.prewritten cell }
+    pub(crate) fn is_prewritten(&self, cell: &Cell) -> bool
+        ensures { result ≡ is_among self.now.prewritten cell.now }
     {
-        self.prewritten.contains(&cell)
+        self.prewritten.contains(cell)
+    }
+
+    /// Whether a cell that isn't the primary comes while that isn't prewritten.
+    pub(crate) fn is_early(&self, cell: &Cell) -> bool
+        ensures { result ≡ is_early self.now cell.now }
+    {
+        match self.primary() {
+            None => true,
+            Some(primary) => *cell != primary && !self.is_prewritten(&primary),
+        }
+    }
+
+    /// Why it may not prewrite a cell.
+    pub(crate) fn prewrite_refused(&self, cell: &Cell) -> Option<Refusal>
+        ensures { result ≡ first_reason (prewrite_reasons self.now cell.now) }
+    {
+        if !self.phase().is_declared() {
+            return Some(Refusal(42));
+        }
+        if self.is_early(cell) {
+            return Some(Refusal(42));
+        }
+        if !self.declares(cell) {
+            return Some(Refusal(45));
+        }
+        if self.is_prewritten(cell) {
+            return Some(Refusal(46));
+        }
+        None
     }
 
     fn set_phase(&mut self, phase: Phase)
+        requires { is_reading self.old.phase ≡ false }
         ensures { self.new ≡ record self.old { phase = phase } }
     {
         self.phase = phase;
@@ -113,6 +182,25 @@ impl Transaction {
     {
         self.phase = Phase::Declared;
         self.declared = Some(what);
+    }
+
+    // Does the edits in the table and adds a prewritten cell, or neither.
+    fn prewrite<T: Tablet>(
+        &mut self,
+        table: &mut Table<T>,
+        cell: Cell,
+        edits: &[Edit],
+    ) -> Result<(), NoMemory>
+        requires { AreEdits edits.now }
+        ensures ok { OnOk result (self.new ≡ record self.old { prewritten = self.old.prewritten ++ cell ∷ [] }) }
+        ensures applied { OnOk result (table.new.contents ≡ after_edits edits.now table.old.contents) }
+        ensures err { OnErr result (self.new ≡ self.old) }
+        ensures kept { OnErr result (table.new.contents ≡ table.old.contents) }
+    {
+        make_room(&mut self.prewritten)?;
+        table.apply(edits)?;
+        append(&mut self.prewritten, cell);
+        Ok(())
     }
 
     /// Whether every cell that it declared is prewritten.
@@ -126,6 +214,21 @@ impl Transaction {
             },
         }
     }
+}
+
+fn make_room<X>(list: &mut Vec<X>) -> Result<(), NoMemory>
+    ensures items { list.new.items ≡ list.old.items }
+    ensures room { OnOk result (vec_len list.new < vec_capacity list.new) }
+{
+    list.reserve(1)?;
+    Ok(())
+}
+
+fn append<X: Drop>(list: &mut Vec<X>, item: X)
+    requires { vec_len list.old < vec_capacity list.old }
+    ensures { list.new.items ≡ list.old.items ++ item ∷ [] }
+{
+    list.push(item).unwrap();
 }
 
 // Whether every cell of the batch is in the list.
@@ -184,9 +287,11 @@ fn place_of(list: &[(u64, Transaction)], start: u64) -> Option<usize>
 }
 
 impl Transactions {
-    ghost use Rattle.std.specs.Prelude.{◌≡◌, ◌<◌, ◌++◌, ◌∷◌, [], ℕ, OnOk, OnErr, Some, None};
+    ghost use Rattle.std.specs.Prelude.{◌≡◌, ◌<◌, ◌++◌, ◌∷◌, [], ℕ, OnOk, OnErr, Some, None, false};
+    ghost use Rattle.pb_state.specs.Refusal.{is_reading};
     ghost use Rattle.std.specs.Option.{option_copied};
     ghost use Rattle.std.specs.FinMap as map;
+    ghost use Rattle.pb_store.specs.Contents.{AreEdits, after_edits};
     ghost use Rattle.pb_state.specs.State.{TransactionOf, cells_of};
 
     pub(crate) fn new(alloc: Global) -> Transactions
@@ -217,6 +322,7 @@ impl Transactions {
     }
 
     pub(crate) fn set_phase(&mut self, start: Ts, phase: Phase)
+        requires { (t : TransactionOf) → map.get self.old start.0 ≡ Some t → is_reading t.phase ≡ false }
         ensures { (t : TransactionOf) → map.get self.old start.0 ≡ Some t → self.new ≡ map.insert self.old start.0 (record t { phase = phase }) }
     {
         if let Some(place) = place_of(&self.list, start.0) {
@@ -232,5 +338,26 @@ impl Transactions {
             let entry = &mut self.list[place];
             entry.1.declare(what);
         }
+    }
+
+    /// Does the edits in the table and adds a prewritten cell to the transaction, or neither.
+    pub(crate) fn prewrite<T: Tablet>(
+        &mut self,
+        table: &mut Table<T>,
+        start: Ts,
+        cell: Cell,
+        edits: &[Edit],
+    ) -> Result<(), NoMemory>
+        requires { AreEdits edits.now }
+        ensures ok { OnOk result ((t : TransactionOf) → map.get self.old start.0 ≡ Some t → self.new ≡ map.insert self.old start.0 (record t { prewritten = t.prewritten ++ cell ∷ [] })) }
+        ensures applied { OnOk result (table.new.contents ≡ after_edits edits.now table.old.contents) }
+        ensures err { OnErr result (self.new ≡ self.old) }
+        ensures kept { OnErr result (table.new.contents ≡ table.old.contents) }
+    {
+        let Some(place) = place_of(&self.list, start.0) else {
+            return table.apply(edits);
+        };
+        let entry = &mut self.list[place];
+        entry.1.prewrite(table, cell, edits)
     }
 }

@@ -16,3 +16,9 @@ pub returns-in_default : goal.returns-in_default
 returns-in_default c = λ t is.
     let none = not_held c.self.inside.list.items c.args.self.now c.args.start.0 c.self.view_is (subst (λ es. IsNowhere es c.args.start.0) c.deref.ensures.value c.in_default.ensures) in
     absurd cc
+
+pub set_phase-requires : goal.set_phase-requires
+set_phase-requires c =
+    let at = subst (λ es. IsAt es c.args.start.0 c.in-Some.place) c.deref.ensures.value c.in-Some.ensures in
+    c.requires c.index_mut-entry.result.now.1
+    (held c.self.inside.list.items c.args.self.now c.args.start.0 c.in-Some.place c.index_mut-entry.result.now c.self.invariant c.self.view_is at c.index_mut-entry.ensures.value)

@@ -1,0 +1,42 @@
+-- What the newest entry tells of locks and write records.
+use Rattle.std.proofs.Common.{◌≡◌, ℕ, ◌<◌, ◌≤◌, true, Option, Some, None, refl, ap, ◌∙◌, arith}
+use Rattle.std.specs.Prelude.{is_some}
+use Rattle.pb_base.specs.declared.cell.Cell.{Cell}
+use Rattle.pb_base.specs.declared.names.Ts.{Ts}
+use Rattle.pb_store.specs.declared.slot.Item.{Item}
+use Rattle.pb_store.specs.declared.slot.Item.TheVariants as items
+use Rattle.pb_store.specs.declared.slot.Sort.TheVariants as sorts
+use Rattle.pb_store.specs.Contents.{Entries, IsNewest, IsOfSort}
+use Rattle.pb_state.specs.State.{NoLock, SomeLock, NoWriteFrom, SomeWriteFrom, primary_of, start_of}
+
+abbrev pub last : Ts
+last = record { 0 = 18446744073709551615 }
+
+pub no_lock : (e : Entries) (x : Cell) → IsNewest e x sorts.Lock last None → NoLock e x
+no_lock e x h = λ u lt. ap primary_of (h u (omega arith))
+
+lock_item : (i : Item) → IsOfSort sorts.Lock i → is_some (primary_of (Some i)) ≡ true
+lock_item (items.Data c) h = absurd h
+lock_item (items.Lock p) h = refl
+lock_item (items.Write s) h = absurd h
+
+write_item : (i : Item) → IsOfSort sorts.Write i → is_some (start_of (Some i)) ≡ true
+write_item (items.Data c) h = absurd h
+write_item (items.Lock p) h = absurd h
+write_item (items.Write s) h = refl
+
+pub some_lock : (e : Entries) (x : Cell) (f : Ts × Item) → IsNewest e x sorts.Lock last (Some f) → SomeLock e x
+some_lock e x f h = let low = h.0 in (f.0.0, omega arith, ap (λ o. is_some (primary_of o)) h.1 ∙ lock_item f.1 h.2)
+
+pub no_write : (e : Entries) (x : Cell) (s : ℕ) → IsNewest e x sorts.Write last None → NoWriteFrom e x s
+no_write e x s h = λ c le lt. ap start_of (h c (omega arith))
+
+pub earlier_write : (e : Entries) (x : Cell) (s : ℕ) (f : Ts × Item) → IsNewest e x sorts.Write last (Some f) → f.0.0 < s → NoWriteFrom e x s
+earlier_write e x s f h below = λ c le lt. ap start_of (h.3 c (omega arith) (omega arith))
+
+pub later_write : (e : Entries) (x : Cell) (s : ℕ) (f : Ts × Item) → IsNewest e x sorts.Write last (Some f) → s ≤ f.0.0 → SomeWriteFrom e x s
+later_write e x s f h le = let low = h.0 in (f.0.0, le, omega arith, ap (λ o. is_some (start_of o)) h.1 ∙ write_item f.1 h.2)
+
+pub lock_if : (e : Entries) (x : Cell) (o : Option (Ts × Item)) → IsNewest e x sorts.Lock last o → is_some o ≡ true → SomeLock e x
+lock_if e x None h is = cc
+lock_if e x (Some f) h is = some_lock e x f h

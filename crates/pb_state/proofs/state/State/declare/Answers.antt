@@ -1,0 +1,12 @@
+use Rattle.std.proofs.Common.{arith, ap, ◌∙◌}
+use Rattle.std.specs.FinMap as map
+use Rattle.pb_state.specs.State.{StateOf}
+use Rattle.pb_state.proofs.Allowed.{declares, own_held}
+use Rattle.pb_state.proofs.Keeping.{kept_change}
+use Rattle.pb_state.proofs.state.State.declare.Goals as goal
+
+pub invariant_of-self : goal.invariant_of-self
+invariant_of-self g c =
+    let may = declares c.args.self.now c.args.seat c.args.start c.args.what.now c.requires in
+    let held = ap (λ (s : StateOf). map.get s.transactions c.args.start.0) c.self.view_is ∙ own_held c.args.self.now c.args.seat c.args.start.0 may.0 may.1 in
+    kept_change c.self.inside.clock _ c.args.start.0 c.self.inside.transactions _ may.0 _ c.self.invariant held (omega arith) (c.declare.ensures may.0 held)

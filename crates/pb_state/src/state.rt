@@ -1,0 +1,360 @@
+//! The state of the shared table, and the steps that it takes.
+ghost use Rattle.std.specs.Prelude.{◌≡◌, ◌⊎◌, is_some, MatchBool};
+ghost use Rattle.pb_store.specs.Contents.{Contents, AreEdits, after_edits, slot_at};
+ghost use Rattle.pb_state.specs.State.{SomeLock, SomeWriteFrom, NoLock, NoWriteFrom, lock_at};
+ghost use Rattle.pb_state.specs.Machine.{put_lock, commit_lock};
+
+use crate::step::{Answer, Declaration, Step, Work};
+use crate::transaction::{Phase, Transaction, Transactions};
+use pb_base::{Cell, Content, NoMemory, Refusal, Ts};
+use pb_store::{Edit, Item, Slot, Sort, Table, Tablet};
+use std::alloc::Global;
+use std::marker::Model;
+
+/// The last timestamp there is.
+const LAST: Ts = Ts(u64::MAX);
+
+/// The state of the shared table, without journal and books: what the table holds, the last timestamp given out, the
+/// number of seats, and the transactions.
+///
+/// A state ends by `close` alone.
+pub struct State<T: Tablet> {
+    alloc: Global,
+    table: Table<T>,
+    clock: u64,
+    seats: u32,
+    transactions: Transactions,
+}
+
+impl<T: Tablet> Model for State<T> {
+    ghost use Rattle.pb_state.specs.State.{StateOf, state_code};
+
+    ghost Value = { StateOf };
+
+    ghost coded = { state_code };
+
+    ghost use Rattle.pb_state.specs.Kept.{state_of, IsKept};
+
+    ghost view = { λ s. state_of s.table s.clock s.seats s.transactions };
+
+    ghost invariant = { λ s. IsKept s.clock s.transactions };
+}
+
+impl<T: Tablet> State<T> {
+    ghost use Rattle.std.specs.Prelude.{◌≡◌, ◌<◌, ◌^◌, OnErr, IfOk, None, Some, option_map};
+    ghost use Rattle.std.specs.FinMap as map;
+    ghost use Rattle.pb_store.specs.Contents.{nothing};
+    ghost use Rattle.pb_state.specs.State.{StateOf, opened, phase_in};
+    ghost use Rattle.std.specs.Option.{option_copied};
+    ghost use Rattle.pb_state.specs.declared.step.Work.{Work};
+    ghost use Rattle.pb_state.specs.declared.step.Declared.{Declared};
+    ghost use Rattle.pb_state.specs.Refusal.{refusal, reasons, first_reason, own};
+    ghost use Rattle.pb_state.specs.Machine.{Machine};
+
+    /// A state over an empty table, with seats numbered from 0 and the last timestamp given out.
+    pub fn new(alloc: Global, table: Table<T>, seats: u32, last: Ts) -> State<T>
+        requires { table.contents ≡ nothing }
+        ensures { result ≡ opened seats last.0 }
+    {
+        State {
+            alloc,
+            table,
+            clock: last.0,
+            seats,
+            transactions: Transactions::new(alloc),
+        }
+    }
+
+    /// The last timestamp given out.
+    pub fn clock(&self) -> Ts
+        ensures { result.0 ≡ self.now.clock }
+    {
+        Ts(self.clock)
+    }
+
+    /// How many seats there are.
+    pub fn seats(&self) -> u32
+        ensures { result ≡ self.now.seats }
+    {
+        self.seats
+    }
+
+    /// How far the transaction of this start has come.
+    pub fn phase(&self, start: Ts) -> Option<Phase>
+        ensures { result ≡ phase_in self.now start.0 }
+    {
+        match self.transactions.get(start) {
+            Some(transaction) => Some(transaction.phase()),
+            None => None,
+        }
+    }
+
+    /// The lowest of the numbers 40 to 43 and 45 to 47 that a step is refused with, if one applies.
+    pub fn refused(&self, seat: u32, step: &Step) -> Option<Refusal>
+        ensures { result ≡ refusal self.now seat step.now }
+    {
+        match step {
+            Step::Begin(_) => self.begin_refused(seat),
+            Step::Declare(start, _) => self.declare_refused(seat, *start),
+            Step::Prewrite(start, cell) => self.prewrite_refused(seat, *start, *cell),
+            Step::Stamp(start) => self.stamp_refused(seat, *start),
+            Step::CommitPrimary(start) => self.primary_refused(seat, *start),
+        }
+    }
+
+    // The transaction of this start, if it is one of this seat.
+    fn own(&self, seat: u32, start: Ts) -> Option<&Transaction>
+        ensures { option_copied result ≡ own self.now seat start.0 }
+    {
+        match self.transactions.get(start) {
+            Some(transaction) => {
+                if transaction.seat() == seat {
+                    Some(transaction)
+                } else {
+                    None
+                }
+            }
+            None => None,
+        }
+    }
+
+    fn begin_refused(&self, seat: u32) -> Option<Refusal>
+        ensures { (work : Work) → result ≡ first_reason (reasons self.now seat (Step.Begin work)) }
+    {
+        if self.clock == u64::MAX {
+            return Some(Refusal(40));
+        }
+        if seat >= self.seats {
+            return Some(Refusal(41));
+        }
+        None
+    }
+
+    fn declare_refused(&self, seat: u32, start: Ts) -> Option<Refusal>
+        ensures { (what : Declared) → result ≡ first_reason (reasons self.now seat (Step.Declare start what)) }
+    {
+        if seat >= self.seats {
+            return Some(Refusal(41));
+        }
+        let Some(transaction) = self.own(seat, start) else {
+            return Some(Refusal(41));
+        };
+        if !transaction.phase().is_reading() {
+            return Some(Refusal(42));
+        }
+        None
+    }
+
+    fn prewrite_refused(&self, seat: u32, start: Ts, cell: Cell) -> Option<Refusal>
+        ensures { result ≡ first_reason (reasons self.now seat (Step.Prewrite start cell)) }
+    {
+        if seat >= self.seats {
+            return Some(Refusal(41));
+        }
+        let Some(transaction) = self.own(seat, start) else {
+            return Some(Refusal(41));
+        };
+        transaction.prewrite_refused(&cell)
+    }
+
+    fn stamp_refused(&self, seat: u32, start: Ts) -> Option<Refusal>
+        ensures { result ≡ first_reason (reasons self.now seat (Step.Stamp start)) }
+    {
+        if self.clock == u64::MAX {
+            return Some(Refusal(40));
+        }
+        if seat >= self.seats {
+            return Some(Refusal(41));
+        }
+        let Some(transaction) = self.own(seat, start) else {
+            return Some(Refusal(41));
+        };
+        if !transaction.phase().is_declared() || !transaction.is_whole() {
+            return Some(Refusal(42));
+        }
+        None
+    }
+
+    fn primary_refused(&self, seat: u32, start: Ts) -> Option<Refusal>
+        ensures { result ≡ first_reason (reasons self.now seat (Step.CommitPrimary start)) }
+    {
+        if seat >= self.seats {
+            return Some(Refusal(41));
+        }
+        let Some(transaction) = self.own(seat, start) else {
+            return Some(Refusal(41));
+        };
+        if !transaction.phase().is_stamped() {
+            return Some(Refusal(42));
+        }
+        None
+    }
+
+    /// Takes a step that isn't refused. A commit of a primary answers `Lost` where its lock is gone.
+    pub fn take(&mut self, seat: u32, step: &Step) -> Result<Answer, NoMemory>
+        requires { refusal self.old seat step.now ≡ None }
+        ensures taken { IfOk result (λ a. Machine self.old seat step.now a self.new) }
+        ensures same { OnErr result (self.new ≡ self.old) }
+    {
+        match step {
+            Step::Begin(work) => self.begin(seat, *work),
+            Step::Declare(start, what) => self.declare(seat, *start, what),
+            Step::Prewrite(start, cell) => self.prewrite(seat, *start, cell),
+            Step::Stamp(start) => Ok(self.stamp(seat, *start)),
+            Step::CommitPrimary(start) => self.commit_primary(seat, *start),
+        }
+    }
+
+    fn begin(&mut self, seat: u32, work: Work) -> Result<Answer, NoMemory>
+        requires { refusal self.old seat (Step.Begin work) ≡ None }
+        ensures taken { IfOk result (λ a. Machine self.old seat (Step.Begin work) a self.new) }
+        ensures same { OnErr result (self.new ≡ self.old) }
+    {
+        let start = self.clock + 1;
+        let transaction = Transaction::begun(self.alloc, seat, work);
+        self.transactions.add(Ts(start), transaction)?;
+        self.clock = start;
+        Ok(Answer::At(Ts(start)))
+    }
+
+    fn declare(&mut self, seat: u32, start: Ts, what: &Declaration) -> Result<Answer, NoMemory>
+        requires { refusal self.old seat (Step.Declare start what.now) ≡ None }
+        ensures taken { IfOk result (λ a. Machine self.old seat (Step.Declare start what.now) a self.new) }
+        ensures same { OnErr result (self.new ≡ self.old) }
+    {
+        let _seat = seat;
+        let what = what.share()?;
+        self.transactions.declare(start, what);
+        Ok(Answer::Done)
+    }
+
+    fn prewrite(&mut self, seat: u32, start: Ts, cell: &Cell) -> Result<Answer, NoMemory>
+        requires { refusal self.old seat (Step.Prewrite start cell.now) ≡ None }
+        ensures taken { IfOk result (λ a. Machine self.old seat (Step.Prewrite start cell.now) a self.new) }
+        ensures same { OnErr result (self.new ≡ self.old) }
+    {
+        let _seat = seat;
+        if is_taken(&self.table, cell, start) {
+            self.transactions.set_phase(start, Phase::Failed);
+            return Ok(Answer::Conflict);
+        }
+        let Some(transaction) = self.transactions.get(start) else {
+            unreachable!()
+        };
+        let Some(content) = transaction.content(*cell) else {
+            unreachable!()
+        };
+        let Some(primary) = transaction.primary() else {
+            unreachable!()
+        };
+        let edits = lock_edits(cell, start, content, primary);
+        self.transactions
+            .prewrite(&mut self.table, start, *cell, &edits)?;
+        Ok(Answer::Done)
+    }
+
+    fn stamp(&mut self, seat: u32, start: Ts) -> Answer
+        requires { refusal self.old seat (Step.Stamp start) ≡ None }
+        ensures { Machine self.old seat (Step.Stamp start) result self.new }
+    {
+        let _seat = seat;
+        let commit = Ts(self.clock + 1);
+        self.transactions.set_phase(start, Phase::Stamped(commit));
+        self.clock = commit.0;
+        Answer::At(commit)
+    }
+
+    fn commit_primary(&mut self, seat: u32, start: Ts) -> Result<Answer, NoMemory>
+        requires { refusal self.old seat (Step.CommitPrimary start) ≡ None }
+        ensures taken { IfOk result (λ a. Machine self.old seat (Step.CommitPrimary start) a self.new) }
+        ensures same { OnErr result (self.new ≡ self.old) }
+    {
+        let _seat = seat;
+        let Some(transaction) = self.transactions.get(start) else {
+            unreachable!()
+        };
+        let Phase::Stamped(commit) = transaction.phase() else {
+            unreachable!()
+        };
+        let Some(primary) = transaction.primary() else {
+            unreachable!()
+        };
+        if !has_lock(&self.table, &primary, start) {
+            self.transactions.set_phase(start, Phase::Failed);
+            return Ok(Answer::Lost);
+        }
+        self.table.apply(&commit_edits(&primary, start, commit))?;
+        self.transactions.set_phase(start, Phase::Committed(commit));
+        Ok(Answer::Committed)
+    }
+
+    /// Ends the table, with all that is in it.
+    pub fn close(self) {
+        let State {
+            alloc: _,
+            table,
+            clock: _,
+            seats: _,
+            transactions: _,
+        } = self;
+        table.close();
+    }
+}
+
+fn slot_of(cell: &Cell, sort: Sort, ts: Ts) -> Slot
+    ensures { result ≡ slot_at cell.now sort ts.0 }
+{
+    Slot {
+        cell: *cell,
+        sort,
+        ts,
+    }
+}
+
+// Whether a lock stands on the cell, or a write record of this timestamp or later.
+fn is_taken<T: Tablet>(table: &Table<T>, cell: &Cell, from: Ts) -> bool
+    ensures { MatchBool result
+        (SomeLock table.now.contents.entries cell.now ⊎ SomeWriteFrom table.now.contents.entries cell.now from.0)
+        (NoLock table.now.contents.entries cell.now × NoWriteFrom table.now.contents.entries cell.now from.0) }
+{
+    if table.newest(*cell, Sort::Lock, LAST).is_some() {
+        return true;
+    }
+    let Some((commit, _)) = table.newest(*cell, Sort::Write, LAST) else {
+        return false;
+    };
+    if commit.0 < from.0 {
+        return false;
+    }
+    true
+}
+
+// Whether the lock of this start stands on the cell.
+fn has_lock<T: Tablet>(table: &Table<T>, cell: &Cell, start: Ts) -> bool
+    ensures { result ≡ is_some (lock_at table.now.contents.entries cell.now start.0) }
+{
+    table.get(slot_of(cell, Sort::Lock, start)).is_some()
+}
+
+// Puts data and lock of a start on a cell.
+fn lock_edits(cell: &Cell, start: Ts, content: Content, primary: Cell) -> [Edit; 2]
+    ensures edits { AreEdits result }
+    ensures lock { (c : Contents) → after_edits result c ≡ record c { entries = put_lock c.entries cell.now start.0 content primary } }
+{
+    let data = slot_of(cell, Sort::Data, start);
+    let lock = slot_of(cell, Sort::Lock, start);
+    [
+        Edit::Put(data, Item::Data(content)),
+        Edit::Put(lock, Item::Lock(primary)),
+    ]
+}
+
+// Replaces the lock of a start on a cell by its write record.
+fn commit_edits(cell: &Cell, start: Ts, commit: Ts) -> [Edit; 2]
+    ensures edits { AreEdits result }
+    ensures committed { (c : Contents) → after_edits result c ≡ record c { entries = commit_lock c.entries cell.now start.0 commit.0 } }
+{
+    let lock = slot_of(cell, Sort::Lock, start);
+    let record = slot_of(cell, Sort::Write, commit);
+    [Edit::Erase(lock), Edit::Put(record, Item::Write(start))]
+}
