@@ -1,5 +1,5 @@
 -- One half of what tablets contain, entries or marks: tablets side by side as one map.
-use Rattle.std.proofs.Common.{◌≡◌, ℕ, ◌<◌, ◌≤◌, Bool, true, false, cond, ◌&&◌, T, List, [], ◌∷◌, ◌++◌, Option, None, Some, refl, sym, ap, ◌∙◌, subst, arith, zero, suc, is_some}
+use Rattle.std.proofs.Common.{◌≡◌, ℕ, ◌<◌, ◌≤◌, Bool, true, false, cond, ◌&&◌, T, List, [], ◌∷◌, ◌++◌, Option, None, Some, refl, sym, ap, ◌∙◌, subst, arith, zero, suc, is_some, length}
 use Rattle.std.specs.declared.cmp.Ordering.{Ordering}
 use Rattle.std.specs.declared.cmp.Ordering.TheVariants.{Less, Equal, Greater}
 use Rattle.std.specs.Ordering.{eq_by_cmp, is_eq, is_lt}
@@ -113,6 +113,32 @@ module _ {K X : Type 0} {R : K → K → Ordering} (h : Half R X) where
   -- a look-up in all tiles is one in the tile of the key's row
   pub get-all_of : (q : K) (tiles : List Tile) (i : ℕ) → Kept tiles → IsPlace tiles i (h.row q) → map.get (map.from_entries {R = R} (all_of tiles)) q ≡ map.get (h.part (tile_at tiles i)) q
   get-all_of q tiles i kept place = map.get-from_entries h.total (all_of tiles) q ∙ find-all_of q tiles i kept place
+
+  -- a key stands in the tile of its row
+  pub place_of_key : (q : K) (tiles : List Tile) (i : ℕ) → Kept tiles → i < length tiles → map.contains_key (h.part (tile_at tiles i)) q ≡ true → IsPlace tiles i (h.row q)
+  place_of_key q [] i kept lt is = omega (arith, lt)
+  place_of_key q (tile ∷ tiles) zero kept lt is = (kept.0.from_first q is, kept.0.before_next q is)
+  place_of_key q (tile ∷ tiles) (suc i) kept lt is = place_of_key q tiles i kept.1 (omega arith) is
+
+  place_above : (n m i : ℕ) (tiles : List Tile) → Kept tiles → IsBelow n tiles → IsPlace tiles i m → n < m
+  place_above n m i [] kept below place = absurd place
+  place_above n m zero (tile ∷ tiles) kept below place = omega (arith, place.0, below)
+  place_above n m (suc i) (tile ∷ tiles) kept below place = place_above n m i tiles kept.1 (below_rest n tile tiles below kept.0.rises) place
+
+  -- the rows of an earlier tile are below those of a later one
+  pub places_rise : (n m i j : ℕ) (tiles : List Tile) → Kept tiles → IsPlace tiles i n → IsPlace tiles j m → i < j → n < m
+  places_rise n m i j [] kept p q lt = absurd p
+  places_rise n m i zero (tile ∷ tiles) kept p q lt = absurd (omega (arith, lt))
+  places_rise n m zero (suc j) (tile ∷ tiles) kept p q lt = place_above n m j tiles kept.1 p.1 q
+  places_rise n m (suc i) (suc j) (tile ∷ tiles) kept p q lt = places_rise n m i j tiles kept.1 p q (omega arith)
+
+  -- what is in no tile is not in all of them
+  pub find-nowhere : (q : K) (tiles : List Tile) → ((i : ℕ) → i < length tiles → map.get (h.part (tile_at tiles i)) q ≡ None) → map.find R q (all_of tiles) ≡ None
+  find-nowhere q [] none = refl
+  find-nowhere q (tile ∷ tiles) none =
+      find-++ q (map.entries (h.part tile.1)) (all_of tiles)
+      ∙ ap (λ x. or_else x (map.find R q (all_of tiles))) (sym (map.get-entries (h.part tile.1) q) ∙ none 0 (omega arith))
+      ∙ find-nowhere q tiles (λ i lt. none (suc i) (omega arith))
 
   -- ---- in order
   abbrev has : List (K × X) → K → Bool

@@ -25,7 +25,7 @@ pub joined-marks : (tiles : List Tile) → (joined tiles).marks ≡ map.from_ent
 unfolding joined
 joined-marks tiles = refl
 
-cells_by_row : (x y : Cell) → (row_of x).0 < (row_of y).0 → cell_cmp x y ≡ Less
+pub cells_by_row : (x y : Cell) → (row_of x).0 < (row_of y).0 → cell_cmp x y ≡ Less
 cells_by_row x y lt = ap (λ r. ordering_then r (ordering_then (nat_cmp (column_of x) (column_of y)) (nat_cmp (rank_of x) (rank_of y)))) (sym (nat_cmp_is (row_of x).0 (row_of y).0 Less lt))
 
 slots_by_row : (x y : Slot) → (row_of x.cell).0 < (row_of y.cell).0 → slot_cmp x y ≡ Less
@@ -34,14 +34,14 @@ slots_by_row x y lt = ap (λ r. ordering_then r (ordering_then (nat_cmp (place_o
 abbrev entry_half : Half slot_cmp Item
 entry_half = record { total = slot_cmp_total; exact = slot_cmp-IsAntisymmetric; row = λ q. (row_of q.cell).0; by_row = slots_by_row; part = λ c. c.entries }
 
-abbrev mark_half : Half cell_cmp (Unit {0})
+abbrev pub mark_half : Half cell_cmp (Unit {0})
 mark_half = record { total = cell_cmp_total; exact = cell_cmp-IsAntisymmetric; row = λ q. (row_of q).0; by_row = cells_by_row; part = λ c. c.marks }
 
 entries_kept : (tiles : List Tile) → AreTiled tiles → Kept entry_half tiles
 entries_kept [] t = tt
 entries_kept (tile ∷ tiles) t = (record { rises = t.0.rises; from_first = t.0.from_first; before_next = t.0.before_next }, entries_kept tiles t.1)
 
-marks_kept : (tiles : List Tile) → AreTiled tiles → Kept mark_half tiles
+pub marks_kept : (tiles : List Tile) → AreTiled tiles → Kept mark_half tiles
 marks_kept [] t = tt
 marks_kept (tile ∷ tiles) t = (record { rises = t.0.rises; from_first = t.0.marks_from_first; before_next = t.0.marks_before_next }, marks_kept tiles t.1)
 
@@ -69,7 +69,7 @@ same_marks (tile ∷ tiles) = ap (λ es. map.entries tile.1.marks ++ es) (same_m
 entries_joined : (tiles : List Tile) → (joined tiles).entries ≡ map.from_entries (all_of entry_half tiles)
 entries_joined tiles = joined-entries tiles ∙ ap (λ es. map.from_entries es) (same_entries tiles)
 
-marks_joined : (tiles : List Tile) → (joined tiles).marks ≡ map.from_entries (all_of mark_half tiles)
+pub marks_joined : (tiles : List Tile) → (joined tiles).marks ≡ map.from_entries (all_of mark_half tiles)
 marks_joined tiles = joined-marks tiles ∙ ap (λ es. map.from_entries es) (same_marks tiles)
 
 -- ---- look-ups

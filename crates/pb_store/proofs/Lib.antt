@@ -4,3 +4,5 @@ pub mod Joined
 pub mod Fresh
 pub mod Applying
 pub mod Reading
+pub mod Marked
+pub mod Counting

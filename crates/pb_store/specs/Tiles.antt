@@ -60,6 +60,11 @@ IsPlace [] i row = ⊥
 IsPlace (tile ∷ tiles) zero row = (tile.0 ≤ row) × IsBelow row tiles
 IsPlace (tile ∷ tiles) (suc i) row = IsPlace tiles i row
 
+-- tile i is the first that may have a cell after the given one
+abbrev pub IsStart : List Tile → ℕ → Option Cell → Type 0
+IsStart tiles i None = i ≡ 0
+IsStart tiles i (Some cell) = IsPlace tiles i (row_of cell).0
+
 abbrev pub tile_at : List Tile → ℕ → Contents
 tile_at [] i = nothing
 tile_at (tile ∷ tiles) zero = tile.1

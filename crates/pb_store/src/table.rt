@@ -1,9 +1,9 @@
 //! Tablets side by side, seen as one.
-ghost use Rattle.std.specs.Prelude.{◌≡◌, ◌<◌, IfOk, IfErr, OnOk, OnErr, IfSome, None, Some, length};
+ghost use Rattle.std.specs.Prelude.{◌≡◌, ◌<◌, IfOk, IfErr, OnOk, OnErr, IfSome, None, Some, length, slice_get};
 ghost use Rattle.std.specs.FinMap as map;
-ghost use Rattle.pb_store.specs.Contents.{nothing, is_nothing, after_edits, AreEdits, IsOfSort, IsNewest};
+ghost use Rattle.pb_store.specs.Contents.{nothing, is_nothing, after_edits, AreEdits, IsOfSort, IsNewest, IsNextMark};
 ghost use Rattle.pb_store.specs.Held.{Held};
-ghost use Rattle.pb_store.specs.Tiles.{tiles_of, IsPlace, IsTiling, rise_from_zero, all_nothing, refusal_of};
+ghost use Rattle.pb_store.specs.Tiles.{tiles_of, IsPlace, IsStart, IsTiling, rise_from_zero, all_nothing, refusal_of, all_entries, joined};
 
 use crate::slot::{Edit, Item, Slot, Sort};
 use crate::tablet::Tablet;
@@ -78,6 +78,48 @@ fn are_empty<T: Tablet>(parts: &[(Row, T)]) -> bool
     true
 }
 
+// The place of the first tablet that may have a cell after the given one.
+fn start_in<T: Tablet>(parts: &[(Row, T)], after: Option<Cell>) -> usize
+    requires { IsTiling (tiles_of T.contents parts.now) }
+    ensures within { result < length parts.now }
+    ensures place { IsStart (tiles_of T.contents parts.now) result after }
+{
+    match after {
+        Some(cell) => place_in(parts, cell.row()),
+        None => 0,
+    }
+}
+
+// The first marked cell after the given one, or of all.
+fn mark_in<T: Tablet>(parts: &[(Row, T)], after: &Option<Cell>) -> Option<Cell>
+    requires { IsTiling (tiles_of T.contents parts.now) }
+    ensures { IsNextMark (joined (tiles_of T.contents parts.now)).marks after.now result }
+{
+    for i in start_in(parts, *after)..parts.len() {
+        let next = parts[i].1.next_mark(*after);
+        if let Some(cell) = next {
+            return Some(cell);
+        }
+    }
+    None
+}
+
+// The entry at a place, counted from the first tablet on.
+fn entry_in<T: Tablet>(parts: &[(Row, T)], place: usize) -> Option<(Slot, Item)>
+    ensures { result ≡ slice_get (all_entries (tiles_of T.contents parts.now)) place }
+{
+    let mut rest = place;
+    for i in 0..parts.len() {
+        let tablet = &parts[i].1;
+        let count = tablet.len();
+        if rest < count {
+            return tablet.at(rest);
+        }
+        rest -= count;
+    }
+    None
+}
+
 impl<T: Tablet> Table<T> {
     /// The table of tablets made by the caller, each with the first row of its range.
     ///
@@ -117,6 +159,27 @@ impl<T: Tablet> Table<T> {
     {
         let i = place_in(&self.parts, cell.row());
         self.parts[i].1.newest(cell, sort, high)
+    }
+
+    /// The first marked cell after the given one, or of all.
+    pub fn next_mark(&self, after: Option<Cell>) -> Option<Cell>
+        ensures { IsNextMark self.now.contents.marks after result }
+    {
+        mark_in(&self.parts, &after)
+    }
+
+    /// The entry at a place, counted by rising slot.
+    pub fn at(&self, place: usize) -> Option<(Slot, Item)>
+        ensures { result ≡ slice_get (map.entries self.now.contents.entries) place }
+    {
+        entry_in(&self.parts, place)
+    }
+
+    /// How many tablets it has.
+    pub fn places(&self) -> usize
+        ensures { result ≡ self.now.places }
+    {
+        self.parts.len()
     }
 
     /// Whether it has no entry and no mark.

@@ -1,0 +1,164 @@
+-- Where keys stand in sorted lists, and what a change there does.
+use Rattle.std.proofs.Common.{◌≡◌, ◌≢◌, ℕ, ◌<◌, ◌≤◌, Bool, true, false, cond, not, List, [], ◌∷◌, None, Some, Result, Ok, Err, IfOk, IfErr, refl, sym, ap, ◌∙◌, subst, arith, zero, suc, length, get_or, set, T, ◌&&◌, add-one}
+use Rattle.std.specs.declared.cmp.Ordering.{Ordering}
+use Rattle.std.specs.declared.cmp.Ordering.TheVariants.{Less, Equal, Greater}
+use Rattle.std.specs.Ordering.{is_eq, is_lt, ordering_reverse, eq_by_cmp, ordering_index}
+use Rattle.std.specs.Cmp.{IsTotalOrder}
+use Rattle.std.specs.List.{insert, remove, AllWithin, HoldsAt}
+use Rattle.std.specs.List.Sorted.{IsNonDecreasingBy, IsBinarySearchResult, IsSearchInRange}
+use Rattle.std.proofs.lemmas.List.Sorted.{searchable_from_sorted}
+use Rattle.std.specs.FinMap.{find, put}
+use Rattle.std.specs.FinMap.Entries.{by_order, below_all, is_sorted, where_key}
+use Rattle.pb_memtablet.specs.Places.{IsFound, IsGap, IsCut}
+
+pub holds : (b : Bool) → b ≡ true → T b
+holds b e = subst T (sym e) tt
+
+first : (a b : Bool) → T (a && b) → T a
+first true b p = tt
+first false b p = p
+
+second : (a b : Bool) → T (a && b) → T b
+second true b p = p
+second false b p = absurd p
+
+less : (o : Ordering) → T (is_lt o) → o ≡ Less
+less Less p = refl
+less Equal p = absurd p
+less Greater p = absurd p
+
+pub not_less : (o : Ordering) → o ≡ Greater → o ≢ Less
+not_less o g l = cc
+
+pub equal_not_less : (o : Ordering) → o ≡ Equal → o ≢ Less
+equal_not_less o g l = cc
+
+pub turned : {K : Type 0} {R : K → K → Ordering} → IsTotalOrder R → (x y : K) (r : Ordering) → R x y ≡ r → R y x ≡ ordering_reverse r
+turned o x y r e = o.antisymm y x ∙ ap ordering_reverse e
+
+module _ {K X : Type 0} {R : K → K → Ordering} (o : IsTotalOrder R) where
+  below_at : (x : K) (es : List (K × X)) (i : ℕ) (d : K × X) → T (below_all R x es) → i < length es → R x (get_or es i d).0 ≡ Less
+  below_at x [] i d h lt = absurd (omega (arith, lt))
+  below_at x (e ∷ es) zero d h lt = less _ (first _ _ h)
+  below_at x (e ∷ es) (suc i) d h lt = below_at x es i d (second _ _ h) (omega arith)
+
+  rises : (es : List (K × X)) → T (is_sorted R es) → (i : ℕ) (d : K × X) → suc i < length es → is_lt (R (get_or es (suc i) d).0 (get_or es i d).0) ≡ false
+  rises [] s i d lt = absurd (omega (arith, lt))
+  rises (e ∷ es) s zero d lt = ap is_lt (turned o _ _ Less (below_at e.0 es 0 d (first _ _ s) (omega arith)))
+  rises (e ∷ es) s (suc i) d lt = rises es (second _ _ s) i d (omega arith)
+
+  searchable : (es : List (K × X)) (k : K) → T (is_sorted R es) → IsNonDecreasingBy (λ e. ordering_index (R e.0 k)) es
+  searchable es k s = searchable_from_sorted o (λ e. e.0) es k (λ i d _ lt. rw add-one (rises es s i d (omega arith)))
+
+  found_at : (es : List (K × X)) (k : K) (i : ℕ) → T (is_sorted R es) → i < length es → HoldsAt (λ e. R e.0 k ≡ Equal) es i → IsFound R es k i
+  found_at [] k i s lt h = absurd (omega (arith, lt))
+  found_at (e ∷ es) k zero s lt h = turned o _ _ Equal (h e)
+  found_at (e ∷ es) k (suc i) s lt h =
+      let x = (get_or es i e).0 in
+      (sym (o.congr x k e.0 (h e)) ∙ turned o e.0 x Less (below_at e.0 es i e (first _ _ s) (omega arith)), found_at es k i (second _ _ s) (omega arith) h)
+
+  gap_at : (es : List (K × X)) (k : K) (i : ℕ) → i ≤ length es → AllWithin (λ e. R e.0 k ≡ Less) es 0 i → AllWithin (λ e. R e.0 k ≡ Greater) es i (length es) → IsGap R es k i
+  gap_at [] k zero le low high = tt
+  gap_at [] k (suc i) le low high = absurd (omega (arith, le))
+  gap_at (e ∷ es) k zero le low high = turned o _ _ Greater (high 0 e (omega arith) (omega arith))
+  gap_at (e ∷ es) k (suc i) le low high = (
+    turned o _ _ Less (low 0 e (omega arith) (omega arith)),
+    gap_at es k i (omega arith) (λ j d a b. low (suc j) d (omega arith) (omega arith)) (λ j d a b. high (suc j) d (omega arith) (omega arith)),
+  )
+
+  pub found_by_search : (es : List (K × X)) (k : K) (r : Result ℕ ℕ) → T (is_sorted R es) → IsSearchInRange r (length es) → IsBinarySearchResult (λ e. R e.0 k) es r → IfOk r (IsFound R es k)
+  found_by_search es k (Ok i) s lt at = found_at es k i s lt at
+  found_by_search es k (Err i) s le at = tt
+
+  pub gap_by_search : (es : List (K × X)) (k : K) (r : Result ℕ ℕ) → T (is_sorted R es) → IsSearchInRange r (length es) → IsBinarySearchResult (λ e. R e.0 k) es r → IfErr r (IsGap R es k)
+  gap_by_search es k (Ok i) s lt at = tt
+  gap_by_search es k (Err i) s le at = let parts = at (searchable es k s) in gap_at es k i le parts.0 parts.1
+
+  -- ---- what is found
+  pub find-found : (es : List (K × X)) (k : K) (i : ℕ) (d : K × X) → IsFound R es k i → find R k es ≡ Some (get_or es i d).1
+  find-found [] k i d f = absurd f
+  find-found (e ∷ es) k zero d f = ap (λ r. cond (is_eq r) (Some e.1) (find R k es)) f
+  find-found (e ∷ es) k (suc i) d f = ap (λ r. cond (is_eq r) (Some e.1) (find R k es)) f.0 ∙ find-found es k i d f.1
+
+  find_below : (es : List (K × X)) (k x : K) → R k x ≡ Less → T (below_all R x es) → find R k es ≡ None
+  find_below [] k x lt h = refl
+  find_below (e ∷ es) k x lt h =
+      ap (λ r. cond (is_eq r) (Some e.1) (find R k es)) (o.trans k x e.0 lt (less _ (first _ _ h))) ∙ find_below es k x lt (second _ _ h)
+
+  pub find-gap : (es : List (K × X)) (k : K) (i : ℕ) → T (is_sorted R es) → IsGap R es k i → find R k es ≡ None
+  find-gap [] k i s g = refl
+  find-gap (e ∷ es) k zero s g = ap (λ r. cond (is_eq r) (Some e.1) (find R k es)) g ∙ find_below es k e.0 g (first _ _ s)
+  find-gap (e ∷ es) k (suc i) s g = ap (λ r. cond (is_eq r) (Some e.1) (find R k es)) g.0 ∙ find-gap es k i (second _ _ s) g.1
+
+  -- ---- changes
+  pub put-found : (es : List (K × X)) (k : K) (v : X) (i : ℕ) (d : K × X) → IsFound R es k i → put R k v es ≡ set es i ((get_or es i d).0, v)
+  put-found [] k v i d f = absurd f
+  put-found (e ∷ es) k v zero d f = ap (λ r. by_order r ((k, v) ∷ e ∷ es) ((e.0, v) ∷ es) (e ∷ put R k v es)) f
+  put-found (e ∷ es) k v (suc i) d f = ap (λ r. by_order r ((k, v) ∷ e ∷ es) ((e.0, v) ∷ es) (e ∷ put R k v es)) f.0 ∙ ap (λ l. e ∷ l) (put-found es k v i d f.1)
+
+  pub put-gap : (es : List (K × X)) (k : K) (v : X) (i : ℕ) → IsGap R es k i → put R k v es ≡ insert es i (k, v)
+  put-gap [] k v zero g = refl
+  put-gap [] k v (suc i) g = absurd g
+  put-gap (e ∷ es) k v zero g = ap (λ r. by_order r ((k, v) ∷ e ∷ es) ((e.0, v) ∷ es) (e ∷ put R k v es)) g
+  put-gap (e ∷ es) k v (suc i) g = ap (λ r. by_order r ((k, v) ∷ e ∷ es) ((e.0, v) ∷ es) (e ∷ put R k v es)) g.0 ∙ ap (λ l. e ∷ l) (put-gap es k v i g.1)
+
+  -- the entries whose keys don't tie with k
+  abbrev without : K → List (K × X) → List (K × X)
+  without k es = where_key R (λ x. not (eq_by_cmp R k x)) es
+
+  without_above : (es : List (K × X)) (k x : K) → ((y : K) → R x y ≡ Less → R k y ≡ Less) → T (below_all R x es) → without k es ≡ es
+  without_above [] k x f h = refl
+  without_above (e ∷ es) k x f h =
+      ap (λ r. cond (not (is_eq r)) (e ∷ without k es) (without k es)) (f e.0 (less _ (first _ _ h))) ∙ ap (λ l. e ∷ l) (without_above es k x f (second _ _ h))
+
+  pub without-found : (es : List (K × X)) (k : K) (i : ℕ) → T (is_sorted R es) → IsFound R es k i → without k es ≡ remove es i
+  without-found [] k i s f = absurd f
+  without-found (e ∷ es) k zero s f =
+      ap (λ r. cond (not (is_eq r)) (e ∷ without k es) (without k es)) f ∙ without_above es k e.0 (λ y lt. o.congr k e.0 y f ∙ lt) (first _ _ s)
+  without-found (e ∷ es) k (suc i) s f =
+      ap (λ r. cond (not (is_eq r)) (e ∷ without k es) (without k es)) f.0 ∙ ap (λ l. e ∷ l) (without-found es k i (second _ _ s) f.1)
+
+  pub without-gap : (es : List (K × X)) (k : K) (i : ℕ) → T (is_sorted R es) → IsGap R es k i → without k es ≡ es
+  without-gap [] k i s g = refl
+  without-gap (e ∷ es) k zero s g =
+      ap (λ r. cond (not (is_eq r)) (e ∷ without k es) (without k es)) g
+      ∙ ap (λ l. e ∷ l) (without_above es k e.0 (λ y lt. o.trans k e.0 y g lt) (first _ _ s))
+  without-gap (e ∷ es) k (suc i) s g =
+      ap (λ r. cond (not (is_eq r)) (e ∷ without k es) (without k es)) g.0 ∙ ap (λ l. e ∷ l) (without-gap es k i (second _ _ s) g.1)
+
+  -- ---- cuts
+  pub cut_by_found : (es : List (K × X)) (k : K) (i : ℕ) → T (is_sorted R es) → IsFound R es k i → IsCut R es k (suc i)
+  cut_by_found [] k i s f = absurd f
+  cut_by_found (e ∷ []) k zero s f = (equal_not_less _ f, tt)
+  cut_by_found (e ∷ next ∷ es) k zero s f = (equal_not_less _ f, o.congr k e.0 next.0 f ∙ below_at e.0 (next ∷ es) 0 e (first _ _ s) (omega arith))
+  cut_by_found (e ∷ es) k (suc i) s f = (not_less _ f.0, cut_by_found es k i (second _ _ s) f.1)
+
+  pub cut_by_gap : (es : List (K × X)) (k : K) (i : ℕ) → IsGap R es k i → IsCut R es k i
+  cut_by_gap [] k zero g = tt
+  cut_by_gap [] k (suc i) g = absurd g
+  cut_by_gap (e ∷ es) k zero g = g
+  cut_by_gap (e ∷ es) k (suc i) g = (not_less _ g.0, cut_by_gap es k i g.1)
+
+  pub cut_above : (es : List (K × X)) (k : K) (i : ℕ) (d : K × X) → IsCut R es k i → i < length es → R k (get_or es i d).0 ≡ Less
+  cut_above [] k i d c lt = absurd (omega (arith, lt))
+  cut_above (e ∷ es) k zero d c lt = c
+  cut_above (e ∷ es) k (suc i) d c lt = cut_above es k i d c.1 (omega arith)
+
+  pub cut_below : (es : List (K × X)) (k : K) (i : ℕ) (d : K × X) → IsCut R es k (suc i) → R k (get_or es i d).0 ≢ Less
+  cut_below [] k i d c = absurd c
+  cut_below (e ∷ es) k zero d c = c.0
+  cut_below (e ∷ es) k (suc i) d c = cut_below es k i d c.1
+
+  pub gap_first : (es : List (K × X)) (q : K) → ((d : K × X) → 0 < length es → R q (get_or es 0 d).0 ≡ Less) → IsGap R es q 0
+  gap_first [] q above = tt
+  gap_first (e ∷ es) q above = above e (omega arith)
+
+  pub gap_after : (es : List (K × X)) (q : K) (i : ℕ) (d : K × X) → T (is_sorted R es) → i < length es → R q (get_or es i d).0 ≡ Greater
+      → ((d : K × X) → suc i < length es → R q (get_or es (suc i) d).0 ≡ Less) → IsGap R es q (suc i)
+  gap_after [] q i d s lt g above = absurd (omega (arith, lt))
+  gap_after (e ∷ es) q zero d s lt g above = (g, gap_first es q (λ x more. above x (omega arith)))
+  gap_after (e ∷ es) q (suc i) d s lt g above =
+      let x = (get_or es i d).0 in (
+        turned o e.0 q Less (o.trans e.0 x q (below_at e.0 es i d (first _ _ s) (omega arith)) (turned o q x Greater g)),
+        gap_after es q i d (second _ _ s) (omega arith) g (λ y more. above y (omega arith)),
+      )

@@ -1,0 +1,4 @@
+//! Tablets in memory.
+#![tactic(auto)]
+
+mod sorted;
