@@ -1,0 +1,96 @@
+-- A table keeps its invariant over one more entry.
+use Rattle.std.proofs.Common.{◌≡◌, ◌≢◌, ℕ, ◌+◌, ◌<◌, Bool, true, false, eqb, cond, List, [], ◌∷◌, ◌++◌, length, length-append, length-set, get_or-set_same, get_or-set_other, slice_set, slice_index_or, Option, Some, None, refl, sym, ◌∙◌, ap, subst, arith, eq-eqb, ne_eqb, suc, nat_lt, add-zero}
+use Rattle.std.proofs.lemmas.Bool.{eqb-false, eqb-true}
+use Rattle.pb_state.specs.declared.step.Step.{Step}
+use Rattle.pb_state.specs.declared.step.Step.TheVariants as steps
+use Rattle.pb_state.specs.declared.step.Answer.{Answer}
+use Rattle.pb_state.specs.declared.step.Answer.TheVariants as answers
+use Rattle.pb_state.specs.State.{StateOf, opened}
+use Rattle.pb_state.specs.Machine.{Machine, Case}
+use Rattle.pb_base.specs.declared.refusal.Refusal.{Refusal}
+use Rattle.pb_core.specs.declared.entry.Entry.{Entry}
+use Rattle.pb_core.specs.Places.{places_from}
+use Rattle.pb_core.specs.Calls.{lowest}
+use Rattle.pb_core.specs.Legal.{Run, IsKept}
+
+-- a run goes on
+pub run_more : (s : StateOf) (es : List Entry) (t : StateOf) (e : Entry) (u : StateOf) → Run s es t → Machine t e.seat e.step e.answer u → Run s (es ++ e ∷ []) u
+run_more s [] t e u r m = (u, subst (λ x. Machine x e.seat e.step e.answer u) r m, refl)
+run_more s (d ∷ es) t e u r m = (r.0, r.1, run_more r.0 es t e u r.2 m)
+
+-- no step changes the number of seats
+case_seats : (s : StateOf) (seat : ℕ) (step : Step) (a : Answer) (t : StateOf) → Case s seat step a t → t.seats ≡ s.seats
+case_seats s seat (steps.Begin work) (answers.At n) t c = ap (λ (x : StateOf). x.seats) c.new_is
+case_seats s seat (steps.Declare n what) answers.Done t c = ap (λ (x : StateOf). x.seats) c.new_is
+case_seats s seat (steps.Prewrite n x) answers.Done t c = ap (λ (x : StateOf). x.seats) c.new_is
+case_seats s seat (steps.Prewrite n x) answers.Conflict t c = ap (λ (x : StateOf). x.seats) c.new_is
+case_seats s seat (steps.Stamp n) (answers.At k) t c = ap (λ (x : StateOf). x.seats) c.new_is
+case_seats s seat (steps.CommitPrimary n) answers.Committed t c = ap (λ (x : StateOf). x.seats) c.new_is
+case_seats s seat (steps.CommitPrimary n) answers.Lost t c = ap (λ (x : StateOf). x.seats) c.new_is
+case_seats s seat _ _ t c = absurd c
+
+pub machine_seats : (s : StateOf) (seat : ℕ) (step : Step) (a : Answer) (t : StateOf) → Machine s seat step a t → t.seats ≡ s.seats
+machine_seats s seat step a t m = case_seats s seat step a t m.taken
+
+-- no reason is left where the lowest is none
+pub none_by_state : (r : Option Refusal) (full : Bool) → lowest r full ≡ None → r ≡ None
+none_by_state None full e = refl
+none_by_state (Some r) true e = kept_by (nat_lt 44 r.0) e
+  where
+    kept_by : (b : Bool) → cond b (Some (record { 0 = 44 })) (Some r) ≡ None → Some r ≡ None
+    kept_by true h = cc
+    kept_by false h = h
+none_by_state (Some r) false e = e
+
+places_head : (at seat : ℕ) (d : Entry) (ps qs : List ℕ) (n : ℕ) → ps ≡ qs ++ n ∷ [] → cond (eqb d.seat seat) (at ∷ ps) ps ≡ cond (eqb d.seat seat) (at ∷ qs) qs ++ n ∷ []
+places_head at seat d ps qs n is = head_by (eqb d.seat seat)
+  where
+    head_by : (b : Bool) → cond b (at ∷ ps) ps ≡ cond b (at ∷ qs) qs ++ n ∷ []
+    head_by true = ap (λ xs. at ∷ xs) is
+    head_by false = is
+
+-- one more entry of the seat, and one of another
+pub places_same : (at seat : ℕ) (es : List Entry) (e : Entry) → e.seat ≡ seat → places_from at seat (es ++ e ∷ []) ≡ places_from at seat es ++ (at + length es) ∷ []
+places_same at seat [] e is = rw (eq-eqb e.seat seat is, add-zero) refl
+places_same at seat (d ∷ es) e is =
+    let h = places_same (at + 1) seat es e is in
+    let n : (at + 1) + length es ≡ at + suc (length es) = omega arith in
+    places_head at seat d _ _ _ (h ∙ ap (λ k. places_from (at + 1) seat es ++ k ∷ []) n)
+
+pub places_other : (at seat : ℕ) (es : List Entry) (e : Entry) → e.seat ≢ seat → places_from at seat (es ++ e ∷ []) ≡ places_from at seat es
+places_other at seat [] e is = rw (ne_eqb e.seat seat is) refl
+places_other at seat (d ∷ es) e is =
+    ap (λ ps. cond (eqb d.seat seat) (at ∷ ps) ps) (places_other (at + 1) seat es e is)
+
+-- each book after one more entry
+placed_more : (j : List Entry) (bs : List (List ℕ)) (seat : ℕ) (e : Entry) (b' : List ℕ) → e.seat ≡ seat → seat < length bs
+    → ((i : ℕ) → i < length bs → slice_index_or bs i [] ≡ places_from 0 i j)
+    → b' ≡ slice_index_or bs seat [] ++ length j ∷ []
+    → (i : ℕ) → i < length bs → (b : Bool) → eqb i seat ≡ b → slice_index_or (slice_set bs seat b') i [] ≡ places_from 0 i (j ++ e ∷ [])
+placed_more j bs seat e b' own in' placed b-is i lt true is =
+    let same : i ≡ seat = eqb-true i seat is in
+    let n : 0 + length j ≡ length j = omega arith in
+    rw same (get_or-set_same bs seat b' [] in' ∙ (b-is ∙ (ap (λ ps. ps ++ length j ∷ []) (placed seat in') ∙ (ap (λ k. places_from 0 seat j ++ k ∷ []) (sym n) ∙ sym (places_same 0 seat j e own)))))
+placed_more j bs seat e b' own in' placed b-is i lt false is =
+    let apart : i ≢ seat = eqb-false i seat is in
+    let other : e.seat ≢ i = λ h. apart (sym h ∙ own) in
+    get_or-set_other bs seat i b' [] apart ∙ (placed i lt ∙ sym (places_other 0 i j e other))
+
+-- the invariant after one more entry
+pub kept_more : (j : List Entry) (bs : List (List ℕ)) (s : StateOf) (o l : ℕ) (seat : ℕ) (step : Step) (a : Answer) (t : StateOf) (j' : List Entry) (b' : List ℕ)
+    → IsKept j bs s o l → Machine s seat step a t → seat < length bs → length j < l
+    → j' ≡ j ++ record { seat = seat; step = step; answer = a } ∷ []
+    → b' ≡ slice_index_or bs seat [] ++ length j ∷ []
+    → IsKept j' (slice_set bs seat b') t o l
+kept_more j bs s o l seat step a t j' b' k m in' room j-is b-is =
+    let seats : t.seats ≡ s.seats = machine_seats s seat step a t m in
+    let e : Entry = record { seat = seat; step = step; answer = a } in
+    record {
+      legal = record {
+        fits = k.legal.fits;
+        run = subst (λ n. Run (opened n o) j' t) (sym seats) (subst (λ es. Run (opened s.seats o) es t) (sym j-is) (run_more (opened s.seats o) j s e t k.legal.run m));
+      };
+      placed = λ i lt. subst (λ es. slice_index_or (slice_set bs seat b') i [] ≡ places_from 0 i es) (sym j-is) (placed_more j bs seat e b' refl in' k.placed b-is i (rw length-set at lt) (eqb i seat) refl);
+      counted = seats ∙ (k.counted ∙ sym (length-set bs seat b'));
+      room = rw j-is (omega (arith, length-append j (e ∷ [])));
+    }

@@ -1,0 +1,56 @@
+-- What a call does.
+use Rattle.std.specs.Prelude.{◌≡◌, ℕ, ◌<◌, Bool, ◌==◌, nat_lt, if◌then◌else◌, List, [], ◌∷◌, ◌++◌, length, Option, Some, None, slice_index_or}
+use Rattle.pb_base.specs.declared.refusal.Refusal.{Refusal}
+use Rattle.pb_state.specs.declared.step.Step.{Step}
+use Rattle.pb_state.specs.declared.step.Answer.{Answer}
+use Rattle.pb_state.specs.State.{StateOf}
+use Rattle.pb_state.specs.Refusal.{refusal}
+use Rattle.pb_state.specs.Machine.{Machine}
+use Rattle.pb_core.specs.declared.entry.Entry.{Entry}
+use Rattle.pb_core.specs.declared.entry.Received.{Received}
+
+-- the table, as its callers see it: `opened` is the clock as opened
+pub record SharedOf : Type 0 where
+  pub journal : List Entry
+  pub state : StateOf
+  pub opened : ℕ
+  pub limit : ℕ
+
+-- a seat, as its owner sees it
+pub record SeatOf : Type 0 where
+  pub number : ℕ
+  pub received : List Received
+
+abbrev pub no_memory : Refusal
+no_memory = record { 0 = 1 }
+
+abbrev pub journal_full : Refusal
+journal_full = record { 0 = 44 }
+
+-- 44 where the journal is full, unless a lower number applies
+abbrev pub lowest : Option Refusal → Bool → Option Refusal
+lowest None full = if full then Some journal_full else None
+lowest (Some r) full = if full then (if nat_lt 44 r.0 then Some journal_full else Some r) else Some r
+
+-- the lowest refusal of a call
+abbrev pub refusal_in : SharedOf → ℕ → Step → Option Refusal
+refusal_in s seat step = lowest (refusal s.state seat step) (length s.journal == s.limit)
+
+-- one step was taken, and is kept in the journal and in the seat's list
+pub record Calls (old : SharedOf) (seat : SeatOf) (step : Step) (answer : Answer) (new : SharedOf) (told : SeatOf) : Type 0 where
+  pub machine : Machine old.state seat.number step answer new.state
+  pub journal : new.journal ≡ old.journal ++ record { seat = seat.number; step = step; answer = answer } ∷ []
+  pub opened : new.opened ≡ old.opened
+  pub limit : new.limit ≡ old.limit
+  pub number : told.number ≡ seat.number
+  pub received : told.received ≡ seat.received ++ record { step = step; answer = answer } ∷ []
+
+-- as many seats as said, numbered from 0, with empty lists
+pub record IsFresh (count : ℕ) (seats : List SeatOf) : Type 0 where
+  pub counted : length seats ≡ count
+  pub each : (k : ℕ) (d : SeatOf) → k < length seats → slice_index_or seats k d ≡ record { number = k; received = [] }
+
+-- as many books as said, all empty
+pub record IsBlank (count : ℕ) (books : List (List ℕ)) : Type 0 where
+  pub counted : length books ≡ count
+  pub each : (k : ℕ) (d : List ℕ) → k < length books → slice_index_or books k d ≡ []

@@ -1,0 +1,14 @@
+-- How a model keeps the table.
+use Rattle.std.specs.Prelude.{ℕ, List, refl}
+use Rattle.std.specs.Coded.{Coded, code_by, coded×, coded_ℕ, coded_list}
+use Rattle.pb_state.specs.State.{StateOf, state_code}
+use Rattle.pb_core.specs.declared.entry.Entry.{Entry}
+use Rattle.pb_core.specs.contracts.entry.Entry as entry
+use Rattle.pb_core.specs.Calls.{SharedOf}
+
+abbrev pub shared_code : Coded SharedOf
+shared_code =
+    code_by (List Entry × (StateOf × (ℕ × ℕ))) (coded× (coded_list entry.the_row.coded) (coded× state_code (coded× coded_ℕ coded_ℕ)))
+    (λ s. (s.journal, (s.state, (s.opened, s.limit))))
+    (λ p. record { journal = p.0; state = p.1.0; opened = p.1.1.0; limit = p.1.1.1 })
+    (λ _. refl)

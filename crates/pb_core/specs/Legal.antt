@@ -1,0 +1,23 @@
+-- Legal journals, and what the shared table keeps.
+use Rattle.std.specs.Prelude.{◌≡◌, ℕ, ◌<◌, ◌≤◌, ◌^◌, List, [], ◌∷◌, length, slice_index_or}
+use Rattle.pb_state.specs.State.{StateOf, opened}
+use Rattle.pb_state.specs.Machine.{Machine}
+use Rattle.pb_core.specs.declared.entry.Entry.{Entry}
+use Rattle.pb_core.specs.Places.{places_from}
+
+-- the journal is a run of steps from one state to another
+abbrev pub Run : StateOf → List Entry → StateOf → Type 0
+Run old [] new = new ≡ old
+Run old (e ∷ es) new = (mid : StateOf) × Machine old e.seat e.step e.answer mid × Run mid es new
+
+-- a journal is legal if it is a run from the state with no entry, mark or transaction, and the clock as opened
+pub record IsLegal (seats clock : ℕ) (journal : List Entry) (state : StateOf) : Type 0 where
+  pub fits : clock < 2 ^ 64
+  pub run : Run (opened seats clock) journal state
+
+-- the journal is legal and leads to the state, and each book has the places of its seat
+pub record IsKept (journal : List Entry) (books : List (List ℕ)) (state : StateOf) (clock limit : ℕ) : Type 0 where
+  pub legal : IsLegal state.seats clock journal state
+  pub placed : (seat : ℕ) → seat < length books → slice_index_or books seat [] ≡ places_from 0 seat journal
+  pub counted : state.seats ≡ length books
+  pub room : length journal ≤ limit

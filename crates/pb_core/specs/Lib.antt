@@ -1,0 +1,4 @@
+pub mod Places
+pub mod Legal
+pub mod Calls
+pub mod Codes
