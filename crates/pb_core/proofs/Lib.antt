@@ -1,2 +1,5 @@
 pub mod Keeps
 pub mod Nothing
+pub mod Agree
+pub mod Steps
+pub mod Tells

@@ -2,3 +2,4 @@ pub mod Places
 pub mod Legal
 pub mod Calls
 pub mod Codes
+pub mod History

@@ -90,6 +90,7 @@ impl<T: Tablet> Shared<T> {
     ghost use Rattle.pb_state.specs.State.{opened, phase_in};
     ghost use Rattle.pb_core.specs.Calls.{SeatOf, IsFresh, Calls, refusal_in, no_memory};
     ghost use Rattle.pb_core.specs.Legal.{IsLegal};
+    ghost use Rattle.pb_core.specs.History.{TellsHistory};
 
     /// Opens a table for as many seats, with `last` the last timestamp given out so far and room for `limit` entries.
     ///
@@ -147,6 +148,7 @@ impl<T: Tablet> Shared<T> {
     pub fn journal(&self) -> &[Entry]
         ensures entries { result.now ≡ self.now.journal }
         ensures legal { IsLegal self.now.state.seats self.now.opened self.now.journal self.now.state }
+        ensures history { TellsHistory self.now.journal self.now.state }
     {
         &self.journal
     }

@@ -1,7 +1,6 @@
 pub mod Taking
 pub mod Rising
 pub mod Outcomes
-pub mod Allowed
 pub mod Keeping
 pub mod Newest
 pub mod Commits

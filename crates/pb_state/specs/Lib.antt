@@ -3,3 +3,4 @@ pub mod Starts
 pub mod Refusal
 pub mod Kept
 pub mod Machine
+pub mod Allowed

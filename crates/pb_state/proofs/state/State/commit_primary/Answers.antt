@@ -3,7 +3,7 @@ use Rattle.std.specs.FinMap as map
 use Rattle.pb_base.specs.Batch.{primary_in}
 use Rattle.pb_state.specs.declared.transaction.Phase.TheVariants as phases
 use Rattle.pb_state.specs.State.{StateOf}
-use Rattle.pb_state.proofs.Allowed.{may_commit, own_held}
+use Rattle.pb_state.specs.Allowed.{may_commit, own_held}
 use Rattle.pb_state.proofs.Commits.{commits}
 use Rattle.pb_state.proofs.Keeping.{kept_change}
 use Rattle.pb_state.proofs.state.State.commit_primary.Goals as goal

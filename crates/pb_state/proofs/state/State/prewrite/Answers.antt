@@ -1,7 +1,7 @@
 use Rattle.std.proofs.Common.{arith, ap, ◌∙◌}
 use Rattle.std.specs.FinMap as map
 use Rattle.pb_state.specs.State.{StateOf}
-use Rattle.pb_state.proofs.Allowed.{may_prewrite, own_held}
+use Rattle.pb_state.specs.Allowed.{may_prewrite, own_held}
 use Rattle.pb_state.proofs.Keeping.{kept_change}
 use Rattle.pb_state.proofs.state.State.prewrite.Goals as goal
 

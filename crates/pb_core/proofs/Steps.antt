@@ -1,0 +1,246 @@
+-- Each step keeps journal and state in agreement.
+use Rattle.std.proofs.Common.{◌≡◌, ℕ, ◌⊎◌, inl, inr, true, false, List, [], ◌∷◌, ◌++◌, Option, Some, None, refl, sym, ap, subst, ◌∙◌, arith}
+use Rattle.std.specs.FinMap as map
+use Rattle.std.specs.Ordering.{nat_cmp}
+use Rattle.pb_base.specs.declared.cell.Cell.{Cell}
+use Rattle.pb_base.specs.declared.names.Ts.{Ts}
+use Rattle.pb_state.specs.declared.step.Work.{Work}
+use Rattle.pb_state.specs.declared.step.Declared.{Declared}
+use Rattle.pb_state.specs.declared.step.Step.{Step}
+use Rattle.pb_state.specs.declared.step.Step.TheVariants.{Begin, Declare, Prewrite, Stamp, CommitPrimary}
+use Rattle.pb_state.specs.declared.step.Answer.{Answer}
+use Rattle.pb_state.specs.declared.step.Answer.TheVariants.{At, Done, Conflict, Committed, Lost}
+use Rattle.pb_state.specs.declared.transaction.Phase.{Phase}
+use Rattle.pb_state.specs.declared.transaction.Phase.TheVariants as phases
+use Rattle.pb_state.specs.State.{StateOf, TransactionOf, opened, begun, cells_of}
+use Rattle.pb_state.specs.Refusal.{refusal, is_reading, is_declared}
+use Rattle.pb_state.specs.Machine.{Case, Begins, Declares, Prewrites, Conflicts, Stamps, CommitsPrimary, Loses}
+use Rattle.pb_state.specs.Allowed.{declares, may_prewrite, may_stamp, may_commit, own_held, own_seat}
+use Rattle.pb_core.specs.declared.entry.Entry.{Entry}
+use Rattle.pb_core.specs.Legal.{Run, IsLegal}
+use Rattle.pb_core.specs.History.{IsEntry}
+use Rattle.pb_core.proofs.Agree.{ts, got, has_front, has_last, PastStamp, Told, Agrees, agrees_change, agrees_new}
+
+abbrev entry : ℕ → Step → Answer → Entry
+entry seat step answer = record { seat = seat; step = step; answer = answer }
+
+no_stamp_declared : (h : Phase) → is_declared h ≡ true → (c : ℕ) → PastStamp h c → ⊥
+no_stamp_declared phases.Declared e c p = elim p [ inl q ↦ cc | inr r ↦ elim r [ inl q ↦ cc | inr q ↦ cc ] ]
+no_stamp_declared phases.Reading e c p = cc
+no_stamp_declared (phases.Stamped d) e c p = cc
+no_stamp_declared (phases.Committed d) e c p = cc
+no_stamp_declared phases.Failed e c p = cc
+
+past_declared : (h : Phase) → is_declared h ≡ true → is_reading h ≡ false
+past_declared phases.Declared e = refl
+past_declared phases.Reading e = cc
+past_declared (phases.Stamped d) e = cc
+past_declared (phases.Committed d) e = cc
+past_declared phases.Failed e = cc
+
+reading_is : (h : Phase) → is_reading h ≡ true → h ≡ phases.Reading
+reading_is phases.Reading e = refl
+reading_is phases.Declared e = cc
+reading_is (phases.Stamped d) e = cc
+reading_is (phases.Committed d) e = cc
+reading_is phases.Failed e = cc
+
+no_commit_declared : (h : Phase) → is_declared h ≡ true → (c : ℕ) → h ≡ phases.Committed (ts c) → ⊥
+no_commit_declared h e c q = no_stamp_declared h e c (inr (inl q))
+
+none_if : {A : Type 0} (o : Option A) → ((w : A) → o ≡ Some w → ⊥) → o ≡ None
+none_if None h = refl
+none_if (Some w) h = absurd (h w refl)
+
+module _ (journal : List Entry) (seat : ℕ) (old new : StateOf) (a : Agrees journal old) where
+  begins : (work : Work) (s : ℕ) → Begins old seat work s new → Agrees (journal ++ entry seat (Begin work) (At (ts s)) ∷ []) new
+  begins work s m =
+      let e = entry seat (Begin work) (At (ts s)) in
+      let clock : new.clock ≡ s = ap (λ (z : StateOf). z.clock) m.new_is in
+      let fresh = m.fresh in
+      let unknown : got old s ≡ None = none_if _ (λ t h. let z = a.early s t h in omega (arith, z, fresh)) in
+      agrees_new journal e old new a s (begun seat work) (ap (λ (z : StateOf). z.transactions) m.new_is) (omega (arith, clock, fresh)) (omega (arith, clock)) unknown
+      (λ h. (begun seat work, h, refl, refl))
+      (record {
+        begun = has_last journal e;
+        declared = λ h. cc;
+        stamped = λ c p. absurd (elim p [ inl q ↦ cc | inr q ↦ cc ]);
+        committed = λ c q. cc;
+      })
+
+  declared_now : (s : Ts) (what : Declared) → refusal old seat (Declare s what) ≡ None → Declares old seat s.0 what new → Agrees (journal ++ entry seat (Declare s what) Done ∷ []) new
+  declared_now s what allowed m =
+      let e = entry seat (Declare s what) Done in
+      let may = declares old seat s what allowed in
+      let own-is = m.of in let may-is = may.1 in
+      let same : may.0 ≡ m.t = cc in
+      let reading : is_reading m.t.phase ≡ true = ap (λ (t : TransactionOf). is_reading t.phase) (sym same) ∙ may.2 in
+      let was = own_held old seat s.0 m.t m.of in
+      let mine = own_seat old seat s.0 m.t m.of in
+      let u : TransactionOf = record m.t { phase = phases.Declared; declared = cells_of what } in
+      let clock : new.clock ≡ old.clock = ap (λ (z : StateOf). z.clock) m.new_is in
+      let low = a.early s.0 m.t was in
+      agrees_change journal e old new a s.0 u (ap (λ (z : StateOf). z.transactions) m.new_is) (omega (arith, clock)) (omega (arith, clock, low)) m.t was
+      (record { seat = refl; work = refl; past = λ h. cc; stamped = λ c p. let r = reading_is m.t.phase reading in absurd (elim p [ inl q ↦ cc | inr z ↦ elim z [ inl q ↦ cc | inr q ↦ cc ] ]); committed = λ c q. let r = reading_is m.t.phase reading in cc })
+      (λ h. (u, h, refl, refl))
+      (record {
+        begun = has_front journal e _ (a.logged s.0 m.t was).begun;
+        declared = λ h. (what, subst (λ n. IsEntry (journal ++ e ∷ []) n (Declare s what) Done) (sym mine) (has_last journal e), refl);
+        stamped = λ c p. absurd (elim p [ inl q ↦ cc | inr q ↦ cc ]);
+        committed = λ c q. cc;
+      })
+
+  -- a declared transaction that prewrites or fails
+  goes_on : (step : Step) (answer : Answer) (s : ℕ) (t u : TransactionOf) → got old s ≡ Some t → is_declared t.phase ≡ true → u.seat ≡ t.seat → u.work ≡ t.work → u.declared ≡ t.declared
+      → (u.phase ≡ t.phase) ⊎ (u.phase ≡ phases.Failed) → new.transactions ≡ map.insert old.transactions s u → new.clock ≡ old.clock → Told new seat step answer → Agrees (journal ++ entry seat step answer ∷ []) new
+  goes_on step answer s t u was phase same-seat same-work same-writes how is clock told =
+      let e = entry seat step answer in
+      let low = a.early s t was in
+      let l = a.logged s t was in
+      let past = past_declared t.phase phase in
+      agrees_change journal e old new a s u is (omega (arith, clock)) (omega (arith, clock, low)) t was
+      (record {
+        seat = same-seat;
+        work = same-work;
+        past = λ h. (elim how [ inl q ↦ ap is_reading q ∙ past | inr q ↦ ap is_reading q ], same-writes);
+        stamped = λ c p. absurd (no_stamp_declared t.phase phase c p);
+        committed = λ c q. absurd (no_commit_declared t.phase phase c q);
+      })
+      (λ h. told)
+      (record {
+        begun = subst (λ n. IsEntry (journal ++ e ∷ []) n (Begin u.work) (At (ts s))) (sym same-seat) (subst (λ w. IsEntry (journal ++ e ∷ []) t.seat (Begin w) (At (ts s))) (sym same-work) (has_front journal e _ l.begun));
+        declared = λ h. let d = l.declared past in (d.0, subst (λ n. IsEntry (journal ++ e ∷ []) n (Declare (ts s) d.0) Done) (sym same-seat) (has_front journal e _ d.1), same-writes ∙ d.2);
+        stamped = λ c p. absurd (elim how [
+          | inl q ↦ no_stamp_declared t.phase phase c (elim p [ inl x ↦ inl (sym q ∙ x) | inr x ↦ inr (inl (sym q ∙ x)) ])
+          | inr q ↦ elim p [ inl x ↦ cc | inr x ↦ cc ]
+        ]);
+        committed = λ c x. absurd (elim how [ inl q ↦ no_commit_declared t.phase phase c (sym q ∙ x) | inr q ↦ cc ]);
+      })
+
+  prewrites : (s : Ts) (x : Cell) → refusal old seat (Prewrite s x) ≡ None → Prewrites old seat s.0 x new → Agrees (journal ++ entry seat (Prewrite s x) Done ∷ []) new
+  prewrites s x allowed m =
+      let may = may_prewrite old seat s x allowed in
+      let own-is = m.of in let may-is = may.of in
+      let same : may.t ≡ m.t = cc in
+      goes_on (Prewrite s x) Done s.0 m.t (record m.t { prewritten = m.t.prewritten ++ x ∷ [] }) (own_held old seat s.0 m.t m.of) (ap (λ (t : TransactionOf). is_declared t.phase) (sym same) ∙ may.phase)
+      refl refl refl (inl refl) (ap (λ (z : StateOf). z.transactions) m.new_is) (ap (λ (z : StateOf). z.clock) m.new_is) tt
+
+  conflicts : (s : Ts) (x : Cell) → refusal old seat (Prewrite s x) ≡ None → Conflicts old seat s.0 x new → Agrees (journal ++ entry seat (Prewrite s x) Conflict ∷ []) new
+  conflicts s x allowed m =
+      let may = may_prewrite old seat s x allowed in
+      let own-is = m.of in let may-is = may.of in
+      let same : may.t ≡ m.t = cc in
+      goes_on (Prewrite s x) Conflict s.0 m.t (record m.t { phase = phases.Failed }) (own_held old seat s.0 m.t m.of) (ap (λ (t : TransactionOf). is_declared t.phase) (sym same) ∙ may.phase)
+      refl refl refl (inr refl) (ap (λ (z : StateOf). z.transactions) m.new_is) (ap (λ (z : StateOf). z.clock) m.new_is) tt
+
+  stamps : (s : Ts) (c : ℕ) → refusal old seat (Stamp s) ≡ None → Stamps old seat s.0 c new → Agrees (journal ++ entry seat (Stamp s) (At (ts c)) ∷ []) new
+  stamps s c allowed m =
+      let e = entry seat (Stamp s) (At (ts c)) in
+      let may = may_stamp old seat s allowed in
+      let own-is = m.of in let may-is = may.1 in
+      let same : may.0 ≡ m.t = cc in
+      let phase : is_declared m.t.phase ≡ true = ap (λ (t : TransactionOf). is_declared t.phase) (sym same) ∙ may.2 in
+      let was = own_held old seat s.0 m.t m.of in
+      let mine = own_seat old seat s.0 m.t m.of in
+      let l = a.logged s.0 m.t was in
+      let past = past_declared m.t.phase phase in
+      let u : TransactionOf = record m.t { phase = phases.Stamped (ts c) } in
+      let clock : new.clock ≡ c = ap (λ (z : StateOf). z.clock) m.new_is in
+      let fresh = m.fresh in
+      let low = a.early s.0 m.t was in
+      let logged : IsEntry (journal ++ e ∷ []) m.t.seat (Stamp s) (At (ts c)) = subst (λ n. IsEntry (journal ++ e ∷ []) n (Stamp s) (At (ts c))) (sym mine) (has_last journal e) in
+      agrees_change journal e old new a s.0 u (ap (λ (z : StateOf). z.transactions) m.new_is) (omega (arith, clock, fresh)) (omega (arith, clock, fresh, low)) m.t was
+      (record { seat = refl; work = refl; past = λ h. (refl, refl); stamped = λ d p. absurd (no_stamp_declared m.t.phase phase d p); committed = λ d q. absurd (no_commit_declared m.t.phase phase d q) })
+      (λ h. (u, h, inl refl))
+      (record {
+        begun = has_front journal e _ l.begun;
+        declared = λ h. let d = l.declared past in (d.0, has_front journal e _ d.1, d.2);
+        stamped = λ d p. elim p [ inl q ↦ (let k : ts c ≡ ts d = cc in subst (λ n. IsEntry (journal ++ e ∷ []) m.t.seat (Stamp s) (At n)) k logged) | inr q ↦ cc ];
+        committed = λ d q. cc;
+      })
+
+  commits : (s : Ts) → refusal old seat (CommitPrimary s) ≡ None → CommitsPrimary old seat s.0 new → Agrees (journal ++ entry seat (CommitPrimary s) Committed ∷ []) new
+  commits s allowed m =
+      let e = entry seat (CommitPrimary s) Committed in
+      let was = own_held old seat s.0 m.t m.of in
+      let mine = own_seat old seat s.0 m.t m.of in
+      let l = a.logged s.0 m.t was in
+      let stamped = m.stamped in
+      let past : is_reading m.t.phase ≡ false = ap is_reading stamped in
+      let u : TransactionOf = record m.t { phase = phases.Committed (ts m.c) } in
+      let clock : new.clock ≡ old.clock = ap (λ (z : StateOf). z.clock) m.new_is in
+      let low = a.early s.0 m.t was in
+      agrees_change journal e old new a s.0 u (ap (λ (z : StateOf). z.transactions) m.new_is) (omega (arith, clock)) (omega (arith, clock, low)) m.t was
+      (record {
+        seat = refl;
+        work = refl;
+        past = λ h. (refl, refl);
+        stamped = λ d p. inr (inl (elim p [ inl q ↦ (let k : ts m.c ≡ ts d = cc in ap phases.Committed k) | inr r ↦ elim r [ inl q ↦ cc | inr q ↦ cc ] ]));
+        committed = λ d q. cc;
+      })
+      (λ h. (u, h, m.c, refl))
+      (record {
+        begun = has_front journal e _ l.begun;
+        declared = λ h. let d = l.declared past in (d.0, has_front journal e _ d.1, d.2);
+        stamped = λ d p. has_front journal e _ (l.stamped d (inl (elim p [ inl q ↦ cc | inr q ↦ (let k : ts m.c ≡ ts d = cc in stamped ∙ ap phases.Stamped k) ])));
+        committed = λ d q. subst (λ n. IsEntry (journal ++ e ∷ []) n (CommitPrimary s) Committed) (sym mine) (has_last journal e);
+      })
+
+  loses : (s : Ts) → refusal old seat (CommitPrimary s) ≡ None → Loses old seat s.0 new → Agrees (journal ++ entry seat (CommitPrimary s) Lost ∷ []) new
+  loses s allowed m =
+      let e = entry seat (CommitPrimary s) Lost in
+      let may = may_commit old seat s allowed in
+      let own-is = m.of in let may-is = may.1 in
+      let same : may.0 ≡ m.t = cc in
+      let stamped : m.t.phase ≡ phases.Stamped may.2 = ap (λ (t : TransactionOf). t.phase) (sym same) ∙ may.3 in
+      let was = own_held old seat s.0 m.t m.of in
+      let l = a.logged s.0 m.t was in
+      let past : is_reading m.t.phase ≡ false = ap is_reading stamped in
+      let u : TransactionOf = record m.t { phase = phases.Failed } in
+      let clock : new.clock ≡ old.clock = ap (λ (z : StateOf). z.clock) m.new_is in
+      let low = a.early s.0 m.t was in
+      agrees_change journal e old new a s.0 u (ap (λ (z : StateOf). z.transactions) m.new_is) (omega (arith, clock)) (omega (arith, clock, low)) m.t was
+      (record { seat = refl; work = refl; past = λ h. (refl, refl); stamped = λ d p. inr (inr refl); committed = λ d q. cc })
+      (λ h. tt)
+      (record {
+        begun = has_front journal e _ l.begun;
+        declared = λ h. let d = l.declared past in (d.0, has_front journal e _ d.1, d.2);
+        stamped = λ d p. absurd (elim p [ inl q ↦ cc | inr q ↦ cc ]);
+        committed = λ d q. cc;
+      })
+
+  case_agrees : (step : Step) (answer : Answer) → refusal old seat step ≡ None → Case old seat step answer new → Agrees (journal ++ entry seat step answer ∷ []) new
+  case_agrees (Begin work) (At s) h m = begins work s.0 m
+  case_agrees (Declare s what) Done h m = declared_now s what h m
+  case_agrees (Prewrite s x) Done h m = prewrites s x h m
+  case_agrees (Prewrite s x) Conflict h m = conflicts s x h m
+  case_agrees (Stamp s) (At c) h m = stamps s c.0 h m
+  case_agrees (CommitPrimary s) Committed h m = commits s h m
+  case_agrees (CommitPrimary s) Lost h m = loses s h m
+  case_agrees _ _ h m = absurd m
+
+append_one : (xs : List Entry) (y : Entry) (zs : List Entry) → (xs ++ y ∷ []) ++ zs ≡ xs ++ y ∷ zs
+append_one [] y zs = refl
+append_one (x ∷ xs) y zs = ap (λ es. x ∷ es) (append_one xs y zs)
+
+-- from agreement on to agreement
+run_agrees : (before : List Entry) (old : StateOf) (es : List Entry) (new : StateOf) → Agrees before old → Run old es new → Agrees (before ++ es) new
+run_agrees before old [] new a r = subst (λ s. Agrees (before ++ []) s) (sym r) (subst (λ b. Agrees b old) (sym (append_nil before)) a)
+  where
+    append_nil : (xs : List Entry) → xs ++ [] ≡ xs
+    append_nil [] = refl
+    append_nil (x ∷ xs) = ap (λ ys. x ∷ ys) (append_nil xs)
+run_agrees before old (e ∷ es) new a r =
+    let m = r.1 in
+    subst (λ b. Agrees b new) (append_one before e es)
+    (run_agrees (before ++ e ∷ []) r.0 es new (case_agrees before e.seat old r.0 a e.step e.answer m.allowed m.taken) r.2)
+
+nothing_agrees : (seats clock : ℕ) → Agrees [] (opened seats clock)
+nothing_agrees seats clock = record {
+  early = λ s t h. let none = map.get-empty {X = TransactionOf} nat_cmp s in cc;
+  told = λ e h. absurd h;
+  logged = λ s t h. let none = map.get-empty {X = TransactionOf} nat_cmp s in absurd cc;
+}
+
+pub legal_agrees : (seats clock : ℕ) (journal : List Entry) (state : StateOf) → IsLegal seats clock journal state → Agrees journal state
+legal_agrees seats clock journal state l = run_agrees [] (opened seats clock) journal state (nothing_agrees seats clock) l.run

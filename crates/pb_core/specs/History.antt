@@ -1,0 +1,80 @@
+-- The committed transactions of a journal, and the snapshots that they make (OSDI 2010, sections 2.2 and 2.3).
+use Rattle.std.specs.Prelude.{◌≡◌, ℕ, ◌<◌, ◌≤◌, ◌⊎◌, List, [], ◌∷◌, Some}
+use Rattle.std.specs.FinMap as map
+use Rattle.pb_base.specs.declared.cell.Cell.{Cell}
+use Rattle.pb_base.specs.declared.content.Content.{Content}
+use Rattle.pb_base.specs.Batch.{Writes, content_in}
+use Rattle.pb_state.specs.declared.step.Work.{Work}
+use Rattle.pb_state.specs.declared.step.Declared.{Declared}
+use Rattle.pb_state.specs.declared.step.Step.{Step}
+use Rattle.pb_state.specs.declared.step.Step.TheVariants.{Begin, Declare, Stamp, CommitPrimary}
+use Rattle.pb_state.specs.declared.step.Answer.{Answer}
+use Rattle.pb_state.specs.declared.step.Answer.TheVariants.{At, Done, Committed}
+use Rattle.pb_state.specs.declared.transaction.Phase.TheVariants as phases
+use Rattle.pb_state.specs.State.{StateOf, TransactionOf, cells_of}
+use Rattle.pb_core.specs.declared.entry.Entry.{Entry}
+
+-- a list has an item
+abbrev pub Has : {A : Type 0} → List A → A → Type 0
+Has [] x = ⊥
+Has (y ∷ ys) x = (y ≡ x) ⊎ Has ys x
+
+-- the journal has an entry of this seat with this step and answer
+abbrev pub IsEntry : List Entry → ℕ → Step → Answer → Type 0
+IsEntry journal seat step answer = Has journal (record { seat = seat; step = step; answer = answer })
+
+-- a committed transaction
+pub record Member : Type 0 where
+  pub start : ℕ
+  pub commit : ℕ
+  pub seat : ℕ
+  pub work : Work
+  pub writes : Writes
+
+-- a transaction of the journal with the answer `Committed`: its commit is its stamp, its writes are what it declared
+pub record InHistory (journal : List Entry) (m : Member) : Type 0 where
+  pub begun : IsEntry journal m.seat (Begin m.work) (At (record { 0 = m.start }))
+  pub what : Declared
+  pub declared : IsEntry journal m.seat (Declare (record { 0 = m.start }) what) Done
+  pub writes_are : m.writes ≡ cells_of what
+  pub stamped : IsEntry journal m.seat (Stamp (record { 0 = m.start })) (At (record { 0 = m.commit }))
+  pub committed : IsEntry journal m.seat (CommitPrimary (record { 0 = m.start })) Committed
+
+-- x is written with this content
+abbrev pub WritesTo : Member → Cell → Content → Type 0
+WritesTo m x content = content_in m.writes x ≡ Some content
+
+-- of the writes to x with a commit at most s, this is the one with the greatest
+pub record IsSnapshot (journal : List Entry) (s : ℕ) (x : Cell) (start commit : ℕ) (content : Content) : Type 0 where
+  pub m : Member
+  pub in_history : InHistory journal m
+  pub start_is : m.start ≡ start
+  pub commit_is : m.commit ≡ commit
+  pub writes : WritesTo m x content
+  pub seen : commit ≤ s
+  pub greatest : (n : Member) (k : Content) → InHistory journal n → WritesTo n x k → n.commit ≤ s → n.commit ≤ commit
+
+-- no write to x has a commit at most s
+abbrev pub NoSnapshot : List Entry → ℕ → Cell → Type 0
+NoSnapshot journal s x = (n : Member) (k : Content) → InHistory journal n → WritesTo n x k → s < n.commit
+
+-- the state has this transaction, committed
+pub record IsCommitted (state : StateOf) (m : Member) : Type 0 where
+  pub t : TransactionOf
+  pub there : map.get state.transactions m.start ≡ Some t
+  pub phase : t.phase ≡ phases.Committed (record { 0 = m.commit })
+  pub seat : m.seat ≡ t.seat
+  pub work : m.work ≡ t.work
+  pub writes : m.writes ≡ t.declared
+
+-- the state has what a declaration named
+pub record IsDeclared (state : StateOf) (start : ℕ) (what : Declared) : Type 0 where
+  pub t : TransactionOf
+  pub there : map.get state.transactions start ≡ Some t
+  pub declared : t.declared ≡ cells_of what
+
+-- the history of a journal, told by the state that it leads to
+pub record TellsHistory (journal : List Entry) (state : StateOf) : Type 0 where
+  pub committed : (m : Member) → InHistory journal m → IsCommitted state m
+  pub member : (m : Member) → IsCommitted state m → InHistory journal m
+  pub declared : (seat start : ℕ) (what : Declared) → IsEntry journal seat (Declare (record { 0 = start }) what) Done → IsDeclared state start what
