@@ -1,0 +1,6 @@
+pub mod Hexes
+pub mod Numbers
+pub mod Turns
+pub mod Cuts
+pub mod First
+pub mod Small

@@ -1,0 +1,9 @@
+//! The words, files and texts of the program: command lines, manifests, scripts and reports.
+#![tactic(auto)]
+
+mod script;
+
+pub use script::{ScriptFault, fault_is_first, parse_script, reads_small_batches};
+
+#[cfg(test)]
+mod tests;
