@@ -4,3 +4,4 @@ pub mod Turns
 pub mod Cuts
 pub mod First
 pub mod Small
+pub mod Parts

@@ -5,3 +5,4 @@ pub mod FirstFault
 pub mod ScriptWords
 pub mod ScriptLines
 pub mod Scripts
+pub mod Sinks

@@ -2,8 +2,10 @@
 #![tactic(auto)]
 
 mod script;
+mod sink;
 
 pub use script::{ScriptFault, fault_is_first, parse_script, reads_small_batches};
+pub use sink::write_all;
 
 #[cfg(test)]
 mod tests;
