@@ -5,3 +5,6 @@ pub mod Cuts
 pub mod First
 pub mod Small
 pub mod Parts
+pub mod Trims
+pub mod Newests
+pub mod OneReport

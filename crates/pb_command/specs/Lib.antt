@@ -6,3 +6,5 @@ pub mod ScriptWords
 pub mod ScriptLines
 pub mod Scripts
 pub mod Sinks
+pub mod ReportLines
+pub mod Reports

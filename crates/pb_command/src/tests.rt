@@ -1,4 +1,7 @@
-use crate::parse_script;
+ghost use Rattle.std.specs.Prelude.{◌≤◌, length};
+
+use crate::{Put, parse_script, report_of};
+use pb_base::{Cell, Column, Content, ObserverNo, Row, Ts};
 use std::rt::HostRuntime;
 
 // The number of transactions with line 0, or the line and the code of the fault.
@@ -33,4 +36,58 @@ fn scripts(rt: HostRuntime) {
     for (text, wanted) in table {
         assert!(rt; told(&rt, text) == wanted, "{text}");
     }
+}
+
+fn value(bytes: &[u8]) -> Content
+    requires { length bytes.now ≤ 32 }
+{
+    let mut value = [0; 32];
+    value[..bytes.len()].copy_from_slice(bytes);
+    Content::Value(value)
+}
+
+fn put(rt: &HostRuntime, row: u64, column: u8, commit: u64, content: Content) -> Put {
+    let column = Column::new(column).expect(rt, "a column");
+    Put {
+        cell: Cell::Data(Row(row), column),
+        commit: Ts(commit),
+        content,
+    }
+}
+
+#[test]
+fn newest_is_reported(rt: HostRuntime) {
+    let puts = [
+        put(&rt, 7, 0, 4, Content::Deleted),
+        put(&rt, 7, 0, 2, value(&[42])),
+    ];
+    let text = report_of(rt.alloc(), &puts, 0, 0).expect(&rt, "memory");
+    assert!(rt; text.as_str() == "cell 7 0 commit 4 deleted\nquiet\n");
+}
+
+#[test]
+fn cells_are_in_order(rt: HostRuntime) {
+    let observer = ObserverNo::new(0).expect(&rt, "an observer");
+    let column = Column::new(0).expect(&rt, "a column");
+    let acknowledgment = Put {
+        cell: Cell::Ack(observer, Row(7), column),
+        commit: Ts(5),
+        content: Content::Stamp(Ts(3)),
+    };
+    let puts = [
+        put(&rt, 1000, 15, 2, value(&[0])),
+        acknowledgment,
+        put(&rt, 0, 0, 4, value(&[1, 0])),
+    ];
+    let text = report_of(rt.alloc(), &puts, 0, 2).expect(&rt, "memory");
+    assert!(rt;
+        text.as_str()
+            == "cell 0 0 commit 4 value 01\ncell 1000 15 commit 2 value 00\nmarks 0 locks 2\n"
+    );
+}
+
+#[test]
+fn nothing_is_quiet(rt: HostRuntime) {
+    let text = report_of(rt.alloc(), &[], 0, 0).expect(&rt, "memory");
+    assert!(rt; text.as_str() == "quiet\n");
 }
