@@ -2,6 +2,7 @@ ghost use Rattle.std.specs.Prelude.{◌≤◌, length};
 
 use crate::{Put, parse_script, report_of};
 use pb_base::{Cell, Column, Content, ObserverNo, Row, Ts};
+use std::process::Abort;
 use std::rt::HostRuntime;
 
 // The number of transactions with line 0, or the line and the code of the fault.
@@ -46,7 +47,7 @@ fn value(bytes: &[u8]) -> Content
     Content::Value(value)
 }
 
-fn put(rt: &HostRuntime, row: u64, column: u8, commit: u64, content: Content) -> Put {
+fn put(rt: &impl Abort, row: u64, column: u8, commit: u64, content: Content) -> Put {
     let column = Column::new(column).expect(rt, "a column");
     Put {
         cell: Cell::Data(Row(row), column),
