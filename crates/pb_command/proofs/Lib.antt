@@ -8,3 +8,4 @@ pub mod Parts
 pub mod Trims
 pub mod Newests
 pub mod OneReport
+pub mod Counted
