@@ -9,3 +9,4 @@ pub mod Sinks
 pub mod ReportLines
 pub mod Reports
 pub mod Manifests
+pub mod CommandLines

@@ -1,6 +1,6 @@
 ghost use Rattle.std.specs.Prelude.{◌≤◌, length};
 
-use crate::{Put, Registry, parse_script, report_of};
+use crate::{Options, Put, Registry, options, parse_script, report_of};
 use pb_base::{Cell, Column, Content, ObserverNo, Row, Ts};
 use std::alloc::Global;
 use std::process::Abort;
@@ -159,4 +159,25 @@ fn changes_are_counted(rt: HostRuntime) {
     assert!(rt; told(&rt, text.as_str()) == (0, 10_000));
     text.push_str("del 0 0\n").expect(&rt, "memory");
     assert!(rt; told(&rt, text.as_str()) == (10_001, 75));
+}
+
+// The status of a command line that is refused or asks for help, -1 for one that is taken.
+fn status(rt: &HostRuntime, words: &[&str]) -> i32 {
+    match options(rt.alloc(), words) {
+        Ok(_) => -1,
+        Err(error) => error.exit_code(),
+    }
+}
+
+#[test]
+fn command_lines(rt: HostRuntime) {
+    let words = ["percobpf", "run", "m.json", "s.txt"];
+    let Options::Run { manifest, script } = options(rt.alloc(), &words).expect(&rt, "options");
+    assert!(rt; manifest == "m.json" && script == "s.txt");
+    assert!(rt; status(&rt, &["percobpf"]) == 2);
+    assert!(rt; status(&rt, &["percobpf", "walk"]) == 2);
+    assert!(rt; status(&rt, &["percobpf", "run", "m.json"]) == 2);
+    assert!(rt; status(&rt, &["percobpf", "run", "m.json", "s.txt", "x"]) == 2);
+    assert!(rt; status(&rt, &["percobpf", "--help"]) == 0);
+    assert!(rt; status(&rt, &["percobpf", "run", "--help"]) == 0);
 }
