@@ -7,6 +7,7 @@ use Rattle.pb_command.specs.Turns.{and_then, in_turn}
 use Rattle.pb_command.specs.ScriptLines.{Batches, with_line, numbered, script_of}
 use Rattle.pb_command.specs.Scripts.{StopsAt}
 use Rattle.pb_command.specs.FirstFault.{IsFirst}
+use Rattle.pb_command.proofs.ByText.{not_memory}
 
 -- the first step, and what holds of those after it
 onward : {S A E : Type 0} (step : ℕ → S → A → Result S E) (n : ℕ) (s : S) (x : A) (xs : List A) (e : E) (r : Result S E) → ((t : S) → in_turn step (n + 1) t xs ≡ Err e → IsFirst step (n + 1) t xs e)
@@ -36,4 +37,4 @@ pub stops : (text : List ℕ) (line code : ℕ) → script_of text ≡ Err (line
 stops text line code h =
     let f = first_fault (λ n before l. numbered n (with_line before l)) 0 [] (slice_split (λ b. b == 10) text) (line, code) h in
     let g = numbered_err (0 + length f.front) line code (with_line f.before f.here) f.fault in
-    record { front = f.front; here = f.here; after = f.after; before = f.before; cause = g.0; parts = f.parts; read = f.read; fault = g.1; number = omega (arith, g.2); told = g.3 }
+    record { front = f.front; here = f.here; after = f.after; before = f.before; cause = g.0; parts = f.parts; read = f.read; fault = g.1; number = omega (arith, g.2); told = g.3; by_text = not_memory f.before f.here g.0 g.1 }

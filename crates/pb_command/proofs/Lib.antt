@@ -9,3 +9,4 @@ pub mod Trims
 pub mod Newests
 pub mod OneReport
 pub mod Counted
+pub mod ByText

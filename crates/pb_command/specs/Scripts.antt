@@ -1,10 +1,11 @@
 -- What a whole script is read as.
-use Rattle.std.specs.Prelude.{◌≡◌, ℕ, ◌+◌, ◌≤◌, ◌==◌, ◌⊎◌, true, List, ◌∷◌, ◌++◌, length, Result, Ok, Err}
+use Rattle.std.specs.Prelude.{◌≡◌, ◌≢◌, ℕ, ◌+◌, ◌≤◌, ◌==◌, ◌⊎◌, true, List, ◌∷◌, ◌++◌, length, Result, Ok, Err}
 use Rattle.std.specs.Global.{Vec}
 use Rattle.std.specs.List.{slice_split, All}
 use Rattle.pb_base.specs.Batch.{Writes, is_batch}
 use Rattle.pb_base.specs.declared.batch.Batch.{Batch}
 use Rattle.pb_command.specs.declared.script.code.Code.{Code}
+use Rattle.pb_command.specs.declared.script.code.Code.TheVariants.{Memory}
 use Rattle.pb_command.specs.declared.script.lines.ScriptFault.{ScriptFault}
 use Rattle.pb_command.specs.Codes.{script_code}
 use Rattle.pb_command.specs.ScriptLines.{Batches, with_line, lines_read}
@@ -17,7 +18,7 @@ abbrev pub Reads : Result (Vec Batch) ScriptFault → Result Batches (ℕ × ℕ
 Reads (Ok v) read = read ≡ Ok v.items
 Reads (Err f) read = (f ≡ no_memory) ⊎ (read ≡ Err (f.line, f.code))
 
--- the lines in front are a script of their own, and after it the line of this number is at fault
+-- the lines in front are a script of their own, and after it the line of this number is at fault, by its text
 pub record StopsAt (text : List ℕ) (line code : ℕ) : Type 0 where
   pub front : List (List ℕ)
   pub here : List ℕ
@@ -29,6 +30,7 @@ pub record StopsAt (text : List ℕ) (line code : ℕ) : Type 0 where
   pub fault : with_line before here ≡ Err cause
   pub number : line ≡ length front + 1
   pub told : code ≡ script_code cause
+  pub by_text : cause ≢ Memory
 
 -- a transaction of one cell
 abbrev pub IsSmallBatch : Writes → Type 0
