@@ -1,0 +1,12 @@
+pub mod Hexes
+pub mod Numbers
+pub mod Turns
+pub mod Cuts
+pub mod First
+pub mod Small
+pub mod Parts
+pub mod Trims
+pub mod Newests
+pub mod OneReport
+pub mod Counted
+pub mod ByText

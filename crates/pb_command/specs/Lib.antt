@@ -1,0 +1,12 @@
+pub mod Codes
+pub mod Reading
+pub mod Turns
+pub mod FirstFault
+pub mod ScriptWords
+pub mod ScriptLines
+pub mod Scripts
+pub mod Sinks
+pub mod ReportLines
+pub mod Reports
+pub mod Manifests
+pub mod CommandLines

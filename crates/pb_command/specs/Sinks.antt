@@ -1,0 +1,11 @@
+-- What a sink has taken of some bytes.
+use Rattle.std.specs.Prelude.{◌≡◌, ℕ, List, ◌++◌, Option}
+use Rattle.std.specs.Io.KnownBytes.{Appends}
+
+-- the front of the bytes was appended to what had been taken, and the rest is left
+abbrev pub IsPart : Option (List ℕ) → Option (List ℕ) → List ℕ → List ℕ → Type 0
+IsPart old now bytes rest = (front : List ℕ) × (bytes ≡ front ++ rest) × Appends old now front
+
+-- a beginning of the bytes was appended
+abbrev pub AppendsPart : Option (List ℕ) → Option (List ℕ) → List ℕ → Type 0
+AppendsPart old now bytes = (rest : List ℕ) × IsPart old now bytes rest

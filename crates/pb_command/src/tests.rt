@@ -1,0 +1,183 @@
+ghost use Rattle.std.specs.Prelude.{◌≤◌, length};
+
+use crate::{Options, Put, Registry, options, parse_script, report_of};
+use pb_base::{Cell, Column, Content, ObserverNo, Row, Ts};
+use std::alloc::Global;
+use std::process::Abort;
+use std::rt::HostRuntime;
+
+// The number of transactions with line 0, or the line and the code of the fault.
+fn told(rt: &HostRuntime, text: &str) -> (usize, usize) {
+    match parse_script(rt.alloc(), text) {
+        Ok(batches) => (0, batches.len()),
+        Err(fault) => (fault.line, fault.code as usize),
+    }
+}
+
+#[test]
+fn scripts(rt: HostRuntime) {
+    let table = [
+        ("", (0, 0)),
+        ("put 7 0 2a", (0, 1)),
+        ("# x\n\nput 7 1 aa\ndel 0 15\n", (0, 2)),
+        ("put 18446744073709551615 15 00", (0, 1)),
+        ("put 7 16 2a", (1, 71)),
+        ("#\nput 07 1 2a", (2, 70)),
+        ("put 18446744073709551616 x 2a", (1, 71)),
+        ("put 1 1 2A", (1, 72)),
+        ("put 1 1 2", (1, 72)),
+        ("put 1 1 ", (1, 72)),
+        ("put 1 1", (1, 70)),
+        ("put 1 1 2a 3", (1, 70)),
+        ("put 1 1 2a\r", (1, 72)),
+        ("put 7 0 2a; put 7 1 2a", (1, 76)),
+        ("put 7 0 2a; x", (1, 76)),
+        ("put 7 16 2a; put 7 1 2a", (1, 71)),
+        ("put 1 1 2a;del 1 1", (1, 72)),
+    ];
+    for (text, wanted) in table {
+        assert!(rt; told(&rt, text) == wanted, "{text}");
+    }
+}
+
+fn value(bytes: &[u8]) -> Content
+    requires { length bytes.now ≤ 32 }
+{
+    let mut value = [0; 32];
+    value[..bytes.len()].copy_from_slice(bytes);
+    Content::Value(value)
+}
+
+fn put(rt: &impl Abort, row: u64, column: u8, commit: u64, content: Content) -> Put {
+    let column = Column::new(column).expect(rt, "a column");
+    Put {
+        cell: Cell::Data(Row(row), column),
+        commit: Ts(commit),
+        content,
+    }
+}
+
+#[test]
+fn newest_is_reported(rt: HostRuntime) {
+    let puts = [
+        put(&rt, 7, 0, 4, Content::Deleted),
+        put(&rt, 7, 0, 2, value(&[42])),
+    ];
+    let text = report_of(rt.alloc(), &puts, 0, 0).expect(&rt, "memory");
+    assert!(rt; text.as_str() == "cell 7 0 commit 4 deleted\nquiet\n");
+}
+
+#[test]
+fn cells_are_in_order(rt: HostRuntime) {
+    let observer = ObserverNo::new(0).expect(&rt, "an observer");
+    let column = Column::new(0).expect(&rt, "a column");
+    let acknowledgment = Put {
+        cell: Cell::Ack(observer, Row(7), column),
+        commit: Ts(5),
+        content: Content::Stamp(Ts(3)),
+    };
+    let puts = [
+        put(&rt, 1000, 15, 2, value(&[0])),
+        acknowledgment,
+        put(&rt, 0, 0, 4, value(&[1, 0])),
+    ];
+    let text = report_of(rt.alloc(), &puts, 0, 2).expect(&rt, "memory");
+    assert!(rt;
+        text.as_str()
+            == "cell 0 0 commit 4 value 01\ncell 1000 15 commit 2 value 00\nmarks 0 locks 2\n"
+    );
+}
+
+#[test]
+fn nothing_is_quiet(rt: HostRuntime) {
+    let text = report_of(rt.alloc(), &[], 0, 0).expect(&rt, "memory");
+    assert!(rt; text.as_str() == "quiet\n");
+}
+
+// The code of a manifest's fault, 0 where it is taken.
+fn judged(rt: &HostRuntime, text: &str) -> u8 {
+    match Registry::from_json(rt.alloc(), text) {
+        Ok(_) => 0,
+        Err(fault) => fault.code,
+    }
+}
+
+const OBSERVER: &str = "{\"name\":\"watch\",\"column\":0,\"helpers\":[],\"code\":\"\"}";
+
+#[test]
+fn manifests(rt: HostRuntime) {
+    let table = [
+        ("{\"profile\":1,\"observers\":[]}", 0),
+        (" { \"observers\" : [ ] , \"profile\" : 1 } \n", 0),
+        ("", 50),
+        ("{\"profile\":1,\"observers\":[]", 50),
+        ("{\"profile\":1,\"observers\":[]} x", 50),
+        ("[]", 51),
+        ("{\"profile\":1}", 51),
+        ("{\"profile\":2,\"observers\":[]}", 51),
+        ("{\"profile\":1.0,\"observers\":[]}", 51),
+        ("{\"profile\":1e0,\"observers\":[]}", 51),
+        ("{\"profile\":-1,\"observers\":[]}", 51),
+        ("{\"profile\":\"1\",\"observers\":[]}", 51),
+        ("{\"profile\":1,\"observers\":{}}", 51),
+        ("{\"profile\":1,\"observers\":[],\"x\":0}", 51),
+        ("{\"profile\":2,\"observers\":[],\"profile\":1}", 0),
+        ("{\"profile\":1,\"observers\":[],\"profile\":2}", 51),
+        ("{\"profile\":1,\"observers\":[5]}", 51),
+    ];
+    for (text, wanted) in table {
+        assert!(rt; judged(&rt, text) == wanted, "{text}");
+    }
+}
+
+fn manifest_of(rt: &impl Abort, alloc: Global, count: usize) -> String {
+    let mut text = String::from_str(alloc, "{\"profile\":1,\"observers\":[").expect(rt, "memory");
+    for place in 0..count {
+        if place > 0 {
+            text.push_str(",").expect(rt, "memory");
+        }
+        text.push_str(OBSERVER).expect(rt, "memory");
+    }
+    text.push_str("]}").expect(rt, "memory");
+    text
+}
+
+#[test]
+fn observers_are_refused(rt: HostRuntime) {
+    for (count, wanted) in [(1, 57), (32, 57), (33, 52)] {
+        let text = manifest_of(&rt, rt.alloc(), count);
+        assert!(rt; judged(&rt, text.as_str()) == wanted, "{count}");
+    }
+}
+
+#[test]
+fn changes_are_counted(rt: HostRuntime) {
+    let mut text = String::new(rt.alloc());
+    for _ in 0..10_000u32 {
+        text.push_str("del 0 0\n").expect(&rt, "memory");
+    }
+    assert!(rt; told(&rt, text.as_str()) == (0, 10_000));
+    text.push_str("del 0 0\n").expect(&rt, "memory");
+    assert!(rt; told(&rt, text.as_str()) == (10_001, 75));
+}
+
+// The status of a command line that is refused or asks for help, -1 for one that is taken.
+fn status(rt: &HostRuntime, words: &[&str]) -> i32 {
+    match options(rt.alloc(), words) {
+        Ok(_) => -1,
+        Err(error) => error.exit_code(),
+    }
+}
+
+#[test]
+fn command_lines(rt: HostRuntime) {
+    let words = ["percobpf", "run", "m.json", "s.txt"];
+    let Options::Run { manifest, script } = options(rt.alloc(), &words).expect(&rt, "options");
+    assert!(rt; manifest == "m.json" && script == "s.txt");
+    assert!(rt; status(&rt, &["percobpf"]) == 2);
+    assert!(rt; status(&rt, &["percobpf", "walk"]) == 2);
+    assert!(rt; status(&rt, &["percobpf", "run", "m.json"]) == 2);
+    assert!(rt; status(&rt, &["percobpf", "run", "m.json", "s.txt", "x"]) == 2);
+    assert!(rt; status(&rt, &["percobpf", "--help"]) == 0);
+    assert!(rt; status(&rt, &["percobpf", "run", "--help"]) == 0);
+}

@@ -1,0 +1,6 @@
+//! The words of a command line.
+mod choice;
+mod parse;
+
+pub use choice::Options;
+pub use parse::options;
