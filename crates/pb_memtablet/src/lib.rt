@@ -1,4 +1,7 @@
 //! Tablets in memory.
 #![tactic(auto)]
 
+mod list;
 mod sorted;
+
+pub use list::ListTablet;
