@@ -3,5 +3,7 @@
 
 mod list;
 mod sorted;
+#[cfg(test)]
+mod tests;
 
 pub use list::ListTablet;
