@@ -1,1 +1,4 @@
 pub mod Spots
+pub mod Nearest
+pub mod Edits
+pub mod Answered

@@ -3,12 +3,13 @@ use Rattle.std.proofs.Common.{◌≡◌, ◌≢◌, ℕ, ◌<◌, ◌≤◌, Boo
 use Rattle.std.specs.declared.cmp.Ordering.{Ordering}
 use Rattle.std.specs.declared.cmp.Ordering.TheVariants.{Less, Equal, Greater}
 use Rattle.std.specs.Ordering.{is_eq, is_lt, ordering_reverse, eq_by_cmp, ordering_index}
-use Rattle.std.specs.Cmp.{IsTotalOrder}
+use Rattle.std.specs.Cmp.{IsTotalOrder, tied_itself, alike_right, eq_by_cmp_equiv}
 use Rattle.std.specs.List.{insert, remove, AllWithin, HoldsAt}
 use Rattle.std.specs.List.Sorted.{IsNonDecreasingBy, IsBinarySearchResult, IsSearchInRange}
 use Rattle.std.proofs.lemmas.List.Sorted.{searchable_from_sorted}
+use Rattle.std.specs.FinMap as map
 use Rattle.std.specs.FinMap.{find, put}
-use Rattle.std.specs.FinMap.Entries.{by_order, below_all, is_sorted, where_key}
+use Rattle.std.specs.FinMap.Entries.{by_order, below_all, is_sorted, where_key, find-put, find-where_key, is_sorted-put, is_sorted-where_key}
 use Rattle.pb_memtablet.specs.Places.{IsFound, IsGap, IsCut}
 
 pub holds : (b : Bool) → b ≡ true → T b
@@ -27,6 +28,10 @@ less Less p = refl
 less Equal p = absurd p
 less Greater p = absurd p
 
+turned_choice : {A : Type 0} (b : Bool) (x y : A) → cond (not b) x y ≡ cond b y x
+turned_choice true x y = refl
+turned_choice false x y = refl
+
 pub not_less : (o : Ordering) → o ≡ Greater → o ≢ Less
 not_less o g l = cc
 
@@ -35,6 +40,15 @@ equal_not_less o g l = cc
 
 pub turned : {K : Type 0} {R : K → K → Ordering} → IsTotalOrder R → (x y : K) (r : Ordering) → R x y ≡ r → R y x ≡ ordering_reverse r
 turned o x y r e = o.antisymm y x ∙ ap ordering_reverse e
+
+-- what is not above one key is below all that are above that key
+pub past : {K : Type 0} {R : K → K → Ordering} → IsTotalOrder R → (k x q : K) → R k x ≢ Less → R k q ≡ Less → R q x ≡ Greater
+past {R = R} o k x q above below =
+    elim (R k x) as (λ r. R k x ≡ r → r ≢ Less → R q x ≡ Greater) [
+      | Less ↦ λ e n. absurd (n refl)
+      | Equal ↦ λ e n. turned o x q Less (sym (o.congr k x q e) ∙ below)
+      | Greater ↦ λ e n. turned o x q Less (o.trans x k q (turned o k x Greater e) below)
+    ] refl above
 
 module _ {K X : Type 0} {R : K → K → Ordering} (o : IsTotalOrder R) where
   below_at : (x : K) (es : List (K × X)) (i : ℕ) (d : K × X) → T (below_all R x es) → i < length es → R x (get_or es i d).0 ≡ Less
@@ -96,11 +110,14 @@ module _ {K X : Type 0} {R : K → K → Ordering} (o : IsTotalOrder R) where
   put-found (e ∷ es) k v zero d f = ap (λ r. by_order r ((k, v) ∷ e ∷ es) ((e.0, v) ∷ es) (e ∷ put R k v es)) f
   put-found (e ∷ es) k v (suc i) d f = ap (λ r. by_order r ((k, v) ∷ e ∷ es) ((e.0, v) ∷ es) (e ∷ put R k v es)) f.0 ∙ ap (λ l. e ∷ l) (put-found es k v i d f.1)
 
-  pub put-gap : (es : List (K × X)) (k : K) (v : X) (i : ℕ) → IsGap R es k i → put R k v es ≡ insert es i (k, v)
+  put-gap : (es : List (K × X)) (k : K) (v : X) (i : ℕ) → IsGap R es k i → put R k v es ≡ insert es i (k, v)
   put-gap [] k v zero g = refl
   put-gap [] k v (suc i) g = absurd g
   put-gap (e ∷ es) k v zero g = ap (λ r. by_order r ((k, v) ∷ e ∷ es) ((e.0, v) ∷ es) (e ∷ put R k v es)) g
   put-gap (e ∷ es) k v (suc i) g = ap (λ r. by_order r ((k, v) ∷ e ∷ es) ((e.0, v) ∷ es) (e ∷ put R k v es)) g.0 ∙ ap (λ l. e ∷ l) (put-gap es k v i g.1)
+
+  pub put-inserted : (es fs : List (K × X)) (k : K) (v : X) (i : ℕ) (b : Bool) → IsGap R es k i → fs ≡ cond b (insert es i (k, v)) es → b ≡ true → fs ≡ put R k v es
+  put-inserted es fs k v i b gap made ok = made ∙ ap (λ c. cond c (insert es i (k, v)) es) ok ∙ sym (put-gap es k v i gap)
 
   -- the entries whose keys don't tie with k
   abbrev without : K → List (K × X) → List (K × X)
@@ -111,12 +128,15 @@ module _ {K X : Type 0} {R : K → K → Ordering} (o : IsTotalOrder R) where
   without_above (e ∷ es) k x f h =
       ap (λ r. cond (not (is_eq r)) (e ∷ without k es) (without k es)) (f e.0 (less _ (first _ _ h))) ∙ ap (λ l. e ∷ l) (without_above es k x f (second _ _ h))
 
-  pub without-found : (es : List (K × X)) (k : K) (i : ℕ) → T (is_sorted R es) → IsFound R es k i → without k es ≡ remove es i
+  without-found : (es : List (K × X)) (k : K) (i : ℕ) → T (is_sorted R es) → IsFound R es k i → without k es ≡ remove es i
   without-found [] k i s f = absurd f
   without-found (e ∷ es) k zero s f =
       ap (λ r. cond (not (is_eq r)) (e ∷ without k es) (without k es)) f ∙ without_above es k e.0 (λ y lt. o.congr k e.0 y f ∙ lt) (first _ _ s)
   without-found (e ∷ es) k (suc i) s f =
       ap (λ r. cond (not (is_eq r)) (e ∷ without k es) (without k es)) f.0 ∙ ap (λ l. e ∷ l) (without-found es k i (second _ _ s) f.1)
+
+  pub without-removed : (es fs : List (K × X)) (k : K) (i : ℕ) → T (is_sorted R es) → IsFound R es k i → fs ≡ remove es i → fs ≡ without k es
+  without-removed es fs k i s f made = made ∙ sym (without-found es k i s f)
 
   pub without-gap : (es : List (K × X)) (k : K) (i : ℕ) → T (is_sorted R es) → IsGap R es k i → without k es ≡ es
   without-gap [] k i s g = refl
@@ -162,3 +182,27 @@ module _ {K X : Type 0} {R : K → K → Ordering} (o : IsTotalOrder R) where
         turned o e.0 q Less (o.trans e.0 x q (below_at e.0 es i d (first _ _ s) (omega arith)) (turned o q x Greater g)),
         gap_after es q i d (second _ _ s) (omega arith) g (λ y more. above y (omega arith)),
       )
+
+  -- each entry is found at its place by its own key
+  pub found_self : (es : List (K × X)) (i : ℕ) (d : K × X) → T (is_sorted R es) → i < length es → IsFound R es (get_or es i d).0 i
+  found_self [] i d s lt = absurd (omega (arith, lt))
+  found_self (e ∷ es) zero d s lt = tied_itself o e.0
+  found_self (e ∷ es) (suc i) d s lt =
+      (turned o e.0 _ Less (below_at e.0 es i d (first _ _ s) (omega arith)), found_self es i d (second _ _ s) (omega arith))
+
+  module _ (exact : map.IsAntisymmetric R) where
+    pub inserted : (es : List (K × X)) (k : K) (v : X) → T (is_sorted R es) → map.from_sorted {R = R} (put R k v es) ≡ map.insert (map.from_sorted es) k v
+    inserted es k v s = map.same_map o exact _ _ (λ q.
+        map.get-from_sorted R _ q (is_sorted-put R o k v es s)
+        ∙ find-put R o q k v es
+        ∙ ap (cond (eq_by_cmp R q k) (Some v)) (sym (map.get-from_sorted R es q s))
+        ∙ sym (map.get-insert o _ k v q))
+
+    pub removed : (es : List (K × X)) (k : K) → T (is_sorted R es) → map.from_sorted {R = R} (without k es) ≡ map.remove (map.from_sorted es) k
+    removed es k s = map.same_map o exact _ _ (λ q.
+        map.get-from_sorted R _ q (is_sorted-where_key R _ es s)
+        ∙ find-where_key R (λ x. not (eq_by_cmp R k x)) q (λ x t. ap (λ r. not (is_eq r)) (sym (alike_right o q x k t))) es
+        ∙ turned_choice (eq_by_cmp R k q) _ _
+        ∙ ap (λ b. cond b None (find R q es)) ((eq_by_cmp_equiv o).symm k q)
+        ∙ ap (cond (eq_by_cmp R q k) None) (sym (map.get-from_sorted R es q s))
+        ∙ sym (map.get-remove o _ k q))

@@ -1,4 +1,9 @@
 //! Tablets in memory.
 #![tactic(auto)]
 
+mod list;
 mod sorted;
+#[cfg(test)]
+mod tests;
+
+pub use list::ListTablet;

@@ -1,7 +1,6 @@
-use Rattle.std.proofs.Common.{sym, ap, subst, ◌∙◌, set, cond, is_ok}
-use Rattle.std.specs.List.{insert}
+use Rattle.std.proofs.Common.{sym, ap, subst, ◌∙◌, set, is_ok}
 use Rattle.pb_memtablet.specs.Places.{IsFound, IsGap}
-use Rattle.pb_memtablet.proofs.Spots.{put-found, put-gap}
+use Rattle.pb_memtablet.proofs.Spots.{put-found, put-inserted}
 use Rattle.pb_memtablet.proofs.sorted.put_in.Goals as goal
 
 pub returns-in-Ok-clause-items : goal.returns-in-Ok-clause-items
@@ -13,6 +12,4 @@ returns-in-Ok-clause-items g c =
 pub returns-in-Err-clause-items : goal.returns-in-Err-clause-items
 returns-in-Err-clause-items g c =
     let gap = subst (λ es. IsGap g.K.Ord.cmp es c.args.key c.in-Err.i) c.deref.ensures.value c.in-Err.ensures.gap in
-    c.insert.ensures.items
-    ∙ ap (λ b. cond b (insert c.args.entries.now.items c.in-Err.i (c.args.key, c.args.value)) c.args.entries.now.items) (ap is_ok c.unwrap.ensures)
-    ∙ sym (put-gap g.met.K.Ord.total c.args.entries.now.items c.args.key c.args.value c.in-Err.i gap)
+    put-inserted g.met.K.Ord.total c.args.entries.now.items c.insert.new.self.items c.args.key c.args.value c.in-Err.i (is_ok c.insert.result) gap c.insert.ensures.items (ap is_ok c.unwrap.ensures)

@@ -1,12 +1,12 @@
-use Rattle.std.proofs.Common.{sym, subst, ◌∙◌}
+use Rattle.std.proofs.Common.{sym, subst}
 use Rattle.pb_memtablet.specs.Places.{IsFound, IsGap}
-use Rattle.pb_memtablet.proofs.Spots.{holds, without-found, without-gap}
+use Rattle.pb_memtablet.proofs.Spots.{holds, without-removed, without-gap}
 use Rattle.pb_memtablet.proofs.sorted.take_out.Goals as goal
 
 pub returns-in-Ok-clause-items : goal.returns-in-Ok-clause-items
 returns-in-Ok-clause-items g c =
     let found = subst (λ es. IsFound g.K.Ord.cmp es c.args.key.now c.in-Ok.i) c.deref.ensures.value c.in-Ok.ensures.found in
-    c.remove.ensures.items ∙ sym (without-found g.met.K.Ord.total c.args.entries.now.items c.args.key.now c.in-Ok.i (holds _ c.requires) found)
+    without-removed g.met.K.Ord.total c.args.entries.now.items c.remove.new.self.items c.args.key.now c.in-Ok.i (holds _ c.requires) found c.remove.ensures.items
 
 pub returns-in_default-clause-items : goal.returns-in_default-clause-items
 returns-in_default-clause-items g c =

@@ -1,0 +1,46 @@
+-- What sorted lists answer is what they contain.
+use Rattle.std.proofs.Common.{◌≡◌, ℕ, ◌<◌, ◌≤◌, ◌==◌, ◌&&◌, cond, List, [], ◌∷◌, Option, None, Some, IfSome, MatchOption, refl, sym, ap, ◌∙◌, subst, length, slice_get}
+use Rattle.std.specs.List.{HoldsAt}
+use Rattle.std.specs.Option.{option_copied}
+use Rattle.std.specs.Borrow.{Bor}
+use Rattle.std.proofs.lemmas.Option.{slice_get_past, slice_get-get_or}
+use Rattle.std.specs.declared.cmp.Ordering.TheVariants.{Less, Equal, Greater}
+use Rattle.std.specs.Ordering.{is_eq}
+use Rattle.std.specs.FinMap as map
+use Rattle.pb_base.specs.Cell.{cell_cmp}
+use Rattle.pb_store.specs.declared.slot.Slot.{Slot}
+use Rattle.pb_store.specs.Slot.{slot_cmp, slot_cmp-IsAntisymmetric}
+use Rattle.pb_store.specs.Contents.{IsOfSort, is_nothing}
+use Rattle.pb_memtablet.specs.Listed.{EntryList, MarkList, contents_of, AllOfSort, AreLists}
+use Rattle.pb_memtablet.proofs.Spots.{holds}
+
+pub of_sort_found : (es : EntryList) (q : Slot) → AllOfSort es → IfSome (map.find slot_cmp q es) (IsOfSort q.sort)
+of_sort_found [] q all = tt
+of_sort_found (e ∷ es) q all =
+    elim (slot_cmp q e.0) as (λ r. slot_cmp q e.0 ≡ r → IfSome (cond (is_eq r) (Some e.1) (map.find slot_cmp q es)) (IsOfSort q.sort)) [
+      | Less ↦ λ p. of_sort_found es q all.1
+      | Equal ↦ λ p. subst (λ (s : Slot). IsOfSort s.sort e.1) (sym (slot_cmp-IsAntisymmetric q e.0 p)) all.0
+      | Greater ↦ λ p. of_sort_found es q all.1
+    ] refl
+
+pub got : {X : Type 0} (xs : List X) (i : ℕ) (r : Option (Bor X)) → MatchOption r (length xs ≤ i) (λ x. (i < length xs) × HoldsAt (λ y. x.now ≡ y) xs i) → option_copied r ≡ slice_get xs i
+got xs i None le = sym (slice_get_past xs i le)
+got xs i (Some x) at = ap Some (at.1 x.now) ∙ sym (slice_get-get_or xs i x.now at.0)
+
+module _ (es : EntryList) (ms : MarkList) (l : AreLists es ms) where
+  pub get-listed : (q : Slot) → map.get (contents_of es ms).entries q ≡ map.find slot_cmp q es
+  get-listed q = map.get-from_sorted slot_cmp es q (holds _ l.entries)
+
+  pub entries-listed : map.entries (contents_of es ms).entries ≡ es
+  entries-listed = map.entries-from_sorted slot_cmp es (holds _ l.entries)
+
+  marks-listed : map.entries (contents_of es ms).marks ≡ ms
+  marks-listed = map.entries-from_sorted cell_cmp ms (holds _ l.marks)
+
+  pub len-listed : map.len (contents_of es ms).entries ≡ length es
+  len-listed = map.len-entries _ ∙ ap length entries-listed
+
+  pub is_nothing-listed : is_nothing (contents_of es ms) ≡ ((length es == 0) && (length ms == 0))
+  is_nothing-listed =
+      ap (λ n. (n == 0) && (map.len (contents_of es ms).marks == 0)) len-listed
+      ∙ ap (λ n. (length es == 0) && (n == 0)) (map.len-entries _ ∙ ap length marks-listed)

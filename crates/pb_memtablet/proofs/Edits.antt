@@ -1,0 +1,99 @@
+-- What edits make of sorted lists.
+use Rattle.std.proofs.Common.{◌≡◌, Bool, true, false, cond, not, [], ◌∷◌, refl, sym, ap, ◌∙◌, subst, T, length}
+use Rattle.std.specs.declared.cmp.Ordering.{Ordering}
+use Rattle.std.specs.declared.cmp.Ordering.TheVariants.{Less, Equal, Greater}
+use Rattle.std.specs.Ordering.{eq_by_cmp}
+use Rattle.std.specs.FinMap as map
+use Rattle.std.specs.FinMap.{put}
+use Rattle.std.specs.FinMap.Entries.{by_order, where_key, is_sorted-put, is_sorted-where_key}
+use Rattle.pb_base.specs.declared.cell.Cell.{Cell}
+use Rattle.pb_base.specs.Cell.{cell_cmp, cell_cmp_total, cell_cmp-IsAntisymmetric}
+use Rattle.pb_store.specs.declared.slot.Slot.{Slot}
+use Rattle.pb_store.specs.declared.slot.Item.{Item}
+use Rattle.pb_store.specs.Slot.{slot_cmp, slot_cmp_total, slot_cmp-IsAntisymmetric}
+use Rattle.pb_store.specs.declared.slot.Edit.{Edit}
+use Rattle.pb_store.specs.declared.slot.Edit.TheVariants.{Put, Erase, Mark, Unmark}
+use Rattle.pb_store.specs.Contents.{Contents, IsOfSort, nothing, after_edit}
+use Rattle.pb_memtablet.specs.Listed.{EntryList, MarkList, contents_of, AllOfSort, AreLists}
+use Rattle.pb_memtablet.proofs.Spots.{holds, inserted, removed}
+
+both_same : (m n : map.FinMap slot_cmp Item) (p q : map.FinMap cell_cmp (Unit {0})) → m ≡ n → p ≡ q → ◌≡◌ {A = Contents} (record { entries = m; marks = p }) (record { entries = n; marks = q })
+both_same m n p q e f = λ i. record { entries = e i; marks = f i }
+
+none_listed : {K X : Type 0} (R : K → K → Ordering) → map.from_sorted {X = X} {R = R} [] ≡ map.empty
+none_listed R = map.empty_of_len _ (map.len-entries _ ∙ ap length (map.entries-from_sorted R [] tt))
+
+pub contents_of-nothing : contents_of [] [] ≡ nothing
+contents_of-nothing = both_same _ _ _ _ (none_listed slot_cmp) (none_listed cell_cmp)
+
+of_sort-put : (es : EntryList) (k : Slot) (v : Item) → IsOfSort k.sort v → AllOfSort es → AllOfSort (put slot_cmp k v es)
+of_sort-put [] k v new all = (new, tt)
+of_sort-put (e ∷ es) k v new all =
+    elim (slot_cmp k e.0) as (λ r. slot_cmp k e.0 ≡ r → AllOfSort (by_order r ((k, v) ∷ e ∷ es) ((e.0, v) ∷ es) (e ∷ put slot_cmp k v es))) [
+      | Less ↦ λ p. (new, all)
+      | Equal ↦ λ p. (subst (λ (q : Slot). IsOfSort q.sort v) (slot_cmp-IsAntisymmetric k e.0 p) new, all.1)
+      | Greater ↦ λ p. (all.0, of_sort-put es k v new all.1)
+    ] refl
+
+of_sort-where_key : (es : EntryList) (p : Slot → Bool) → AllOfSort es → AllOfSort (where_key slot_cmp p es)
+of_sort-where_key [] p all = tt
+of_sort-where_key (e ∷ es) p all =
+    elim (p e.0) as (λ b. AllOfSort (cond b (e ∷ where_key slot_cmp p es) (where_key slot_cmp p es))) [
+      | true ↦ (all.0, of_sort-where_key es p all.1)
+      | false ↦ of_sort-where_key es p all.1
+    ]
+
+truth : (b : Bool) → T b → b ≡ true
+truth true t = refl
+truth false t = absurd t
+
+-- ---- one edit
+pub record IsDone (fs : EntryList) (ns : MarkList) (edit : Edit) (es : EntryList) (ms : MarkList) : Type 0 where
+  pub lists : AreLists fs ns
+  pub contents : contents_of fs ns ≡ after_edit edit (contents_of es ms)
+
+module _ (es : EntryList) (ms : MarkList) (l : AreLists es ms) where
+  lists_put : (k : Slot) (v : Item) → IsOfSort k.sort v → AreLists (put slot_cmp k v es) ms
+  lists_put k v new = record {
+    entries = truth _ (is_sorted-put slot_cmp slot_cmp_total k v es (holds _ l.entries));
+    marks = l.marks;
+    of_sort = of_sort-put es k v new l.of_sort;
+  }
+
+  lists_erased : (p : Slot → Bool) → AreLists (where_key slot_cmp p es) ms
+  lists_erased p = record {
+    entries = truth _ (is_sorted-where_key slot_cmp p es (holds _ l.entries));
+    marks = l.marks;
+    of_sort = of_sort-where_key es p l.of_sort;
+  }
+
+  lists_marked : (k : Cell) → AreLists es (put cell_cmp k tt ms)
+  lists_marked k = record { entries = l.entries; marks = truth _ (is_sorted-put cell_cmp cell_cmp_total k tt ms (holds _ l.marks)); of_sort = l.of_sort }
+
+  lists_unmarked : (p : Cell → Bool) → AreLists es (where_key cell_cmp p ms)
+  lists_unmarked p = record { entries = l.entries; marks = truth _ (is_sorted-where_key cell_cmp p ms (holds _ l.marks)); of_sort = l.of_sort }
+
+  -- the lists that were es and ms, after one edit
+  pub put_done : (fs : EntryList) (k : Slot) (v : Item) → fs ≡ put slot_cmp k v es → IsOfSort k.sort v → IsDone fs ms (Put k v) es ms
+  put_done fs k v e new = record {
+    lists = subst (λ (xs : EntryList). AreLists xs ms) (sym e) (lists_put k v new);
+    contents = both_same _ _ _ _ (ap (λ xs. map.from_sorted {R = slot_cmp} xs) e ∙ inserted slot_cmp_total slot_cmp-IsAntisymmetric es k v (holds _ l.entries)) refl;
+  }
+
+  pub erase_done : (fs : EntryList) (k : Slot) → fs ≡ where_key slot_cmp (λ q. not (eq_by_cmp slot_cmp k q)) es → IsDone fs ms (Erase k) es ms
+  erase_done fs k e = record {
+    lists = subst (λ (xs : EntryList). AreLists xs ms) (sym e) (lists_erased _);
+    contents = both_same _ _ _ _ (ap (λ xs. map.from_sorted {R = slot_cmp} xs) e ∙ removed slot_cmp_total slot_cmp-IsAntisymmetric es k (holds _ l.entries)) refl;
+  }
+
+  pub mark_done : (ns : MarkList) (k : Cell) → ns ≡ put cell_cmp k tt ms → IsDone es ns (Mark k) es ms
+  mark_done ns k e = record {
+    lists = subst (AreLists es) (sym e) (lists_marked k);
+    contents = both_same _ _ _ _ refl (ap (λ xs. map.from_sorted {R = cell_cmp} xs) e ∙ inserted cell_cmp_total cell_cmp-IsAntisymmetric ms k tt (holds _ l.marks));
+  }
+
+  pub unmark_done : (ns : MarkList) (k : Cell) → ns ≡ where_key cell_cmp (λ q. not (eq_by_cmp cell_cmp k q)) ms → IsDone es ns (Unmark k) es ms
+  unmark_done ns k e = record {
+    lists = subst (AreLists es) (sym e) (lists_unmarked _);
+    contents = both_same _ _ _ _ refl (ap (λ xs. map.from_sorted {R = cell_cmp} xs) e ∙ removed cell_cmp_total cell_cmp-IsAntisymmetric ms k (holds _ l.marks));
+  }

@@ -1,0 +1,39 @@
+-- What two sorted lists contain.
+use Rattle.std.specs.Prelude.{Bool, true, false, IsTrue, List, [], ◌∷◌}
+use Rattle.std.specs.FinMap as map
+use Rattle.pb_base.specs.declared.cell.Cell.{Cell}
+use Rattle.pb_base.specs.Cell.{cell_cmp}
+use Rattle.pb_store.specs.declared.slot.Slot.{Slot}
+use Rattle.pb_store.specs.declared.slot.Item.{Item}
+use Rattle.pb_store.specs.declared.slot.Edit.{Edit}
+use Rattle.pb_store.specs.declared.slot.Edit.TheVariants.{Put, Mark}
+use Rattle.pb_store.specs.Slot.{slot_cmp}
+use Rattle.pb_store.specs.Contents.{Contents, IsOfSort}
+
+abbrev pub EntryList : Type 0
+EntryList = List (Slot × Item)
+
+abbrev pub MarkList : Type 0
+MarkList = List (Cell × Unit {0})
+
+abbrev pub contents_of : EntryList → MarkList → Contents
+contents_of es ms = record { entries = map.from_sorted es; marks = map.from_sorted ms }
+
+-- each item is one of its slot's sort
+abbrev pub AllOfSort : EntryList → Type 0
+AllOfSort [] = Unit {0}
+AllOfSort (e ∷ es) = IsOfSort e.0.sort e.1 × AllOfSort es
+
+-- lists in order, each item of its slot's sort
+pub record AreLists (es : EntryList) (ms : MarkList) : Type 0 where
+  pub entries : IsTrue (map.is_sorted slot_cmp es)
+  pub marks : IsTrue (map.is_sorted cell_cmp ms)
+  pub of_sort : AllOfSort es
+
+abbrev pub is_put : Edit → Bool
+is_put (Put slot item) = true
+is_put _ = false
+
+abbrev pub is_mark : Edit → Bool
+is_mark (Mark cell) = true
+is_mark _ = false
