@@ -1,5 +1,5 @@
 -- What a call does.
-use Rattle.std.specs.Prelude.{◌≡◌, ℕ, ◌<◌, Bool, ◌==◌, nat_lt, if◌then◌else◌, List, [], ◌∷◌, ◌++◌, length, Option, Some, None, slice_index_or}
+use Rattle.std.specs.Prelude.{◌≡◌, ℕ, ◌+◌, ◌<◌, Bool, ◌==◌, nat_lt, if◌then◌else◌, List, [], ◌∷◌, ◌++◌, length, Option, Some, None, slice_index_or}
 use Rattle.pb_base.specs.declared.refusal.Refusal.{Refusal}
 use Rattle.pb_state.specs.declared.step.Step.{Step}
 use Rattle.pb_state.specs.declared.step.Answer.{Answer}
@@ -8,6 +8,7 @@ use Rattle.pb_state.specs.Refusal.{refusal}
 use Rattle.pb_state.specs.Machine.{Machine}
 use Rattle.pb_core.specs.declared.entry.Entry.{Entry}
 use Rattle.pb_core.specs.declared.entry.Received.{Received}
+use Rattle.pb_core.specs.Places.{entries_of}
 
 -- the table, as its callers see it: `opened` is the clock as opened
 pub record SharedOf : Type 0 where
@@ -54,3 +55,12 @@ pub record IsFresh (count : ℕ) (seats : List SeatOf) : Type 0 where
 pub record IsBlank (count : ℕ) (books : List (List ℕ)) : Type 0 where
   pub counted : length books ≡ count
   pub each : (k : ℕ) (d : List ℕ) → k < length books → slice_index_or books k d ≡ []
+
+-- all seats of the table, in order: numbered from `from`, each list the journal's entries of that seat
+abbrev pub AreSeatsFrom : ℕ → List Entry → List SeatOf → Type 0
+AreSeatsFrom from journal [] = Unit {0}
+AreSeatsFrom from journal (seat ∷ seats) = (seat.number ≡ from) × (seat.received ≡ entries_of from journal) × AreSeatsFrom (from + 1) journal seats
+
+pub record AreSeats (shared : SharedOf) (seats : List SeatOf) : Type 0 where
+  pub counted : length seats ≡ shared.state.seats
+  pub each : AreSeatsFrom 0 shared.journal seats
