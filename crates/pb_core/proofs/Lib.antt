@@ -3,3 +3,4 @@ pub mod Nothing
 pub mod Agree
 pub mod Steps
 pub mod Tells
+pub mod Fresh

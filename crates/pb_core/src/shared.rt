@@ -88,7 +88,7 @@ impl<T: Tablet> Shared<T> {
     ghost use Rattle.std.specs.Prelude.{◌≡◌, ◌≤◌, ◌<◌, ◌↔◌, IfOk, IfErr, OnOk, OnErr, [], ℕ, Err, Some, None, true, false};
     ghost use Rattle.pb_store.specs.Contents.{nothing, is_nothing};
     ghost use Rattle.pb_state.specs.State.{opened, phase_in};
-    ghost use Rattle.pb_core.specs.Calls.{SeatOf, IsFresh, Calls, refusal_in, no_memory};
+    ghost use Rattle.pb_core.specs.Calls.{AreSeats, Calls, refusal_in, no_memory};
     ghost use Rattle.pb_core.specs.Legal.{IsLegal};
     ghost use Rattle.pb_core.specs.History.{TellsHistory};
 
@@ -106,7 +106,7 @@ impl<T: Tablet> Shared<T> {
         requires few { seats ≤ 64 }
         requires bounded { limit ≤ 1000000 }
         ensures shared { IfOk result (λ s. s.0 ≡ record { journal = []; state = opened seats last.0; opened = last.0; limit = limit }) }
-        ensures seats { IfOk result (λ s. IsFresh seats s.1.items) }
+        ensures seats { IfOk result (λ s. AreSeats s.0 s.1.items) }
         ensures empty { OnOk result (is_nothing table.contents ≡ true) }
         ensures handed_back { IfErr result (λ e. e.table ≡ table) }
         ensures full { is_nothing table.contents ≡ false → IfErr result (λ e. e.code ≡ 4) }
