@@ -1,0 +1,107 @@
+-- A table on its way through a change.
+use Rattle.std.proofs.Common.{◌≡◌, ℕ, ◌⊎◌, inl, inr, Bool, true, false, List, [], ◌∷◌, ◌++◌, length, map, Some, None, refl, sym, ap, subst, ◌∙◌}
+use Rattle.std.specs.Prelude.{◌==◌}
+use Rattle.std.proofs.lemmas.Bool.{eqb-true}
+use Rattle.pb_base.specs.declared.refusal.Refusal.{Refusal}
+use Rattle.pb_state.specs.declared.step.Step.{Step}
+use Rattle.pb_state.specs.declared.step.Answer.{Answer}
+use Rattle.pb_state.specs.State.{StateOf}
+use Rattle.pb_state.specs.Refusal.{is_out, refusal, first_reason}
+use Rattle.pb_state.specs.Machine.{Case}
+use Rattle.pb_core.specs.declared.entry.Received.{Received}
+use Rattle.pb_core.specs.Calls.{SharedOf, SeatOf, Calls, lowest, refusal_in}
+use Rattle.pb_alone.specs.declared.fault.RunFault.{RunFault}
+use Rattle.pb_alone.specs.declared.fault.RunFault.TheVariants as faults
+use Rattle.pb_alone.specs.Alone.{Goes, entry}
+use Rattle.pb_alone.specs.Faults.{IsRefusedBy, IsEnd}
+
+-- ---- lists
+
+pub append_assoc : {A : Type 0} (xs ys zs : List A) → (xs ++ ys) ++ zs ≡ xs ++ (ys ++ zs)
+append_assoc [] ys zs = refl
+append_assoc (x ∷ xs) ys zs = ap (λ l. x ∷ l) (append_assoc xs ys zs)
+
+pub append_nil : {A : Type 0} (xs : List A) → xs ++ [] ≡ xs
+append_nil [] = refl
+append_nil (x ∷ xs) = ap (λ l. x ∷ l) (append_nil xs)
+
+pub map_append : {A B : Type 0} (f : A → B) (xs ys : List A) → map f (xs ++ ys) ≡ map f xs ++ map f ys
+map_append f [] ys = refl
+map_append f (x ∷ xs) ys = ap (λ l. f x ∷ l) (map_append f xs ys)
+
+-- ---- from the start of a change to here
+
+pub record AtStage (s0 : SharedOf) (q0 : SeatOf) (s : SharedOf) (q : SeatOf) (state : StateOf) (more : List Received) : Type 0 where
+  pub state_is : s.state ≡ state
+  pub journal : s.journal ≡ s0.journal ++ map (λ r. entry q0.number r.step r.answer) more
+  pub told : q.received ≡ q0.received ++ more
+  pub number : q.number ≡ q0.number
+  pub opened : s.opened ≡ s0.opened
+  pub limit : s.limit ≡ s0.limit
+
+pub stage0 : (s : SharedOf) (q : SeatOf) → AtStage s q s q s.state []
+stage0 s q = record { state_is = refl; journal = sym (append_nil s.journal); told = sym (append_nil q.received); number = refl; opened = refl; limit = refl }
+
+module _ (s0 : SharedOf) (q0 : SeatOf) (s : SharedOf) (q : SeatOf) (state : StateOf) (more : List Received) (at : AtStage s0 q0 s q state more) where
+  pub goes : state.seats ≡ s0.state.seats → Goes s0 q0 s q
+  goes seats = record {
+    more = more;
+    journal = at.journal;
+    received = at.told;
+    number = at.number;
+    opened = at.opened;
+    limit = at.limit;
+    seats = ap (λ (z : StateOf). z.seats) at.state_is ∙ seats;
+  }
+
+  pub next : (step : Step) (answer : Answer) (s' : SharedOf) (q' : SeatOf) (a : Answer) (state' : StateOf) → Calls s q step answer s' q'
+      → (Case state q0.number step answer s'.state → (answer ≡ a) × (s'.state ≡ state')) → AtStage s0 q0 s' q' state' (more ++ record { step = step; answer = a } ∷ [])
+  next step answer s' q' a state' c only =
+      let taken : Case state q0.number step answer s'.state = subst (λ n. Case state n step answer s'.state) at.number (subst (λ z. Case z q.number step answer s'.state) at.state_is c.machine.taken) in
+      let o = only taken in
+      record {
+        state_is = o.1;
+        journal =
+            c.journal
+            ∙ (λ i. at.journal i ++ record { seat = at.number i; step = step; answer = o.0 i } ∷ [])
+            ∙ append_assoc s0.journal (map (λ r. entry q0.number r.step r.answer) more) (entry q0.number step a ∷ [])
+            ∙ ap (λ l. s0.journal ++ l) (sym (map_append (λ r. entry q0.number r.step r.answer) more (record { step = step; answer = a } ∷ [])));
+        told = c.received ∙ (λ i. at.told i ++ record { step = step; answer = o.0 i } ∷ []) ∙ append_assoc q0.received more (record { step = step; answer = a } ∷ []);
+        number = c.number ∙ at.number;
+        opened = c.opened ∙ at.opened;
+        limit = c.limit ∙ at.limit;
+      }
+
+  -- ---- why a call was refused
+
+  refused_here : (step : Step) (n : ℕ) → refusal_in s q.number step ≡ Some (record { 0 = n }) → lowest (refusal state q0.number step) (length s.journal == s.limit) ≡ Some (record { 0 = n })
+  refused_here step n e = subst (λ k. lowest (refusal state k step) (length s.journal == s.limit) ≡ Some (record { 0 = n })) at.number (subst (λ z. lowest (refusal z q.number step) (length s.journal == s.limit) ≡ Some (record { 0 = n })) at.state_is e)
+
+  full_is : (full : Bool) (n : ℕ) → lowest None full ≡ Some (record { 0 = n }) → (n ≡ 44) × (full ≡ true)
+  full_is true n e = let r : record { 0 = 44 } ≡ record { 0 = n } = cc in (sym (ap (λ (z : Refusal). z.0) r), refl)
+  full_is false n e = cc
+
+  out_or_full : (out full : Bool) (n : ℕ) → lowest (first_reason ((40, out) ∷ [])) full ≡ Some (record { 0 = n }) → ((n ≡ 40) × (out ≡ true)) ⊎ ((n ≡ 44) × (full ≡ true))
+  out_or_full true true n e = let r : record { 0 = 40 } ≡ record { 0 = n } = cc in inl (sym (ap (λ (z : Refusal). z.0) r), refl)
+  out_or_full true false n e = let r : record { 0 = 40 } ≡ record { 0 = n } = cc in inl (sym (ap (λ (z : Refusal). z.0) r), refl)
+  out_or_full false full n e = inr (full_is full n e)
+
+  pub end_if_none : (step : Step) (f : RunFault) → refusal state q0.number step ≡ None → IsRefusedBy s q.number step f → IsEnd s f
+  end_if_none step (faults.Refused n) none e =
+      let p = full_is (length s.journal == s.limit) n (ap (λ r. lowest r (length s.journal == s.limit)) (sym none) ∙ refused_here step n e) in
+      inr (p.0, eqb-true _ _ p.1)
+  end_if_none step faults.NoMemory none e = tt
+  end_if_none step (faults.Manifest m) none e = e
+  end_if_none step (faults.Script m) none e = e
+  end_if_none step faults.Output none e = e
+
+  pub end_if_out : (step : Step) (f : RunFault) → refusal state q0.number step ≡ first_reason ((40, is_out state) ∷ []) → IsRefusedBy s q.number step f → IsEnd s f
+  end_if_out step (faults.Refused n) why e =
+      elim (out_or_full (is_out state) (length s.journal == s.limit) n (ap (λ r. lowest r (length s.journal == s.limit)) (sym why) ∙ refused_here step n e)) [
+        | inl p ↦ inl (p.0, ap (λ (z : StateOf). z.clock) at.state_is ∙ eqb-true _ _ p.1)
+        | inr p ↦ inr (p.0, eqb-true _ _ p.1)
+      ]
+  end_if_out step faults.NoMemory why e = tt
+  end_if_out step (faults.Manifest m) why e = e
+  end_if_out step (faults.Script m) why e = e
+  end_if_out step faults.Output why e = e

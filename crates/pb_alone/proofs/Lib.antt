@@ -1,0 +1,6 @@
+pub mod OneChange
+pub mod Stages
+pub mod Going
+pub mod Upto
+pub mod AllChanges
+pub mod Blocks

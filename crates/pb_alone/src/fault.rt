@@ -1,0 +1,35 @@
+//! Why a run ended early.
+ghost use Rattle.std.specs.Prelude.{◌≡◌};
+ghost use Rattle.pb_alone.specs.declared.fault.RunFault.TheVariants as faults;
+
+use pb_base::NoMemory;
+use pb_command::{RegistryFault, ScriptFault};
+use thiserror::Error;
+
+/// Why a run ended before its report was written.
+#[derive(Debug, Drop, Error)]
+pub enum RunFault {
+    /// The manifest was refused, for another cause than memory.
+    #[error("manifest: {0}")]
+    Manifest(RegistryFault),
+    /// The script was refused, for another cause than memory.
+    #[error("script: {0}")]
+    Script(ScriptFault),
+    /// A step was refused with this number: 40 out of timestamps, 44 journal full.
+    #[error("refused code {0}")]
+    Refused(u8),
+    /// A write of the report failed, or took no byte.
+    #[error("cannot write the output")]
+    Output,
+    /// A growth was refused.
+    #[error("no memory")]
+    NoMemory,
+}
+
+impl From<NoMemory> for RunFault {
+    ghost from_gives = { λ _ e. e ≡ faults.NoMemory };
+
+    fn from(_e: NoMemory) -> RunFault {
+        RunFault::NoMemory
+    }
+}

@@ -1,0 +1,8 @@
+//! A script's changes made one after another, by one seat alone.
+#![tactic(auto)]
+
+mod change;
+mod fault;
+
+pub use change::change_all;
+pub use fault::RunFault;
