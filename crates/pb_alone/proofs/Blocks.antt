@@ -27,12 +27,12 @@ has_right : {A : Type 0} (xs ys : List A) (z : A) → Has ys z → Has (xs ++ ys
 has_right [] ys z h = h
 has_right (x ∷ xs) ys z h = inr (has_right xs ys z h)
 
-has_which : {A : Type 0} (xs ys : List A) (z : A) → Has (xs ++ ys) z → Has xs z ⊎ Has ys z
+pub has_which : {A : Type 0} (xs ys : List A) (z : A) → Has (xs ++ ys) z → Has xs z ⊎ Has ys z
 has_which [] ys z h = inr h
 has_which (x ∷ xs) ys z (inl e) = inl (inl e)
 has_which (x ∷ xs) ys z (inr h) = elim (has_which xs ys z h) [ inl k ↦ inl (inr k) | inr k ↦ inr k ]
 
-in_block : {A B : Type 0} (f : A → List B) (xs : List A) (x : A) (y : B) → Has xs x → Has (f x) y → Has (flat_map f xs) y
+pub in_block : {A B : Type 0} (f : A → List B) (xs : List A) (x : A) (y : B) → Has xs x → Has (f x) y → Has (flat_map f xs) y
 in_block f [] x y h k = absurd h
 in_block f (z ∷ xs) x y (inl e) k = has_left (f z) (flat_map f xs) y (subst (λ w. Has (f w) y) (sym e) k)
 in_block f (z ∷ xs) x y (inr h) k = has_right (f z) (flat_map f xs) y (in_block f xs x y h k)

@@ -4,3 +4,4 @@ pub mod Going
 pub mod Upto
 pub mod AllChanges
 pub mod Blocks
+pub mod Gathering

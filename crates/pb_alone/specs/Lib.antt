@@ -1,2 +1,4 @@
 pub mod Alone
 pub mod Faults
+pub mod Committed
+pub mod Puts

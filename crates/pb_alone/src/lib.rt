@@ -3,6 +3,7 @@
 
 mod change;
 mod fault;
+mod report;
 
 pub use change::change_all;
 pub use fault::RunFault;

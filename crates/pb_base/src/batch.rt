@@ -101,6 +101,7 @@ impl Batch {
         ensures count { result ≡ length self.now }
         ensures some { 0 < result }
         ensures few { result ≤ 16 }
+        ensures batch { is_batch self.now ≡ true }
     {
         self.writes.len()
     }

@@ -1,0 +1,49 @@
+-- The committed writes of a table, as they are gathered.
+use Rattle.std.specs.Prelude.{◌≡◌, ℕ, true, List, [], ◌∷◌, map, Option, Some}
+use Rattle.std.specs.List.{flat_map}
+use Rattle.pb_base.specs.Batch.{are_distinct}
+use Rattle.pb_base.specs.declared.names.Ts.{Ts}
+use Rattle.pb_base.specs.declared.cell.Cell.{Cell}
+use Rattle.pb_base.specs.declared.content.Content.{Content}
+use Rattle.pb_state.specs.declared.step.Step.{Step}
+use Rattle.pb_state.specs.declared.step.Step.TheVariants as steps
+use Rattle.pb_state.specs.declared.step.Answer.{Answer}
+use Rattle.pb_state.specs.declared.step.Answer.TheVariants as answers
+use Rattle.pb_state.specs.declared.transaction.Phase.{Phase}
+use Rattle.pb_state.specs.declared.transaction.Phase.TheVariants as phases
+use Rattle.pb_state.specs.State.{StateOf, phase_in, cells_of}
+use Rattle.pb_core.specs.declared.entry.Entry.{Entry}
+use Rattle.pb_command.specs.declared.report.newest.Put.{Put}
+
+abbrev pub put_by : Ts → Cell × Content → Put
+put_by commit w = record { cell = w.0; commit = commit; content = w.1 }
+
+-- the writes of a transaction, if it is committed
+abbrev pub if_committed : Option Phase → List (Cell × Content) → List Put
+if_committed (Some (phases.Committed c)) ws = map (put_by c) ws
+if_committed _ ws = []
+
+-- the writes that an entry declared, if they are committed
+abbrev pub writes_by : StateOf → Step → Answer → List Put
+writes_by state (steps.Declare start what) answers.Done = if_committed (phase_in state start.0) (cells_of what)
+writes_by state _ _ = []
+
+abbrev pub puts_by : StateOf → Entry → List Put
+puts_by state e = writes_by state e.step e.answer
+
+-- a transaction that is committed names no cell twice
+abbrev pub IfCommitted : Option Phase → Type 0 → Type 0
+IfCommitted (Some (phases.Committed c)) P = P
+IfCommitted _ P = Unit {0}
+
+abbrev pub AreTold : StateOf → Step → Answer → Type 0
+AreTold state (steps.Declare start what) answers.Done = IfCommitted (phase_in state start.0) (are_distinct (cells_of what) ≡ true)
+AreTold state _ _ = Unit {0}
+
+-- the writes that these entries declared, if they are committed
+abbrev pub all_puts : StateOf → List Entry → List Put
+all_puts state es = flat_map (puts_by state) es
+
+abbrev pub AllTold : StateOf → List Entry → Type 0
+AllTold state [] = Unit {0}
+AllTold state (e ∷ es) = AreTold state e.step e.answer × AllTold state es
