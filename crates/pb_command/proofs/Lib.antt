@@ -10,3 +10,5 @@ pub mod Newests
 pub mod OneReport
 pub mod Counted
 pub mod ByText
+pub mod Filled
+pub mod Asked
