@@ -12,3 +12,4 @@ pub mod Counted
 pub mod ByText
 pub mod Filled
 pub mod Asked
+pub mod Taken

@@ -1,8 +1,8 @@
 //! A command line, read with `clap`.
-ghost use Rattle.std.specs.Prelude.{◌≡◌, IfOk, Some, [], false, option_map};
+ghost use Rattle.std.specs.Prelude.{◌≡◌, ℕ, List, true, IfOk, Some, [], false, option_map};
 ghost use Rattle.clap.specs.Words.{FailsBy, app_of, fault_of, first_of, found_of, rows_of, subcommand_of, subcommand_rows_of};
 ghost use Rattle.pb_command.specs.ScriptWords.{plain};
-ghost use Rattle.pb_command.specs.CommandLines.{run_app, program_app, run_in, command_in, command_of, texts_of};
+ghost use Rattle.pb_command.specs.CommandLines.{run_app, program_app, run_in, command_in, command_of, texts_of, is_plain_word, run_words, AskForRun};
 ghost use Rattle.clap.specs.declared.builder.command.Command.TheViews.{out-Command as fields_of};
 
 use crate::words::choice::Options;
@@ -73,3 +73,8 @@ pub fn options<'a>(alloc: Global, words: &'a [&'a str]) -> Result<Options<'a>, E
         None => unreachable!(),
     }
 }
+
+/// A line of four words is taken as a run, where the last two don't begin with a hyphen.
+pub fn run_is_taken()
+    ensures { (program manifest script : List ℕ) → is_plain_word manifest ≡ true → is_plain_word script ≡ true → AskForRun (run_words program manifest script) manifest script }
+{}
