@@ -13,3 +13,4 @@ pub mod ByText
 pub mod Filled
 pub mod Asked
 pub mod Taken
+pub mod Batches
