@@ -1,9 +1,5 @@
-use Rattle.std.proofs.Common.{◌≡◌, ◌≢◌, ℕ, ◌+◌, Bool, true, false, cond, List, [], ◌∷◌, length, Result, Ok, Err}
-use Rattle.std.specs.Prelude.{codes, ◌==◌}
-use Rattle.std.specs.List.{slice_split}
+use Rattle.std.proofs.Common.{◌≡◌, ◌≢◌, ℕ, ◌+◌, Bool, true, false, cond, List, [], ◌∷◌, Result, Ok, Err}
 use Rattle.hex.specs.Hex.{decode_of}
-use Rattle.pb_base.specs.declared.cell.Cell.{Cell}
-use Rattle.pb_base.specs.declared.content.Content.{Content}
 use Rattle.pb_base.specs.Batch.{Writes}
 use Rattle.pb_command.specs.declared.script.code.Code.{Code}
 use Rattle.pb_command.specs.declared.script.code.Code.TheVariants.{Memory, Form, Range, Hex, Twice, Seventeenth, TooMany, Second}

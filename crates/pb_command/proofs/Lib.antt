@@ -10,3 +10,7 @@ pub mod Newests
 pub mod OneReport
 pub mod Counted
 pub mod ByText
+pub mod Filled
+pub mod Asked
+pub mod Taken
+pub mod Batches

@@ -1,7 +1,7 @@
 -- What a command line asks for, as `clap` reads it.
-use Rattle.std.specs.Prelude.{true, if◌then◌else◌, List, codes, Option, Some, None}
+use Rattle.std.specs.Prelude.{◌≡◌, Bool, true, not, ◌==◌, if◌then◌else◌, List, [], ◌∷◌, codes, Option, Some, None}
 use Rattle.std.specs.Str.{bytes_eq}
-use Rattle.clap.specs.Words.{App, Row, Rule, Text, first_of, new_app, new_rule, subcommand_of, with_rule, with_subcommand}
+use Rattle.clap.specs.Words.{App, Row, Rule, Text, fault_of, first_of, new_app, new_rule, subcommand_of, with_rule, with_subcommand}
 use Rattle.clap.specs.Simple.{on_top}
 use Rattle.pb_command.specs.declared.words.choice.Options.{Options}
 use Rattle.pb_command.specs.declared.words.choice.Options.TheVariants.{Run}
@@ -39,3 +39,16 @@ command_of words = command_in (subcommand_of program_app words)
 
 abbrev pub texts_of : Options → Text × Text
 texts_of (Run manifest script) = (manifest.now, script.now)
+
+-- the word doesn't begin with a hyphen
+abbrev pub is_plain_word : Text → Bool
+is_plain_word [] = true
+is_plain_word (x ∷ xs) = not (x == 45)
+
+-- a line of four words: the program, `run`, a manifest and a script
+abbrev pub run_words : Text → Text → Text → List Text
+run_words program manifest script = program ∷ codes "run" ∷ manifest ∷ script ∷ []
+
+-- the words are taken without fault, and ask for a run of these two
+abbrev pub AskForRun : List Text → Text → Text → Type 0
+AskForRun words manifest script = (fault_of program_app words ≡ []) × (command_of words ≡ Some (manifest, script))

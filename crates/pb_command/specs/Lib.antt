@@ -10,3 +10,4 @@ pub mod ReportLines
 pub mod Reports
 pub mod Manifests
 pub mod CommandLines
+pub mod FaultTexts

@@ -25,6 +25,11 @@ pub struct RegistryFault {
 }
 
 impl fmt::Display for RegistryFault {
+    ghost use Rattle.std.specs.Prelude.{Some};
+    ghost use Rattle.pb_command.specs.FaultTexts.{fault_text};
+
+    ghost output = { λ f. Some (fault_text f) };
+
     fn fmt<W: fmt::Write>(&self, f: &mut fmt::Formatter<W>) -> fmt::Result {
         let code = self.code;
         match self.observer {

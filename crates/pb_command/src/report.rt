@@ -9,6 +9,7 @@ ghost use Rattle.pb_command.specs.declared.report.newest.Put.{Put};
 
 use crate::report::lines::last_line;
 use crate::report::newest::{cell_lines, newest_of};
+pub use lines::Newest;
 pub use newest::Put;
 use pb_base::NoMemory;
 use std::alloc::Global;

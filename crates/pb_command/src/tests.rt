@@ -1,7 +1,7 @@
 ghost use Rattle.std.specs.Prelude.{◌≤◌, length};
 
-use crate::{Options, Put, Registry, options, parse_script, report_of};
-use pb_base::{Cell, Column, Content, ObserverNo, Row, Ts};
+use crate::{Options, Put, Registry, options, parse_script, report_of, write_all};
+use pb_base::{Cell, Column, Content, ObserverNo, Out, Row, Sink, Ts};
 use std::alloc::Global;
 use std::process::Abort;
 use std::rt::HostRuntime;
@@ -180,4 +180,20 @@ fn command_lines(rt: HostRuntime) {
     assert!(rt; status(&rt, &["percobpf", "run", "m.json", "s.txt", "x"]) == 2);
     assert!(rt; status(&rt, &["percobpf", "--help"]) == 0);
     assert!(rt; status(&rt, &["percobpf", "run", "--help"]) == 0);
+}
+
+#[test]
+fn whole_texts_are_written(rt: HostRuntime) {
+    let mut bytes = Vec::new(rt.alloc());
+    let mut out = Out::new(&mut bytes);
+    assert!(rt; write_all(&mut out, b"quiet\n").is_ok() && !out.has_failed());
+    assert!(rt; bytes.as_slice() == b"quiet\n".as_slice());
+}
+
+#[test]
+fn a_full_sink_fails(rt: HostRuntime) {
+    let mut room = [0; 4];
+    let mut out = Out::new(room.as_mut_slice());
+    assert!(rt; write_all(&mut out, b"quiet\n").is_err() && out.has_failed());
+    assert!(rt; room == *b"quie");
 }

@@ -1,12 +1,11 @@
 //! A command line, read with `clap`.
-ghost use Rattle.std.specs.Prelude.{◌≡◌, ◌⊎◌, IfOk, IfErr, OnOk, Some, None, [], false, option_map};
-ghost use Rattle.clap.specs.Words.{FailsBy, HasKind, app_of, fault_of, first_of, found_of, rows_of, subcommand_of, subcommand_rows_of};
+ghost use Rattle.std.specs.Prelude.{◌≡◌, ℕ, List, true, IfOk, Some, [], false, option_map};
+ghost use Rattle.clap.specs.Words.{FailsBy, app_of, fault_of, first_of, found_of, rows_of, subcommand_of, subcommand_rows_of};
 ghost use Rattle.pb_command.specs.ScriptWords.{plain};
-ghost use Rattle.pb_command.specs.CommandLines.{run_app, program_app, run_in, command_in, command_of, texts_of};
+ghost use Rattle.pb_command.specs.CommandLines.{run_app, program_app, run_in, command_in, command_of, texts_of, is_plain_word, run_words, AskForRun};
 ghost use Rattle.clap.specs.declared.builder.command.Command.TheViews.{out-Command as fields_of};
 
 use crate::words::choice::Options;
-use clap::error::ErrorKind;
 use clap::{Arg, ArgMatches, Command, Error};
 use std::alloc::{AllocError, Global};
 
@@ -62,21 +61,20 @@ fn command_in<'a>(matches: &ArgMatches<'a>) -> Option<Options<'a>>
     }
 }
 
-fn no_command(alloc: Global) -> Result<Error, AllocError> {
-    let mut command = program(alloc)?;
-    command.error(ErrorKind::MissingSubcommand, "a command is needed")
-}
-
 /// What the words of a command line ask for, the program's own first. The error of another command line has the text
 /// and the status to end with; where help is asked for, the help with status 0.
 pub fn options<'a>(alloc: Global, words: &'a [&'a str]) -> Result<Options<'a>, Error>
-    ensures taken { OnOk result (fault_of program_app (plain words.now) ≡ []) }
+    ensures kinds { FailsBy (fault_of program_app (plain words.now)) result }
     ensures read { IfOk result (λ o. command_of (plain words.now) ≡ Some (texts_of o)) }
-    ensures refused { IfErr result (λ e. HasKind (fault_of program_app (plain words.now)) e ⊎ (command_of (plain words.now) ≡ None)) }
 {
     let matches = matches_of(alloc, words)?;
     match command_in(&matches) {
         Some(options) => Ok(options),
-        None => Err(no_command(alloc)?),
+        None => unreachable!(),
     }
 }
+
+/// A line of four words is taken as a run, where the last two don't begin with a hyphen.
+pub fn run_is_taken()
+    ensures { (program manifest script : List ℕ) → is_plain_word manifest ≡ true → is_plain_word script ≡ true → AskForRun (run_words program manifest script) manifest script }
+{}
