@@ -70,6 +70,17 @@ fn edits_are_read_back(rt: HostRuntime) -> Result<(), Fail> {
     Ok(())
 }
 
+#[derive(Drop)]
+struct Seen {
+    get: Option<Item>,
+    newest: Option<(Ts, Item)>,
+    mark: Option<Cell>,
+    first: Option<(Slot, Item)>,
+    second: Option<(Slot, Item)>,
+    empty: bool,
+    places: usize,
+}
+
 fn end_all<T: Tablet>(mut parts: Vec<(Row, T)>) {
     while let Some((_, mut tablet)) = parts.pop() {
         tablet.clear();
@@ -78,21 +89,25 @@ fn end_all<T: Tablet>(mut parts: Vec<(Row, T)>) {
     parts.destroy_empty();
 }
 
-// What a table over the tablets has in the slot once the item is put there.
-fn put_and_get<T: Tablet>(
-    parts: Vec<(Row, T)>,
-    slot: &Slot,
-    item: &Item,
-) -> Result<Option<Item>, NoMemory>
+// What a table over the tablets answers once the item is put into the slot and its cell marked.
+fn answers<T: Tablet>(parts: Vec<(Row, T)>, slot: &Slot, item: &Item) -> Result<Seen, NoMemory>
     requires { IsOfSort slot.now.sort item.now }
 {
     match Table::new(parts) {
         Ok(mut table) => {
-            let done = table.apply(&[Edit::Put(*slot, *item)]);
-            let found = table.get(*slot);
+            let done = table.apply(&[Edit::Put(*slot, *item), Edit::Mark(slot.cell)]);
+            let seen = Seen {
+                get: table.get(*slot),
+                newest: table.newest(slot.cell, slot.sort, Ts(u64::MAX)),
+                mark: table.next_mark(None),
+                first: table.at(0),
+                second: table.at(1),
+                empty: table.is_empty(),
+                places: table.places(),
+            };
             table.close();
             done?;
-            Ok(found)
+            Ok(seen)
         }
         Err(refused) => {
             let (parts, _) = refused;
@@ -107,7 +122,13 @@ fn boxes_make_a_table(rt: HostRuntime) -> Result<(), Fail> {
     let mut parts: Vec<(Row, Box<dyn Tablet + Send + Drop>)> = Vec::new(rt.alloc());
     parts.push((Row(0), Box::new(rt.alloc(), ListTablet::new(rt.alloc()))?))?;
     parts.push((Row(3), Box::new(rt.alloc(), ListTablet::new(rt.alloc()))?))?;
-    let found = put_and_get(parts, &slot(Sort::Lock, 1), &Item::Lock(cell()))?;
-    assert_eq!(rt; found, Some(Item::Lock(cell())));
+    let seen = answers(parts, &slot(Sort::Lock, 1), &Item::Lock(cell()))?;
+    assert_eq!(rt; seen.get, Some(Item::Lock(cell())));
+    assert_eq!(rt; seen.newest, Some((Ts(1), Item::Lock(cell()))));
+    assert_eq!(rt; seen.mark, Some(cell()));
+    assert_eq!(rt; seen.first, Some((slot(Sort::Lock, 1), Item::Lock(cell()))));
+    assert_eq!(rt; seen.second, None);
+    assert!(rt; !seen.empty);
+    assert_eq!(rt; seen.places, 2);
     Ok(())
 }

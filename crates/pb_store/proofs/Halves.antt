@@ -7,7 +7,8 @@ use Rattle.std.specs.Cmp.{IsTotalOrder, tied_itself}
 use Rattle.std.specs.FinMap as map
 use Rattle.std.specs.FinMap.Entries as list
 use Rattle.pb_store.specs.Contents.{Contents}
-use Rattle.pb_store.specs.Tiles.{Tile, IsBelow, IsPlace, tile_at, replace}
+use Rattle.pb_store.specs.Tiles.{Tile, IsBelow, IsPlace}
+use Rattle.pb_store.proofs.Routing.{tile_at, replace}
 
 -- keys in an order that goes by row first, and the half of contents that they name
 pub record Half {K : Type 0} (R : K → K → Ordering) (X : Type 0) : Type 0 where

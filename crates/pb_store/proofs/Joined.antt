@@ -13,9 +13,9 @@ use Rattle.pb_store.specs.declared.slot.Edit.{Edit}
 use Rattle.pb_store.specs.declared.slot.Edit.TheVariants.{Put, Erase, Mark, Unmark}
 use Rattle.pb_store.specs.Slot.{place_of, slot_cmp, slot_cmp_total, slot_cmp-IsAntisymmetric}
 use Rattle.pb_store.specs.Contents.{Contents, Entries, Marks, is_nothing, after_edit, after_edits, edit_row, AreOfRow}
-use Rattle.pb_store.specs.Tiles.{Tile, AreTiled, BeginAtZero, IsTiling, IsPlace, tile_at, replace, all_entries, all_marks, all_nothing, joined}
+use Rattle.pb_store.specs.Tiles.{Tile, AreTiled, BeginAtZero, IsTiling, IsPlace, all_entries, all_marks, all_nothing, joined}
 use Rattle.pb_store.proofs.Halves.{Half, Kept, all_of, get-all_of, entries-all_of, all_of-replace_same, from_entries-inserted, from_entries-removed, Kept-inserted, Kept-removed, Kept-replace_same, still_below}
-use Rattle.pb_store.proofs.Routing.{replace_same}
+use Rattle.pb_store.proofs.Routing.{tile_at, replace, replace_same}
 
 pub joined-entries : (tiles : List Tile) → (joined tiles).entries ≡ map.from_entries (all_entries tiles)
 unfolding joined

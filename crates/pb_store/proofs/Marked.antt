@@ -6,7 +6,8 @@ use Rattle.std.specs.FinMap as map
 use Rattle.pb_base.specs.declared.cell.Cell.{Cell}
 use Rattle.pb_base.specs.Cell.{row_of, cell_cmp, cell_cmp_total}
 use Rattle.pb_store.specs.Contents.{ComesAfter, IsNextMark}
-use Rattle.pb_store.specs.Tiles.{Tile, AreTiled, IsPlace, IsStart, tile_at, joined}
+use Rattle.pb_store.specs.Tiles.{Tile, AreTiled, IsPlace, IsStart, joined}
+use Rattle.pb_store.proofs.Routing.{tile_at}
 use Rattle.pb_store.proofs.Halves.{place_of_key, places_rise, find-nowhere}
 use Rattle.pb_store.proofs.Joined.{mark_half, marks_kept, marks_joined, mark-joined, cells_by_row}
 

@@ -9,8 +9,8 @@ use Rattle.pb_store.specs.declared.slot.Slot.{Slot}
 use Rattle.pb_store.specs.declared.slot.Sort.{Sort}
 use Rattle.pb_store.specs.declared.slot.Item.{Item}
 use Rattle.pb_store.specs.Contents.{Contents, IsNewest, slot_at}
-use Rattle.pb_store.specs.Tiles.{tiles_of, tile_at, AreTiled, IsPlace, joined}
-use Rattle.pb_store.proofs.Routing.{tile_at-tiles_of}
+use Rattle.pb_store.specs.Tiles.{tiles_of, AreTiled, IsPlace, joined}
+use Rattle.pb_store.proofs.Routing.{tile_at, tile_at-tiles_of}
 use Rattle.pb_store.proofs.Joined.{get-joined}
 
 -- p stands at i, the place of the row r in the tablets, which were found as ps

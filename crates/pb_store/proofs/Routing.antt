@@ -1,8 +1,26 @@
 -- Which tablet has a row, and what stands at a place.
 use Rattle.std.proofs.Common.{◌≡◌, ℕ, ◌+◌, ◌<◌, ◌≤◌, List, [], ◌∷◌, refl, sym, ap, ◌∙◌, arith, zero, suc, length, get_or, set, below_more}
 use Rattle.pb_base.specs.declared.names.Row.{Row}
-use Rattle.pb_store.specs.Contents.{Contents}
-use Rattle.pb_store.specs.Tiles.{Tile, IsBelow, IsPlace, IsTiling, tile_at, first_at, tiles_of, replace}
+use Rattle.pb_store.specs.Contents.{Contents, nothing}
+use Rattle.pb_store.specs.Tiles.{Tile, IsBelow, IsPlace, IsTiling, tiles_of}
+
+-- what tile i contains
+abbrev pub tile_at : List Tile → ℕ → Contents
+tile_at [] i = nothing
+tile_at (tile ∷ tiles) zero = tile.1
+tile_at (tile ∷ tiles) (suc i) = tile_at tiles i
+
+-- the first row of tile i
+abbrev pub first_at : List Tile → ℕ → ℕ
+first_at [] i = 0
+first_at (tile ∷ tiles) zero = tile.0
+first_at (tile ∷ tiles) (suc i) = first_at tiles i
+
+-- the tiles with other contents in tile i
+abbrev pub replace : List Tile → ℕ → Contents → List Tile
+replace [] i c = []
+replace (tile ∷ tiles) zero c = (tile.0, c) ∷ tiles
+replace (tile ∷ tiles) (suc i) c = tile ∷ replace tiles i c
 
 pub length-tiles_of : {T : Type 0} (c : T → Contents) (parts : List (Row × T)) → length (tiles_of c parts) ≡ length parts
 length-tiles_of c [] = refl

@@ -7,20 +7,23 @@ use Rattle.pb_base.specs.declared.names.Row.{Row}
 use Rattle.pb_base.specs.Cell.{row_of}
 use Rattle.pb_store.specs.declared.slot.Slot.{Slot}
 use Rattle.pb_store.specs.declared.slot.Item.{Item}
-use Rattle.pb_store.specs.Contents.{Contents, nothing, is_nothing}
+use Rattle.pb_store.specs.Contents.{Contents, is_nothing}
 
 -- the first row, and what the tablet there contains
 abbrev pub Tile : Type 0
 Tile = ℕ × Contents
 
+-- tablets with their first rows, by what they contain
 abbrev pub tiles_of : {T : Type 0} → (T → Contents) → List (Row × T) → List Tile
 tiles_of c [] = []
 tiles_of c (part ∷ parts) = (part.0.0, c part.1) ∷ tiles_of c parts
 
+-- the entries of all tiles, one tile after another
 abbrev pub all_entries : List Tile → List (Slot × Item)
 all_entries [] = []
 all_entries (tile ∷ tiles) = map.entries tile.1.entries ++ all_entries tiles
 
+-- the marks of all tiles, one tile after another
 abbrev pub all_marks : List Tile → List (Cell × Unit {0})
 all_marks [] = []
 all_marks (tile ∷ tiles) = map.entries tile.1.marks ++ all_marks tiles
@@ -34,6 +37,7 @@ abbrev pub IsBelow : ℕ → List Tile → Type 0
 IsBelow row [] = Unit {0}
 IsBelow row (tile ∷ tiles) = row < tile.0
 
+-- what the tile contains is of rows from its first up to the next tile's
 pub record IsTile (tile : Tile) (tiles : List Tile) : Type 0 where
   pub rises : IsBelow tile.0 tiles
   pub from_first : (slot : Slot) → map.contains_key tile.1.entries slot ≡ true → tile.0 ≤ (row_of slot.cell).0
@@ -41,15 +45,17 @@ pub record IsTile (tile : Tile) (tiles : List Tile) : Type 0 where
   pub marks_from_first : (cell : Cell) → map.contains_key tile.1.marks cell ≡ true → tile.0 ≤ (row_of cell).0
   pub marks_before_next : (cell : Cell) → map.contains_key tile.1.marks cell ≡ true → IsBelow (row_of cell).0 tiles
 
--- the first rows rise, and each keeps to its rows
+-- each tile keeps to its rows
 abbrev pub AreTiled : List Tile → Type 0
 AreTiled [] = Unit {0}
 AreTiled (tile ∷ tiles) = IsTile tile tiles × AreTiled tiles
 
+-- there is a first tile, and its first row is 0
 abbrev pub BeginAtZero : List Tile → Type 0
 BeginAtZero [] = ⊥
 BeginAtZero (tile ∷ tiles) = tile.0 ≡ 0
 
+-- the tiles share out all rows
 pub record IsTiling (tiles : List Tile) : Type 0 where
   pub zero_first : BeginAtZero tiles
   pub tiled : AreTiled tiles
@@ -65,38 +71,23 @@ abbrev pub IsStart : List Tile → ℕ → Option Cell → Type 0
 IsStart tiles i None = i ≡ 0
 IsStart tiles i (Some cell) = IsPlace tiles i (row_of cell).0
 
-abbrev pub tile_at : List Tile → ℕ → Contents
-tile_at [] i = nothing
-tile_at (tile ∷ tiles) zero = tile.1
-tile_at (tile ∷ tiles) (suc i) = tile_at tiles i
-
--- the first row of tile i
-abbrev pub first_at : List Tile → ℕ → ℕ
-first_at [] i = 0
-first_at (tile ∷ tiles) zero = tile.0
-first_at (tile ∷ tiles) (suc i) = first_at tiles i
-
 -- whether the first rows rise from one above low
 abbrev pub rise : ℕ → List Tile → Bool
 rise low [] = true
 rise low (tile ∷ tiles) = nat_lt low tile.0 && rise tile.0 tiles
 
+-- whether they rise from 0
 abbrev pub rise_from_zero : List Tile → Bool
 rise_from_zero [] = false
 rise_from_zero (tile ∷ tiles) = (tile.0 == 0) && rise tile.0 tiles
 
+-- whether no tile contains anything
 abbrev pub all_nothing : List Tile → Bool
 all_nothing [] = true
 all_nothing (tile ∷ tiles) = is_nothing tile.1 && all_nothing tiles
 
--- why tablets make no table, if they make none
+-- why tablets make no table, if they make none: 2 there is none, 3 the first rows don't rise from 0, 4 one isn't empty
 abbrev pub refusal_of : List Tile → Option ℕ
 refusal_of [] = Some 2
 refusal_of (tile ∷ tiles) =
     if rise_from_zero (tile ∷ tiles) then (if all_nothing (tile ∷ tiles) then None else Some 4) else Some 3
-
--- the tiles with other contents in tile i
-abbrev pub replace : List Tile → ℕ → Contents → List Tile
-replace [] i c = []
-replace (tile ∷ tiles) zero c = (tile.0, c) ∷ tiles
-replace (tile ∷ tiles) (suc i) c = tile ∷ replace tiles i c

@@ -70,8 +70,8 @@ fn rises<T: Tablet>(parts: &[(Row, T)]) -> bool
 fn are_empty<T: Tablet>(parts: &[(Row, T)]) -> bool
     ensures { result ≡ all_nothing (tiles_of T.contents parts.now) }
 {
-    for i in 0..parts.len() {
-        if !parts[i].1.is_empty() {
+    for part in parts {
+        if !part.1.is_empty() {
             return false;
         }
     }
@@ -109,11 +109,10 @@ fn entry_in<T: Tablet>(parts: &[(Row, T)], place: usize) -> Option<(Slot, Item)>
     ensures { result ≡ slice_get (all_entries (tiles_of T.contents parts.now)) place }
 {
     let mut rest = place;
-    for i in 0..parts.len() {
-        let tablet = &parts[i].1;
-        let count = tablet.len();
+    for part in parts {
+        let count = part.1.len();
         if rest < count {
-            return tablet.at(rest);
+            return part.1.at(rest);
         }
         rest -= count;
     }

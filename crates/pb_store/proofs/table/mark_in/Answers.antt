@@ -1,7 +1,7 @@
 use Rattle.std.proofs.Common.{◌≡◌, length, sym, subst, arith, get_or, None, Some}
 use Rattle.pb_store.specs.Contents.{Contents, IsNextMark}
-use Rattle.pb_store.specs.Tiles.{tiles_of, tile_at}
-use Rattle.pb_store.proofs.Routing.{length-tiles_of, tile_at-tiles_of}
+use Rattle.pb_store.specs.Tiles.{tiles_of}
+use Rattle.pb_store.proofs.Routing.{tile_at, length-tiles_of, tile_at-tiles_of}
 use Rattle.pb_store.proofs.Marked.{NonePassed, none_passed, one_more_passed, no_next, next_there}
 use Rattle.pb_store.proofs.table.mark_in.Goals as goal
 

@@ -1,6 +1,6 @@
 use Rattle.std.proofs.Common.{◌≡◌, ◌+◌, ◌<◌, ◌≤◌, length, sym, ◌∙◌, subst, get_or, arith}
-use Rattle.pb_store.specs.Tiles.{tiles_of, first_at}
-use Rattle.pb_store.proofs.Routing.{FirstsAbove, first_at-tiles_of, length-tiles_of, none_between, one_more_above, place_from_firsts}
+use Rattle.pb_store.specs.Tiles.{tiles_of}
+use Rattle.pb_store.proofs.Routing.{first_at, FirstsAbove, first_at-tiles_of, length-tiles_of, none_between, one_more_above, place_from_firsts}
 use Rattle.pb_store.proofs.table.place_in.Goals as goal
 use Rattle.pb_store.proofs.table.place_in.Goals.{then-parts-i, else-parts-i}
 

@@ -1,6 +1,6 @@
 use Rattle.std.proofs.Common.{◌<◌, ◌≤◌, length}
-use Rattle.pb_store.specs.Tiles.{tiles_of, first_at}
-use Rattle.pb_store.proofs.Routing.{FirstsAbove}
+use Rattle.pb_store.specs.Tiles.{tiles_of}
+use Rattle.pb_store.proofs.Routing.{first_at, FirstsAbove}
 use Rattle.pb_store.proofs.table.place_in.Given as goal
 
 abbrev pub invariant-loop-i : goal.invariant-loop-i
