@@ -4,8 +4,8 @@ use Rattle.pb_base.specs.declared.cell.Cell.{Cell}
 use Rattle.pb_base.specs.declared.content.Content.{Content}
 use Rattle.pb_core.specs.declared.entry.Entry.{Entry}
 use Rattle.pb_core.specs.History.{Member, InHistory, WritesTo}
-use Rattle.pb_command.specs.declared.report.lines.Newest.{Newest}
-use Rattle.pb_command.specs.declared.report.newest.Put.{Put}
+use Rattle.pb_texts.specs.declared.report.lines.Newest.{Newest}
+use Rattle.pb_texts.specs.declared.report.newest.Put.{Put}
 
 -- a committed transaction of the journal wrote this content to x, with this commit
 pub record IsWrite (journal : List Entry) (x : Cell) (commit : ℕ) (content : Content) : Type 0 where

@@ -13,7 +13,7 @@ use Rattle.pb_state.specs.declared.transaction.Phase.{Phase}
 use Rattle.pb_state.specs.declared.transaction.Phase.TheVariants as phases
 use Rattle.pb_state.specs.State.{StateOf, phase_in, cells_of}
 use Rattle.pb_core.specs.declared.entry.Entry.{Entry}
-use Rattle.pb_command.specs.declared.report.newest.Put.{Put}
+use Rattle.pb_texts.specs.declared.report.newest.Put.{Put}
 
 abbrev pub put_by : Ts → Cell × Content → Put
 put_by commit w = record { cell = w.0; commit = commit; content = w.1 }

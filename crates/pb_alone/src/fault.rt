@@ -3,7 +3,7 @@ ghost use Rattle.std.specs.Prelude.{◌≡◌};
 ghost use Rattle.pb_alone.specs.declared.fault.RunFault.TheVariants as faults;
 
 use pb_base::NoMemory;
-use pb_command::{RegistryFault, ScriptFault};
+use pb_texts::{RegistryFault, ScriptFault};
 use thiserror::Error;
 
 /// Why a run ended before its report was written.

@@ -5,7 +5,7 @@ ghost use Rattle.pb_alone.specs.Committed.{Gathers};
 ghost use Rattle.pb_base.specs.Batch.{is_batch};
 
 use pb_base::{Batch, NoMemory, Ts};
-use pb_command::Put;
+use pb_texts::Put;
 use pb_core::{Answer, Declared, Entry, Phase, Shared, Step};
 use pb_store::Tablet;
 use std::alloc::Global;

@@ -1,0 +1,34 @@
+use Rattle.std.proofs.Common.{◌≡◌, ◌≢◌, ℕ, zero, suc, Bool, true, false, Ok, List, [], ◌++◌, Option, take, drop, refl, sym, ap, subst, ◌∙◌, append_assoc}
+use Rattle.std.specs.Io.KnownBytes.{Appends, Keeps}
+use Rattle.std.proofs.KnownBytes.{Appends-nil, Appends-trans, Appends-kept}
+use Rattle.std.proofs.lemmas.List.{take-append-drop, append-nil}
+use Rattle.std.specs.Prelude.{◌||◌, ◌&&◌}
+use Rattle.pb_base.specs.Sink.{took_none}
+use Rattle.pb_base.specs.declared.sink.SinkFault.{SinkFault}
+use Rattle.pb_texts.specs.Sinks.{IsPart, AppendsPart}
+
+pub begins : (old : Option (List ℕ)) (bytes : List ℕ) → IsPart old old bytes bytes
+begins old bytes = ([], refl, Appends-nil old)
+
+pub goes_on : (old now new : Option (List ℕ)) (bytes rest : List ℕ) (n : ℕ) → IsPart old now bytes rest → Appends now new (take n rest) → IsPart old new bytes (drop n rest)
+goes_on old now new bytes rest n h e =
+    (h.0 ++ take n rest, h.1 ∙ ap (λ (x : List ℕ). h.0 ++ x) (sym (take-append-drop n rest)) ∙ sym (append_assoc h.0 (take n rest) (drop n rest)), Appends-trans old now new h.0 (take n rest) h.2 e)
+
+pub goes_to : (old now new : Option (List ℕ)) (bytes rest left : List ℕ) (n : ℕ) → IsPart old now bytes rest → Appends now new (take n rest) → left ≡ drop n rest → IsPart old new bytes left
+goes_to old now new bytes rest left n h e is = subst (IsPart old new bytes) (sym is) (goes_on old now new bytes rest n h e)
+
+pub stays : (old now new : Option (List ℕ)) (bytes rest : List ℕ) → IsPart old now bytes rest → Keeps now new → AppendsPart old new bytes
+stays old now new bytes rest h e = (rest, (h.0, h.1, Appends-kept old now new h.0 h.2 e))
+
+pub stops : (old now new : Option (List ℕ)) (bytes rest : List ℕ) (n : ℕ) → IsPart old now bytes rest → Appends now new (take n rest) → AppendsPart old new bytes
+stops old now new bytes rest n h e = (drop n rest, goes_on old now new bytes rest n h e)
+
+pub ends : (old now : Option (List ℕ)) (bytes rest : List ℕ) → IsPart old now bytes rest → rest ≡ [] → Appends old now bytes
+ends old now bytes rest h e = subst (Appends old now) (sym (h.1 ∙ ap (λ (x : List ℕ). h.0 ++ x) e ∙ append-nil h.0)) h.2
+
+-- a write that took some bytes did not fail
+pub still : (a b new : Bool) (n : ℕ) → n ≢ 0 → new ≡ (a || (b && took_none {E = SinkFault} (Ok n))) → new ≡ a
+still a b new zero some h = absurd (some refl)
+still true b new (suc n) some h = h
+still false true new (suc n) some h = h
+still false false new (suc n) some h = h

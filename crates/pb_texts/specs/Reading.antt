@@ -1,0 +1,25 @@
+-- Reading that may stop at a fault.
+use Rattle.std.specs.Prelude.{◌≡◌, Result, Ok, Err}
+use Rattle.pb_texts.specs.declared.script.code.Code.{Code}
+use Rattle.pb_texts.specs.declared.script.code.Code.TheVariants.{Memory, Form, Range, Hex, Twice, Seventeenth, TooMany, Second}
+
+infixl 10 ◌>>=◌
+abbrev pub ◌>>=◌ : {A B : Type 0} → Result A Code → (A → Result B Code) → Result B Code
+(Ok x) >>= f = f x
+(Err e) >>= f = Err e
+
+-- what reading gives where a function failed with this code: that code, unless memory ran out
+abbrev pub Fails : {Y : Type 0} → Code → Result Y Code → Type 0
+Fails Memory read = Unit {0}
+Fails Form read = read ≡ Err Form
+Fails Range read = read ≡ Err Range
+Fails Hex read = read ≡ Err Hex
+Fails Twice read = read ≡ Err Twice
+Fails Seventeenth read = read ≡ Err Seventeenth
+Fails TooMany read = read ≡ Err TooMany
+Fails Second read = read ≡ Err Second
+
+-- what a function returned, seen by view, is what reading gives, unless memory ran out
+abbrev pub Gives : {X Y : Type 0} → (X → Y) → Result X Code → Result Y Code → Type 0
+Gives view (Ok x) read = read ≡ Ok (view x)
+Gives view (Err e) read = Fails e read

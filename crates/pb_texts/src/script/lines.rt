@@ -1,0 +1,165 @@
+//! A line, and a text of lines.
+ghost use Rattle.std.specs.Prelude.{◌≡◌, ◌≢◌, ◌==◌, ◌+◌, ◌<◌, ◌≤◌, IfOk, OnOk, true, is_some, ℕ, List, length, Ok, Err};
+ghost use Rattle.std.specs.List.{slice_split};
+ghost use Rattle.pb_base.specs.Batch.{Writes, writes_of, content_in, is_batch};
+ghost use Rattle.pb_texts.specs.Codes.{script_code};
+ghost use Rattle.pb_texts.specs.Reading.{Gives};
+ghost use Rattle.pb_texts.specs.ScriptWords.{plain};
+ghost use Rattle.pb_texts.specs.ScriptLines.{Batches, cut, with_operation, batch_of, is_skipped, with_line, script_of};
+ghost use Rattle.pb_texts.specs.Scripts.{Reads, StopsAt, AreSmallBatches};
+ghost use Rattle.pb_texts.specs.declared.script.code.Code.TheVariants.{Memory};
+
+use crate::script::code::Code;
+use crate::script::words::{Change, operation};
+use pb_base::{Batch, Cell};
+use std::alloc::{AllocError, Global};
+use thiserror::Error;
+
+// The operations' texts.
+fn cut(alloc: Global, line: &str) -> Result<Vec<&str>, AllocError>
+    ensures { IfOk result (λ v. plain v.items ≡ cut line.now) }
+{
+    let mut parts = Vec::new(alloc);
+    let mut rest = line;
+    while let Some((first, after)) = rest.split_once("; ") {
+        parts.push(first)?;
+        rest = after;
+    }
+    parts.push(rest)?;
+    Ok(parts)
+}
+
+// Whether the cell is named.
+fn names(writes: &[Change], cell: Cell) -> bool
+    ensures { result ≡ is_some (content_in (writes_of writes.now) cell) }
+{
+    for write in writes {
+        if cell == Cell::Data(write.0, write.1) {
+            return true;
+        }
+    }
+    false
+}
+
+// Takes one more operation of a line. Until lines of several are taken, a second one is refused unread.
+#[tactic(auto, unfolding(crate::specs::ScriptLines::with_operation))]
+fn add(alloc: Global, writes: &mut Vec<Change>, text: &str) -> Result<(), Code>
+    ensures { Gives (λ _. writes_of writes.new.items) result (with_operation (writes_of writes.old.items) text.now) }
+{
+    if !writes.is_empty() {
+        return Err(Code::Second);
+    }
+    let write = operation(alloc, text)?;
+    if names(writes, Cell::Data(write.0, write.1)) {
+        return Err(Code::Twice);
+    }
+    if writes.len() >= 16 {
+        return Err(Code::Seventeenth);
+    }
+    writes.push(write)?;
+    Ok(())
+}
+
+fn writes_in(alloc: Global, line: &str) -> Result<Vec<Change>, Code>
+    ensures { Gives (λ v. writes_of v.items) result (batch_of line.now) }
+{
+    let parts = cut(alloc, line)?;
+    let mut writes = Vec::new(alloc);
+    for part in &parts {
+        add(alloc, &mut writes, part)?;
+    }
+    Ok(writes)
+}
+
+fn batch_of(alloc: Global, line: &str) -> Result<Batch, Code>
+    ensures { Gives (λ b. b) result (batch_of line.now) }
+{
+    match Batch::new(writes_in(alloc, line)?) {
+        Ok(batch) => Ok(batch),
+        Err(_) => unreachable!(),
+    }
+}
+
+// Empty, or a remark.
+fn is_skipped(line: &str) -> bool
+    ensures { result ≡ is_skipped line.now }
+{
+    let bytes = line.as_bytes();
+    bytes.is_empty() || bytes[0] == b'#'
+}
+
+// Adds what one line says.
+#[tactic(auto, unfolding(crate::specs::ScriptLines::with_line))]
+fn add_line(alloc: Global, batches: &mut Vec<Batch>, line: &str) -> Result<(), Code>
+    ensures { Gives (λ _. batches.new.items) result (with_line batches.old.items line.now) }
+{
+    if is_skipped(line) {
+        return Ok(());
+    }
+    let batch = batch_of(alloc, line)?;
+    if batches.len() >= 10_000 {
+        return Err(Code::TooMany);
+    }
+    batches.push(batch)?;
+    Ok(())
+}
+
+/// The line at which a script is at fault, from 1, and the code: 70 not of the form, 71 row or column out of range,
+/// 72 not 2 to 64 lower-case hexadecimal digits, even in number, 73 a cell named before in the line, 74 a 17th cell,
+/// 75 over 10,000 changes, 76 a second operation in the line. Where memory ran out it is line 0 with code 1.
+#[derive(Clone, Copy, Debug, PartialEq, Eq, Drop, Error)]
+#[error("line {line} code {code}")]
+pub struct ScriptFault {
+    pub line: usize,
+    pub code: u8,
+}
+
+impl ScriptFault {
+    // At the line of this index.
+    fn at(index: usize, code: Code) -> ScriptFault
+        requires { index < usize.MAX }
+        ensures memory { code ≡ Memory → result ≡ record { line = 0; code = 1 } }
+        ensures other { code ≢ Memory → result ≡ record { line = index + 1; code = script_code code } }
+    {
+        let line = match code {
+            Code::Memory => 0,
+            _ => index + 1,
+        };
+        ScriptFault {
+            line,
+            code: code.code(),
+        }
+    }
+}
+
+fn lines_of(alloc: Global, text: &str) -> Result<Vec<&str>, AllocError>
+    ensures { IfOk result (λ v. plain v.items ≡ slice_split (λ b. b == 10) text.now) }
+{
+    text.split('\n').collect(alloc)
+}
+
+/// The transactions of a script, one a line: `put ROW COL HEX` or `del ROW COL`.
+pub fn parse_script(alloc: Global, text: &str) -> Result<Vec<Batch>, ScriptFault>
+    ensures { Reads result (script_of text.now) }
+{
+    let Ok(lines) = lines_of(alloc, text) else {
+        return Err(ScriptFault { line: 0, code: 1 });
+    };
+    let mut batches = Vec::new(alloc);
+    for (index, line) in lines.iter().enumerate() {
+        if let Err(code) = add_line(alloc, &mut batches, line) {
+            return Err(ScriptFault::at(index, code));
+        }
+    }
+    Ok(batches)
+}
+
+/// The fault that is told is that of the first line at fault: the lines before it are a script of their own.
+pub fn fault_is_first()
+    ensures { (text : List ℕ) (line code : ℕ) → script_of text ≡ Err (line, code) → StopsAt text line code }
+{}
+
+/// What a script is read as is at most 10,000 transactions, each of them a batch of one cell.
+pub fn reads_small_batches()
+    ensures { (text : List ℕ) (batches : Batches) → script_of text ≡ Ok batches → AreSmallBatches batches }
+{}

@@ -1,0 +1,80 @@
+//! A command line, read with `clap`.
+ghost use Rattle.std.specs.Prelude.{◌≡◌, ℕ, List, true, IfOk, Some, [], false, option_map};
+ghost use Rattle.clap.specs.Words.{FailsBy, app_of, fault_of, first_of, found_of, rows_of, subcommand_of, subcommand_rows_of};
+ghost use Rattle.pb_texts.specs.ScriptWords.{plain};
+ghost use Rattle.pb_texts.specs.CommandLines.{run_app, program_app, run_in, command_in, command_of, texts_of, is_plain_word, run_words, AskForRun};
+ghost use Rattle.clap.specs.declared.builder.command.Command.TheViews.{out-Command as fields_of};
+
+use crate::words::choice::Options;
+use clap::{Arg, ArgMatches, Command, Error};
+use std::alloc::{AllocError, Global};
+
+fn run_command<'a>(alloc: Global) -> Result<Command<'a>, AllocError>
+    ensures app { IfOk result (λ c. app_of c ≡ run_app) }
+    ensures local { IfOk result (λ c. (fields_of c).has_globals ≡ false) }
+{
+    let manifest = Arg::new(alloc, "MANIFEST").required(true);
+    let script = Arg::new(alloc, "SCRIPT").required(true);
+    Command::new(alloc, "run").arg(manifest)?.arg(script)
+}
+
+fn program<'a>(alloc: Global) -> Result<Command<'a>, AllocError>
+    ensures { IfOk result (λ c. app_of c ≡ program_app) }
+{
+    let run = run_command(alloc)?;
+    Command::new(alloc, "percobpf")
+        .subcommand_required(true)
+        .subcommand(run)
+}
+
+fn matches_of<'a>(alloc: Global, words: &'a [&'a str]) -> Result<ArgMatches<'a>, Error>
+    ensures kinds { FailsBy (fault_of program_app (plain words.now)) result }
+    ensures subcommand { IfOk result (λ m. subcommand_rows_of m ≡ subcommand_of program_app (plain words.now)) }
+{
+    let command = program(alloc)?;
+    command.try_get_matches_from(words)
+}
+
+fn value_in<'a>(run: &ArgMatches<'a>, id: &str) -> Option<&'a str>
+    ensures { option_map (λ s. s.now) result ≡ first_of id.now (rows_of (found_of run.now)) }
+{
+    run.get_str(id)
+}
+
+// What the matches of `run` name.
+fn run_in<'a>(run: &ArgMatches<'a>) -> Option<Options<'a>>
+    ensures { option_map texts_of result ≡ run_in (rows_of (found_of run.now)) }
+{
+    match (value_in(run, "MANIFEST"), value_in(run, "SCRIPT")) {
+        (Some(manifest), Some(script)) => Some(Options::Run { manifest, script }),
+        _ => None,
+    }
+}
+
+// What the matches of a command line name.
+fn command_in<'a>(matches: &ArgMatches<'a>) -> Option<Options<'a>>
+    ensures { option_map texts_of result ≡ command_in (subcommand_rows_of matches.now) }
+{
+    match matches.subcommand() {
+        Some(("run", run)) => run_in(run),
+        _ => None,
+    }
+}
+
+/// What the words of a command line ask for, the program's own first. The error of another command line has the text
+/// and the status to end with; where help is asked for, the help with status 0.
+pub fn options<'a>(alloc: Global, words: &'a [&'a str]) -> Result<Options<'a>, Error>
+    ensures kinds { FailsBy (fault_of program_app (plain words.now)) result }
+    ensures read { IfOk result (λ o. command_of (plain words.now) ≡ Some (texts_of o)) }
+{
+    let matches = matches_of(alloc, words)?;
+    match command_in(&matches) {
+        Some(options) => Ok(options),
+        None => unreachable!(),
+    }
+}
+
+/// A line of four words is taken as a run, where the last two don't begin with a hyphen.
+pub fn run_is_taken()
+    ensures { (program manifest script : List ℕ) → is_plain_word manifest ≡ true → is_plain_word script ≡ true → AskForRun (run_words program manifest script) manifest script }
+{}
