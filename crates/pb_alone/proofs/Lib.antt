@@ -5,3 +5,4 @@ pub mod Upto
 pub mod AllChanges
 pub mod Blocks
 pub mod Gathering
+pub mod Told

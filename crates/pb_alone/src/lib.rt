@@ -3,7 +3,8 @@
 
 mod change;
 mod fault;
-mod report;
+mod output;
 
 pub use change::change_all;
-pub use fault::RunFault;
+pub use fault::{ReportFault, RunFault};
+pub use output::report;
