@@ -6,3 +6,5 @@ pub mod AllChanges
 pub mod Blocks
 pub mod Gathering
 pub mod Told
+pub mod Seated
+pub mod Whole

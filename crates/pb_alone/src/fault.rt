@@ -2,6 +2,7 @@
 ghost use Rattle.std.specs.Prelude.{◌≡◌};
 ghost use Rattle.pb_alone.specs.declared.fault.RunFault.TheVariants as faults;
 ghost use Rattle.pb_alone.specs.declared.fault.ReportFault.TheVariants as ends;
+ghost use Rattle.pb_alone.specs.Faults.{of_report};
 
 use pb_base::NoMemory;
 use pb_texts::{RegistryFault, ScriptFault};
@@ -43,6 +44,17 @@ impl From<NoMemory> for ReportFault {
 
     fn from(_e: NoMemory) -> ReportFault {
         ReportFault::NoMemory
+    }
+}
+
+impl From<ReportFault> for RunFault {
+    ghost from_gives = { λ f e. e ≡ of_report f };
+
+    fn from(fault: ReportFault) -> RunFault {
+        match fault {
+            ReportFault::Output => RunFault::Output,
+            ReportFault::NoMemory => RunFault::NoMemory,
+        }
     }
 }
 

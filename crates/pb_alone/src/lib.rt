@@ -4,7 +4,9 @@
 mod change;
 mod fault;
 mod output;
+mod run;
 
 pub use change::change_all;
 pub use fault::{ReportFault, RunFault};
 pub use output::report;
+pub use run::run_alone;
