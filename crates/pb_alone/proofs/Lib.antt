@@ -8,3 +8,4 @@ pub mod Gathering
 pub mod Told
 pub mod Seated
 pub mod Whole
+pub mod OnTexts

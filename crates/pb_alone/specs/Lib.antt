@@ -3,3 +3,4 @@ pub mod Faults
 pub mod Committed
 pub mod Puts
 pub mod Runs
+pub mod TextRuns

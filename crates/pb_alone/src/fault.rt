@@ -17,8 +17,8 @@ pub enum RunFault {
     /// The script was refused, for another cause than memory.
     #[error("script: {0}")]
     Script(ScriptFault),
-    /// A step was refused with this number: 40 out of timestamps, 44 journal full.
-    #[error("refused code {0}")]
+    /// A step of the one seat was refused with this number: 40 out of timestamps, 44 journal full.
+    #[error("worker 0 code {0}")]
     Refused(u8),
     /// A write of the report failed, or took no byte.
     #[error("cannot write the output")]

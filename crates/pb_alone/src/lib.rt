@@ -5,8 +5,10 @@ mod change;
 mod fault;
 mod output;
 mod run;
+mod texts;
 
 pub use change::change_all;
 pub use fault::{ReportFault, RunFault};
 pub use output::report;
 pub use run::run_alone;
+pub use texts::run_texts;

@@ -2,6 +2,7 @@
 use Rattle.std.specs.Prelude.{◌≡◌, ℕ, suc, ◌⊎◌, Bool, true, false, not, ◌&&◌, ◌==◌, nat_lt, if◌then◌else◌, List, codes, Option, Some, None, is_some, option_and_then, Result, Ok, Err}
 use Rattle.serde_json.specs.Data.{Data, Items, no_items, item, Members, no_members, member}
 use Rattle.serde_json.specs.Find.{get, as_number, as_str, as_array, as_object, as_u64}
+use Rattle.serde_json.specs.Read.{read}
 use Rattle.pb_texts.specs.declared.manifest.Registry.{Registry}
 use Rattle.pb_texts.specs.declared.manifest.RegistryFault.{RegistryFault}
 use Rattle.pb_texts.specs.declared.manifest.code.Code.{Code}
@@ -75,6 +76,10 @@ whole_fault d = observers_fault (observers_in d)
 abbrev pub fault_of : Option Data → Option Code
 fault_of None = Some Text
 fault_of (Some d) = whole_fault d
+
+-- the fault of a manifest
+abbrev pub manifest_fault : List ℕ → Option Code
+manifest_fault text = fault_of (read text)
 
 abbrev pub no_memory : RegistryFault
 no_memory = record { observer = None; code = 1 }

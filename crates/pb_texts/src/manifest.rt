@@ -3,8 +3,7 @@ mod code;
 mod form;
 
 ghost use Rattle.std.specs.Prelude.{◌≡◌};
-ghost use Rattle.serde_json.specs.Read.{read};
-ghost use Rattle.pb_texts.specs.Manifests.{fault_of, Judges};
+ghost use Rattle.pb_texts.specs.Manifests.{manifest_fault, Judges};
 
 use crate::manifest::code::Code;
 use crate::manifest::form::{fault_in, value_of};
@@ -61,7 +60,7 @@ impl Registry {
     /// object with exactly `name`, `column`, `helpers`, an array of numbers, and `code`, a text. A number is written with
     /// digits alone, and is below 2^64.
     pub fn from_json(alloc: Global, text: &str) -> Result<Registry, RegistryFault>
-        ensures { Judges result (fault_of (read text.now)) }
+        ensures { Judges result (manifest_fault text.now) }
     {
         let value = match value_of(alloc, text) {
             Ok(value) => value,
