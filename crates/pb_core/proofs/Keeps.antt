@@ -93,4 +93,5 @@ kept_more j bs s o l seat step a t j' b' k m in' room j-is b-is =
       placed = λ i lt. subst (λ es. slice_index_or (slice_set bs seat b') i [] ≡ places_from 0 i es) (sym j-is) (placed_more j bs seat e b' refl in' k.placed b-is i (rw length-set at lt) (eqb i seat) refl);
       counted = seats ∙ (k.counted ∙ sym (length-set bs seat b'));
       room = rw j-is (omega (arith, length-append j (e ∷ [])));
+      bounded = k.bounded;
     }

@@ -4,3 +4,4 @@ pub mod Agree
 pub mod Steps
 pub mod Tells
 pub mod Fresh
+mod Grows

@@ -21,3 +21,4 @@ pub record IsKept (journal : List Entry) (books : List (List ℕ)) (state : Stat
   pub placed : (seat : ℕ) → seat < length books → slice_index_or books seat [] ≡ places_from 0 seat journal
   pub counted : state.seats ≡ length books
   pub room : length journal ≤ limit
+  pub bounded : limit ≤ 1000000

@@ -87,7 +87,8 @@ fn empty_seats(alloc: Global, count: u32) -> Result<Vec<Seat>, NoMemory>
 impl<T: Tablet> Shared<T> {
     ghost use Rattle.std.specs.Prelude.{◌≡◌, ◌≤◌, ◌<◌, ◌↔◌, IfOk, IfErr, OnOk, OnErr, [], ℕ, Err, Some, None, true, false};
     ghost use Rattle.pb_store.specs.Contents.{nothing, is_nothing};
-    ghost use Rattle.pb_state.specs.State.{opened, phase_in};
+    ghost use Rattle.std.specs.FinMap as map;
+    ghost use Rattle.pb_state.specs.State.{opened, phase_in, lock_count};
     ghost use Rattle.pb_core.specs.Calls.{AreSeats, Calls, refusal_in, no_memory};
     ghost use Rattle.pb_core.specs.Legal.{IsLegal};
     ghost use Rattle.pb_core.specs.History.{TellsHistory};
@@ -186,6 +187,28 @@ impl<T: Tablet> Shared<T> {
         ensures { result ≡ phase_in self.now.state start.0 }
     {
         self.state.phase(start)
+    }
+
+    /// The table, to read it.
+    pub fn table(&self) -> &Table<T>
+        ensures entries { result.now.contents.entries ≡ self.now.state.entries }
+        ensures marks { result.now.contents.marks ≡ self.now.state.marks }
+    {
+        self.state.table()
+    }
+
+    /// How many locks stand in the table.
+    pub fn locks(&self) -> usize
+        ensures { result ≡ lock_count self.now.state.entries }
+    {
+        self.state.locks()
+    }
+
+    /// How many cells are marked.
+    pub fn marks(&self) -> usize
+        ensures { result ≡ map.len self.now.state.marks }
+    {
+        self.state.marks()
     }
 
     // The lowest number that a call is refused with, if one applies.

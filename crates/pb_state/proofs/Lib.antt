@@ -4,3 +4,4 @@ pub mod Outcomes
 pub mod Keeping
 pub mod Newest
 pub mod Commits
+mod Walking

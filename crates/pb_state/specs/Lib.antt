@@ -4,3 +4,4 @@ pub mod Refusal
 pub mod Kept
 pub mod Machine
 pub mod Allowed
+pub mod Walks

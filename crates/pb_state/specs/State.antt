@@ -1,5 +1,5 @@
 -- The state of the shared table, without journal and books.
-use Rattle.std.specs.Prelude.{◌≡◌, ℕ, ◌<◌, ◌≤◌, ◌^◌, Bool, true, List, [], Option, Some, None, is_some, option_map, refl}
+use Rattle.std.specs.Prelude.{◌≡◌, ℕ, ◌<◌, ◌≤◌, ◌^◌, Bool, true, false, count_by, List, [], Option, Some, None, is_some, option_map, refl}
 use Rattle.std.specs.Coded.{Coded, code_by, coded×, coded_ℕ, coded_list}
 use base.Stored.{coded_unit}
 use Rattle.std.specs.List.{list_any}
@@ -11,6 +11,7 @@ use Rattle.pb_base.specs.Cell.{cell_cmp}
 use Rattle.pb_base.specs.Batch.{Writes}
 use Rattle.pb_store.specs.declared.slot.Item.{Item}
 use Rattle.pb_store.specs.declared.slot.Item.TheVariants as items
+use Rattle.pb_store.specs.declared.slot.Sort.{Sort}
 use Rattle.pb_store.specs.declared.slot.Sort.TheVariants as sorts
 use Rattle.pb_store.specs.Contents.{Entries, Marks, slot_at}
 use Rattle.pb_state.specs.declared.step.Work.{Work}
@@ -113,6 +114,15 @@ NoWriteFrom e x s = (c : ℕ) → s ≤ c → c < 2 ^ 64 → write_at e x c ≡ 
 -- x has a write record of commit s or later
 abbrev pub SomeWriteFrom : Entries → Cell → ℕ → Type 0
 SomeWriteFrom e x s = (c : ℕ) × (s ≤ c) × (c < 2 ^ 64) × (is_some (write_at e x c) ≡ true)
+
+abbrev pub is_lock : Sort → Bool
+is_lock sorts.Data = false
+is_lock sorts.Lock = true
+is_lock sorts.Write = false
+
+-- how many locks stand
+abbrev pub lock_count : Entries → ℕ
+lock_count e = count_by (λ p. is_lock p.0.sort) (map.entries e)
 
 -- ---- how a model keeps it
 

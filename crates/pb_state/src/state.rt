@@ -1,7 +1,8 @@
 //! The state of the shared table, and the steps that it takes.
-ghost use Rattle.std.specs.Prelude.{◌≡◌, ◌⊎◌, is_some, MatchBool};
+ghost use Rattle.std.specs.Prelude.{◌≡◌, ◌<◌, ◌^◌, ◌⊎◌, is_some, MatchBool};
+ghost use Rattle.std.specs.FinMap as map;
 ghost use Rattle.pb_store.specs.Contents.{Contents, AreEdits, after_edits, slot_at};
-ghost use Rattle.pb_state.specs.State.{SomeLock, SomeWriteFrom, NoLock, NoWriteFrom, lock_at};
+ghost use Rattle.pb_state.specs.State.{SomeLock, SomeWriteFrom, NoLock, NoWriteFrom, lock_at, lock_count, is_lock};
 ghost use Rattle.pb_state.specs.Machine.{put_lock, commit_lock};
 
 use crate::step::{Answer, Declaration, Step, Work};
@@ -41,8 +42,7 @@ impl<T: Tablet> Model for State<T> {
 }
 
 impl<T: Tablet> State<T> {
-    ghost use Rattle.std.specs.Prelude.{◌≡◌, ◌<◌, ◌^◌, OnErr, IfOk, None, Some, option_map};
-    ghost use Rattle.std.specs.FinMap as map;
+    ghost use Rattle.std.specs.Prelude.{OnErr, IfOk, None, Some, option_map};
     ghost use Rattle.pb_store.specs.Contents.{nothing};
     ghost use Rattle.pb_state.specs.State.{StateOf, opened, phase_in};
     ghost use Rattle.std.specs.Option.{option_copied};
@@ -87,6 +87,30 @@ impl<T: Tablet> State<T> {
             Some(transaction) => Some(transaction.phase()),
             None => None,
         }
+    }
+
+    /// The table, to read it.
+    pub fn table(&self) -> &Table<T>
+        ensures entries { result.now.contents.entries ≡ self.now.entries }
+        ensures marks { result.now.contents.marks ≡ self.now.marks }
+    {
+        &self.table
+    }
+
+    /// How many locks stand in the table. It asks for a table whose entries can be counted.
+    pub fn locks(&self) -> usize
+        requires { map.len self.now.entries < 2 ^ 64 }
+        ensures { result ≡ lock_count self.now.entries }
+    {
+        count_locks(&self.table)
+    }
+
+    /// How many cells are marked. It asks for a table whose marks can be counted.
+    pub fn marks(&self) -> usize
+        requires { map.len self.now.marks < 2 ^ 64 }
+        ensures { result ≡ map.len self.now.marks }
+    {
+        count_marks(&self.table)
     }
 
     /// The lowest of the numbers 40 to 43 and 45 to 47 that a step is refused with, if one applies.
@@ -357,4 +381,42 @@ fn commit_edits(cell: &Cell, start: Ts, commit: Ts) -> [Edit; 2]
     let lock = slot_of(cell, Sort::Lock, start);
     let record = slot_of(cell, Sort::Write, commit);
     [Edit::Erase(lock), Edit::Put(record, Item::Write(start))]
+}
+
+fn is_lock(sort: Sort) -> bool
+    ensures { result ≡ is_lock sort }
+{
+    match sort {
+        Sort::Lock => true,
+        Sort::Data => false,
+        Sort::Write => false,
+    }
+}
+
+fn count_locks<T: Tablet>(table: &Table<T>) -> usize
+    requires { map.len table.now.contents.entries < 2 ^ 64 }
+    ensures { result ≡ lock_count table.now.contents.entries }
+{
+    let mut count = 0;
+    let mut place = 0;
+    while let Some((slot, _)) = table.at(place) {
+        if is_lock(slot.sort) {
+            count += 1;
+        }
+        place += 1;
+    }
+    count
+}
+
+fn count_marks<T: Tablet>(table: &Table<T>) -> usize
+    requires { map.len table.now.contents.marks < 2 ^ 64 }
+    ensures { result ≡ map.len table.now.contents.marks }
+{
+    let mut count = 0;
+    let mut last = None;
+    while let Some(cell) = table.next_mark(last) {
+        count += 1;
+        last = Some(cell);
+    }
+    count
 }

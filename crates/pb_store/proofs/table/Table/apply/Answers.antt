@@ -7,8 +7,9 @@ use Rattle.pb_store.proofs.Routing.{tiles_kept}
 use Rattle.pb_store.proofs.Applying.{result_cases, ok_then, err_then, all_of_first, tiling_after, joined_after}
 use Rattle.pb_store.proofs.table.Table.apply.Given.{Over}
 use Rattle.pb_store.proofs.table.Table.apply.Goals as goal
+use Rattle.pb_store.proofs.table.Table.apply.Goals.{After-apply}
 
-module _ (g : Over) (c : goal.After-self-1 g) where
+module _ (g : Over) (c : After-apply g) where
   within : c.place_in-i.result < length c.self.inside.parts.items
   within = subst (λ ps. c.place_in-i.result < length ps) c.deref.ensures.value c.place_in-i.ensures.within
 
@@ -26,23 +27,26 @@ module _ (g : Over) (c : goal.After-self-1 g) where
 
 pub invariant_of-self : goal.invariant_of-self
 invariant_of-self g c =
+    let at = (goal.at.invariant_of-self g c).After-apply in
     result_cases c.apply.result _ _ _ c.apply.ensures.ok c.apply.ensures.err
     (λ done. tiling_after g.T.Tablet.contents c.self.inside.parts.items c.place_in-i.result c.index_mut-part.result.now c.apply.new.self
-    (within g c) c.index_mut-part.ensures.value c.args.edits.now c.row.result.0 (of_row g c) c.self.invariant (place g c) done)
+    (within g at) c.index_mut-part.ensures.value c.args.edits.now c.row.result.0 (of_row g at) c.self.invariant (place g at) done)
     (λ same. subst IsTiling (sym (tiles_kept g.T.Tablet.contents c.self.inside.parts.items c.place_in-i.result c.index_mut-part.result.now c.apply.new.self
-    (within g c) c.index_mut-part.ensures.value same)) c.self.invariant)
+    (within g at) c.index_mut-part.ensures.value same)) c.self.invariant)
 
 pub returns-clause-ok : goal.returns-clause-ok
 returns-clause-ok g c =
+    let at = (goal.at.returns-clause-ok g c).After-apply in
     ok_then c.apply.result _ _
     (λ done. joined_after g.T.Tablet.contents c.self.inside.parts.items c.place_in-i.result c.index_mut-part.result.now c.apply.new.self
-    (within g c) c.index_mut-part.ensures.value c.args.edits.now c.row.result.0 (of_row g c) c.self.invariant (place g c) done
-    ∙ ap (after_edits c.args.edits.now) (held g c))
+    (within g at) c.index_mut-part.ensures.value c.args.edits.now c.row.result.0 (of_row g at) c.self.invariant (place g at) done
+    ∙ ap (after_edits c.args.edits.now) (held g at))
     c.apply.ensures.ok
 
 pub returns-clause-err : goal.returns-clause-err
 returns-clause-err g c =
+    let at = (goal.at.returns-clause-err g c).After-apply in
     err_then c.apply.result _ _
     (λ same. ap joined (tiles_kept g.T.Tablet.contents c.self.inside.parts.items c.place_in-i.result c.index_mut-part.result.now c.apply.new.self
-    (within g c) c.index_mut-part.ensures.value same) ∙ held g c)
+    (within g at) c.index_mut-part.ensures.value same) ∙ held g at)
     c.apply.ensures.err

@@ -1,0 +1,82 @@
+-- A run of so many steps leaves at most twice as many entries, and no mark.
+use Rattle.std.proofs.Common.{◌≡◌, ℕ, ◌+◌, ◌-◌, ◌*◌, ◌<◌, ◌≤◌, ◌^◌, Bool, true, false, cond, List, [], ◌∷◌, length, sym, ◌∙◌, ap, subst, arith}
+use Rattle.std.specs.FinMap as map
+use Rattle.pb_store.specs.declared.slot.Slot.{Slot}
+use Rattle.pb_store.specs.declared.slot.Item.{Item}
+use Rattle.pb_store.specs.Slot.{slot_cmp, slot_cmp_total}
+use Rattle.pb_base.specs.Cell.{cell_cmp}
+use Rattle.pb_store.specs.Contents.{Entries}
+use Rattle.pb_state.specs.declared.step.Step.{Step}
+use Rattle.pb_state.specs.declared.step.Step.TheVariants as steps
+use Rattle.pb_state.specs.declared.step.Answer.{Answer}
+use Rattle.pb_state.specs.declared.step.Answer.TheVariants as answers
+use Rattle.pb_state.specs.State.{StateOf, opened}
+use Rattle.pb_state.specs.Machine.{Case}
+use Rattle.pb_core.specs.declared.entry.Entry.{Entry}
+use Rattle.pb_core.specs.Legal.{Run, IsKept}
+
+at_most : (b : Bool) (n k : ℕ) → k ≡ cond b n (n + 1) → k ≤ n + 1
+at_most true n k is = omega arith
+at_most false n k is = omega arith
+
+no_more : (b : Bool) (n k : ℕ) → k ≡ cond b (n - 1) n → k ≤ n
+no_more true n k is = omega arith
+no_more false n k is = omega arith
+
+len_put : (m : Entries) (k : Slot) (v : Item) → map.len (map.insert m k v) ≤ map.len m + 1
+len_put m k v = at_most _ _ _ (map.len-insert slot_cmp_total m k v)
+
+len_erased : (m : Entries) (k : Slot) → map.len (map.remove m k) ≤ map.len m
+len_erased m k = no_more _ _ _ (map.len-remove slot_cmp_total m k)
+
+len_put_two : (m : Entries) (k l : Slot) (v w : Item) → map.len (map.insert (map.insert m k v) l w) ≤ map.len m + 2
+len_put_two m k l v w = let a = len_put m k v in let b = len_put (map.insert m k v) l w in omega arith
+
+len_replaced : (m : Entries) (k l : Slot) (w : Item) → map.len (map.insert (map.remove m k) l w) ≤ map.len m + 2
+len_replaced m k l w = let a = len_erased m k in let b = len_put (map.remove m k) l w in omega arith
+
+same_len : (m n : Entries) → n ≡ m → map.len n ≤ map.len m + 2
+same_len m n is = rw is (omega arith)
+
+case_entries : (s : StateOf) (seat : ℕ) (step : Step) (a : Answer) (t : StateOf) → Case s seat step a t → map.len t.entries ≤ map.len s.entries + 2
+case_entries s seat (steps.Begin work) (answers.At n) t c = same_len _ _ (ap (λ (x : StateOf). x.entries) c.new_is)
+case_entries s seat (steps.Declare n what) answers.Done t c = same_len _ _ (ap (λ (x : StateOf). x.entries) c.new_is)
+case_entries s seat (steps.Prewrite n x) answers.Done t c = subst (λ (e : Entries). map.len e ≤ map.len s.entries + 2) (sym (ap (λ (x : StateOf). x.entries) c.new_is)) (len_put_two s.entries _ _ _ _)
+case_entries s seat (steps.Prewrite n x) answers.Conflict t c = same_len _ _ (ap (λ (x : StateOf). x.entries) c.new_is)
+case_entries s seat (steps.Stamp n) (answers.At k) t c = same_len _ _ (ap (λ (x : StateOf). x.entries) c.new_is)
+case_entries s seat (steps.CommitPrimary n) answers.Committed t c = subst (λ (e : Entries). map.len e ≤ map.len s.entries + 2) (sym (ap (λ (x : StateOf). x.entries) c.new_is)) (len_replaced s.entries _ _ _)
+case_entries s seat (steps.CommitPrimary n) answers.Lost t c = same_len _ _ (ap (λ (x : StateOf). x.entries) c.new_is)
+case_entries s seat _ _ t c = absurd c
+
+case_marks : (s : StateOf) (seat : ℕ) (step : Step) (a : Answer) (t : StateOf) → Case s seat step a t → t.marks ≡ s.marks
+case_marks s seat (steps.Begin work) (answers.At n) t c = ap (λ (x : StateOf). x.marks) c.new_is
+case_marks s seat (steps.Declare n what) answers.Done t c = ap (λ (x : StateOf). x.marks) c.new_is
+case_marks s seat (steps.Prewrite n x) answers.Done t c = ap (λ (x : StateOf). x.marks) c.new_is
+case_marks s seat (steps.Prewrite n x) answers.Conflict t c = ap (λ (x : StateOf). x.marks) c.new_is
+case_marks s seat (steps.Stamp n) (answers.At k) t c = ap (λ (x : StateOf). x.marks) c.new_is
+case_marks s seat (steps.CommitPrimary n) answers.Committed t c = ap (λ (x : StateOf). x.marks) c.new_is
+case_marks s seat (steps.CommitPrimary n) answers.Lost t c = ap (λ (x : StateOf). x.marks) c.new_is
+case_marks s seat _ _ t c = absurd c
+
+run_entries : (s : StateOf) (es : List Entry) (t : StateOf) → Run s es t → map.len t.entries ≤ map.len s.entries + 2 * length es
+run_entries s [] t r = subst (λ (x : StateOf). map.len x.entries ≤ map.len s.entries + 0) (sym r) (omega arith)
+run_entries s (e ∷ es) t r =
+    let one = case_entries s e.seat e.step e.answer r.0 r.1.taken in
+    let more = run_entries r.0 es t r.2 in
+    omega arith
+
+run_marks : (s : StateOf) (es : List Entry) (t : StateOf) → Run s es t → t.marks ≡ s.marks
+run_marks s [] t r = ap (λ (x : StateOf). x.marks) r
+run_marks s (e ∷ es) t r = run_marks r.0 es t r.2 ∙ case_marks s e.seat e.step e.answer r.0 r.1.taken
+
+-- the entries of a table can be counted, and so can its marks
+pub few_entries : (j : List Entry) (bs : List (List ℕ)) (s : StateOf) (o l : ℕ) → IsKept j bs s o l → map.len s.entries < 2 ^ 64
+few_entries j bs s o l k =
+    let grown = run_entries (opened s.seats o) j s k.legal.run in
+    let none : map.len (opened s.seats o).entries ≡ 0 = map.len-empty slot_cmp _ in
+    omega (arith, grown, none, k.room, k.bounded)
+
+pub few_marks : (j : List Entry) (bs : List (List ℕ)) (s : StateOf) (o l : ℕ) → IsKept j bs s o l → map.len s.marks < 2 ^ 64
+few_marks j bs s o l k =
+    let none : map.len s.marks ≡ 0 = ap map.len (run_marks (opened s.seats o) j s k.legal.run) ∙ map.len-empty cell_cmp _ in
+    omega (arith, none)

@@ -1,0 +1,114 @@
+-- A walk from mark to mark meets each marked cell once.
+use Rattle.std.proofs.Common.{◌≡◌, ℕ, ◌+◌, ◌<◌, Bool, true, false, List, [], ◌∷◌, Option, None, Some, refl, sym, ap, ◌∙◌, subst, arith, is_some, length, zero, suc}
+use Rattle.std.specs.Prelude.{T, cond, ◌&&◌}
+use Rattle.std.specs.declared.cmp.Ordering.{Ordering}
+use Rattle.std.specs.declared.cmp.Ordering.TheVariants.{Less, Equal, Greater}
+use Rattle.std.specs.Ordering.{eq_by_cmp, is_eq, is_lt, ordering_reverse}
+use Rattle.std.specs.Cmp.{tied_itself}
+use Rattle.std.specs.FinMap as map
+use Rattle.std.specs.FinMap.Entries.{find, is_sorted, below_all}
+use Rattle.pb_base.specs.declared.cell.Cell.{Cell}
+use Rattle.pb_base.specs.Cell.{cell_cmp, cell_cmp_total, cell_cmp-IsAntisymmetric}
+use Rattle.pb_store.specs.Contents.{ComesAfter, IsNextMark, Marks}
+use Rattle.pb_state.specs.Walks.{IsWalked}
+
+abbrev List1 : Type 0
+List1 = List (Cell × Unit {0})
+
+abbrev has : Cell → List1 → Bool
+has q es = is_some (find cell_cmp q es)
+
+-- no entry lies between the cell and the next
+abbrev NoneBetween : Option Cell → List1 → Cell → Type 0
+NoneBetween last es next = (q : Cell) → ComesAfter last q → cell_cmp q next ≡ Less → has q es ≡ false
+
+fst : (a b : Bool) → T (a && b) → T a
+fst true b p = tt
+fst false b p = p
+
+snd : (a b : Bool) → T (a && b) → T b
+snd true b p = p
+snd false b p = absurd p
+
+is_less : (o : Ordering) → T (is_lt o) → o ≡ Less
+is_less Less p = refl
+is_less Equal p = absurd p
+is_less Greater p = absurd p
+
+has_head : (e : Cell × Unit {0}) (es : List1) → has e.0 (e ∷ es) ≡ true
+has_head e es = ap (λ r. is_some (cond (is_eq r) (Some e.1) (find cell_cmp e.0 es))) (tied_itself cell_cmp_total e.0)
+
+has_tail : (q : Cell) (e : Cell × Unit {0}) (es : List1) → has q es ≡ true → has q (e ∷ es) ≡ true
+has_tail q e es h = elim (eq_by_cmp cell_cmp q e.0) as (λ b. is_some (cond b (Some e.1) (find cell_cmp q es)) ≡ true) [ true ↦ refl | false ↦ h ]
+
+none_tail : (q : Cell) (e : Cell × Unit {0}) (es : List1) → has q (e ∷ es) ≡ false → has q es ≡ false
+none_tail q e es h = elim (has q es) as (λ b. has q es ≡ b → has q es ≡ false) [ true ↦ (λ is. let more = has_tail q e es is in cc) | false ↦ (λ is. is) ] refl
+
+-- an entry of the list is the head, or of the rest
+in_rest : (q : Cell) (e : Cell × Unit {0}) (es : List1) → has q (e ∷ es) ≡ true → (cell_cmp q e.0 ≡ Equal → ⊥) → has q es ≡ true
+in_rest q e es h apart = elim (cell_cmp q e.0) as (λ r. cell_cmp q e.0 ≡ r → is_some (cond (is_eq r) (Some e.1) (find cell_cmp q es)) ≡ true → has q es ≡ true) [
+    | Less ↦ λ _ k. k
+    | Equal ↦ λ is _. absurd (apart is)
+    | Greater ↦ λ _ k. k
+  ] refl h
+
+above : (x q : Cell) (es : List1) → T (below_all cell_cmp x es) → has q es ≡ true → cell_cmp x q ≡ Less
+above x q [] b h = cc
+above x q (e ∷ es) b h =
+    elim (cell_cmp q e.0) as (λ r. cell_cmp q e.0 ≡ r → is_some (cond (is_eq r) (Some e.1) (find cell_cmp q es)) ≡ true → cell_cmp x q ≡ Less) [
+      | Less ↦ λ _ k. above x q es (snd _ _ b) k
+      | Equal ↦ λ is _. ap (cell_cmp x) (cell_cmp-IsAntisymmetric q e.0 is) ∙ is_less _ (fst _ _ b)
+      | Greater ↦ λ _ k. above x q es (snd _ _ b) k
+    ] refl h
+
+begun_after : (x : Cell) (es : List1) → T (below_all cell_cmp x es) → IsWalked (Some x) es zero
+begun_after x [] b = tt
+begun_after x (e ∷ es) b = is_less _ (fst _ _ b)
+
+comes_later : (last : Option Cell) (x y : Cell) → ComesAfter last x → cell_cmp x y ≡ Less → ComesAfter last y
+comes_later None x y c l = tt
+comes_later (Some a) x y c l = cell_cmp_total.trans a x y c l
+
+less_back : (x y : Cell) → cell_cmp x y ≡ Greater → cell_cmp y x ≡ Less
+less_back x y g = cell_cmp_total.antisymm y x ∙ ap ordering_reverse g
+
+not_both : (x y : Cell) → cell_cmp x y ≡ Less → cell_cmp y x ≡ Less → ⊥
+not_both x y a b = let turned = cell_cmp_total.antisymm x y in cc
+
+pub step : (es : List1) → T (is_sorted cell_cmp es) → (last : Option Cell) (n : ℕ) (next : Cell) → IsWalked last es n → has next es ≡ true → ComesAfter last next → NoneBetween last es next → IsWalked (Some next) es (suc n) × (n < length es)
+step [] s last n next w h c none = cc
+step (e ∷ es) s last zero next w h c none =
+    elim (cell_cmp next e.0) as (λ r. cell_cmp next e.0 ≡ r → IsWalked (Some next) (e ∷ es) (suc zero) × (zero < length (e ∷ es))) [
+      | Less ↦ λ is. absurd (not_both next e.0 is (above e.0 next es (fst _ _ s) (in_rest next e es h (λ eq. cc))))
+      | Equal ↦ λ is. let same : next ≡ e.0 = cell_cmp-IsAntisymmetric next e.0 is in (((λ less. cc), begun_after next es (subst (λ x. T (below_all cell_cmp x es)) (sym same) (fst _ _ s))), omega arith)
+      | Greater ↦ λ is. let missed = none e.0 w (less_back next e.0 is) in let there = has_head e es in cc
+    ] refl
+step (e ∷ es) s last (suc n) next w h c none =
+    let apart : (cell_cmp next e.0 ≡ Equal → ⊥) = (λ is. w.0 (subst (ComesAfter last) (cell_cmp-IsAntisymmetric next e.0 is) c)) in
+    let rest : IsWalked (Some next) es (suc n) × (n < length es) = step es (snd _ _ s) last n next w.1 (in_rest next e es h apart) c (λ q after below. none_tail q e es (none q after below)) in
+    let short : n < length es = rest.1 in
+    (((λ less. w.0 (comes_later last next e.0 c less)), rest.0), omega (arith, short))
+
+-- where no entry comes after, all are walked
+pub whole : (es : List1) (last : Option Cell) (n : ℕ) → IsWalked last es n → ((q : Cell) → ComesAfter last q → has q es ≡ false) → n ≡ length es
+whole [] last zero w none = refl
+whole [] last (suc n) w none = absurd w
+whole (e ∷ es) last zero w none = let missed = none e.0 w in let there = has_head e es in cc
+whole (e ∷ es) last (suc n) w none = let rest = whole es last n w.1 (λ q after. none_tail q e es (none q after)) in ap suc rest
+
+pub walked_none : (es : List1) → IsWalked None es zero
+walked_none [] = tt
+walked_none (e ∷ es) = tt
+
+-- ---- over marks
+
+held : (m : Marks) (q : Cell) (b : Bool) → map.contains_key m q ≡ b → has q (map.entries m) ≡ b
+held m q b is = sym (ap is_some (map.get-entries m q)) ∙ is
+
+pub walked_on : (m : Marks) (last : Option Cell) (n : ℕ) (next : Cell) → IsWalked last (map.entries m) n → IsNextMark m last (Some next) → IsWalked (Some next) (map.entries m) (n + 1) × (n < length (map.entries m))
+walked_on m last n next w is =
+    let done = step (map.entries m) (map.entries_sorted m) last n next w (held m next true is.0) is.1 (λ q after below. held m q false (is.2 q after below)) in
+    (subst (λ k. IsWalked (Some next) (map.entries m) k) (omega arith) done.0, done.1)
+
+pub walked_all : (m : Marks) (last : Option Cell) (n : ℕ) → IsWalked last (map.entries m) n → IsNextMark m last None → n ≡ length (map.entries m)
+walked_all m last n w is = whole (map.entries m) last n w (λ q after. held m q false (is q after))
