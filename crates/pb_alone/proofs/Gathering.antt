@@ -19,7 +19,7 @@ use Rattle.pb_state.specs.declared.transaction.Phase.{Phase}
 use Rattle.pb_state.specs.declared.transaction.Phase.TheVariants as phases
 use Rattle.pb_state.specs.State.{StateOf, TransactionOf, phase_in, cells_of}
 use Rattle.pb_core.specs.declared.entry.Entry.{Entry}
-use Rattle.pb_core.specs.History.{Has, Member, InHistory, TellsHistory}
+use Rattle.pb_core.specs.History.{Has, Member, TellsHistory}
 use Rattle.pb_texts.specs.declared.report.newest.Put.{Put}
 use Rattle.pb_alone.specs.Committed.{IsWrite, Gathers}
 use Rattle.pb_alone.specs.Puts.{put_by, if_committed, writes_by, puts_by, IfCommitted, AreTold, all_puts, AllTold}

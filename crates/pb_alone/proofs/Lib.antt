@@ -5,3 +5,6 @@ pub mod Upto
 pub mod AllChanges
 pub mod Blocks
 pub mod Gathering
+pub mod Told
+pub mod Seated
+pub mod Whole

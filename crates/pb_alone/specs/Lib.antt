@@ -2,3 +2,4 @@ pub mod Alone
 pub mod Faults
 pub mod Committed
 pub mod Puts
+pub mod Runs

@@ -1,5 +1,5 @@
 -- The committed writes of a table, as they are gathered.
-use Rattle.std.specs.Prelude.{◌≡◌, ℕ, true, List, [], ◌∷◌, map, Option, Some}
+use Rattle.std.specs.Prelude.{◌≡◌, true, List, [], ◌∷◌, map, Option, Some}
 use Rattle.std.specs.List.{flat_map}
 use Rattle.pb_base.specs.Batch.{are_distinct}
 use Rattle.pb_base.specs.declared.names.Ts.{Ts}

@@ -1,6 +1,8 @@
 //! Why a run ended early.
 ghost use Rattle.std.specs.Prelude.{◌≡◌};
 ghost use Rattle.pb_alone.specs.declared.fault.RunFault.TheVariants as faults;
+ghost use Rattle.pb_alone.specs.declared.fault.ReportFault.TheVariants as ends;
+ghost use Rattle.pb_alone.specs.Faults.{of_report};
 
 use pb_base::NoMemory;
 use pb_texts::{RegistryFault, ScriptFault};
@@ -24,6 +26,36 @@ pub enum RunFault {
     /// A growth was refused.
     #[error("no memory")]
     NoMemory,
+}
+
+/// Why a report ended before it was whole.
+#[derive(Clone, Copy, Debug, PartialEq, Eq, Drop, Error)]
+pub enum ReportFault {
+    /// A write failed, or took no byte.
+    #[error("cannot write the output")]
+    Output,
+    /// A growth was refused. Nothing was written.
+    #[error("no memory")]
+    NoMemory,
+}
+
+impl From<NoMemory> for ReportFault {
+    ghost from_gives = { λ _ e. e ≡ ends.NoMemory };
+
+    fn from(_e: NoMemory) -> ReportFault {
+        ReportFault::NoMemory
+    }
+}
+
+impl From<ReportFault> for RunFault {
+    ghost from_gives = { λ f e. e ≡ of_report f };
+
+    fn from(fault: ReportFault) -> RunFault {
+        match fault {
+            ReportFault::Output => RunFault::Output,
+            ReportFault::NoMemory => RunFault::NoMemory,
+        }
+    }
 }
 
 impl From<NoMemory> for RunFault {

@@ -3,7 +3,10 @@
 
 mod change;
 mod fault;
-mod report;
+mod output;
+mod run;
 
 pub use change::change_all;
-pub use fault::RunFault;
+pub use fault::{ReportFault, RunFault};
+pub use output::report;
+pub use run::run_alone;

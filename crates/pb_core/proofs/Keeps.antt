@@ -94,4 +94,6 @@ kept_more j bs s o l seat step a t j' b' k m in' room j-is b-is =
       counted = seats ∙ (k.counted ∙ sym (length-set bs seat b'));
       room = rw j-is (omega (arith, length-append j (e ∷ [])));
       bounded = k.bounded;
+      some = omega (arith, seats, k.some);
+      few = omega (arith, seats, k.few);
     }

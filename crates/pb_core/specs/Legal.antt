@@ -22,3 +22,5 @@ pub record IsKept (journal : List Entry) (books : List (List ℕ)) (state : Stat
   pub counted : state.seats ≡ length books
   pub room : length journal ≤ limit
   pub bounded : limit ≤ 1000000
+  pub some : 1 ≤ state.seats
+  pub few : state.seats ≤ 64

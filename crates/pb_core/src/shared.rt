@@ -163,7 +163,8 @@ impl<T: Tablet> Shared<T> {
 
     /// How many entries the journal may have.
     pub fn limit(&self) -> usize
-        ensures { result ≡ self.now.limit }
+        ensures limit { result ≡ self.now.limit }
+        ensures bounded { result ≤ 1000000 }
     {
         self.limit
     }
@@ -177,7 +178,9 @@ impl<T: Tablet> Shared<T> {
 
     /// How many seats the table has.
     pub fn seats(&self) -> u32
-        ensures { result ≡ self.now.state.seats }
+        ensures seats { result ≡ self.now.state.seats }
+        ensures some { 1 ≤ result }
+        ensures few { result ≤ 64 }
     {
         self.state.seats()
     }

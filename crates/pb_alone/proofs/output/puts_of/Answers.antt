@@ -1,10 +1,10 @@
-use Rattle.std.proofs.Common.{◌≡◌, ◌+◌, [], ◌∷◌, ◌++◌, ◌∙◌, sym, ap, subst, take, arith}
+use Rattle.std.proofs.Common.{◌≡◌, ◌+◌, [], ◌∷◌, ◌++◌, ◌∙◌, sym, ap, subst, take}
 use Rattle.std.proofs.lemmas.List.{take_more, take_all}
 use Rattle.pb_core.specs.declared.entry.Entry.{Entry}
-use Rattle.pb_alone.specs.Puts.{puts_by, AreTold, all_puts, AllTold}
+use Rattle.pb_alone.specs.Puts.{puts_by, all_puts, AllTold}
 use Rattle.pb_alone.specs.Committed.{Gathers}
 use Rattle.pb_alone.proofs.Gathering.{gathers_on, told_on, gathers}
-use Rattle.pb_alone.proofs.report.puts_of.Goals as goal
+use Rattle.pb_alone.proofs.output.puts_of.Goals as goal
 
 pub loop-entry-preserved : goal.loop-entry-preserved
 loop-entry-preserved g c =

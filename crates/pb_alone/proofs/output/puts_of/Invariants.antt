@@ -1,6 +1,6 @@
 use Rattle.std.proofs.Common.{◌≡◌, take}
 use Rattle.pb_alone.specs.Puts.{all_puts, AllTold}
-use Rattle.pb_alone.proofs.report.puts_of.Given as goal
+use Rattle.pb_alone.proofs.output.puts_of.Given as goal
 
 abbrev pub invariant-loop-entry : goal.invariant-loop-entry
 invariant-loop-entry g l = record {

@@ -1,11 +1,13 @@
 //! The report of a table.
-ghost use Rattle.std.specs.Prelude.{◌≡◌, ◌++◌, ◌∷◌, [], IfOk, map, true};
+ghost use Rattle.std.specs.Prelude.{◌≡◌, ◌++◌, ◌∷◌, [], IfOk, map, string_bytes, true, false};
 ghost use Rattle.pb_alone.specs.Puts.{put_by, puts_by, AreTold};
 ghost use Rattle.pb_alone.specs.Committed.{Gathers};
 ghost use Rattle.pb_base.specs.Batch.{is_batch};
+ghost use Rattle.pb_alone.specs.Runs.{IsReportIn, Reports};
 
-use pb_base::{Batch, NoMemory, Ts};
-use pb_texts::Put;
+use crate::fault::ReportFault;
+use pb_base::{Batch, NoMemory, Sink, Ts};
+use pb_texts::{Put, report_of, write_all};
 use pb_core::{Answer, Declared, Entry, Phase, Shared, Step};
 use pb_store::Tablet;
 use std::alloc::Global;
@@ -54,4 +56,28 @@ fn puts_of<T: Tablet>(alloc: Global, shared: &Shared<T>) -> Result<Vec<Put>, NoM
         add_entry(&mut puts, shared, entry)?;
     }
     Ok(puts)
+}
+
+// The text of the report.
+fn text_of<T: Tablet>(alloc: Global, shared: &Shared<T>) -> Result<String, NoMemory>
+    ensures { IfOk result (λ s. IsReportIn shared.now (string_bytes s)) }
+{
+    let puts = puts_of(alloc, shared)?;
+    report_of(alloc, &puts, shared.marks(), shared.locks())
+}
+
+/// Writes the report of a table: the newest committed write of each data cell, and what is left to do.
+pub fn report<T: Tablet, S: Sink>(
+    alloc: Global,
+    sink: &mut S,
+    shared: &Shared<T>,
+) -> Result<(), ReportFault>
+    requires unfailed { S.failed sink.old ≡ false }
+    ensures { Reports shared.now (S.taken sink.old) (S.taken sink.new) (S.failed sink.new) result }
+{
+    let text = text_of(alloc, shared)?;
+    match write_all(sink, text.as_bytes()) {
+        Ok(()) => Ok(()),
+        Err(_) => Err(ReportFault::Output),
+    }
 }

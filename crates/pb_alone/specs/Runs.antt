@@ -1,0 +1,69 @@
+-- What a run of a script leaves: the changes made, and the report written.
+use Rattle.std.specs.Prelude.{◌≡◌, ℕ, Bool, true, false, List, [], map, Option, Result, Ok, Err}
+use Rattle.std.specs.FinMap as finite
+use Rattle.std.specs.Io.KnownBytes.{Appends}
+use Rattle.pb_base.specs.Batch.{Writes}
+use Rattle.pb_state.specs.State.{lock_count}
+use Rattle.pb_core.specs.Calls.{SharedOf, SeatOf, AreSeats}
+use Rattle.pb_core.specs.History.{Member, IsHistory}
+use Rattle.pb_texts.specs.ScriptLines.{script_of}
+use Rattle.pb_texts.specs.Reports.{IsReportOf}
+use Rattle.pb_texts.specs.Sinks.{AppendsPart}
+use Rattle.pb_alone.specs.declared.fault.RunFault.{RunFault}
+use Rattle.pb_alone.specs.declared.fault.RunFault.TheVariants as faults
+use Rattle.pb_alone.specs.declared.fault.ReportFault.{ReportFault}
+use Rattle.pb_alone.specs.declared.fault.ReportFault.TheVariants as ends
+use Rattle.pb_alone.specs.Committed.{IsNewestIn}
+use Rattle.pb_alone.specs.Faults.{IsEnd}
+
+-- the report of the journal, with the marks and locks that stand; there are no runs of observers
+abbrev pub IsReportIn : SharedOf → List ℕ → Type 0
+IsReportIn shared text = IsReportOf (IsNewestIn shared.journal) [] (finite.len shared.state.marks) (lock_count shared.state.entries) text
+
+-- the report was written
+pub record Wrote (shared : SharedOf) (old now : Option (List ℕ)) : Type 0 where
+  pub text : List ℕ
+  pub report : IsReportIn shared text
+  pub appended : Appends old now text
+
+-- a beginning of the report was written
+pub record Began (shared : SharedOf) (old now : Option (List ℕ)) : Type 0 where
+  pub text : List ℕ
+  pub report : IsReportIn shared text
+  pub appended : AppendsPart old now text
+
+-- what the sink had taken and has taken, and whether it has failed, when a report ended so
+abbrev pub Reports : SharedOf → Option (List ℕ) → Option (List ℕ) → Bool → Result (Unit {0}) ReportFault → Type 0
+Reports shared old now failed (Ok _) = Wrote shared old now × (failed ≡ false)
+Reports shared old now failed (Err ends.Output) = Began shared old now × (failed ≡ true)
+Reports shared old now failed (Err ends.NoMemory) = (now ≡ old) × (failed ≡ false)
+
+-- the committed transactions of the journal are the script's batches in order, each once
+pub record Made (text : List ℕ) (shared : SharedOf) : Type 0 where
+  pub batches : List Writes
+  pub read : script_of text ≡ Ok batches
+  pub members : List Member
+  pub history : IsHistory shared.journal members
+  pub writes : map (λ m. m.writes) members ≡ batches
+
+-- the script was not read
+abbrev pub IsUnread : List ℕ → RunFault → Type 0
+IsUnread text (faults.Script f) = script_of text ≡ Err (f.line, f.code)
+IsUnread text faults.NoMemory = Unit {0}
+IsUnread text _ = ⊥
+
+-- how a run from one table to another ended, and what the sink had taken and has taken
+abbrev pub Runs : List ℕ → SharedOf → SharedOf → Option (List ℕ) → Option (List ℕ) → Bool → Result (Unit {0}) RunFault → Type 0
+Runs text before after old now failed (Ok _) = Made text after × Wrote after old now × (failed ≡ false)
+Runs text before after old now failed (Err (faults.Script f)) = (script_of text ≡ Err (f.line, f.code)) × (after ≡ before) × (now ≡ old) × (failed ≡ false)
+Runs text before after old now failed (Err (faults.Refused n)) = IsEnd after (faults.Refused n) × (now ≡ old) × (failed ≡ false)
+Runs text before after old now failed (Err faults.Output) = Made text after × Began after old now × (failed ≡ true)
+Runs text before after old now failed (Err faults.NoMemory) = (now ≡ old) × (failed ≡ false)
+Runs text before after old now failed (Err (faults.Manifest f)) = ⊥
+
+-- the table is as opened but for its journal and state, and these are all its seats
+pub record KeepsSeats (before after : SharedOf) (seats : List SeatOf) : Type 0 where
+  pub seated : AreSeats after seats
+  pub opened : after.opened ≡ before.opened
+  pub limit : after.limit ≡ before.limit
+  pub count : after.state.seats ≡ before.state.seats

@@ -1,0 +1,77 @@
+//! A whole script, from its text to the report.
+ghost use Rattle.std.specs.Prelude.{◌≡◌, [], false, Ok, IfOk, IfErr};
+ghost use Rattle.pb_core.specs.Calls.{AreSeats};
+ghost use Rattle.pb_texts.specs.ScriptLines.{script_of};
+ghost use Rattle.pb_alone.specs.Runs.{IsUnread, Runs, KeepsSeats};
+
+use crate::change::change_all;
+use crate::fault::RunFault;
+use crate::output::report;
+use pb_base::{Batch, Sink};
+use pb_core::{Seat, Shared};
+use pb_store::Tablet;
+use pb_texts::{parse_script, reads_small_batches};
+use std::alloc::Global;
+
+// The script's batches, its fault as one of the run.
+fn read(alloc: Global, text: &str) -> Result<Vec<Batch>, RunFault>
+    ensures ok { IfOk result (λ v. script_of text.now ≡ Ok v.items) }
+    ensures err { IfErr result (IsUnread text.now) }
+{
+    match parse_script(alloc, text) {
+        Ok(batches) => Ok(batches),
+        Err(fault) => {
+            if fault.code == 1 {
+                Err(RunFault::NoMemory)
+            } else {
+                Err(RunFault::Script(fault))
+            }
+        }
+    }
+}
+
+// Every change in order, and then the report.
+fn run<T: Tablet, S: Sink>(
+    alloc: Global,
+    text: &str,
+    shared: &mut Shared<T>,
+    seats: &mut Vec<Seat>,
+    sink: &mut S,
+) -> Result<(), RunFault>
+    requires fresh { shared.old.journal ≡ [] }
+    requires seated { AreSeats shared.old seats.old.items }
+    requires unfailed { S.failed sink.old ≡ false }
+    ensures runs { Runs text.now shared.old shared.new (S.taken sink.old) (S.taken sink.new) (S.failed sink.new) result }
+    ensures keeps { KeepsSeats shared.old shared.new seats.new.items }
+{
+    reads_small_batches();
+    let batches = read(alloc, text)?;
+    prove!(shared.journal().is_empty());
+    prove!(shared.seats() > 0);
+    change_all(alloc, &batches, shared, &mut seats[0])?;
+    report(alloc, sink, shared)?;
+    Ok(())
+}
+
+/// Makes a script's changes in order, each by calls of the first seat alone, and writes the report.
+///
+/// Table and seats come back on every path. The fault is the script's, a refused step (40 out of timestamps, 44 journal
+/// full), a write that failed, or want of memory.
+pub fn run_alone<T: Tablet, S: Sink>(
+    alloc: Global,
+    text: &str,
+    shared: Shared<T>,
+    seats: Vec<Seat>,
+    sink: &mut S,
+) -> (Shared<T>, Vec<Seat>, Result<(), RunFault>)
+    requires fresh { shared.journal ≡ [] }
+    requires seated { AreSeats shared seats.items }
+    requires unfailed { S.failed sink.old ≡ false }
+    ensures runs { Runs text.now shared result.0 (S.taken sink.old) (S.taken sink.new) (S.failed sink.new) result.2 }
+    ensures keeps { KeepsSeats shared result.0 result.1.items }
+{
+    let mut shared = shared;
+    let mut seats = seats;
+    let outcome = run(alloc, text, &mut shared, &mut seats, sink);
+    (shared, seats, outcome)
+}
