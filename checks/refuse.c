@@ -1,0 +1,77 @@
+// Preloaded into a program, refuses one of its requests for memory.
+//
+// REFUSE_AT names the request, counted from 1 at the program's start; requests are calls of malloc, calloc, realloc,
+// aligned_alloc and posix_memalign. REFUSE_FD names an open file descriptor: one byte is written to it when the request
+// is met and refused. All other requests go to the C library.
+#include <errno.h>
+#include <stddef.h>
+#include <stdlib.h>
+#include <unistd.h>
+
+void *__libc_malloc(size_t size);
+void *__libc_calloc(size_t count, size_t size);
+void *__libc_realloc(void *old, size_t size);
+void *__libc_memalign(size_t alignment, size_t size);
+
+static long met;
+
+static long number_in(const char *name) {
+    const char *text = getenv(name);
+    return text ? atol(text) : 0;
+}
+
+// Whether this request is the one to refuse.
+static int is_refused(void) {
+    static long at = -1;
+    if (at < 0) {
+        at = number_in("REFUSE_AT");
+    }
+    if (at == 0 || __atomic_add_fetch(&met, 1, __ATOMIC_RELAXED) != at) {
+        return 0;
+    }
+    if (write((int)number_in("REFUSE_FD"), "x", 1) != 1) {
+        abort();
+    }
+    return 1;
+}
+
+void *malloc(size_t size) {
+    if (is_refused()) {
+        errno = ENOMEM;
+        return NULL;
+    }
+    return __libc_malloc(size);
+}
+
+void *calloc(size_t count, size_t size) {
+    if (is_refused()) {
+        errno = ENOMEM;
+        return NULL;
+    }
+    return __libc_calloc(count, size);
+}
+
+void *realloc(void *old, size_t size) {
+    if (is_refused()) {
+        errno = ENOMEM;
+        return NULL;
+    }
+    return __libc_realloc(old, size);
+}
+
+void *aligned_alloc(size_t alignment, size_t size) {
+    if (is_refused()) {
+        errno = ENOMEM;
+        return NULL;
+    }
+    return __libc_memalign(alignment, size);
+}
+
+int posix_memalign(void **to, size_t alignment, size_t size) {
+    void *memory = is_refused() ? NULL : __libc_memalign(alignment, size);
+    if (memory == NULL) {
+        return ENOMEM;
+    }
+    *to = memory;
+    return 0;
+}
