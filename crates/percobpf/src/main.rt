@@ -49,7 +49,10 @@ fn carry_out<T: Tablet>(rt: &HostRuntime, options: &Options, parts: Vec<(Row, T)
 fn run(rt: &HostRuntime, options: &Options) -> Result<u8, NoMemory> {
     let mut parts: Vec<(Row, Box<dyn Tablet + Send + Drop>)> = Vec::new(rt.alloc());
     parts.push((Row(0), Box::new(rt.alloc(), ListTablet::new(rt.alloc()))?))?;
-    parts.push((Row(1000), Box::new(rt.alloc(), ListTablet::new(rt.alloc()))?))?;
+    parts.push((
+        Row(1000),
+        Box::new(rt.alloc(), ListTablet::new(rt.alloc()))?,
+    ))?;
     Ok(carry_out(rt, options, parts))
 }
 
@@ -92,3 +95,6 @@ fn main(rt: HostRuntime) -> ExitCode {
         Err(_) => ExitCode::from(no_memory(&rt)),
     }
 }
+
+#[cfg(test)]
+mod tests;

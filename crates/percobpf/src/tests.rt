@@ -1,0 +1,403 @@
+ghost use Rattle.std.specs.Prelude.{◌≡◌, ◌≤◌, None, false};
+
+use crate::end_all;
+use pb_base::{Batch, Cell, Column, Content, NoMemory, Row, Sink, SinkFault, Ts};
+use pb_command::{PathFault, Paths, command};
+use pb_core::{Declaration, Declared, OpenRefused, Seat, Shared, Step, Work};
+use pb_memtablet::ListTablet;
+use pb_store::{Table, Tablet};
+use pb_texts::Options;
+use std::alloc::Global;
+use std::process::Abort;
+use std::rt::HostRuntime;
+
+type Boxed = Box<dyn Tablet + Send + Drop>;
+
+const MANIFEST: &[u8] = b"{\"profile\":1,\"observers\":[]}";
+
+// The two files of a run, at the paths `m` and `s`.
+#[derive(Drop)]
+struct Held<'a> {
+    alloc: Global,
+    manifest: Result<&'a [u8], PathFault>,
+    script: Result<&'a [u8], PathFault>,
+}
+
+impl<'a> Paths for Held<'a> {
+    ghost held = { λ _ _. None };
+
+    fn read(&mut self, path: &str) -> Result<Vec<u8>, PathFault> {
+        let held = if path == "m" {
+            self.manifest
+        } else {
+            self.script
+        };
+        let mut bytes = Vec::new(self.alloc);
+        match bytes.extend_from_slice(held?) {
+            Ok(()) => Ok(bytes),
+            Err(_) => Err(PathFault::NoMemory),
+        }
+    }
+}
+
+// A sink that takes one byte a call, so many times, and then none, or fails.
+#[derive(Drop)]
+struct Sheet {
+    bytes: Vec<u8>,
+    left: usize,
+    fails: bool,
+    failed: bool,
+}
+
+impl Sink for Sheet {
+    ghost taken = { λ _. None };
+
+    ghost failed = { λ s. s.failed };
+
+    fn write(&mut self, piece: &[u8]) -> Result<usize, SinkFault> {
+        if piece.is_empty() {
+            return Ok(0);
+        }
+        if self.left > 0 && self.bytes.push(piece[0]).is_ok() {
+            self.left -= 1;
+            return Ok(1);
+        }
+        self.failed = true;
+        if self.fails { Err(SinkFault) } else { Ok(0) }
+    }
+
+    fn has_failed(&self) -> bool {
+        self.failed
+    }
+}
+
+// What a run printed, and its status.
+#[derive(Drop)]
+struct Outcome {
+    status: u8,
+    out: Vec<u8>,
+    err: Vec<u8>,
+}
+
+fn run_on<T: Tablet>(
+    rt: &HostRuntime,
+    parts: Vec<(Row, T)>,
+    files: Held,
+    left: usize,
+    fails: bool,
+) -> Result<Outcome, NoMemory> {
+    let mut files = files;
+    match Table::new(parts) {
+        Ok(table) => {
+            let options = Options::Run {
+                manifest: "m",
+                script: "s",
+            };
+            let mut out = Sheet {
+                bytes: Vec::new(rt.alloc()),
+                left,
+                fails,
+                failed: false,
+            };
+            let mut err = Sheet {
+                bytes: Vec::new(rt.alloc()),
+                left: usize::MAX,
+                fails,
+                failed: false,
+            };
+            let status = command(rt.alloc(), &options, &mut files, table, &mut out, &mut err);
+            Ok(Outcome {
+                status,
+                out: out.bytes,
+                err: err.bytes,
+            })
+        }
+        Err((parts, _)) => {
+            end_all(parts);
+            Err(NoMemory)
+        }
+    }
+}
+
+fn run(rt: &HostRuntime, files: Held, left: usize, fails: bool) -> Result<Outcome, NoMemory> {
+    let mut parts: Vec<(Row, Boxed)> = Vec::new(rt.alloc());
+    parts.push((Row(0), Box::new(rt.alloc(), ListTablet::new(rt.alloc()))?))?;
+    parts.push((
+        Row(1000),
+        Box::new(rt.alloc(), ListTablet::new(rt.alloc()))?,
+    ))?;
+    run_on(rt, parts, files, left, fails)
+}
+
+// Whether a run of the files ends so.
+fn ends(rt: &HostRuntime, files: Held, status: u8, out: &str, err: &str) -> bool {
+    match run(rt, files, usize::MAX, true) {
+        Ok(outcome) => {
+            outcome.status == status
+                && outcome.out.as_slice() == out.as_bytes()
+                && outcome.err.as_slice() == err.as_bytes()
+        }
+        Err(_) => false,
+    }
+}
+
+#[test]
+fn scripts_run(rt: HostRuntime) {
+    let table = [
+        ("put 7 0 2a\n", 0, "cell 7 0 commit 2 value 2a\nquiet\n", ""),
+        (
+            "put 7 0 2a\ndel 7 0\n",
+            0,
+            "cell 7 0 commit 4 deleted\nquiet\n",
+            "",
+        ),
+        (
+            "put 1000 15 00\nput 0 0 0100\n",
+            0,
+            "cell 0 0 commit 4 value 01\ncell 1000 15 commit 2 value 00\nquiet\n",
+            "",
+        ),
+        ("", 0, "quiet\n", ""),
+        ("put 7 16 2a\n", 1, "", "script: line 1 code 71\n"),
+        (
+            "put 7 0 2a; put 7 1 2a\n",
+            1,
+            "",
+            "script: line 1 code 76\n",
+        ),
+        (
+            "put 7 0 2a\nput 07 0 2a\n",
+            1,
+            "",
+            "script: line 2 code 70\n",
+        ),
+    ];
+    for (script, status, out, err) in table {
+        let files = Held {
+            alloc: rt.alloc(),
+            manifest: Ok(MANIFEST),
+            script: Ok(script.as_bytes()),
+        };
+        assert!(rt; ends(&rt, files, status, out, err), "{script}");
+    }
+}
+
+#[test]
+fn manifests_are_judged(rt: HostRuntime) {
+    let table = [
+        ("{", "manifest: code 50\n"),
+        ("[]", "manifest: code 51\n"),
+        (
+            "{\"profile\":1,\"observers\":[{\"name\":\"w\",\"column\":0,\"helpers\":[],\"code\":\"\"}]}",
+            "manifest: code 57\n",
+        ),
+    ];
+    for (manifest, err) in table {
+        let files = Held {
+            alloc: rt.alloc(),
+            manifest: Ok(manifest.as_bytes()),
+            script: Ok(b"put 7 0 2a\n"),
+        };
+        assert!(rt; ends(&rt, files, 1, "", err), "{manifest}");
+    }
+}
+
+#[test]
+fn files_are_read_first(rt: HostRuntime) {
+    let table = [
+        (Err(PathFault::Failed), Ok(b"" as &[u8]), "cannot read m\n"),
+        (Ok(MANIFEST), Err(PathFault::Failed), "cannot read s\n"),
+        (Ok(b"{" as &[u8]), Err(PathFault::TooLarge), "too large s\n"),
+        (
+            Err(PathFault::TooLarge),
+            Err(PathFault::Failed),
+            "too large m\n",
+        ),
+        (Err(PathFault::NoMemory), Ok(b"" as &[u8]), "no memory\n"),
+        (Ok(b"\xff" as &[u8]), Ok(b"\xff" as &[u8]), "not text m\n"),
+        (Ok(b"{" as &[u8]), Ok(b"\xff" as &[u8]), "not text s\n"),
+    ];
+    for (manifest, script, err) in table {
+        let files = Held {
+            alloc: rt.alloc(),
+            manifest,
+            script,
+        };
+        assert!(rt; ends(&rt, files, 1, "", err), "{err}");
+    }
+}
+
+// Whether a run whose output ends at the j-th call prints a beginning of the report, and tells it.
+fn is_cut(rt: &HostRuntime, j: usize, fails: bool, report: &[u8]) -> bool {
+    let files = Held {
+        alloc: rt.alloc(),
+        manifest: Ok(MANIFEST),
+        script: Ok(b"put 7 0 2a\n"),
+    };
+    match run(rt, files, j, fails) {
+        Ok(outcome) => {
+            outcome.status == 1
+                && outcome.out.len() == j
+                && report.starts_with(outcome.out.as_slice())
+                && outcome.err.as_slice() == b"cannot write the output\n".as_slice()
+        }
+        Err(_) => false,
+    }
+}
+
+#[test]
+fn output_may_fail_at_any_call(rt: HostRuntime) {
+    let report = b"cell 7 0 commit 2 value 2a\nquiet\n";
+    for j in 0..report.len() {
+        assert!(rt; is_cut(&rt, j, true, report), "failed at {j}");
+        assert!(rt; is_cut(&rt, j, false, report), "took none at {j}");
+    }
+    let files = Held {
+        alloc: rt.alloc(),
+        manifest: Ok(MANIFEST),
+        script: Ok(b"put 7 0 2a\n"),
+    };
+    let outcome = run(&rt, files, report.len(), true).expect(&rt, "memory");
+    assert!(rt; outcome.status == 0);
+    assert!(rt; outcome.out.as_slice() == report.as_slice());
+}
+
+// The number that the last of the steps is refused with, or 0 where it is answered.
+fn last_refusal<T: Tablet>(
+    rt: &HostRuntime,
+    table: Table<T>,
+    last: Ts,
+    limit: usize,
+    steps: &[Step],
+) -> u8
+    requires { limit ≤ 1000000 }
+{
+    match Shared::open(rt.alloc(), table, 1, last, limit) {
+        Ok((mut shared, mut seats)) => {
+            let mut number = 0;
+            for step in steps {
+                number = called(&mut shared, &mut seats, step);
+            }
+            shared.close();
+            number
+        }
+        Err(OpenRefused { table, code }) => {
+            table.close();
+            code
+        }
+    }
+}
+
+fn called<T: Tablet>(shared: &mut Shared<T>, seats: &mut Vec<Seat>, step: &Step) -> u8 {
+    let Some(seat) = seats.first_mut() else {
+        return 41;
+    };
+    match shared.call(seat, step) {
+        Ok(_) => 0,
+        Err(refusal) => refusal.0,
+    }
+}
+
+// The same, on a table of these tablets.
+fn refused_on<T: Tablet>(
+    rt: &HostRuntime,
+    parts: Vec<(Row, T)>,
+    last: Ts,
+    limit: usize,
+    steps: &[Step],
+) -> u8
+    requires { limit ≤ 1000000 }
+{
+    match Table::new(parts) {
+        Ok(table) => last_refusal(rt, table, last, limit, steps),
+        Err((parts, refusal)) => {
+            end_all(parts);
+            refusal.0
+        }
+    }
+}
+
+fn refused(rt: &HostRuntime, last: Ts, limit: usize, steps: &[Step]) -> Result<u8, NoMemory>
+    requires { limit ≤ 1000000 }
+{
+    let mut parts: Vec<(Row, Boxed)> = Vec::new(rt.alloc());
+    parts.push((Row(0), Box::new(rt.alloc(), ListTablet::new(rt.alloc()))?))?;
+    Ok(refused_on(rt, parts, last, limit, steps))
+}
+
+// The first three steps of the transaction that writes (7, 0), then another.
+fn steps_to(
+    alloc: Global,
+    column: Column,
+    count: usize,
+    last: Step,
+) -> Result<Vec<Step>, NoMemory> {
+    let mut writes = Vec::new(alloc);
+    writes.push((Row(7), column, Content::Deleted))?;
+    let batch = match Batch::new(writes) {
+        Ok(batch) => batch,
+        Err(_) => return Err(NoMemory),
+    };
+    let mut steps = Vec::new(alloc);
+    steps.push(Step::Begin(Work::Script))?;
+    steps.push(Step::Declare(Ts(1), Declaration::new(alloc, Declared::Script(batch))?))?;
+    steps.push(Step::Prewrite(Ts(1), Cell::Data(Row(7), column)))?;
+    steps.truncate(count);
+    steps.push(last)?;
+    Ok(steps)
+}
+
+#[test]
+fn steps_are_refused(rt: HostRuntime) -> Result<(), NoMemory> {
+    let column = Column::new(0).expect(&rt, "a column");
+    let cell = Cell::Data(Row(7), column);
+    let other = Cell::Data(Row(7), Column::new(1).expect(&rt, "a column"));
+    let begin = steps_to(rt.alloc(), column, 0, Step::Begin(Work::Script))?;
+    assert!(rt; refused(&rt, Ts(0), 10, &begin)? == 0);
+    assert!(rt; refused(&rt, Ts(u64::MAX), 10, &begin)? == 40);
+    assert!(rt; refused(&rt, Ts(0), 0, &begin)? == 44);
+    assert!(rt; refused(&rt, Ts(0), 1, &begin)? == 0);
+    let foreign = steps_to(rt.alloc(), column, 1, Step::Stamp(Ts(2)))?;
+    assert!(rt; refused(&rt, Ts(0), 10, &foreign)? == 41);
+    let early = steps_to(rt.alloc(), column, 2, Step::Stamp(Ts(1)))?;
+    assert!(rt; refused(&rt, Ts(0), 10, &early)? == 42);
+    let before = steps_to(rt.alloc(), column, 2, Step::Prewrite(Ts(1), other))?;
+    assert!(rt; refused(&rt, Ts(0), 10, &before)? == 42);
+    let undeclared = steps_to(rt.alloc(), column, 3, Step::Prewrite(Ts(1), other))?;
+    assert!(rt; refused(&rt, Ts(0), 10, &undeclared)? == 45);
+    let again = steps_to(rt.alloc(), column, 3, Step::Prewrite(Ts(1), cell))?;
+    assert!(rt; refused(&rt, Ts(0), 10, &again)? == 46);
+    assert!(rt; refused(&rt, Ts(0), 3, &again)? == 44);
+    let full = steps_to(rt.alloc(), column, 3, Step::Stamp(Ts(1)))?;
+    assert!(rt; refused(&rt, Ts(0), 4, &full)? == 0);
+    assert!(rt; refused(&rt, Ts(0), 3, &full)? == 44);
+    Ok(())
+}
+
+// The number that a table of the tablets is refused with, 0 for none, and how many are handed back.
+fn table_refused<T: Tablet>(parts: Vec<(Row, T)>) -> (u8, usize) {
+    match Table::new(parts) {
+        Ok(table) => {
+            table.close();
+            (0, 0)
+        }
+        Err((parts, refusal)) => {
+            let count = parts.len();
+            end_all(parts);
+            (refusal.0, count)
+        }
+    }
+}
+
+#[test]
+fn tables_are_refused(rt: HostRuntime) -> Result<(), NoMemory> {
+    let none: Vec<(Row, Boxed)> = Vec::new(rt.alloc());
+    assert!(rt; table_refused(none) == (2, 0));
+    let mut late: Vec<(Row, Boxed)> = Vec::new(rt.alloc());
+    late.push((Row(5), Box::new(rt.alloc(), ListTablet::new(rt.alloc()))?))?;
+    assert!(rt; table_refused(late) == (3, 1));
+    let mut one: Vec<(Row, Boxed)> = Vec::new(rt.alloc());
+    one.push((Row(0), Box::new(rt.alloc(), ListTablet::new(rt.alloc()))?))?;
+    assert!(rt; table_refused(one) == (0, 0));
+    Ok(())
+}
