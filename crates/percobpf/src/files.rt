@@ -1,0 +1,42 @@
+//! The real files.
+ghost use Rattle.std.specs.Prelude.{None};
+
+use pb_command::{PathFault, Paths};
+use std::fs;
+use std::io::{self, ErrorKind, Read};
+
+/// The most bytes that a file may have.
+const LIMIT: u64 = 16_777_216;
+
+/// The files of the system. What they hold isn't known before they are read.
+#[derive(Drop)]
+pub struct Files<'a> {
+    rt: &'a HostRuntime,
+}
+
+impl<'a> Files<'a> {
+    pub fn new(rt: &'a HostRuntime) -> Files<'a> {
+        Files { rt }
+    }
+
+    // The bytes of a file, as far as one more than it may have.
+    fn bytes(&self, path: &str) -> io::Result<Vec<u8>> {
+        let mut bytes = Vec::new(self.rt.alloc());
+        let file = fs::open(self.rt, path)?;
+        file.take(LIMIT + 1).read_to_end(&mut bytes)?;
+        Ok(bytes)
+    }
+}
+
+impl<'a> Paths for Files<'a> {
+    ghost held = { λ _ _. None };
+
+    fn read(&mut self, path: &str) -> Result<Vec<u8>, PathFault> {
+        match self.bytes(path) {
+            Ok(bytes) if bytes.len() as u64 > LIMIT => Err(PathFault::TooLarge),
+            Ok(bytes) => Ok(bytes),
+            Err(error) if error.kind() == ErrorKind::OutOfMemory => Err(PathFault::NoMemory),
+            Err(_) => Err(PathFault::Failed),
+        }
+    }
+}

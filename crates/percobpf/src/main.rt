@@ -1,0 +1,94 @@
+//! `percobpf run MANIFEST SCRIPT`: runs a script's changes, and prints the committed cells and the work that is left.
+#![tactic(auto)]
+
+mod files;
+
+use crate::files::Files;
+use clap::error::ErrorKind;
+use pb_base::{NoMemory, Out, Row};
+use pb_command::command;
+use pb_memtablet::ListTablet;
+use pb_store::{Table, Tablet};
+use pb_texts::{Options, options};
+use std::env;
+use std::process::ExitCode;
+
+// Tells that there is no memory.
+fn no_memory(rt: &HostRuntime) -> u8 {
+    let _ = eprintln!(rt; "no memory");
+    1
+}
+
+// Clears and ends tablets.
+fn end_all<T: Tablet>(mut parts: Vec<(Row, T)>) {
+    while let Some((_, mut tablet)) = parts.pop() {
+        tablet.clear();
+        tablet.end();
+    }
+    parts.destroy_empty();
+}
+
+// Carries out a command over the real files, on a table of these tablets.
+fn carry_out<T: Tablet>(rt: &HostRuntime, options: &Options, parts: Vec<(Row, T)>) -> u8 {
+    match Table::new(parts) {
+        Ok(table) => {
+            let mut files = Files::new(rt);
+            let mut out = Out::new(rt.stdout());
+            let mut err = Out::new(rt.stderr());
+            command(rt.alloc(), options, &mut files, table, &mut out, &mut err)
+        }
+        Err((parts, refusal)) => {
+            end_all(parts);
+            let _ = eprintln!(rt; "tablets refused code {}", refusal.0);
+            1
+        }
+    }
+}
+
+// Makes the tablets, and carries out a command on them.
+fn run(rt: &HostRuntime, options: &Options) -> Result<u8, NoMemory> {
+    let mut parts: Vec<(Row, Box<dyn Tablet + Send + Drop>)> = Vec::new(rt.alloc());
+    parts.push((Row(0), Box::new(rt.alloc(), ListTablet::new(rt.alloc()))?))?;
+    parts.push((Row(1000), Box::new(rt.alloc(), ListTablet::new(rt.alloc()))?))?;
+    Ok(carry_out(rt, options, parts))
+}
+
+// Tells what is wrong with a command line, or the help that it asks for.
+fn refuse(rt: &HostRuntime, error: &clap::Error) -> u8 {
+    if error.kind() == ErrorKind::OutOfMemory {
+        return no_memory(rt);
+    }
+    let _ = error.print(rt);
+    error.exit_code() as u8
+}
+
+// Does what the words ask for, the program's own first.
+fn obey(rt: &HostRuntime, words: &[&str]) -> u8 {
+    match options(rt.alloc(), words) {
+        Ok(options) => match run(rt, &options) {
+            Ok(status) => status,
+            Err(_) => no_memory(rt),
+        },
+        Err(error) => refuse(rt, &error),
+    }
+}
+
+// The status of the program.
+fn status(rt: &HostRuntime) -> Result<u8, NoMemory> {
+    let Ok(args) = env::args(rt) else {
+        return Err(NoMemory);
+    };
+    let owned: Vec<String> = args.collect(rt.alloc())?;
+    let mut words = Vec::new(rt.alloc());
+    for word in &owned {
+        words.push(word.as_str())?;
+    }
+    Ok(obey(rt, &words))
+}
+
+fn main(rt: HostRuntime) -> ExitCode {
+    match status(&rt) {
+        Ok(status) => ExitCode::from(status),
+        Err(_) => ExitCode::from(no_memory(&rt)),
+    }
+}
