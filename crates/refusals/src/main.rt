@@ -1,0 +1,33 @@
+//! Makes each call that grows, on a small state. Where memory is refused, nothing has changed, and the same call again
+//! answers as if it had never been refused. It ends with status 0 where all of that held.
+//!
+//! It is run once for each of its requests for memory, with that request refused (checks/refused-growths).
+#![tactic(auto)]
+
+mod calls;
+mod page;
+mod runs;
+
+use std::process::ExitCode;
+
+// Every check. It fails for memory only where a check's own preparation was refused.
+fn all(rt: &HostRuntime) -> Result<bool, pb_base::NoMemory> {
+    let alloc = rt.alloc();
+    let copies = calls::batch_copies(alloc)? && calls::step_copies(alloc)?;
+    let table = calls::table_applies(alloc)? && calls::state_takes(alloc)?;
+    let shared = calls::shared_calls(alloc)?;
+    let runs = runs::script_parses(alloc)? && runs::shared_opens(alloc)? && runs::script_runs(alloc)?;
+    Ok(copies && table && shared && runs)
+}
+
+fn main(rt: HostRuntime) -> ExitCode {
+    // Only one request is refused; the second time no preparation is.
+    let held = match all(&rt) {
+        Ok(held) => held,
+        Err(_) => match all(&rt) {
+            Ok(held) => held,
+            Err(_) => false,
+        },
+    };
+    if held { ExitCode::SUCCESS } else { ExitCode::FAILURE }
+}
