@@ -10,13 +10,19 @@ use pb_command::command;
 use pb_memtablet::ListTablet;
 use pb_store::{Table, Tablet};
 use pb_texts::{Options, options};
-use std::env;
 use std::process::ExitCode;
+use std::{env, io};
 
 // Tells that there is no memory.
 fn no_memory(rt: &HostRuntime) -> u8 {
     let _ = eprintln!(rt; "no memory");
     1
+}
+
+// Tells that a word of the command line isn't text.
+fn not_text(rt: &HostRuntime) -> u8 {
+    let _ = eprintln!(rt; "error: a word of the command line is not UTF-8");
+    2
 }
 
 // Clears and ends tablets.
@@ -78,8 +84,10 @@ fn obey(rt: &HostRuntime, words: &[&str]) -> u8 {
 
 // The status of the program.
 fn status(rt: &HostRuntime) -> Result<u8, NoMemory> {
-    let Ok(args) = env::args(rt) else {
-        return Err(NoMemory);
+    let args = match env::args(rt) {
+        Ok(args) => args,
+        Err(error) if error.kind() == io::ErrorKind::OutOfMemory => return Err(NoMemory),
+        Err(_) => return Ok(not_text(rt)),
     };
     let owned: Vec<String> = args.collect(rt.alloc())?;
     let mut words = Vec::new(rt.alloc());
