@@ -7,9 +7,9 @@ ghost use Rattle.pb_alone.specs.Runs.{IsReportIn, Reports};
 
 use crate::fault::ReportFault;
 use pb_base::{Batch, NoMemory, Sink, Ts};
-use pb_texts::{Put, report_of, write_all};
 use pb_core::{Answer, Declared, Entry, Phase, Shared, Step};
 use pb_store::Tablet;
+use pb_texts::{Put, report_of, write_all};
 use std::alloc::Global;
 
 // Adds what a committed transaction wrote.
@@ -29,7 +29,11 @@ fn add_writes(puts: &mut Vec<Put>, batch: &Batch, commit: Ts) -> Result<(), NoMe
 }
 
 // Adds what an entry's transaction wrote, if the entry declares it and it is committed.
-fn add_entry<T: Tablet>(puts: &mut Vec<Put>, shared: &Shared<T>, entry: &Entry) -> Result<(), NoMemory>
+fn add_entry<T: Tablet>(
+    puts: &mut Vec<Put>,
+    shared: &Shared<T>,
+    entry: &Entry,
+) -> Result<(), NoMemory>
     ensures added { IfOk result (λ _. puts.new.items ≡ puts.old.items ++ puts_by shared.now.state entry.now) }
     ensures told { IfOk result (λ _. AreTold shared.now.state entry.now.step entry.now.answer) }
 {

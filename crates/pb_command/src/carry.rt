@@ -46,7 +46,11 @@ fn text_of<'a>(bytes: Vec<u8>, path: &'a str) -> Result<String, Fault<'a>>
 }
 
 // The two texts. Both files are read before the first is taken as text.
-fn texts_at<'a, P: Paths>(paths: &mut P, manifest: &'a str, script: &'a str) -> Result<(String, String), Fault<'a>>
+fn texts_at<'a, P: Paths>(
+    paths: &mut P,
+    manifest: &'a str,
+    script: &'a str,
+) -> Result<(String, String), Fault<'a>>
     ensures manifest { IfOk result (λ t. IsKnownAs (P.held paths.old manifest.now) (string_bytes t.0)) }
     ensures script { IfOk result (λ t. IsKnownAs (P.held paths.old script.now) (string_bytes t.1)) }
     ensures fault { IfErr result IsNoOutput }

@@ -47,10 +47,10 @@ none_tail q e es h = elim (has q es) as (λ b. has q es ≡ b → has q es ≡ f
 -- an entry of the list is the head, or of the rest
 in_rest : (q : Cell) (e : Cell × Unit {0}) (es : List1) → has q (e ∷ es) ≡ true → (cell_cmp q e.0 ≡ Equal → ⊥) → has q es ≡ true
 in_rest q e es h apart = elim (cell_cmp q e.0) as (λ r. cell_cmp q e.0 ≡ r → is_some (cond (is_eq r) (Some e.1) (find cell_cmp q es)) ≡ true → has q es ≡ true) [
-    | Less ↦ λ _ k. k
-    | Equal ↦ λ is _. absurd (apart is)
-    | Greater ↦ λ _ k. k
-  ] refl h
+  | Less ↦ λ _ k. k
+  | Equal ↦ λ is _. absurd (apart is)
+  | Greater ↦ λ _ k. k
+] refl h
 
 above : (x q : Cell) (es : List1) → T (below_all cell_cmp x es) → has q es ≡ true → cell_cmp x q ≡ Less
 above x q [] b h = cc

@@ -70,8 +70,8 @@ zero_low (tile ∷ tiles) t = t.zero_first
 abbrev pub FirstsAbove : List Tile → ℕ → ℕ → ℕ → Type 0
 FirstsAbove tiles row from upto = (k : ℕ) → from < k → k < upto → row < first_at tiles k
 
-below_next : (row : ℕ) (tile : Tile) (tiles : List Tile) → FirstsAbove (tile ∷ tiles) row 0 (suc (length tiles)) → IsBelow row tiles
-below_next row tile [] above = tt
+below_next : (bound : ℕ) (tile : Tile) (tiles : List Tile) → FirstsAbove (tile ∷ tiles) bound 0 (suc (length tiles)) → IsBelow bound tiles
+below_next bound tile [] above = tt
 below_next row tile (next ∷ tiles) above = above 1 (omega arith) (omega arith)
 
 pub place_from_firsts : (tiles : List Tile) (i row : ℕ) → i < length tiles → first_at tiles i ≤ row → FirstsAbove tiles row i (length tiles) → IsPlace tiles i row

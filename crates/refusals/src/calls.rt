@@ -62,8 +62,13 @@ pub fn step_copies(alloc: Global) -> Result<bool, NoMemory> {
         Err(_) => step.copy()?,
     };
     match (&step, &copy) {
-        (Step::Declare(start, what), Step::Declare(same, copied)) => match (what.get(), copied.get()) {
-            (Declared::Script(batch), Declared::Script(copy)) => Ok(start == same && is_same(batch, copy)),
+        (Step::Declare(start, what), Step::Declare(same, copied)) => match (
+            what.get(),
+            copied.get(),
+        ) {
+            (Declared::Script(batch), Declared::Script(copy)) => Ok(
+                start == same && is_same(batch, copy),
+            ),
         },
         _ => Ok(false),
     }
@@ -72,7 +77,11 @@ pub fn step_copies(alloc: Global) -> Result<bool, NoMemory> {
 /// `Table::apply`.
 pub fn table_applies(alloc: Global) -> Result<bool, NoMemory> {
     let cell = Cell::Data(Row(7), column()?);
-    let slot = Slot { cell, sort: Sort::Lock, ts: Ts(3) };
+    let slot = Slot {
+        cell,
+        sort: Sort::Lock,
+        ts: Ts(3),
+    };
     let mut table = table(alloc)?;
     let held = applies(&mut table, &slot);
     table.close();
@@ -81,7 +90,17 @@ pub fn table_applies(alloc: Global) -> Result<bool, NoMemory> {
 
 fn applies(table: &mut Table<ListTablet>, slot: &Slot) -> bool {
     let item = Item::Lock(slot.cell);
-    let edits = [Edit::Put(Slot { cell: slot.cell, sort: Sort::Lock, ts: slot.ts }, item), Edit::Mark(slot.cell)];
+    let edits = [
+        Edit::Put(
+            Slot {
+                cell: slot.cell,
+                sort: Sort::Lock,
+                ts: slot.ts,
+            },
+            item,
+        ),
+        Edit::Mark(slot.cell),
+    ];
     let mut is_empty = true;
     if table.apply(&edits).is_err() {
         is_empty = table.is_empty();

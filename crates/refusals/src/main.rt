@@ -16,7 +16,9 @@ fn all(rt: &HostRuntime) -> Result<bool, pb_base::NoMemory> {
     let copies = calls::batch_copies(alloc)? && calls::step_copies(alloc)?;
     let table = calls::table_applies(alloc)? && calls::state_takes(alloc)?;
     let shared = calls::shared_calls(alloc)?;
-    let runs = runs::script_parses(alloc)? && runs::shared_opens(alloc)? && runs::script_runs(alloc)?;
+    let runs = runs::script_parses(alloc)?
+        && runs::shared_opens(alloc)?
+        && runs::script_runs(alloc)?;
     Ok(copies && table && shared && runs)
 }
 
@@ -29,5 +31,9 @@ fn main(rt: HostRuntime) -> ExitCode {
             Err(_) => false,
         },
     };
-    if held { ExitCode::SUCCESS } else { ExitCode::FAILURE }
+    if held {
+        ExitCode::SUCCESS
+    } else {
+        ExitCode::FAILURE
+    }
 }

@@ -15,7 +15,11 @@ impl Page {
     pub fn new() -> Page
         ensures { result.failed ≡ false }
     {
-        Page { bytes: [0; 64], count: 0, failed: false }
+        Page {
+            bytes: [0; 64],
+            count: 0,
+            failed: false,
+        }
     }
 
     /// Whether these bytes were written, and no others.

@@ -12,7 +12,7 @@ loop-entry-preserved g c =
     let i = c.loop-entry.entry-index in
     let state = c.args.shared.now.state in
     let whole : take (i + 1) es ≡ take i es ++ c.entry-item.result ∷ [] =
-        take_more es i c.entry-item.result c.loop-entry-test.true ∙ ap (λ (e : Entry). take i es ++ e ∷ []) (sym c.entry-item.is) in
+    take_more es i c.entry-item.result c.loop-entry-test.true ∙ ap (λ (e : Entry). take i es ++ e ∷ []) (sym c.entry-item.is) in
     record {
       gathered = gathers_on (puts_by state) (take i es) c.entry-item.result c.loop-entry.puts.items c.add_entry.new.puts.items c.loop-entry.invariant.gathered c.in_ok-add_entry.ensures.added
           ∙ ap (all_puts state) (sym whole);

@@ -3,8 +3,11 @@ use Rattle.pb_alone.specs.Runs.{IsReportIn}
 use Rattle.pb_alone.proofs.output.report.Goals as goal
 
 pub returns : goal.returns
-returns g c = (record {
-  text = c.as_bytes.result.now;
-  report = subst (IsReportIn c.args.shared.now) (sym c.as_bytes.ensures.value) c.in_ok-text.ensures;
-  appended = c.in-Err.ensures.part;
-}, c.in-Err.ensures.failed)
+returns g c = (
+  record {
+    text = c.as_bytes.result.now;
+    report = subst (IsReportIn c.args.shared.now) (sym c.as_bytes.ensures.value) c.in_ok-text.ensures;
+    appended = c.in-Err.ensures.part;
+  },
+  c.in-Err.ensures.failed,
+)
