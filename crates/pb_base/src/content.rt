@@ -11,3 +11,11 @@ pub enum Content {
     Deleted,
     Stamp(Ts),
 }
+
+/// A committed version of a cell: the start and the commit of the transaction that wrote it, and what it wrote.
+#[derive(Clone, Copy, Debug, PartialEq, Eq)]
+pub struct Version {
+    pub start: Ts,
+    pub commit: Ts,
+    pub content: Content,
+}

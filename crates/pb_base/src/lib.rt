@@ -10,7 +10,7 @@ mod sink;
 
 pub use batch::Batch;
 pub use cell::Cell;
-pub use content::{Content, Value};
+pub use content::{Content, Value, Version};
 pub use names::{Column, ObserverNo, Row, Ts};
 pub use refusal::{NoMemory, Refusal, Refused};
 pub use sink::{Out, Sink, SinkFault};

@@ -1,0 +1,109 @@
+//! Registers and instructions.
+ghost use Rattle.std.specs.Prelude.{◌≡◌, ◌<◌};
+ghost use Rattle.pb_isa.specs.Registers.{number};
+
+/// A register. R10 is read-only: it points to the end of the stack.
+#[derive(Clone, Copy, Debug, PartialEq, Eq)]
+pub enum Reg {
+    R0,
+    R1,
+    R2,
+    R3,
+    R4,
+    R5,
+    R6,
+    R7,
+    R8,
+    R9,
+    R10,
+}
+
+impl Reg {
+    /// The register's number.
+    pub fn number(self) -> usize
+        ensures number { result ≡ number self }
+        ensures below { result < 11 }
+    {
+        self as usize
+    }
+}
+
+/// On how many bits an operation or a comparison works (RFC 9669, section 4).
+#[derive(Clone, Copy, Debug, PartialEq, Eq)]
+pub enum Width {
+    W32,
+    W64,
+}
+
+/// How many bytes a load or a store moves: 1, 2, 4 or 8 (RFC 9669, section 5).
+#[derive(Clone, Copy, Debug, PartialEq, Eq)]
+pub enum Size {
+    B,
+    H,
+    W,
+    Dw,
+}
+
+/// An arithmetic operation with two operands (RFC 9669, section 4.1).
+#[derive(Clone, Copy, Debug, PartialEq, Eq)]
+pub enum AluOp {
+    Add,
+    Sub,
+    Mul,
+    Div,
+    Or,
+    And,
+    Lsh,
+    Rsh,
+    Mod,
+    Xor,
+    Mov,
+    Arsh,
+}
+
+/// A comparison, destination on the left (RFC 9669, section 4.3).
+#[derive(Clone, Copy, Debug, PartialEq, Eq)]
+pub enum Cmp {
+    Eq,
+    Gt,
+    Ge,
+    Set,
+    Ne,
+    Sgt,
+    Sge,
+    Lt,
+    Le,
+    Slt,
+    Sle,
+}
+
+/// The second operand: an immediate, or a register.
+#[derive(Clone, Copy, Debug, PartialEq, Eq)]
+pub enum Operand {
+    Imm(i32),
+    Reg(Reg),
+}
+
+/// An instruction. Each takes one slot, and the 64-bit immediate takes two.
+#[derive(Clone, Copy, Debug, PartialEq, Eq)]
+pub enum Insn {
+    /// Operation, width, destination, operand.
+    Alu(AluOp, Width, Reg, Operand),
+    /// The destination's negative.
+    Neg(Width, Reg),
+    /// A 64-bit immediate, opcode 0x18.
+    LoadImm(Reg, u64),
+    /// LDX: size, destination, base, offset.
+    Load(Size, Reg, Reg, i16),
+    /// ST: size, base, offset, immediate.
+    StoreImm(Size, Reg, i16, i32),
+    /// STX: size, base, offset, source.
+    Store(Size, Reg, i16, Reg),
+    /// JA: the offset counts slots from the next one.
+    Jump(i16),
+    /// Comparison, width, destination, operand, offset.
+    JumpIf(Cmp, Width, Reg, Operand, i16),
+    /// A helper by its number.
+    Call(i32),
+    Exit,
+}

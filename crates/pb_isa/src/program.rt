@@ -1,0 +1,85 @@
+//! Lists of instructions that take 1 to 512 slots together.
+ghost use Rattle.std.specs.Prelude.{◌≡◌, ◌≢◌, ◌<◌, ◌≤◌, ◌⊎◌, IfOk, IfErr, Ok};
+ghost use Rattle.pb_isa.specs.Slots.{layout, insn_at, slots};
+
+use crate::insn::Insn;
+use pb_base::NoMemory;
+use std::alloc::Global;
+use std::marker::Model;
+
+/// A program: a list of instructions of 1 to 512 slots together.
+#[derive(Drop)]
+pub struct Program {
+    insns: Vec<Insn>,
+    places: Vec<Option<Insn>>,
+}
+
+impl Model for Program {
+    ghost use Rattle.std.specs.Prelude.{◌≡◌, ◌<◌, ◌≤◌, List, length};
+    ghost use Rattle.pb_isa.specs.declared.insn.Insn.{Insn};
+
+    ghost Value = { List Insn };
+
+    ghost use Rattle.pb_isa.specs.Slots.{layout};
+
+    ghost view = { λ p. p.insns.items };
+
+    ghost invariant = { λ p. (p.places.items ≡ layout p.insns.items) × (0 < length p.places.items) × (length p.places.items ≤ 512) };
+}
+
+/// Why a list of instructions is no program.
+#[derive(Drop)]
+pub enum NoProgram {
+    NoMemory,
+    /// It takes no slot, or more than 512.
+    NotInRange(Vec<Insn>),
+}
+
+impl Program {
+    ghost use Rattle.pb_isa.specs.Slots.{IsProgram, IsRefused};
+
+    /// The program of these instructions, where they take 1 to 512 slots; else they are handed back.
+    pub fn new(alloc: Global, insns: Vec<Insn>) -> Result<Program, NoProgram>
+        ensures ok { IfOk result (λ p. (p ≡ insns.items) × IsProgram p) }
+        ensures err { IfErr result (IsRefused insns.items) }
+    {
+        let mut places: Vec<Option<Insn>> = Vec::new(alloc);
+        for insn in &insns {
+            if places.push(Some(*insn)).is_err() {
+                return Err(NoProgram::NoMemory);
+            }
+            if let Insn::LoadImm(_, _) = *insn {
+                if places.push(None).is_err() {
+                    return Err(NoProgram::NoMemory);
+                }
+            }
+        }
+        if places.is_empty() || places.len() > 512 {
+            return Err(NoProgram::NotInRange(insns));
+        }
+        Ok(Program { insns, places })
+    }
+
+    /// How many slots it takes.
+    pub fn slots(&self) -> usize
+        ensures slots { result ≡ slots self.now }
+        ensures program { IsProgram self.now }
+    {
+        self.places.len()
+    }
+
+    /// The instruction whose first slot this is; none in the second slot of a pair.
+    pub fn at(&self, slot: usize) -> Option<Insn>
+        requires { slot < slots self.now }
+        ensures { result ≡ insn_at self.now slot }
+    {
+        self.places[slot]
+    }
+
+    /// Its instructions, in order.
+    pub fn insns(&self) -> &[Insn]
+        ensures { result.now ≡ self.now }
+    {
+        &self.insns
+    }
+}
