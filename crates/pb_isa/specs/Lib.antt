@@ -1,3 +1,6 @@
 pub mod Registers
 pub mod Slots
 pub mod Alu
+pub mod Helpers
+pub mod Machine
+pub mod Meaning

@@ -1,0 +1,46 @@
+-- The helpers by number, and which of them a program may call.
+use Rattle.std.specs.Prelude.{ℤ, pos, Bool, false, cond, Option, Some, None, refl}
+use Rattle.std.specs.Ordering.{int_eq}
+use Rattle.std.specs.Coded.{Coded, code_by, coded×, coded_bool}
+
+pub data Helper : Type 0 where
+  Read : Helper
+  Write : Helper
+  Delete : Helper
+  Start : Helper
+
+-- the helpers that a program declares
+pub record HelperSet : Type 0 where
+  pub read : Bool
+  pub write : Bool
+  pub delete : Bool
+  pub start : Bool
+
+abbrev pub no_helpers : HelperSet
+no_helpers = record { read = false; write = false; delete = false; start = false }
+
+abbrev pub helper_code : Coded HelperSet
+helper_code =
+    code_by (Bool × (Bool × (Bool × Bool)))
+    (coded× coded_bool (coded× coded_bool (coded× coded_bool coded_bool)))
+    (λ h. (h.read, (h.write, (h.delete, h.start))))
+    (λ p. record { read = p.0; write = p.1.0; delete = p.1.1.0; start = p.1.1.1 })
+    (λ _. refl)
+
+-- 1 reads, 2 writes, 3 deletes and 4 tells the start
+abbrev pub helper_of : ℤ → Option Helper
+helper_of k = cond (int_eq k (pos 1)) (Some Read) (cond (int_eq k (pos 2)) (Some Write) (cond (int_eq k (pos 3)) (Some Delete) (cond (int_eq k (pos 4)) (Some Start) None)))
+
+abbrev pub declares : HelperSet → Helper → Bool
+declares h Read = h.read
+declares h Write = h.write
+declares h Delete = h.delete
+declares h Start = h.start
+
+abbrev pub if_declared : HelperSet → Option Helper → Option Helper
+if_declared h None = None
+if_declared h (Some x) = cond (declares h x) (Some x) None
+
+-- the declared helper of this number
+abbrev pub called : HelperSet → ℤ → Option Helper
+called h k = if_declared h (helper_of k)
