@@ -1,0 +1,9 @@
+pub mod Encoding
+pub mod Rules
+pub mod Accepted
+pub mod Verdict
+pub mod Record
+pub mod Finished
+pub mod Position
+pub mod Vm
+pub mod Keeping

@@ -1,0 +1,58 @@
+-- Which bytes are accepted, and where others are refused.
+use Rattle.std.specs.Prelude.{◌≡◌, ℕ, zero, suc, ◌+◌, ◌/◌, ◌%◌, ◌||◌, not, nat_eq, nat_lt, if◌then◌else◌, List, [], length, slice_index_or, Option, Some, None}
+use Rattle.pb_base.specs.declared.refusal.Refused.{Refused}
+use Rattle.pb_isa.specs.Helpers.{no_helpers, HelperSet}
+use Rattle.pb_isa.specs.declared.insn.Insn.{Insn}
+use Rattle.pb_vm.specs.declared.judge.AcceptFault.{AcceptFault}
+use Rattle.pb_vm.specs.declared.judge.AcceptFault.TheVariants as faults
+use Rattle.pb_vm.specs.Encoding.{encoding, slot_code, slots_in, program_of}
+use Rattle.pb_vm.specs.Rules.{rule_code, Accepts}
+use Rattle.pb_vm.specs.Accepted.{AcceptedOf}
+
+abbrev pub refused : ℕ → ℕ → Refused
+refused slot code = record { slot = slot; code = code }
+
+abbrev pub at_slot : ℕ → Option ℕ → Option Refused → Option Refused
+at_slot n None later = later
+at_slot n (Some c) later = Some (refused n c)
+
+-- of the k slots from n on, the first that has a code
+abbrev pub first_fault : (ℕ → Option ℕ) → ℕ → ℕ → Option Refused
+first_fault code n zero = None
+first_fault code n (suc k) = at_slot n (code n) (first_fault code (n + 1) k)
+
+abbrev pub before : Option Refused → Option Refused → Option Refused
+before None later = later
+before (Some r) later = Some r
+
+-- 10 no bytes or no whole slots, 11 over 512 slots
+abbrev pub size_fault : List ℕ → Option Refused
+size_fault bytes =
+    if nat_eq (length bytes) 0 || not (nat_eq (length bytes % 8) 0) then Some (refused 0 10)
+    else if nat_lt 4096 (length bytes) then Some (refused 0 11)
+    else None
+
+-- the first slot that doesn't encode one of the two instructions
+abbrev pub decode_fault : List ℕ → Option Refused
+decode_fault bytes = first_fault (λ n. slot_code (slice_index_or (slots_in bytes) n [])) 0 (length bytes / 8)
+
+-- the first slot at which a rule is broken
+abbrev pub rule_fault : List Insn → Option Refused
+rule_fault p = first_fault (rule_code p) 0 (length p)
+
+-- where the bytes are refused: the size comes first, then the encoding of each slot, then the rules
+abbrev pub refusal : List ℕ → Option Refused
+refusal bytes = before (size_fault bytes) (before (decode_fault bytes) (rule_fault (program_of bytes)))
+
+-- the bytes are the encoding of the accepted program, and nothing refuses them
+pub record IsTaken (bytes : List ℕ) (a : AcceptedOf) : Type 0 where
+  pub sound : refusal bytes ≡ None
+  pub encodes : encoding a.program ≡ bytes
+  pub reads : a.program ≡ program_of bytes
+  pub accepts : Accepts a.program
+  pub helpers : a.helpers ≡ no_helpers
+
+-- memory was refused, or this is where the bytes are refused
+abbrev pub IsFault : List ℕ → AcceptFault → Type 0
+IsFault bytes faults.NoMemory = Unit {0}
+IsFault bytes (faults.Refused r) = refusal bytes ≡ Some r

@@ -1,0 +1,66 @@
+//! Programs that are accepted.
+ghost use Rattle.std.specs.Prelude.{◌≡◌, ◌<◌, ◌≤◌, ◌↔◌, IsTrue};
+ghost use Rattle.pb_isa.specs.Slots.{slots};
+ghost use Rattle.pb_vm.specs.Rules.{Accepts};
+
+use pb_isa::Program;
+use std::marker::Model;
+
+/// A program that the rules accept.
+#[derive(Drop)]
+pub struct Accepted {
+    program: Program,
+}
+
+impl Model for Accepted {
+    ghost use Rattle.pb_vm.specs.Accepted.{AcceptedOf, accepted_code};
+    ghost use Rattle.pb_vm.specs.Rules.{Accepts};
+    ghost use Rattle.pb_isa.specs.Helpers.{no_helpers};
+
+    ghost Value = { AcceptedOf };
+
+    ghost coded = { accepted_code };
+
+    ghost view = { λ a. record { program = a.program; helpers = no_helpers } };
+
+    ghost invariant = { λ a. Accepts a.program };
+}
+
+impl Accepted {
+    ghost use Rattle.std.specs.Prelude.{length};
+    ghost use Rattle.pb_isa.specs.Helpers.{no_helpers};
+
+    /// A program that keeps the rules.
+    pub(crate) fn new(program: Program) -> Accepted
+        requires { Accepts program }
+        ensures program { result.program ≡ program }
+        ensures helpers { result.helpers ≡ no_helpers }
+    {
+        Accepted { program }
+    }
+
+    /// How many slots it takes.
+    pub fn slots(&self) -> usize
+        ensures slots { result ≡ slots self.now.program }
+        ensures some { 0 < result }
+        ensures most { result ≤ 512 }
+        ensures accepted { Accepts self.now.program }
+        ensures helpers { self.now.helpers ≡ no_helpers }
+    {
+        self.program.slots()
+    }
+
+    /// Its instructions.
+    pub fn program(&self) -> &Program
+        ensures { result.now ≡ self.now.program }
+    {
+        &self.program
+    }
+
+    /// Whether both have the same instructions and helpers.
+    pub fn is_same(&self, other: &Accepted) -> bool
+        ensures { IsTrue result ↔ (self.now ≡ other.now) }
+    {
+        self.program.insns() == other.program.insns()
+    }
+}

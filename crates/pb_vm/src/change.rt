@@ -1,0 +1,64 @@
+//! The record of a change, which a program reads.
+ghost use Rattle.std.specs.Prelude.{◌≡◌, ◌↔◌, IsTrue};
+ghost use Rattle.pb_vm.specs.Record.{record_of, present, value_bytes};
+
+use pb_base::{Cell, Content, Ts, Value, Version};
+use std::marker::Model;
+
+/// The change record: 80 bytes that tell a program which change it runs for. Row, column, the change's start and commit,
+/// 1 for a value or 0 for a deletion, and the acknowledged timestamp (0 for none) stand at 0, 8, 16, 24, 32 and 40, in
+/// 8 bytes each with the lowest first; at 48 stands the value, or zeros.
+#[derive(Drop)]
+pub struct Record {
+    bytes: [u8; 80],
+}
+
+impl Model for Record {
+    ghost use Rattle.std.specs.Prelude.{ℕ, List};
+
+    ghost Value = { List ℕ };
+
+    ghost view = { λ r. r.bytes };
+}
+
+fn present(content: Content) -> u64
+    ensures { result ≡ present content }
+{
+    match content {
+        Content::Value(_) => 1,
+        Content::Deleted | Content::Stamp(_) => 0,
+    }
+}
+
+fn value_of(content: Content) -> Value
+    ensures { result ≡ value_bytes content }
+{
+    match content {
+        Content::Value(value) => value,
+        Content::Deleted | Content::Stamp(_) => [0; 32],
+    }
+}
+
+impl Record {
+    /// The record of a cell's version, for a run whose observer has acknowledged the changes up to a timestamp.
+    pub fn new(cell: Cell, found: &Version, acknowledged: Ts) -> Record
+        ensures { result ≡ record_of cell found.now acknowledged.0 }
+    {
+        let mut bytes = [0; 80];
+        bytes[..8].copy_from_slice(&cell.row().0.to_le_bytes());
+        bytes[8..16].copy_from_slice(&u64::from(cell.column().number()).to_le_bytes());
+        bytes[16..24].copy_from_slice(&found.start.0.to_le_bytes());
+        bytes[24..32].copy_from_slice(&found.commit.0.to_le_bytes());
+        bytes[32..40].copy_from_slice(&present(found.content).to_le_bytes());
+        bytes[40..48].copy_from_slice(&acknowledged.0.to_le_bytes());
+        bytes[48..].copy_from_slice(&value_of(found.content));
+        Record { bytes }
+    }
+
+    /// Whether both have the same bytes.
+    pub fn is_same(&self, other: &Record) -> bool
+        ensures { IsTrue result ↔ (self.now ≡ other.now) }
+    {
+        self.bytes == other.bytes
+    }
+}
