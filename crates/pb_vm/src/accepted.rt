@@ -3,6 +3,7 @@ ghost use Rattle.std.specs.Prelude.{◌≡◌, ◌<◌, ◌≤◌, ◌↔◌, Is
 ghost use Rattle.pb_isa.specs.Slots.{slots};
 ghost use Rattle.pb_vm.specs.Rules.{Accepts};
 
+use crate::known::are_same;
 use pb_isa::Program;
 use std::marker::Model;
 
@@ -61,6 +62,6 @@ impl Accepted {
     pub fn is_same(&self, other: &Accepted) -> bool
         ensures { IsTrue result ↔ (self.now ≡ other.now) }
     {
-        self.program.insns() == other.program.insns()
+        are_same(self.program.insns(), other.program.insns())
     }
 }

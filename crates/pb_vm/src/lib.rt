@@ -8,6 +8,7 @@ mod ask;
 mod change;
 mod finished;
 mod judge;
+mod known;
 mod vm;
 
 pub use accepted::Accepted;
