@@ -1,3 +1,6 @@
+pub mod Taken
+pub mod Encoded
+pub mod Firsts
 pub mod Lines
 pub mod Turns
 pub mod Same

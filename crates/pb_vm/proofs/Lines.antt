@@ -1,11 +1,10 @@
 -- A program of mov64 with immediates and exits is a straight line.
-use Rattle.std.proofs.Common.{◌≡◌, ℕ, zero, suc, ◌+◌, ◌<◌, Bool, true, false, ◌&&◌, cond, nat_eq, List, [], ◌∷◌, map, length, get_or, slice_get, ℤ, Option, Some, None, refl, sym, ap, ◌∙◌, arith}
-use Rattle.std.specs.List.{list_all, list_any}
+use Rattle.std.proofs.Common.{◌≡◌, ℕ, zero, suc, Bool, true, false, ◌&&◌, List, [], ◌∷◌, map, length, get_or, slice_get, ℤ, Some, None, refl, ap}
+use Rattle.std.specs.List.{list_all}
 use Rattle.pb_isa.specs.declared.insn.Insn.{Insn}
 use Rattle.pb_isa.specs.declared.insn.Insn.TheVariants.{Alu, Neg, LoadImm, Load, StoreImm, Store, Jump, JumpIf, Call, Exit}
 use Rattle.pb_isa.specs.Slots.{layout, places_of, insn_at, slots}
-use Rattle.pb_isa.specs.declared.insn.AluOp.{AluOp}
-use Rattle.pb_isa.specs.declared.insn.AluOp.TheVariants.{Add, Sub, Mul, Div, Or, And, Lsh, Rsh, Mod, Xor, Mov, Arsh}
+use Rattle.pb_isa.specs.declared.insn.AluOp.TheVariants.{Mov}
 use Rattle.pb_isa.specs.declared.insn.Width.TheVariants.{W32, W64}
 use Rattle.pb_isa.specs.declared.insn.Operand.TheVariants as operands
 use Rattle.pb_isa.specs.declared.insn.Reg.{Reg}

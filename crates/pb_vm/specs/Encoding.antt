@@ -1,5 +1,5 @@
 -- How mov64 of an immediate and exit are encoded (RFC 9669, section 3.1), and what is wrong with a slot.
-use Rattle.std.specs.Prelude.{ℕ, ◌/◌, ◌%◌, Bool, true, false, not, ◌||◌, nat_eq, nat_lt, if◌then◌else◌, ℤ, List, [], ◌∷◌, ◌++◌, map, length, take, drop, slice_index, Option, Some, None}
+use Rattle.std.specs.Prelude.{ℕ, ◌/◌, ◌%◌, Bool, true, false, not, ◌||◌, nat_eq, nat_lt, if◌then◌else◌, List, [], ◌∷◌, ◌++◌, map, length, take, drop, slice_index, Option, Some, None}
 use Rattle.std.specs.Int.{from_le_bytes, to_le_bytes, cast_signed, cast_unsigned}
 use Rattle.std.specs.Simd.{first_chunks}
 use mir.Syntax.{w16, w32}

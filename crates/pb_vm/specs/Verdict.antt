@@ -1,7 +1,7 @@
 -- Which bytes are accepted, and where others are refused.
 use Rattle.std.specs.Prelude.{◌≡◌, ℕ, zero, suc, ◌+◌, ◌/◌, ◌%◌, ◌||◌, not, nat_eq, nat_lt, if◌then◌else◌, List, [], length, slice_index_or, Option, Some, None}
 use Rattle.pb_base.specs.declared.refusal.Refused.{Refused}
-use Rattle.pb_isa.specs.Helpers.{no_helpers, HelperSet}
+use Rattle.pb_isa.specs.Helpers.{no_helpers}
 use Rattle.pb_isa.specs.declared.insn.Insn.{Insn}
 use Rattle.pb_vm.specs.declared.judge.AcceptFault.{AcceptFault}
 use Rattle.pb_vm.specs.declared.judge.AcceptFault.TheVariants as faults
@@ -32,9 +32,12 @@ size_fault bytes =
     else if nat_lt 4096 (length bytes) then Some (refused 0 11)
     else None
 
+abbrev pub code_in : List (List ℕ) → ℕ → Option ℕ
+code_in slots n = slot_code (slice_index_or slots n [])
+
 -- the first slot that doesn't encode one of the two instructions
 abbrev pub decode_fault : List ℕ → Option Refused
-decode_fault bytes = first_fault (λ n. slot_code (slice_index_or (slots_in bytes) n [])) 0 (length bytes / 8)
+decode_fault bytes = first_fault (code_in (slots_in bytes)) 0 (length bytes / 8)
 
 -- the first slot at which a rule is broken
 abbrev pub rule_fault : List Insn → Option Refused

@@ -9,6 +9,7 @@ mod change;
 mod finished;
 mod judge;
 mod known;
+mod slots;
 mod vm;
 
 pub use accepted::Accepted;

@@ -1,4 +1,4 @@
-use Rattle.std.proofs.Common.{◌≡◌, ◌<◌, length, rules}
+use Rattle.std.proofs.Common.{◌<◌, length}
 use Rattle.pb_vm.specs.Rules.{Accepts}
 use Rattle.pb_vm.proofs.Lines.{slots_known}
 use Rattle.pb_vm.proofs.Turns.{ready_first}
