@@ -18,3 +18,6 @@ pub use change::Record;
 pub use finished::Finished;
 pub use judge::{AcceptFault, accept};
 pub use vm::Vm;
+
+#[cfg(test)]
+mod tests;
