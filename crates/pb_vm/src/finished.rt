@@ -90,7 +90,7 @@ impl Finished {
     pub fn is_plain(&self) -> bool
         ensures { result ≡ is_plain self.now }
     {
-        let _ = &self.end;
+        let _ = &self.run;
         true
     }
 }
