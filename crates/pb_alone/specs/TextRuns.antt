@@ -11,7 +11,7 @@ use Rattle.pb_alone.specs.Runs.{Runs}
 
 -- a table with one seat and room for a million entries, as opened
 abbrev pub fresh : ℕ → SharedOf
-fresh last = record { journal = []; state = opened 1 last; opened = last; limit = 1000000 }
+fresh last = record { journal = []; state = opened [] 1 last; opened = last; limit = 1000000 }
 
 -- the manifest has no fault, and the script ran so on a fresh table
 pub record RanOn (manifest script : List ℕ) (last : ℕ) (old now : Option (List ℕ)) (failed : Bool) (result : Result (Unit {0}) RunFault) : Type 0 where

@@ -5,6 +5,7 @@ mod change;
 mod fault;
 mod output;
 mod run;
+mod tallies;
 mod texts;
 
 pub use change::change_all;

@@ -52,13 +52,19 @@ pub fn run_texts<T: Tablet, S: Sink>(
         table.close();
         return Err(fault);
     }
-    match Shared::open(alloc, table, 1, last, JOURNAL_LIMIT) {
+    match Shared::open(alloc, table, Vec::new(alloc), 1, last, JOURNAL_LIMIT) {
         Ok((shared, seats)) => {
             let (shared, _seats, outcome) = run_alone(alloc, script, shared, seats, sink);
             shared.close();
             outcome
         }
-        Err(OpenRefused { table, code: _ }) => {
+        Err(
+            OpenRefused {
+                table,
+                observers: _,
+                code: _,
+            },
+        ) => {
             table.close();
             Err(RunFault::NoMemory)
         }

@@ -8,7 +8,7 @@ mod sink;
 mod words;
 
 pub use manifest::{Registry, RegistryFault};
-pub use report::{Newest, Put, one_report, report_of};
+pub use report::{Newest, Put, Tally, one_report, report_of};
 pub use script::{ScriptFault, fault_is_first, parse_script, reads_small_batches};
 pub use sink::write_all;
 pub use words::{Options, options, run_is_taken};

@@ -272,7 +272,7 @@ fn last_refusal<T: Tablet>(
 ) -> u8
     requires { limit ≤ 1000000 }
 {
-    match Shared::open(rt.alloc(), table, 1, last, limit) {
+    match Shared::open(rt.alloc(), table, Vec::new(rt.alloc()), 1, last, limit) {
         Ok((mut shared, mut seats)) => {
             let mut number = 0;
             for step in steps {
@@ -281,7 +281,13 @@ fn last_refusal<T: Tablet>(
             shared.close();
             number
         }
-        Err(OpenRefused { table, code }) => {
+        Err(
+            OpenRefused {
+                table,
+                observers: _,
+                code,
+            },
+        ) => {
             table.close();
             code
         }
