@@ -9,3 +9,8 @@ pub mod Told
 pub mod Seated
 pub mod Whole
 pub mod OnTexts
+mod Ends
+mod RunStages
+pub mod RunUpto
+mod Extending
+pub mod RunVisit

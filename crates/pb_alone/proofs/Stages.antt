@@ -23,25 +23,25 @@ use Rattle.pb_state.specs.Machine.{Case, with_transaction, put_lock, commit_lock
 use Rattle.pb_alone.specs.Alone.{IsClean, ts}
 use Rattle.pb_alone.proofs.OneChange.{no_lock_after, write_after, lock_there}
 
-cell_itself : (x : Cell) → eq_by_cmp cell_cmp x x ≡ true
+pub cell_itself : (x : Cell) → eq_by_cmp cell_cmp x x ≡ true
 cell_itself x = ap is_eq (tied_itself cell_cmp_total x)
 
-got_here : (m : Transactions) (a : ℕ) (t : TransactionOf) → map.get (map.insert m a t) a ≡ Some t
+pub got_here : (m : Transactions) (a : ℕ) (t : TransactionOf) → map.get (map.insert m a t) a ≡ Some t
 got_here m a t = map.get-insert nat_cmp_total m a t a ∙ ap (λ b. cond b (Some t) (map.get m a)) (unsigned_tied a a ∙ eq-eqb a a refl)
 
-own_put : (z : StateOf) (m : Transactions) (seat a : ℕ) (t : TransactionOf) → z.transactions ≡ map.insert m a t → t.seat ≡ seat → own z seat a ≡ Some t
+pub own_put : (z : StateOf) (m : Transactions) (seat a : ℕ) (t : TransactionOf) → z.transactions ≡ map.insert m a t → t.seat ≡ seat → own z seat a ≡ Some t
 own_put z m seat a t is mine = ap (of_seat seat) (ap (λ n. map.get n a) is ∙ got_here m a t) ∙ ap (λ b. cond b (Some t) None) (eq-eqb t.seat seat mine)
 
-same_some : {A : Type 0} (o : Option A) (t u : A) → o ≡ Some t → o ≡ Some u → u ≡ t
+pub same_some : {A : Type 0} (o : Option A) (t u : A) → o ≡ Some t → o ≡ Some u → u ≡ t
 same_some o t u p q = cc
 
 -- a step of an own transaction is refused for that transaction's reasons alone
-allowed_own : (z : StateOf) (seat a : ℕ) (t : TransactionOf) (why : TransactionOf → List (ℕ × Bool)) → seat < z.seats → own z seat a ≡ Some t
+pub allowed_own : (z : StateOf) (seat a : ℕ) (t : TransactionOf) (why : TransactionOf → List (ℕ × Bool)) → seat < z.seats → own z seat a ≡ Some t
     → first_reason ((41, is_foreign z seat a) ∷ reasons_of_own (own z seat a) why) ≡ first_reason (why t)
 allowed_own z seat a t why lt is =
     (λ i. first_reason ((41, not (lt-ltb seat z.seats lt i) || is_none (is i)) ∷ reasons_of_own (is i) why))
 
-some_not_none : (o : Option Cell) → o ≡ None → is_some o ≡ true → ⊥
+pub some_not_none : (o : Option Cell) → o ≡ None → is_some o ≡ true → ⊥
 some_not_none o n s = cc
 
 module _ (s : StateOf) (seat : ℕ) (x : Cell) (k : Content) where
@@ -103,7 +103,7 @@ module _ (s : StateOf) (seat : ℕ) (x : Cell) (k : Content) where
   module _ (clean : IsClean s) where
     no_conflict : (new : StateOf) → Case s2 seat (Prewrite (ts a) x) Conflict new → ⊥
     no_conflict new m = elim m.why [
-      | inl l ↦ some_not_none (lock_at s.entries x l.0) (clean.unlocked x l.0 l.1) l.2
+      | inl l ↦ some_not_none (lock_at s.entries x l.0) (clean.unlocked x l.0) l.2
       | inr w ↦ written w.0 w.1 (write_at s.entries x w.0) refl w.3
     ]
       where
@@ -172,7 +172,7 @@ module _ (s : StateOf) (seat : ℕ) (x : Cell) (k : Content) where
 
   pub clean_after : IsClean s → IsClean s5
   clean_after clean = record {
-    unlocked = λ y u lt. no_lock_after s.entries x x k a (a + 1) y u (clean.unlocked y u lt);
+    unlocked = λ y u. no_lock_after s.entries x x k a (a + 1) y u (clean.unlocked y u);
     past = λ y d w h. elim (write_after s.entries x x k a (a + 1) y d w h) [
       | inl same ↦ omega arith
       | inr old ↦ let p = clean.past y d w old in omega arith

@@ -29,7 +29,7 @@ apart s e = cc
 
 clean_opened : (observers : List ObserverOf) (seats clock : ℕ) → IsClean (opened observers seats clock)
 clean_opened observers seats clock = record {
-  unlocked = λ x u lt. ap primary_of (nothing_in (slot_at x sorts.Lock u));
+  unlocked = λ x u. ap primary_of (nothing_in (slot_at x sorts.Lock u));
   past = λ x c s is. let none : start_of (finite.get (opened [] 0 0).entries (slot_at x sorts.Write c)) ≡ None = ap start_of (nothing_in (slot_at x sorts.Write c)) in absurd (apart s (sym none ∙ is));
 }
 

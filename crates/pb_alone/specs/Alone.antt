@@ -1,5 +1,5 @@
 -- Changes of a script, one after another, by one seat alone.
-use Rattle.std.specs.Prelude.{◌≡◌, ℕ, ◌+◌, ◌*◌, ◌≤◌, List, [], ◌∷◌, ◌++◌, length, map, Some}
+use Rattle.std.specs.Prelude.{◌≡◌, ℕ, ◌+◌, ◌*◌, ◌≤◌, List, [], ◌∷◌, ◌++◌, length, map, Some, None}
 use Rattle.std.specs.List.{flat_map}
 use Rattle.pb_base.specs.declared.cell.Cell.{Cell}
 use Rattle.pb_base.specs.declared.names.Ts.{Ts}
@@ -10,7 +10,7 @@ use Rattle.pb_state.specs.declared.step.Step.{Step}
 use Rattle.pb_state.specs.declared.step.Step.TheVariants.{Begin, Declare, Prewrite, Stamp, CommitPrimary}
 use Rattle.pb_state.specs.declared.step.Answer.{Answer}
 use Rattle.pb_state.specs.declared.step.Answer.TheVariants.{At, Done, Committed}
-use Rattle.pb_state.specs.State.{StateOf, NoLock, write_at}
+use Rattle.pb_state.specs.State.{StateOf, lock_at, write_at}
 use Rattle.pb_core.specs.declared.entry.Entry.{Entry}
 use Rattle.pb_core.specs.declared.entry.Received.{Received}
 use Rattle.pb_core.specs.Calls.{SharedOf, SeatOf}
@@ -22,7 +22,7 @@ IsSmall batch = length batch ≡ 1
 
 -- no lock stands, and no write record is later than the clock
 pub record IsClean (state : StateOf) : Type 0 where
-  pub unlocked : (x : Cell) → NoLock state.entries x
+  pub unlocked : (x : Cell) (u : ℕ) → lock_at state.entries x u ≡ None
   pub past : (x : Cell) (c s : ℕ) → write_at state.entries x c ≡ Some s → c ≤ state.clock
 
 abbrev pub ts : ℕ → Ts

@@ -2,6 +2,7 @@ pub mod Alone
 pub mod Faults
 pub mod Committed
 pub mod Puts
+pub mod Visits
 pub mod Tallies
 pub mod Runs
 pub mod TextRuns

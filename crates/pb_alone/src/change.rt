@@ -12,7 +12,11 @@ use pb_store::Tablet;
 use std::alloc::Global;
 
 // One call, its refusal as a fault.
-fn take<T: Tablet>(shared: &mut Shared<T>, seat: &mut Seat, step: Step) -> Result<Answer, RunFault>
+pub(crate) fn take<T: Tablet>(
+    shared: &mut Shared<T>,
+    seat: &mut Seat,
+    step: Step,
+) -> Result<Answer, RunFault>
     ensures ok { IfOk result (λ a. Calls shared.old seat.old step a shared.new seat.new) }
     ensures fault { IfErr result (IsRefusedBy shared.old seat.old.number step) }
     ensures table { OnErr result (shared.new ≡ shared.old) }

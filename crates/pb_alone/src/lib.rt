@@ -3,6 +3,7 @@
 
 mod change;
 mod fault;
+mod observe;
 mod output;
 mod run;
 mod tallies;
@@ -10,6 +11,7 @@ mod texts;
 
 pub use change::change_all;
 pub use fault::{ReportFault, RunFault};
+pub use observe::visit;
 pub use output::report;
 pub use run::run_alone;
 pub use texts::run_texts;

@@ -62,4 +62,4 @@ module _ (journal : List Entry) (state : StateOf) (a : Agrees journal state) whe
 pub tells : (observers : List ObserverOf) (seats clock : ℕ) (journal : List Entry) (state : StateOf) → IsLegal observers seats clock journal state → TellsHistory journal state
 tells observers seats clock journal state l =
     let a = legal_agrees observers seats clock journal state l in
-    record { committed = is_committed journal state a; member = is_member journal state a; declared = is_declared_by journal state a }
+    record { early = a.early; committed = is_committed journal state a; member = is_member journal state a; declared = is_declared_by journal state a }

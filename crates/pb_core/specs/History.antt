@@ -75,6 +75,7 @@ pub record IsDeclared (state : StateOf) (start : ℕ) (what : Declared) : Type 0
 
 -- the history of a journal, told by the state that it leads to
 pub record TellsHistory (journal : List Entry) (state : StateOf) : Type 0 where
+  pub early : (s : ℕ) (t : TransactionOf) → map.get state.transactions s ≡ Some t → s ≤ state.clock
   pub committed : (m : Member) → InHistory state.observers journal m → IsCommitted state m
   pub member : (m : Member) → IsCommitted state m → InHistory state.observers journal m
   pub declared : (seat start : ℕ) (what : Declared) → IsEntry journal seat (Declare (record { 0 = start }) what) Done → IsDeclared state start what

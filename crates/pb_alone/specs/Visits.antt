@@ -1,0 +1,50 @@
+-- Visits of observers to cells: a run where the cell is newer than the acknowledgment, and none where it isn't.
+use Rattle.std.specs.Prelude.{◌≡◌, ℕ, ◌<◌, ◌≤◌, ◌⊎◌, List, [], ◌∷◌, Some, slice_get}
+use Rattle.pb_base.specs.declared.names.Row.{Row}
+use Rattle.pb_base.specs.declared.content.Version.{Version}
+use Rattle.pb_vm.specs.Accepted.{AcceptedOf}
+use Rattle.pb_state.specs.declared.step.Work.TheVariants as works
+use Rattle.pb_state.specs.declared.step.Step.TheVariants.{Read}
+use Rattle.pb_state.specs.declared.step.Answer.{Answer}
+use Rattle.pb_state.specs.declared.step.Answer.TheVariants.{Found, Absent}
+use Rattle.pb_state.specs.State.{ObserverOf, observed, acknowledgment}
+use Rattle.pb_state.specs.Declarations.{acknowledged_in}
+use Rattle.pb_core.specs.declared.entry.Entry.{Entry}
+use Rattle.pb_core.specs.Calls.{SharedOf}
+use Rattle.pb_core.specs.History.{Has, IsEntry, Member, InHistory}
+use Rattle.pb_alone.specs.Alone.{IsClean, ts}
+
+-- the observer of this number has this program and column
+pub record IsObserver (observers : List ObserverOf) (o : ℕ) (program : AcceptedOf) (column : ℕ) : Type 0 where
+  pub observer : ObserverOf
+  pub there : slice_get observers o ≡ Some observer
+  pub program_is : observer.program ≡ program
+  pub column_is : observer.column ≡ column
+
+-- the history of the longer journal is that of the other, and these besides
+pub record Extends (observers : List ObserverOf) (old new : List Entry) (ms : List Member) : Type 0 where
+  pub each : (n : Member) → InHistory observers new n → InHistory observers old n ⊎ Has ms n
+  pub kept : (n : Member) → InHistory observers old n → InHistory observers new n
+  pub more : (n : Member) → Has ms n → InHistory observers new n
+
+-- a run was committed
+pub record Ran (old : SharedOf) (o : ℕ) (row : Row) (new : SharedOf) : Type 0 where
+  pub m : Member
+  pub work : m.work ≡ works.Run o row
+  pub later : old.state.clock < m.commit
+  pub upto : m.commit ≤ new.state.clock
+  pub history : Extends new.state.observers old.journal new.journal (m ∷ [])
+
+-- the cell was absent, or no newer than its acknowledgment
+pub record WasClean (old : SharedOf) (seat o : ℕ) (row : Row) (new : SharedOf) : Type 0 where
+  pub start : ℕ
+  pub seen : Answer
+  pub read : IsEntry new.journal seat (Read (ts start) (observed new.state.observers o row)) seen
+  pub why : (seen ≡ Absent) ⊎ ((v : Version) × (b : Answer) × (seen ≡ Found v) × IsEntry new.journal seat (Read (ts start) (acknowledgment new.state.observers o row)) b × (v.commit.0 ≤ (acknowledged_in b).0))
+  pub history : Extends new.state.observers old.journal new.journal []
+
+pub record Visits (old : SharedOf) (seat o : ℕ) (row : Row) (new : SharedOf) : Type 0 where
+  pub clean : IsClean new.state
+  pub clock : old.state.clock ≤ new.state.clock
+  pub observers : new.state.observers ≡ old.state.observers
+  pub outcome : Ran old o row new ⊎ WasClean old seat o row new

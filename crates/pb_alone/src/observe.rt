@@ -1,0 +1,102 @@
+//! Runs of observers, by one seat alone.
+ghost use Rattle.std.specs.Prelude.{◌≡◌, ◌<◌, nat_lt, length, IfOk, IfErr, OnOk};
+ghost use Rattle.pb_alone.specs.Alone.{IsClean, Goes};
+ghost use Rattle.pb_alone.specs.Faults.{IsEnd};
+ghost use Rattle.pb_alone.specs.Visits.{IsObserver, Visits};
+ghost use Rattle.pb_state.specs.Declarations.{plain_run};
+
+use crate::change::take;
+use crate::fault::RunFault;
+use pb_base::{Cell, Column, NoMemory, ObserverNo, Row, Ts, Version};
+use pb_core::{
+    Accepted, Answer, Declaration, Declared, Finished, Moved, Record, Seat, Shared, Step, Vm, Work,
+    acknowledged_in,
+};
+use pb_store::Tablet;
+use std::alloc::Global;
+use std::sync::Arc;
+
+// Runs a program on a record, to its exit.
+fn finished_of(
+    alloc: Global,
+    program: &Arc<Accepted>,
+    change: Record,
+    start: Ts,
+) -> Result<Finished, NoMemory>
+    ensures { IfOk result (λ f. f ≡ plain_run program.now.value change start.0 f.result) }
+{
+    let mut vm = Vm::start(alloc, program, change, start)?;
+    loop {
+        match vm.step() {
+            Moved::Went => {}
+            Moved::Asks(_) => unreachable!(),
+            Moved::Ended(_) => break,
+        }
+        let _ = vm.taken();
+    }
+    let finished = vm.finish();
+    finished.known();
+    Ok(finished)
+}
+
+fn is_newer(version: &Version, acknowledged: Ts) -> bool
+    ensures { result ≡ nat_lt acknowledged.0 version.now.commit.0 }
+{
+    acknowledged.0 < version.commit.0
+}
+
+// The program and the column of an observer.
+fn observer_of<T: Tablet>(
+    shared: &Shared<T>,
+    number: ObserverNo,
+) -> Result<(Arc<Accepted>, Column), NoMemory>
+    requires { number < length shared.now.state.observers }
+    ensures { IfOk result (λ r. IsObserver shared.now.state.observers number r.0.value r.1) }
+{
+    let observer = &shared.observers()[number.number() as usize];
+    let program = Arc::try_clone(&observer.program)?;
+    Ok((program, observer.column))
+}
+
+/// Runs an observer on its cell in a row, if that is newer than the acknowledgment. It ends early where the clock or the
+/// journal comes to its end, or memory is refused.
+pub fn visit<T: Tablet>(
+    alloc: Global,
+    number: ObserverNo,
+    row: Row,
+    shared: &mut Shared<T>,
+    seat: &mut Seat,
+) -> Result<(), RunFault>
+    requires clean { IsClean shared.old.state }
+    requires seated { seat.old.number < shared.old.state.seats }
+    requires known { number < length shared.old.state.observers }
+    ensures goes { Goes shared.old seat.old shared.new seat.new }
+    ensures ok { OnOk result (Visits shared.old seat.old.number number row shared.new) }
+    ensures err { IfErr result (IsEnd shared.new) }
+{
+    let _ = shared.journal();
+    let (program, column) = observer_of(shared, number)?;
+    let cell = Cell::Data(row, column);
+    let acknowledgment = Cell::Ack(number, row, column);
+    let Answer::At(start) = take(shared, seat, Step::Begin(Work::Run(number, row)))? else {
+        unreachable!()
+    };
+    let Answer::Found(version) = take(shared, seat, Step::Read(start, cell))? else {
+        let _ = shared.journal();
+        return Ok(());
+    };
+    let acknowledged = acknowledged_in(take(shared, seat, Step::Read(start, acknowledgment))?);
+    if !is_newer(&version, acknowledged) {
+        let _ = shared.journal();
+        return Ok(());
+    }
+    let change = Record::new(cell, &version, acknowledged);
+    let finished = finished_of(alloc, &program, change, start)?;
+    let what = Declaration::new(alloc, Declared::Run(number, finished))?;
+    take(shared, seat, Step::Declare(start, what))?;
+    take(shared, seat, Step::Prewrite(start, acknowledgment))?;
+    take(shared, seat, Step::Stamp(start))?;
+    take(shared, seat, Step::CommitPrimary(start))?;
+    let _ = shared.journal();
+    Ok(())
+}
