@@ -14,3 +14,4 @@ mod RunStages
 pub mod RunUpto
 mod Extending
 pub mod RunVisit
+pub mod OneRound

@@ -93,10 +93,12 @@ module _ (s0 : SharedOf) (q0 : SeatOf) (o : ℕ) (row : Row) (program : Accepted
             clock = subst (λ (w : StateOf). s0.state.clock ≤ w.clock) (sym z) (omega arith);
             observers = ap (λ (w : StateOf). w.observers) z;
             outcome = inr (record {
-              start = a;
-              seen = b1;
-              read = subst (λ os. IsEntry s2.journal q0.number (Read (ts a) (observed os o row)) b1) (sym (ap (λ (w : StateOf). w.observers) z)) (subst (λ y. IsEntry s2.journal q0.number (Read (ts a) y) b1) x_is (entry_of s2 q2 _ _ at2 (Read (ts a) x) b1 (inr (inl refl))));
-              why = inl (not_found b1 (upto.seen1 s0 q0 o row io.observer io.there x k x_is k_is clean seated ans1 s1 q1 c1 start is b1 s2 q2 c2) none);
+              at = record {
+                start = a;
+                seen = b1;
+                read = subst (λ os. IsEntry s2.journal q0.number (Read (ts a) (observed os o row)) b1) (sym (ap (λ (w : StateOf). w.observers) z)) (subst (λ y. IsEntry s2.journal q0.number (Read (ts a) y) b1) x_is (entry_of s2 q2 _ _ at2 (Read (ts a) x) b1 (inr (inl refl))));
+                why = inl (not_found b1 (upto.seen1 s0 q0 o row io.observer io.there x k x_is k_is clean seated ans1 s1 q1 c1 start is b1 s2 q2 c2) none);
+              };
               history = extends_none s0.state s2.state s0.journal s2.journal was now (ap (λ (w : StateOf). w.observers) z) a (omega arith) u
                   (ap (λ (w : StateOf). finmap.get w.transactions a) z ∙ got_here _ a u)
                   (λ w n. ap (λ (y : StateOf). finmap.get y.transactions w) z ∙ got_there _ a u w n ∙ got_there ts0 a _ w n)
@@ -123,10 +125,12 @@ module _ (s0 : SharedOf) (q0 : SeatOf) (o : ℕ) (row : Row) (program : Accepted
               clock = subst (λ (w : StateOf). s0.state.clock ≤ w.clock) (sym z) (omega arith);
               observers = os-is;
               outcome = inr (record {
-                start = a;
-                seen = b1;
-                read = subst (λ os. IsEntry s3.journal q0.number (Read (ts a) (observed os o row)) b1) (sym os-is) (subst (λ y. IsEntry s3.journal q0.number (Read (ts a) y) b1) x_is (entry_of s3 q3 _ _ at3 (Read (ts a) x) b1 (inr (inl refl))));
-                why = inr (v, b2, saw, subst (λ os. IsEntry s3.journal q0.number (Read (ts a) (acknowledgment os o row)) b2) (sym os-is) (subst (λ y. IsEntry s3.journal q0.number (Read (ts a) y) b2) k_is (entry_of s3 q3 _ _ at3 (Read (ts a) k) b2 (inr (inr (inl refl))))), old);
+                at = record {
+                  start = a;
+                  seen = b1;
+                  read = subst (λ os. IsEntry s3.journal q0.number (Read (ts a) (observed os o row)) b1) (sym os-is) (subst (λ y. IsEntry s3.journal q0.number (Read (ts a) y) b1) x_is (entry_of s3 q3 _ _ at3 (Read (ts a) x) b1 (inr (inl refl))));
+                  why = inr (v, b2, saw, subst (λ os. IsEntry s3.journal q0.number (Read (ts a) (acknowledgment os o row)) b2) (sym os-is) (subst (λ y. IsEntry s3.journal q0.number (Read (ts a) y) b2) k_is (entry_of s3 q3 _ _ at3 (Read (ts a) k) b2 (inr (inr (inl refl))))), old);
+                };
                 history = extends_none s0.state s3.state s0.journal s3.journal was now os-is a (omega arith) u
                     (ap (λ (w : StateOf). finmap.get w.transactions a) z ∙ got_here _ a u)
                     (λ w n. ap (λ (y : StateOf). finmap.get y.transactions w) z ∙ got_there _ a u w n ∙ got_there _ a _ w n ∙ got_there ts0 a _ w n)

@@ -1,5 +1,5 @@
 -- A whole script made on a fresh table.
-use Rattle.std.proofs.Common.{◌≡◌, ℕ, Bool, List, [], ◌++◌, Option, Some, None, Ok, Err, sym, ap, subst, ◌∙◌}
+use Rattle.std.proofs.Common.{◌≡◌, ℕ, ◌+◌, ◌*◌, ◌≤◌, inl, inr, arith, suc, length, map, refl, ◌∷◌, Bool, List, [], ◌++◌, Option, Some, None, Ok, Err, sym, ap, subst, ◌∙◌}
 use Rattle.std.specs.List.{All, flat_map}
 use Rattle.std.specs.FinMap as finite
 use Rattle.pb_base.specs.Batch.{Writes}
@@ -11,12 +11,17 @@ use Rattle.pb_state.specs.State.{StateOf, ObserverOf, opened, primary_of, start_
 use Rattle.pb_core.specs.declared.entry.Entry.{Entry}
 use Rattle.pb_core.specs.Calls.{SharedOf}
 use Rattle.pb_core.specs.Legal.{IsLegal}
-use Rattle.pb_core.specs.History.{IsHistory}
+use Rattle.pb_state.specs.declared.step.Work.TheVariants as works
+use Rattle.pb_core.specs.History.{Member, IsHistory, RiseFrom}
+use Rattle.pb_alone.specs.Due.{due}
+use Rattle.pb_alone.specs.Rounds.{AreDone, RiseBetween, Works}
+use Rattle.pb_alone.specs.Visits.{Extends}
+use Rattle.pb_alone.proofs.OneRound.{has_left, has_right, has_which, rise_on}
 use Rattle.pb_texts.specs.ScriptLines.{script_of}
 use Rattle.pb_texts.specs.Scripts.{IsSmallBatch}
 use Rattle.pb_alone.specs.declared.fault.ReportFault.{ReportFault}
 use Rattle.pb_alone.specs.declared.fault.ReportFault.TheVariants as ends
-use Rattle.pb_alone.specs.Alone.{IsClean, IsSmall, Changes, change_entries, changes_from}
+use Rattle.pb_alone.specs.Alone.{IsClean, IsSmall, change_entries, changes_from}
 use Rattle.pb_alone.specs.Faults.{of_report}
 use Rattle.pb_alone.specs.Runs.{Made, Reports, Runs}
 use Rattle.pb_alone.proofs.Blocks.{history, writes_are}
@@ -42,14 +47,43 @@ clean_fresh observers seats clock journal state empty legal =
 pub all_small : (batches : List Writes) → All IsSmallBatch batches → All IsSmall batches
 all_small batches h = λ k d lt. (h k d lt).1
 
-pub made : (text : List ℕ) (before : SharedOf) (seat : ℕ) (batches : List Writes) (after : SharedOf) → before.journal ≡ [] → script_of text ≡ Ok batches → Changes before seat batches after → Made text after
-made text before seat batches after empty read c =
+rises : (low seat clock : ℕ) (bs : List Writes) → low ≤ clock → RiseBetween low (clock + 2 * length bs) (changes_from seat clock bs)
+rises low seat clock [] le = omega (arith, le)
+rises low seat clock (b ∷ bs) le =
+    let same : (clock + 2) + 2 * length bs ≡ clock + 2 * suc (length bs) = omega arith in
+    (omega (arith, le), subst (λ n. RiseBetween (clock + 2) n (changes_from seat (clock + 2) bs)) same (rises (clock + 2) seat (clock + 2) bs (omega arith)))
+
+scripts_are : (seat clock : ℕ) (bs : List Writes) → map (λ (m : Member). m.work) (changes_from seat clock bs) ≡ map (λ b. works.Script) bs
+scripts_are seat clock [] = refl
+scripts_are seat clock (b ∷ bs) = ap (λ l. works.Script ∷ l) (scripts_are seat (clock + 2) bs)
+
+-- the history of the changes, and what was added to it
+history_on : (observers : List ObserverOf) (j k : List Entry) (ms ns : List Member) → IsHistory observers j ms → Extends observers j k ns → RiseFrom 0 (ms ++ ns) → IsHistory observers k (ms ++ ns)
+history_on observers j k ms ns h e rising = record {
+  each = λ m has. elim (has_which ms ns m has) [ inl a ↦ e.kept m (h.each m a) | inr a ↦ e.more m a ];
+  whole = λ m i. elim (e.each m i) [ inl a ↦ has_left ms ns m (h.whole m a) | inr a ↦ has_right ms ns m a ];
+  rising = rising;
+}
+
+pub made : (text : List ℕ) (before : SharedOf) (seat : ℕ) (batches : List Writes) (after : SharedOf) → before.journal ≡ [] → script_of text ≡ Ok batches → Works before seat batches after → Made text after
+made text before seat batches after empty read w =
+    let c = w.changes in
+    let r = w.rounds in
+    let changes = changes_from seat before.state.clock batches in
+    let observers = after.state.observers in
+    let journal : w.changed.journal ≡ flat_map change_entries changes = c.journal ∙ ap (λ j. j ++ flat_map change_entries changes) empty in
+    let first : IsHistory observers w.changed.journal changes = subst (λ j. IsHistory observers j changes) (sym journal) (history observers seat before.state.clock batches) in
+    let rise = subst (λ n. RiseBetween 0 n changes) (sym c.clock) (rises 0 seat before.state.clock batches (omega arith)) in
     record {
       batches = batches;
       read = read;
-      members = changes_from seat before.state.clock batches;
-      history = subst (λ j. IsHistory after.state.observers j (changes_from seat before.state.clock batches)) (sym (c.journal ∙ ap (λ j. j ++ flat_map change_entries (changes_from seat before.state.clock batches)) empty)) (history after.state.observers seat before.state.clock batches);
+      changes = changes;
+      runs = r.runs;
+      history = history_on observers w.changed.journal after.journal changes r.runs first r.history (rise_on 0 w.changed.state.clock after.state.clock changes r.runs rise r.rise);
+      scripts = scripts_are seat before.state.clock batches;
       writes = writes_are seat before.state.clock batches;
+      seat = seat;
+      done = subst (λ os. AreDone observers after.journal seat (due os batches) r.runs) (sym r.observers) r.done;
     }
 
 pub ended : (text : List ℕ) (before after : SharedOf) (old now : Option (List ℕ)) (failed : Bool) (e : ReportFault) → Made text after → Reports after old now failed (Err e) → Runs text before after old now failed (Err (of_report e))

@@ -3,6 +3,8 @@ pub mod Faults
 pub mod Committed
 pub mod Puts
 pub mod Visits
+pub mod Due
+pub mod Rounds
 pub mod Tallies
 pub mod Runs
 pub mod TextRuns

@@ -1,5 +1,5 @@
 -- What a run of a script leaves: the changes made, and the report written.
-use Rattle.std.specs.Prelude.{◌≡◌, ℕ, Bool, true, false, List, map, Option, Result, Ok, Err}
+use Rattle.std.specs.Prelude.{◌++◌, ◌≡◌, ℕ, Bool, true, false, List, map, Option, Result, Ok, Err}
 use Rattle.std.specs.FinMap as finite
 use Rattle.std.specs.Io.KnownBytes.{Appends}
 use Rattle.pb_base.specs.Batch.{Writes}
@@ -15,7 +15,10 @@ use Rattle.pb_alone.specs.declared.fault.ReportFault.{ReportFault}
 use Rattle.pb_alone.specs.declared.fault.ReportFault.TheVariants as ends
 use Rattle.pb_alone.specs.Committed.{IsNewestIn}
 use Rattle.pb_alone.specs.Tallies.{runs_in}
+use Rattle.pb_state.specs.declared.step.Work.TheVariants as works
 use Rattle.pb_alone.specs.Faults.{IsEnd}
+use Rattle.pb_alone.specs.Due.{due}
+use Rattle.pb_alone.specs.Rounds.{AreDone}
 
 -- the report of the journal, with the runs of each observer, and the marks and locks that stand
 abbrev pub IsReportIn : SharedOf → List ℕ → Type 0
@@ -39,13 +42,19 @@ Reports shared old now failed (Ok _) = Wrote shared old now × (failed ≡ false
 Reports shared old now failed (Err ends.Output) = Began shared old now × (failed ≡ true)
 Reports shared old now failed (Err ends.NoMemory) = (now ≡ old) × (failed ≡ false)
 
--- the committed transactions of the journal are the script's batches in order, each once
+-- The committed transactions of the journal are the script's batches in order, each once, and then runs of observers: for
+-- each changed cell, by row and column, one of each observer of its column, but where the journal shows that there was
+-- nothing to run for.
 pub record Made (text : List ℕ) (shared : SharedOf) : Type 0 where
   pub batches : List Writes
   pub read : script_of text ≡ Ok batches
-  pub members : List Member
-  pub history : IsHistory shared.state.observers shared.journal members
-  pub writes : map (λ m. m.writes) members ≡ batches
+  pub changes : List Member
+  pub runs : List Member
+  pub history : IsHistory shared.state.observers shared.journal (changes ++ runs)
+  pub scripts : map (λ m. m.work) changes ≡ map (λ b. works.Script) batches
+  pub writes : map (λ m. m.writes) changes ≡ batches
+  pub seat : ℕ
+  pub done : AreDone shared.state.observers shared.journal seat (due shared.state.observers batches) runs
 
 -- the script was not read
 abbrev pub IsUnread : List ℕ → RunFault → Type 0

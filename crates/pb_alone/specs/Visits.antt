@@ -35,12 +35,16 @@ pub record Ran (old : SharedOf) (o : ℕ) (row : Row) (new : SharedOf) : Type 0 
   pub upto : m.commit ≤ new.state.clock
   pub history : Extends new.state.observers old.journal new.journal (m ∷ [])
 
--- the cell was absent, or no newer than its acknowledgment
-pub record WasClean (old : SharedOf) (seat o : ℕ) (row : Row) (new : SharedOf) : Type 0 where
+-- the journal shows that the cell was absent, or no newer than its acknowledgment
+pub record IsCleanAt (observers : List ObserverOf) (journal : List Entry) (seat o : ℕ) (row : Row) : Type 0 where
   pub start : ℕ
   pub seen : Answer
-  pub read : IsEntry new.journal seat (Read (ts start) (observed new.state.observers o row)) seen
-  pub why : (seen ≡ Absent) ⊎ ((v : Version) × (b : Answer) × (seen ≡ Found v) × IsEntry new.journal seat (Read (ts start) (acknowledgment new.state.observers o row)) b × (v.commit.0 ≤ (acknowledged_in b).0))
+  pub read : IsEntry journal seat (Read (ts start) (observed observers o row)) seen
+  pub why : (seen ≡ Absent) ⊎ ((v : Version) × (b : Answer) × (seen ≡ Found v) × IsEntry journal seat (Read (ts start) (acknowledgment observers o row)) b × (v.commit.0 ≤ (acknowledged_in b).0))
+
+-- there was nothing to run for
+pub record WasClean (old : SharedOf) (seat o : ℕ) (row : Row) (new : SharedOf) : Type 0 where
+  pub at : IsCleanAt new.state.observers new.journal seat o row
   pub history : Extends new.state.observers old.journal new.journal []
 
 pub record Visits (old : SharedOf) (seat o : ℕ) (row : Row) (new : SharedOf) : Type 0 where

@@ -2,6 +2,7 @@
 #![tactic(auto)]
 
 mod change;
+mod due;
 mod fault;
 mod observe;
 mod output;

@@ -3,6 +3,7 @@ ghost use Rattle.std.specs.Prelude.{◌≡◌, ◌<◌, nat_lt, length, IfOk, If
 ghost use Rattle.pb_alone.specs.Alone.{IsClean, Goes};
 ghost use Rattle.pb_alone.specs.Faults.{IsEnd};
 ghost use Rattle.pb_alone.specs.Visits.{IsObserver, Visits};
+ghost use Rattle.pb_alone.specs.Rounds.{AllBelow, Rounds};
 ghost use Rattle.pb_state.specs.Declarations.{plain_run};
 
 use crate::change::take;
@@ -56,6 +57,26 @@ fn observer_of<T: Tablet>(
     let observer = &shared.observers()[number.number() as usize];
     let program = Arc::try_clone(&observer.program)?;
     Ok((program, observer.column))
+}
+
+/// Visits the cells that are due, in order.
+pub(crate) fn visit_all<T: Tablet>(
+    alloc: Global,
+    due: &[(ObserverNo, Row)],
+    shared: &mut Shared<T>,
+    seat: &mut Seat,
+) -> Result<(), RunFault>
+    requires clean { IsClean shared.old.state }
+    requires seated { seat.old.number < shared.old.state.seats }
+    requires known { AllBelow (length shared.old.state.observers) due.now }
+    ensures goes { Goes shared.old seat.old shared.new seat.new }
+    ensures ok { OnOk result (Rounds shared.old seat.old.number due.now shared.new) }
+    ensures err { IfErr result (IsEnd shared.new) }
+{
+    for place in due {
+        visit(alloc, place.0, place.1, shared, seat)?;
+    }
+    Ok(())
 }
 
 /// Runs an observer on its cell in a row, if that is newer than the acknowledgment. It ends early where the clock or the

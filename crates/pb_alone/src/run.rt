@@ -1,11 +1,17 @@
 //! A whole script, from its text to the report.
-ghost use Rattle.std.specs.Prelude.{◌≡◌, [], false, Ok, IfOk, IfErr};
+ghost use Rattle.std.specs.Prelude.{◌≡◌, ◌<◌, [], false, Ok, IfOk, IfErr, OnOk};
 ghost use Rattle.pb_core.specs.Calls.{AreSeats};
 ghost use Rattle.pb_texts.specs.ScriptLines.{script_of};
 ghost use Rattle.pb_alone.specs.Runs.{IsUnread, Runs, KeepsSeats};
+ghost use Rattle.std.specs.List.{All};
+ghost use Rattle.pb_alone.specs.Alone.{IsClean, Goes, IsSmall};
+ghost use Rattle.pb_alone.specs.Faults.{IsEnd};
+ghost use Rattle.pb_alone.specs.Rounds.{Works};
 
 use crate::change::change_all;
+use crate::due::due_of;
 use crate::fault::RunFault;
+use crate::observe::visit_all;
 use crate::output::report;
 use pb_base::{Batch, Sink};
 use pb_core::{Seat, Shared};
@@ -30,7 +36,27 @@ fn read(alloc: Global, text: &str) -> Result<Vec<Batch>, RunFault>
     }
 }
 
-// Every change in order, and then the report.
+// Every change in order, and then the observers, cell by cell.
+fn work<T: Tablet>(
+    alloc: Global,
+    batches: &[Batch],
+    shared: &mut Shared<T>,
+    seat: &mut Seat,
+) -> Result<(), RunFault>
+    requires clean { IsClean shared.old.state }
+    requires seated { seat.old.number < shared.old.state.seats }
+    requires small { All IsSmall batches.now }
+    ensures goes { Goes shared.old seat.old shared.new seat.new }
+    ensures ok { OnOk result (Works shared.old seat.old.number batches.now shared.new) }
+    ensures err { IfErr result (IsEnd shared.new) }
+{
+    change_all(alloc, batches, shared, seat)?;
+    let due = due_of(alloc, shared.observers(), batches)?;
+    visit_all(alloc, &due, shared, seat)?;
+    Ok(())
+}
+
+// Every change in order, then the observers, and then the report.
 fn run<T: Tablet, S: Sink>(
     alloc: Global,
     text: &str,
@@ -48,12 +74,13 @@ fn run<T: Tablet, S: Sink>(
     let batches = read(alloc, text)?;
     prove!(shared.journal().is_empty());
     prove!(shared.seats() > 0);
-    change_all(alloc, &batches, shared, &mut seats[0])?;
+    work(alloc, &batches, shared, &mut seats[0])?;
     report(alloc, sink, shared)?;
     Ok(())
 }
 
-/// Makes a script's changes in order, each by calls of the first seat alone, and writes the report.
+/// Makes a script's changes in order, then runs the observers on each changed cell, by row and column, where it is newer
+/// than their acknowledgment, all by calls of the first seat alone, and writes the report.
 ///
 /// Table and seats come back on every path. The fault is the script's, a refused step (40 out of timestamps, 44 journal
 /// full), a write that failed, or want of memory.
