@@ -1,3 +1,4 @@
 pub mod Registers
 pub mod Slots
 pub mod Alu
+pub mod Bounds
