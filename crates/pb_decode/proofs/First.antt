@@ -88,7 +88,7 @@ pair_takes d s rest x o p z f is fits e =
     let second : second_slot (v / 2 ^ 32) ≡ t = same_slot t _ _ _ _ _ (is_zero t.opcode a.0) (is_zero t.dst b.0) (is_zero t.src g.0) (is_zero t.offset g.1) (omega (arith, below)) in
     let behind : rest ≡ second_bytes (LoadImm d v) ++ drop 8 rest = front_slot rest fits c.0 ∙ ap (λ (u : Slot). slot_bytes u ++ drop 8 rest) (sym second) in
     let parts : slot_bytes s ++ rest ≡ insn_bytes (LoadImm d v) ++ drop 8 rest =
-        ap (λ (u : Slot). slot_bytes u ++ rest) (sym first) ∙ ap (λ (bs : List ℕ). slot_bytes (first_slot (LoadImm d v)) ++ bs) behind ∙ sym (append_assoc (slot_bytes (first_slot (LoadImm d v))) (second_bytes (LoadImm d v)) (drop 8 rest)) in
+    ap (λ (u : Slot). slot_bytes u ++ rest) (sym first) ∙ ap (λ (bs : List ℕ). slot_bytes (first_slot (LoadImm d v)) ++ bs) behind ∙ sym (append_assoc (slot_bytes (first_slot (LoadImm d v))) (second_bytes (LoadImm d v)) (drop 8 rest)) in
     subst (Takes s rest) c.2 (parts, omega (arith, below, over))
 
 form_takes : (f : Form) (d r : Reg) (s : Slot) (rest : List ℕ) (x : Read) → opcode f ≡ s.opcode → number d ≡ s.dst → number r ≡ s.src → IsSlot s → AreBytes rest → is_clean f s ≡ true → insn_of f d r s rest ≡ Ok x → Takes s rest x

@@ -10,3 +10,6 @@ mod writing;
 pub use fault::DecodeFault;
 pub use reading::{decode, either_program_or_fault};
 pub use writing::encode;
+
+#[cfg(test)]
+mod tests;
