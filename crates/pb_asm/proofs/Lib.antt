@@ -1,3 +1,5 @@
 mod Numbers
 pub mod Slots
 mod Cutting
+mod Shapes
+mod Back

@@ -11,7 +11,7 @@ use Rattle.pb_asm.specs.Operands.{is_number, number_upto}
 tells : IsDigitsTest (λ ds. list_all is_ascii_digit ds ≡ true)
 tells = search rules
 
-own : IsNumeralModel (λ ds. list_all is_ascii_digit ds ≡ true) (digits_value 10)
+pub own : IsNumeralModel (λ ds. list_all is_ascii_digit ds ≡ true) (digits_value 10)
 own = numerals_by_value _ tells
 
 not_zero : (n : ℕ) → (n == 0) ≡ false → 0 < n

@@ -12,4 +12,4 @@ mod text;
 
 pub use fault::AsmFault;
 pub use listing::disassemble;
-pub use text::assemble;
+pub use text::{assemble, listings_read_back};

@@ -1,9 +1,11 @@
 //! Texts to programs.
-ghost use Rattle.std.specs.Prelude.{◌≡◌, ◌==◌, ◌<◌, ◌≤◌, IfOk, List, [], ◌∷◌};
-ghost use Rattle.std.specs.List.{slice_split};
+ghost use Rattle.std.specs.Prelude.{◌≡◌, ◌==◌, ◌<◌, ◌≤◌, IfOk, Ok, List, [], ◌∷◌};
+ghost use Rattle.std.specs.List.{slice_split, AllByRecursion};
+ghost use Rattle.pb_isa.specs.Bounds.{Fits};
 ghost use Rattle.pb_isa.specs.declared.insn.Insn.{Insn};
-ghost use Rattle.pb_isa.specs.Slots.{slots};
+ghost use Rattle.pb_isa.specs.Slots.{slots, IsProgram};
 ghost use Rattle.pb_asm.specs.Reading.{Gives, plain};
+ghost use Rattle.pb_asm.specs.Listing.{listing};
 ghost use Rattle.pb_asm.specs.Texts.{is_skipped, with_line, lines_read, program_of, Reads, ReadsLines};
 
 use crate::fault::{AsmFault, Code};
@@ -93,3 +95,8 @@ pub fn assemble(alloc: Global, text: &str) -> Result<Program, AsmFault>
         Err(NoProgram::NotInRange(_)) => unreachable!(),
     }
 }
+
+/// Each listing is a text with one reading, its program.
+pub fn listings_read_back()
+    ensures { (p : List Insn) → IsProgram p → AllByRecursion Fits p → program_of (listing p) ≡ Ok p }
+{}
