@@ -13,3 +13,6 @@ mod text;
 pub use fault::AsmFault;
 pub use listing::disassemble;
 pub use text::{assemble, listings_read_back};
+
+#[cfg(test)]
+mod tests;
