@@ -1,5 +1,6 @@
 //! Programs to texts.
-ghost use Rattle.std.specs.Prelude.{◌≡◌, IfOk, string_bytes};
+ghost use Rattle.std.specs.Prelude.{◌≡◌, ◌++◌, IfOk, string_bytes, codes};
+ghost use Rattle.pb_asm.specs.Names.{name};
 ghost use Rattle.pb_asm.specs.Listing.{operand_text, offset_text, place_text, insn_text, listing};
 
 use crate::names::{Word, reg_name};
@@ -35,48 +36,49 @@ fn place_text(alloc: Global, base: Reg, offset: i16) -> Result<String, AllocErro
     format!(in alloc; "[{base}{offset}]")
 }
 
+// A first word and one operand.
+fn one(alloc: Global, word: Word, operand: &str) -> Result<String, AllocError>
+    ensures { IfOk result (λ s. string_bytes s ≡ name word ++ (codes " " ++ operand.now)) }
+{
+    let name = word.name();
+    format!(in alloc; "{name} {operand}")
+}
+
+// A first word and two operands.
+fn two(alloc: Global, word: Word, first: &str, second: &str) -> Result<String, AllocError>
+    ensures { IfOk result (λ s. string_bytes s ≡ name word ++ (codes " " ++ (first.now ++ (codes ", " ++ second.now)))) }
+{
+    let name = word.name();
+    format!(in alloc; "{name} {first}, {second}")
+}
+
 fn insn_text(alloc: Global, insn: Insn) -> Result<String, AllocError>
     ensures { IfOk result (λ s. string_bytes s ≡ insn_text insn) }
 {
     match insn {
         Insn::Alu(op, width, dst, operand) => {
-            let name = Word::Alu(op, width).name();
-            let dst = reg_name(dst);
             let operand = operand_text(alloc, operand)?;
-            format!(in alloc; "{name} {dst}, {operand}")
+            two(alloc, Word::Alu(op, width), reg_name(dst), &operand)
         }
-        Insn::Neg(width, dst) => {
-            let name = Word::Neg(width).name();
-            let dst = reg_name(dst);
-            format!(in alloc; "{name} {dst}")
-        }
+        Insn::Neg(width, dst) => one(alloc, Word::Neg(width), reg_name(dst)),
         Insn::LoadImm(dst, value) => {
-            let name = Word::LoadImm.name();
-            let dst = reg_name(dst);
-            format!(in alloc; "{name} {dst}, {value}")
+            let value = format!(in alloc; "{value}")?;
+            two(alloc, Word::LoadImm, reg_name(dst), &value)
         }
         Insn::Load(size, dst, base, offset) => {
-            let name = Word::Load(size).name();
-            let dst = reg_name(dst);
             let place = place_text(alloc, base, offset)?;
-            format!(in alloc; "{name} {dst}, {place}")
+            two(alloc, Word::Load(size), reg_name(dst), &place)
         }
         Insn::StoreImm(size, base, offset, imm) => {
-            let name = Word::StoreImm(size).name();
             let place = place_text(alloc, base, offset)?;
-            format!(in alloc; "{name} {place}, {imm}")
+            let imm = format!(in alloc; "{imm}")?;
+            two(alloc, Word::StoreImm(size), &place, &imm)
         }
         Insn::Store(size, base, offset, src) => {
-            let name = Word::Store(size).name();
             let place = place_text(alloc, base, offset)?;
-            let src = reg_name(src);
-            format!(in alloc; "{name} {place}, {src}")
+            two(alloc, Word::Store(size), &place, reg_name(src))
         }
-        Insn::Jump(offset) => {
-            let name = Word::Jump.name();
-            let offset = offset_text(alloc, offset)?;
-            format!(in alloc; "{name} {offset}")
-        }
+        Insn::Jump(offset) => one(alloc, Word::Jump, &offset_text(alloc, offset)?),
         Insn::JumpIf(cmp, width, dst, operand, offset) => {
             let name = Word::JumpIf(cmp, width).name();
             let dst = reg_name(dst);
@@ -84,10 +86,7 @@ fn insn_text(alloc: Global, insn: Insn) -> Result<String, AllocError>
             let offset = offset_text(alloc, offset)?;
             format!(in alloc; "{name} {dst}, {operand}, {offset}")
         }
-        Insn::Call(helper) => {
-            let name = Word::Call.name();
-            format!(in alloc; "{name} {helper}")
-        }
+        Insn::Call(helper) => one(alloc, Word::Call, &format!(in alloc; "{helper}")?),
         Insn::Exit => String::from_str(alloc, Word::Exit.name()),
     }
 }
