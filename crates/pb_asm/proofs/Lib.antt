@@ -3,3 +3,4 @@ pub mod Slots
 mod Cutting
 mod Shapes
 mod Back
+mod First

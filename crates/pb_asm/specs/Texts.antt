@@ -62,3 +62,22 @@ Reads (Err f) read = (f ≡ no_memory) ⊎ (read ≡ Err (f.line, f.code))
 abbrev pub ReadsLines : Result Lines AsmFault → Result (List Insn) (ℕ × ℕ) → Type 0
 ReadsLines (Ok l) read = read ≡ Ok l.insns.items
 ReadsLines (Err f) read = (f ≡ no_memory) ⊎ (read ≡ Err (f.line, f.code))
+
+-- the lines in front are read, and after them the line of this number is at fault
+pub record StopsAt (text : List ℕ) (line told : ℕ) : Type 0 where
+  pub front : List (List ℕ)
+  pub here : List ℕ
+  pub after : List (List ℕ)
+  pub before : List Insn
+  pub cause : Code
+  pub parts : slice_split (λ b. b == 10) text ≡ front ++ here ∷ after
+  pub read : lines_read 0 [] front ≡ Ok before
+  pub fault : with_line before here ≡ Err cause
+  pub number : line ≡ length front + 1
+  pub code : told ≡ code_number cause
+
+-- all lines are read, and there is no instruction
+pub record HasNone (text : List ℕ) (line told : ℕ) : Type 0 where
+  pub read : lines_read 0 [] (slice_split (λ b. b == 10) text) ≡ Ok []
+  pub number : line ≡ 0
+  pub code : told ≡ code_number Nothing

@@ -12,7 +12,7 @@ mod text;
 
 pub use fault::AsmFault;
 pub use listing::disassemble;
-pub use text::{assemble, listings_read_back};
+pub use text::{assemble, fault_is_first, listings_read_back};
 
 #[cfg(test)]
 mod tests;

@@ -1,12 +1,12 @@
 //! Texts to programs.
-ghost use Rattle.std.specs.Prelude.{◌≡◌, ◌==◌, ◌<◌, ◌≤◌, IfOk, Ok, List, [], ◌∷◌};
+ghost use Rattle.std.specs.Prelude.{◌≡◌, ◌⊎◌, ℕ, ◌==◌, ◌<◌, ◌≤◌, IfOk, Ok, Err, List, [], ◌∷◌};
 ghost use Rattle.std.specs.List.{slice_split, AllByRecursion};
 ghost use Rattle.pb_isa.specs.Bounds.{Fits};
 ghost use Rattle.pb_isa.specs.declared.insn.Insn.{Insn};
 ghost use Rattle.pb_isa.specs.Slots.{slots, IsProgram};
 ghost use Rattle.pb_asm.specs.Reading.{Gives, plain};
 ghost use Rattle.pb_asm.specs.Listing.{listing};
-ghost use Rattle.pb_asm.specs.Texts.{is_skipped, with_line, lines_read, program_of, Reads, ReadsLines};
+ghost use Rattle.pb_asm.specs.Texts.{is_skipped, with_line, lines_read, program_of, Reads, ReadsLines, StopsAt, HasNone};
 
 use crate::fault::{AsmFault, Code};
 use crate::line::line_of;
@@ -99,4 +99,9 @@ pub fn assemble(alloc: Global, text: &str) -> Result<Program, AsmFault>
 /// Each listing is a text with one reading, its program.
 pub fn listings_read_back()
     ensures { (p : List Insn) → IsProgram p → AllByRecursion Fits p → program_of (listing p) ≡ Ok p }
+{}
+
+/// The fault that is told is that of the first line at fault, after lines that are read; or no line has an instruction.
+pub fn fault_is_first()
+    ensures { (text : List ℕ) (line told : ℕ) → program_of text ≡ Err (line, told) → StopsAt text line told ⊎ HasNone text line told }
 {}

@@ -1,6 +1,5 @@
 mod vectors;
 
-use crate::tests::vectors::VECTORS;
 use crate::{DecodeFault, decode, encode};
 use pb_base::Refused;
 use pb_isa::{AluOp, Cmp, Insn, Operand, Program, Reg, Size, Width};
@@ -33,13 +32,7 @@ fn is_pair(rt: &impl Abort, alloc: Global, insn: Insn, bytes: &[u8]) -> bool {
 }
 
 #[test]
-fn outside_vectors(rt: HostRuntime) {
-    for (insn, slot) in VECTORS {
-        assert!(rt;
-            is_pair(&rt, rt.alloc(), insn, &slot.to_be_bytes()),
-            "{insn:?}"
-        );
-    }
+fn wide_immediate_of_llvm(rt: HostRuntime) {
     // r1 = 4294967303 ll
     let pair = bytes_of(
         &rt,
