@@ -4,3 +4,4 @@ pub mod Alu
 pub mod Helpers
 pub mod Machine
 pub mod Meaning
+pub mod Bounds

@@ -1,6 +1,6 @@
 //! Registers and instructions.
 ghost use Rattle.std.specs.Prelude.{◌≡◌, ◌<◌};
-ghost use Rattle.pb_isa.specs.Registers.{number};
+ghost use Rattle.pb_isa.specs.Registers.{number, reg_of};
 
 /// A register. R10 is read-only: it points to the end of the stack.
 #[derive(Clone, Copy, Debug, PartialEq, Eq)]
@@ -25,6 +25,26 @@ impl Reg {
         ensures below { result < 11 }
     {
         self as usize
+    }
+
+    /// The register of a number; none where it is over 10.
+    pub fn of(number: u8) -> Option<Reg>
+        ensures { result ≡ reg_of number }
+    {
+        let registers = [
+            Reg::R0,
+            Reg::R1,
+            Reg::R2,
+            Reg::R3,
+            Reg::R4,
+            Reg::R5,
+            Reg::R6,
+            Reg::R7,
+            Reg::R8,
+            Reg::R9,
+            Reg::R10,
+        ];
+        registers.get(usize::from(number)).copied()
     }
 }
 

@@ -1,0 +1,6 @@
+mod Numbers
+pub mod Slots
+mod Cutting
+mod Shapes
+mod Back
+mod First

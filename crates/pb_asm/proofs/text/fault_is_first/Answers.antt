@@ -1,0 +1,5 @@
+use Rattle.pb_asm.proofs.First.{first}
+use Rattle.pb_asm.proofs.text.fault_is_first.Goals as goal
+
+pub returns : goal.returns
+returns c = first

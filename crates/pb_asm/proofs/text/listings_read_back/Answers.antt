@@ -1,0 +1,5 @@
+use Rattle.pb_asm.proofs.Back.{listing_back}
+use Rattle.pb_asm.proofs.text.listings_read_back.Goals as goal
+
+pub returns : goal.returns
+returns c = listing_back

@@ -1,0 +1,109 @@
+-- The words of the assembler text.
+use Rattle.std.specs.Prelude.{ℕ, if◌then◌else◌, List, [], ◌∷◌, ◌++◌, map, codes, Option, Some, None}
+use Rattle.std.specs.List.{flat_map}
+use Rattle.std.specs.Str.{bytes_eq}
+use Rattle.pb_isa.specs.declared.insn.Reg.{Reg}
+use Rattle.pb_isa.specs.declared.insn.Reg.TheVariants.{R0, R1, R2, R3, R4, R5, R6, R7, R8, R9, R10}
+use Rattle.pb_isa.specs.declared.insn.AluOp.{AluOp}
+use Rattle.pb_isa.specs.declared.insn.AluOp.TheVariants.{Add, Sub, Mul, Div, Or, And, Lsh, Rsh, Mod, Xor, Mov, Arsh}
+use Rattle.pb_isa.specs.declared.insn.Cmp.{Cmp}
+use Rattle.pb_isa.specs.declared.insn.Cmp.TheVariants.{Eq, Gt, Ge, Set, Ne, Sgt, Sge, Lt, Le, Slt, Sle}
+use Rattle.pb_isa.specs.declared.insn.Width.{Width}
+use Rattle.pb_isa.specs.declared.insn.Width.TheVariants.{W32, W64}
+use Rattle.pb_isa.specs.declared.insn.Size.{Size}
+use Rattle.pb_isa.specs.declared.insn.Size.TheVariants.{B, H, W, Dw}
+use Rattle.pb_asm.specs.declared.names.Word.{Word}
+use Rattle.pb_asm.specs.declared.names.Word.TheVariants.{Alu, Neg, LoadImm, Load, StoreImm, Store, Jump, JumpIf, Call, Exit}
+
+abbrev pub op_name : AluOp → List ℕ
+op_name Add = codes "add"
+op_name Sub = codes "sub"
+op_name Mul = codes "mul"
+op_name Div = codes "div"
+op_name Or = codes "or"
+op_name And = codes "and"
+op_name Lsh = codes "lsh"
+op_name Rsh = codes "rsh"
+op_name Mod = codes "mod"
+op_name Xor = codes "xor"
+op_name Mov = codes "mov"
+op_name Arsh = codes "arsh"
+
+abbrev pub cmp_name : Cmp → List ℕ
+cmp_name Eq = codes "jeq"
+cmp_name Gt = codes "jgt"
+cmp_name Ge = codes "jge"
+cmp_name Set = codes "jset"
+cmp_name Ne = codes "jne"
+cmp_name Sgt = codes "jsgt"
+cmp_name Sge = codes "jsge"
+cmp_name Lt = codes "jlt"
+cmp_name Le = codes "jle"
+cmp_name Slt = codes "jslt"
+cmp_name Sle = codes "jsle"
+
+abbrev pub size_name : Size → List ℕ
+size_name B = codes "b"
+size_name H = codes "h"
+size_name W = codes "w"
+size_name Dw = codes "dw"
+
+abbrev pub width_name : Width → List ℕ
+width_name W32 = codes "32"
+width_name W64 = codes "64"
+
+-- the first word of a line
+abbrev pub name : Word → List ℕ
+name (Alu op w) = op_name op ++ width_name w
+name (Neg w) = codes "neg" ++ width_name w
+name LoadImm = codes "lddw"
+name (Load z) = codes "ldx" ++ size_name z
+name (StoreImm z) = codes "st" ++ size_name z
+name (Store z) = codes "stx" ++ size_name z
+name Jump = codes "ja"
+name (JumpIf c w) = cmp_name c ++ width_name w
+name Call = codes "call"
+name Exit = codes "exit"
+
+abbrev pub sizes : List Size
+sizes = B ∷ H ∷ W ∷ Dw ∷ []
+
+-- every word that there is
+unfoldable pub words : List Word
+words =
+    flat_map (λ op. Alu op W32 ∷ Alu op W64 ∷ []) (Add ∷ Sub ∷ Mul ∷ Div ∷ Or ∷ And ∷ Lsh ∷ Rsh ∷ Mod ∷ Xor ∷ Mov ∷ Arsh ∷ [])
+    ++ flat_map (λ c. JumpIf c W32 ∷ JumpIf c W64 ∷ []) (Eq ∷ Gt ∷ Ge ∷ Set ∷ Ne ∷ Sgt ∷ Sge ∷ Lt ∷ Le ∷ Slt ∷ Sle ∷ [])
+    ++ map Load sizes ++ map StoreImm sizes ++ map Store sizes
+    ++ Neg W32 ∷ Neg W64 ∷ LoadImm ∷ Jump ∷ Call ∷ Exit ∷ []
+
+abbrev pub word_in : List ℕ → List Word → Option Word
+word_in text [] = None
+word_in text (w ∷ ws) = if bytes_eq text (name w) then Some w else word_in text ws
+
+-- the word of this name, if there is one
+abbrev pub word_named : List ℕ → Option Word
+word_named text = word_in text words
+
+abbrev pub reg_name : Reg → List ℕ
+reg_name R0 = codes "r0"
+reg_name R1 = codes "r1"
+reg_name R2 = codes "r2"
+reg_name R3 = codes "r3"
+reg_name R4 = codes "r4"
+reg_name R5 = codes "r5"
+reg_name R6 = codes "r6"
+reg_name R7 = codes "r7"
+reg_name R8 = codes "r8"
+reg_name R9 = codes "r9"
+reg_name R10 = codes "r10"
+
+-- every register
+unfoldable pub registers : List Reg
+registers = R0 ∷ R1 ∷ R2 ∷ R3 ∷ R4 ∷ R5 ∷ R6 ∷ R7 ∷ R8 ∷ R9 ∷ R10 ∷ []
+
+abbrev pub reg_in : List ℕ → List Reg → Option Reg
+reg_in text [] = None
+reg_in text (r ∷ rs) = if bytes_eq text (reg_name r) then Some r else reg_in text rs
+
+abbrev pub reg_named : List ℕ → Option Reg
+reg_named text = reg_in text registers

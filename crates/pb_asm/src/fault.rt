@@ -1,0 +1,84 @@
+//! Why a text is no program.
+ghost use Rattle.std.specs.Prelude.{◌≡◌, ◌≢◌, ◌<◌, ◌+◌};
+ghost use Rattle.pb_asm.specs.Texts.{code_number};
+ghost use Rattle.pb_asm.specs.declared.fault.Code.TheVariants.{Memory};
+
+use std::alloc::{AllocError, AllocFailed};
+use thiserror::Error;
+
+/// What is wrong with a line, or with the text.
+#[derive(Clone, Copy, Debug, PartialEq, Eq, Drop)]
+pub enum Code {
+    /// No memory.
+    Memory,
+    /// A first word that is none of the instructions'.
+    Word,
+    /// Operands that are not of the form.
+    Form,
+    /// A number out of range.
+    Range,
+    /// An instruction that ends past slot 512.
+    TooLong,
+    /// No instruction.
+    Nothing,
+}
+
+impl Code {
+    /// The number by which a code is told.
+    pub fn code(self) -> u8
+        ensures { result ≡ code_number self }
+    {
+        match self {
+            Code::Memory => 1,
+            Code::Word => 80,
+            Code::Form => 81,
+            Code::Range => 82,
+            Code::TooLong => 83,
+            Code::Nothing => 84,
+        }
+    }
+}
+
+impl From<AllocError> for Code {
+    ghost from_gives = { λ _ e. e ≡ Memory };
+
+    fn from(_e: AllocError) -> Code {
+        Code::Memory
+    }
+}
+
+impl<T: Drop> From<AllocFailed<T>> for Code {
+    ghost from_gives = { λ _ e. e ≡ Memory };
+
+    fn from(_e: AllocFailed<T>) -> Code {
+        Code::Memory
+    }
+}
+
+/// The line at which a text is at fault, from 1, and the code: 80 an unknown first word, 81 operands that are not of the
+/// form, 82 a number out of range, 83 an instruction that ends past slot 512, 84 no instruction at all, which has line 0.
+/// Where memory ran out it is line 0 with code 1.
+#[derive(Clone, Copy, Debug, PartialEq, Eq, Drop, Error)]
+#[error("line {line} code {code}")]
+pub struct AsmFault {
+    pub line: usize,
+    pub code: u8,
+}
+
+impl AsmFault {
+    /// At the line of this index.
+    pub fn at(index: usize, code: Code) -> AsmFault
+        requires { index < usize.MAX }
+        ensures memory { code ≡ Memory → result ≡ record { line = 0; code = 1 } }
+        ensures other { code ≢ Memory → result ≡ record { line = index + 1; code = code_number code } }
+    {
+        let line = match code {
+            Code::Memory => 0,
+            _ => index + 1,
+        };
+        AsmFault {
+            line,
+            code: code.code(),
+        }
+    }
+}

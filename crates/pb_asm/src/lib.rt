@@ -1,0 +1,18 @@
+//! Programs as text, and back.
+#![tactic(auto)]
+
+mod cuts;
+mod fault;
+mod line;
+mod lines;
+mod listing;
+mod names;
+mod operands;
+mod text;
+
+pub use fault::AsmFault;
+pub use listing::disassemble;
+pub use text::{assemble, fault_is_first, listings_read_back};
+
+#[cfg(test)]
+mod tests;

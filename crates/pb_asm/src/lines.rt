@@ -1,0 +1,13 @@
+//! What has been read of a text.
+ghost use Rattle.std.specs.Prelude.{◌≡◌};
+ghost use Rattle.pb_isa.specs.Slots.{slots};
+
+use pb_isa::Insn;
+
+/// The instructions of the lines so far, and how many slots they take.
+#[derive(Drop)]
+pub struct Lines {
+    pub insns: Vec<Insn>,
+    pub taken: usize,
+    ghost counted: { taken ≡ slots insns.items },
+}

@@ -1,0 +1,105 @@
+//! Programs to texts.
+ghost use Rattle.std.specs.Prelude.{◌≡◌, ◌++◌, IfOk, string_bytes, codes};
+ghost use Rattle.pb_asm.specs.Names.{name};
+ghost use Rattle.pb_asm.specs.Listing.{operand_text, offset_text, place_text, insn_text, listing};
+
+use crate::names::{Word, reg_name};
+use pb_base::NoMemory;
+use pb_isa::{Insn, Operand, Program, Reg};
+use std::alloc::{AllocError, Global};
+
+fn operand_text(alloc: Global, operand: Operand) -> Result<String, AllocError>
+    ensures { IfOk result (λ s. string_bytes s ≡ operand_text operand) }
+{
+    match operand {
+        Operand::Imm(imm) => format!(in alloc; "{imm}"),
+        Operand::Reg(reg) => String::from_str(alloc, reg_name(reg)),
+    }
+}
+
+// An offset has its sign always.
+fn offset_text(alloc: Global, offset: i16) -> Result<String, AllocError>
+    ensures { IfOk result (λ s. string_bytes s ≡ offset_text offset) }
+{
+    if offset < 0 {
+        format!(in alloc; "{offset}")
+    } else {
+        format!(in alloc; "+{offset}")
+    }
+}
+
+fn place_text(alloc: Global, base: Reg, offset: i16) -> Result<String, AllocError>
+    ensures { IfOk result (λ s. string_bytes s ≡ place_text base offset) }
+{
+    let base = reg_name(base);
+    let offset = offset_text(alloc, offset)?;
+    format!(in alloc; "[{base}{offset}]")
+}
+
+// A first word and one operand.
+fn one(alloc: Global, word: Word, operand: &str) -> Result<String, AllocError>
+    ensures { IfOk result (λ s. string_bytes s ≡ name word ++ (codes " " ++ operand.now)) }
+{
+    let name = word.name();
+    format!(in alloc; "{name} {operand}")
+}
+
+// A first word and two operands.
+fn two(alloc: Global, word: Word, first: &str, second: &str) -> Result<String, AllocError>
+    ensures { IfOk result (λ s. string_bytes s ≡ name word ++ (codes " " ++ (first.now ++ (codes ", " ++ second.now)))) }
+{
+    let name = word.name();
+    format!(in alloc; "{name} {first}, {second}")
+}
+
+fn insn_text(alloc: Global, insn: Insn) -> Result<String, AllocError>
+    ensures { IfOk result (λ s. string_bytes s ≡ insn_text insn) }
+{
+    match insn {
+        Insn::Alu(op, width, dst, operand) => {
+            let operand = operand_text(alloc, operand)?;
+            two(alloc, Word::Alu(op, width), reg_name(dst), &operand)
+        }
+        Insn::Neg(width, dst) => one(alloc, Word::Neg(width), reg_name(dst)),
+        Insn::LoadImm(dst, value) => {
+            let value = format!(in alloc; "{value}")?;
+            two(alloc, Word::LoadImm, reg_name(dst), &value)
+        }
+        Insn::Load(size, dst, base, offset) => {
+            let place = place_text(alloc, base, offset)?;
+            two(alloc, Word::Load(size), reg_name(dst), &place)
+        }
+        Insn::StoreImm(size, base, offset, imm) => {
+            let place = place_text(alloc, base, offset)?;
+            let imm = format!(in alloc; "{imm}")?;
+            two(alloc, Word::StoreImm(size), &place, &imm)
+        }
+        Insn::Store(size, base, offset, src) => {
+            let place = place_text(alloc, base, offset)?;
+            two(alloc, Word::Store(size), &place, reg_name(src))
+        }
+        Insn::Jump(offset) => one(alloc, Word::Jump, &offset_text(alloc, offset)?),
+        Insn::JumpIf(cmp, width, dst, operand, offset) => {
+            let name = Word::JumpIf(cmp, width).name();
+            let dst = reg_name(dst);
+            let operand = operand_text(alloc, operand)?;
+            let offset = offset_text(alloc, offset)?;
+            format!(in alloc; "{name} {dst}, {operand}, {offset}")
+        }
+        Insn::Call(helper) => one(alloc, Word::Call, &format!(in alloc; "{helper}")?),
+        Insn::Exit => String::from_str(alloc, Word::Exit.name()),
+    }
+}
+
+/// The listing of a program: a line for each instruction.
+pub fn disassemble(alloc: Global, program: &Program) -> Result<String, NoMemory>
+    ensures { IfOk result (λ s. string_bytes s ≡ listing program.now) }
+{
+    let mut text = String::new(alloc);
+    for insn in program.insns() {
+        let line = insn_text(alloc, *insn)?;
+        text.push_str(&line)?;
+        text.push('\n')?;
+    }
+    Ok(text)
+}

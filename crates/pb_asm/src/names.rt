@@ -1,0 +1,232 @@
+//! The words of the text.
+ghost use Rattle.std.specs.Prelude.{◌≡◌};
+ghost use Rattle.pb_asm.specs.Names.{name, word_in, word_named, reg_name, reg_in, reg_named};
+
+use pb_isa::{AluOp, Cmp, Reg, Size, Width};
+
+/// The first word of a line: which instruction it is.
+#[derive(Clone, Copy, Debug, PartialEq, Eq)]
+pub enum Word {
+    Alu(AluOp, Width),
+    Neg(Width),
+    LoadImm,
+    Load(Size),
+    StoreImm(Size),
+    Store(Size),
+    Jump,
+    JumpIf(Cmp, Width),
+    Call,
+    Exit,
+}
+
+impl Word {
+    /// How it is written.
+    pub fn name(self) -> &'static str
+        ensures { result.now ≡ name self }
+    {
+        match self {
+            Word::Alu(AluOp::Add, Width::W32) => "add32",
+            Word::Alu(AluOp::Add, Width::W64) => "add64",
+            Word::Alu(AluOp::Sub, Width::W32) => "sub32",
+            Word::Alu(AluOp::Sub, Width::W64) => "sub64",
+            Word::Alu(AluOp::Mul, Width::W32) => "mul32",
+            Word::Alu(AluOp::Mul, Width::W64) => "mul64",
+            Word::Alu(AluOp::Div, Width::W32) => "div32",
+            Word::Alu(AluOp::Div, Width::W64) => "div64",
+            Word::Alu(AluOp::Or, Width::W32) => "or32",
+            Word::Alu(AluOp::Or, Width::W64) => "or64",
+            Word::Alu(AluOp::And, Width::W32) => "and32",
+            Word::Alu(AluOp::And, Width::W64) => "and64",
+            Word::Alu(AluOp::Lsh, Width::W32) => "lsh32",
+            Word::Alu(AluOp::Lsh, Width::W64) => "lsh64",
+            Word::Alu(AluOp::Rsh, Width::W32) => "rsh32",
+            Word::Alu(AluOp::Rsh, Width::W64) => "rsh64",
+            Word::Alu(AluOp::Mod, Width::W32) => "mod32",
+            Word::Alu(AluOp::Mod, Width::W64) => "mod64",
+            Word::Alu(AluOp::Xor, Width::W32) => "xor32",
+            Word::Alu(AluOp::Xor, Width::W64) => "xor64",
+            Word::Alu(AluOp::Mov, Width::W32) => "mov32",
+            Word::Alu(AluOp::Mov, Width::W64) => "mov64",
+            Word::Alu(AluOp::Arsh, Width::W32) => "arsh32",
+            Word::Alu(AluOp::Arsh, Width::W64) => "arsh64",
+            Word::JumpIf(Cmp::Eq, Width::W32) => "jeq32",
+            Word::JumpIf(Cmp::Eq, Width::W64) => "jeq64",
+            Word::JumpIf(Cmp::Gt, Width::W32) => "jgt32",
+            Word::JumpIf(Cmp::Gt, Width::W64) => "jgt64",
+            Word::JumpIf(Cmp::Ge, Width::W32) => "jge32",
+            Word::JumpIf(Cmp::Ge, Width::W64) => "jge64",
+            Word::JumpIf(Cmp::Set, Width::W32) => "jset32",
+            Word::JumpIf(Cmp::Set, Width::W64) => "jset64",
+            Word::JumpIf(Cmp::Ne, Width::W32) => "jne32",
+            Word::JumpIf(Cmp::Ne, Width::W64) => "jne64",
+            Word::JumpIf(Cmp::Sgt, Width::W32) => "jsgt32",
+            Word::JumpIf(Cmp::Sgt, Width::W64) => "jsgt64",
+            Word::JumpIf(Cmp::Sge, Width::W32) => "jsge32",
+            Word::JumpIf(Cmp::Sge, Width::W64) => "jsge64",
+            Word::JumpIf(Cmp::Lt, Width::W32) => "jlt32",
+            Word::JumpIf(Cmp::Lt, Width::W64) => "jlt64",
+            Word::JumpIf(Cmp::Le, Width::W32) => "jle32",
+            Word::JumpIf(Cmp::Le, Width::W64) => "jle64",
+            Word::JumpIf(Cmp::Slt, Width::W32) => "jslt32",
+            Word::JumpIf(Cmp::Slt, Width::W64) => "jslt64",
+            Word::JumpIf(Cmp::Sle, Width::W32) => "jsle32",
+            Word::JumpIf(Cmp::Sle, Width::W64) => "jsle64",
+            Word::Load(Size::B) => "ldxb",
+            Word::Load(Size::H) => "ldxh",
+            Word::Load(Size::W) => "ldxw",
+            Word::Load(Size::Dw) => "ldxdw",
+            Word::StoreImm(Size::B) => "stb",
+            Word::StoreImm(Size::H) => "sth",
+            Word::StoreImm(Size::W) => "stw",
+            Word::StoreImm(Size::Dw) => "stdw",
+            Word::Store(Size::B) => "stxb",
+            Word::Store(Size::H) => "stxh",
+            Word::Store(Size::W) => "stxw",
+            Word::Store(Size::Dw) => "stxdw",
+            Word::Neg(Width::W32) => "neg32",
+            Word::Neg(Width::W64) => "neg64",
+            Word::LoadImm => "lddw",
+            Word::Jump => "ja",
+            Word::Call => "call",
+            Word::Exit => "exit",
+        }
+    }
+
+    /// The word that is written so.
+    #[tactic(auto, unfolding(crate::specs::Names::words))]
+    pub fn named(text: &str) -> Option<Word>
+        ensures { result ≡ word_named text.now }
+    {
+        word_in(&WORDS, text)
+    }
+}
+
+fn word_in(words: &[Word], text: &str) -> Option<Word>
+    ensures { result ≡ word_in text.now words.now }
+{
+    for word in words {
+        if text == word.name() {
+            return Some(*word);
+        }
+    }
+    None
+}
+
+/// How a register is written.
+pub fn reg_name(reg: Reg) -> &'static str
+    ensures { result.now ≡ reg_name reg }
+{
+    match reg {
+        Reg::R0 => "r0",
+        Reg::R1 => "r1",
+        Reg::R2 => "r2",
+        Reg::R3 => "r3",
+        Reg::R4 => "r4",
+        Reg::R5 => "r5",
+        Reg::R6 => "r6",
+        Reg::R7 => "r7",
+        Reg::R8 => "r8",
+        Reg::R9 => "r9",
+        Reg::R10 => "r10",
+    }
+}
+
+fn reg_in(registers: &[Reg], text: &str) -> Option<Reg>
+    ensures { result ≡ reg_in text.now registers.now }
+{
+    for reg in registers {
+        if text == reg_name(*reg) {
+            return Some(*reg);
+        }
+    }
+    None
+}
+
+/// The register that is written so.
+#[tactic(auto, unfolding(crate::specs::Names::registers))]
+pub fn reg_named(text: &str) -> Option<Reg>
+    ensures { result ≡ reg_named text.now }
+{
+    reg_in(&REGISTERS, text)
+}
+
+const REGISTERS: [Reg; 11] = [
+    Reg::R0,
+    Reg::R1,
+    Reg::R2,
+    Reg::R3,
+    Reg::R4,
+    Reg::R5,
+    Reg::R6,
+    Reg::R7,
+    Reg::R8,
+    Reg::R9,
+    Reg::R10,
+];
+
+const WORDS: [Word; 64] = [
+    Word::Alu(AluOp::Add, Width::W32),
+    Word::Alu(AluOp::Add, Width::W64),
+    Word::Alu(AluOp::Sub, Width::W32),
+    Word::Alu(AluOp::Sub, Width::W64),
+    Word::Alu(AluOp::Mul, Width::W32),
+    Word::Alu(AluOp::Mul, Width::W64),
+    Word::Alu(AluOp::Div, Width::W32),
+    Word::Alu(AluOp::Div, Width::W64),
+    Word::Alu(AluOp::Or, Width::W32),
+    Word::Alu(AluOp::Or, Width::W64),
+    Word::Alu(AluOp::And, Width::W32),
+    Word::Alu(AluOp::And, Width::W64),
+    Word::Alu(AluOp::Lsh, Width::W32),
+    Word::Alu(AluOp::Lsh, Width::W64),
+    Word::Alu(AluOp::Rsh, Width::W32),
+    Word::Alu(AluOp::Rsh, Width::W64),
+    Word::Alu(AluOp::Mod, Width::W32),
+    Word::Alu(AluOp::Mod, Width::W64),
+    Word::Alu(AluOp::Xor, Width::W32),
+    Word::Alu(AluOp::Xor, Width::W64),
+    Word::Alu(AluOp::Mov, Width::W32),
+    Word::Alu(AluOp::Mov, Width::W64),
+    Word::Alu(AluOp::Arsh, Width::W32),
+    Word::Alu(AluOp::Arsh, Width::W64),
+    Word::JumpIf(Cmp::Eq, Width::W32),
+    Word::JumpIf(Cmp::Eq, Width::W64),
+    Word::JumpIf(Cmp::Gt, Width::W32),
+    Word::JumpIf(Cmp::Gt, Width::W64),
+    Word::JumpIf(Cmp::Ge, Width::W32),
+    Word::JumpIf(Cmp::Ge, Width::W64),
+    Word::JumpIf(Cmp::Set, Width::W32),
+    Word::JumpIf(Cmp::Set, Width::W64),
+    Word::JumpIf(Cmp::Ne, Width::W32),
+    Word::JumpIf(Cmp::Ne, Width::W64),
+    Word::JumpIf(Cmp::Sgt, Width::W32),
+    Word::JumpIf(Cmp::Sgt, Width::W64),
+    Word::JumpIf(Cmp::Sge, Width::W32),
+    Word::JumpIf(Cmp::Sge, Width::W64),
+    Word::JumpIf(Cmp::Lt, Width::W32),
+    Word::JumpIf(Cmp::Lt, Width::W64),
+    Word::JumpIf(Cmp::Le, Width::W32),
+    Word::JumpIf(Cmp::Le, Width::W64),
+    Word::JumpIf(Cmp::Slt, Width::W32),
+    Word::JumpIf(Cmp::Slt, Width::W64),
+    Word::JumpIf(Cmp::Sle, Width::W32),
+    Word::JumpIf(Cmp::Sle, Width::W64),
+    Word::Load(Size::B),
+    Word::Load(Size::H),
+    Word::Load(Size::W),
+    Word::Load(Size::Dw),
+    Word::StoreImm(Size::B),
+    Word::StoreImm(Size::H),
+    Word::StoreImm(Size::W),
+    Word::StoreImm(Size::Dw),
+    Word::Store(Size::B),
+    Word::Store(Size::H),
+    Word::Store(Size::W),
+    Word::Store(Size::Dw),
+    Word::Neg(Width::W32),
+    Word::Neg(Width::W64),
+    Word::LoadImm,
+    Word::Jump,
+    Word::Call,
+    Word::Exit,
+];

@@ -1,0 +1,144 @@
+//! Registers, numbers and places, each a text of its own.
+ghost use Rattle.std.specs.Prelude.{◌≡◌, ◌≤◌, ◌<◌, ◌^◌, ◌-◌, ◌-ℤ◌, ◌≤ℤ◌, pos, neg_ℤ, IfOk, ℤ};
+ghost use Rattle.std.specs.Char.{is_ascii_digit};
+ghost use Rattle.std.specs.List.{list_all};
+ghost use Rattle.pb_asm.specs.Reading.{Gives};
+ghost use Rattle.pb_asm.specs.Operands.{is_number, number_upto, minus, plus, imm_of, offset_of, reg_of, operand_of, based, place_of};
+
+use crate::cuts::{around, before, behind};
+use crate::fault::Code;
+use crate::names::reg_named;
+use pb_isa::{Operand, Reg};
+
+fn all_digits(digits: &[u8]) -> bool
+    ensures { result ≡ list_all is_ascii_digit digits.now }
+{
+    digits.iter().all(|b| b.is_ascii_digit())
+}
+
+// Digits without a leading zero.
+fn is_number(text: &str) -> bool
+    ensures { result ≡ is_number text.now }
+{
+    let digits = text.as_bytes();
+    if digits.is_empty() {
+        return false;
+    }
+    if digits[0] == b'0' && digits.len() > 1 {
+        return false;
+    }
+    all_digits(digits)
+}
+
+/// A number, at most this.
+pub fn number_upto(greatest: u64, text: &str) -> Result<u64, Code>
+    ensures value { Gives (λ n. n) result (number_upto greatest text.now) }
+    ensures bound { IfOk result (λ n. n ≤ greatest) }
+{
+    if !is_number(text) {
+        return Err(Code::Form);
+    }
+    let Ok(number) = text.parse::<u64>() else {
+        return Err(Code::Range);
+    };
+    if number <= greatest {
+        Ok(number)
+    } else {
+        Err(Code::Range)
+    }
+}
+
+// The digits behind a minus: at most this, and not zero.
+#[tactic(auto, unfolding(crate::specs::Operands::minus))]
+fn minus(greatest: u32, text: &str) -> Result<i64, Code>
+    ensures value { Gives (λ z. z) result (minus greatest text.now) }
+    ensures low { IfOk result (λ z. neg_ℤ (pos greatest) ≤ℤ z) }
+    ensures high { IfOk result (λ z. z ≤ℤ pos 0) }
+{
+    let number = number_upto(u64::from(greatest), text)?;
+    if number == 0 {
+        return Err(Code::Form);
+    }
+    Ok(-(number as i64))
+}
+
+// Digits without a minus: below this.
+#[tactic(auto, unfolding(crate::specs::Operands::plus))]
+fn plus(limit: u32, text: &str) -> Result<i64, Code>
+    requires { 0 < limit }
+    ensures value { Gives (λ z. z) result (plus limit text.now) }
+    ensures low { IfOk result (λ z. pos 0 ≤ℤ z) }
+    ensures high { IfOk result (λ z. z ≤ℤ pos (limit - 1)) }
+{
+    let number = number_upto(u64::from(limit - 1), text)?;
+    Ok(number as i64)
+}
+
+/// An immediate, which has a sign only where it is negative.
+pub fn imm_of(text: &str) -> Result<i32, Code>
+    ensures { Gives (λ z. z) result (imm_of text.now) }
+{
+    let number = match behind(text, '-') {
+        Some(digits) => minus(0x8000_0000, digits)?,
+        None => plus(0x8000_0000, text)?,
+    };
+    Ok(number as i32)
+}
+
+/// An offset, which always has a sign.
+pub fn offset_of(text: &str) -> Result<i16, Code>
+    ensures { Gives (λ z. z) result (offset_of text.now) }
+{
+    if let Some(digits) = behind(text, '-') {
+        return Ok(minus(0x8000, digits)? as i16);
+    }
+    match behind(text, '+') {
+        Some(digits) => Ok(plus(0x8000, digits)? as i16),
+        None => Err(Code::Form),
+    }
+}
+
+/// A register.
+pub fn reg_of(text: &str) -> Result<Reg, Code>
+    ensures { Gives (λ r. r) result (reg_of text.now) }
+{
+    match reg_named(text) {
+        Some(reg) => Ok(reg),
+        None => Err(Code::Form),
+    }
+}
+
+/// An operand that may be a register or an immediate.
+#[tactic(auto, unfolding(crate::specs::Operands::operand_of))]
+pub fn operand_of(text: &str) -> Result<Operand, Code>
+    ensures { Gives (λ a. a) result (operand_of text.now) }
+{
+    let bytes = text.as_bytes();
+    if !bytes.is_empty() && bytes[0] == b'r' {
+        Ok(Operand::Reg(reg_of(text)?))
+    } else {
+        Ok(Operand::Imm(imm_of(text)?))
+    }
+}
+
+/// A place in memory: a register and an offset in brackets.
+#[tactic(auto, unfolding(crate::specs::Operands::place_of, crate::specs::Operands::based))]
+pub fn place_of(text: &str) -> Result<(Reg, i16), Code>
+    ensures { Gives (λ p. p) result (place_of text.now) }
+{
+    let Some(front) = behind(text, '[') else {
+        return Err(Code::Form);
+    };
+    let Some(inner) = before(front, ']') else {
+        return Err(Code::Form);
+    };
+    if let Some((base, digits)) = around(inner, '+') {
+        let base = reg_of(base)?;
+        return Ok((base, plus(0x8000, digits)? as i16));
+    }
+    let Some((base, digits)) = around(inner, '-') else {
+        return Err(Code::Form);
+    };
+    let base = reg_of(base)?;
+    Ok((base, minus(0x8000, digits)? as i16))
+}

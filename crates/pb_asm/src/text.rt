@@ -1,0 +1,107 @@
+//! Texts to programs.
+ghost use Rattle.std.specs.Prelude.{◌≡◌, ◌⊎◌, ℕ, ◌==◌, ◌<◌, ◌≤◌, IfOk, Ok, Err, List, [], ◌∷◌};
+ghost use Rattle.std.specs.List.{slice_split, AllByRecursion};
+ghost use Rattle.pb_isa.specs.Bounds.{Fits};
+ghost use Rattle.pb_isa.specs.declared.insn.Insn.{Insn};
+ghost use Rattle.pb_isa.specs.Slots.{slots, IsProgram};
+ghost use Rattle.pb_asm.specs.Reading.{Gives, plain};
+ghost use Rattle.pb_asm.specs.Listing.{listing};
+ghost use Rattle.pb_asm.specs.Texts.{is_skipped, with_line, lines_read, program_of, Reads, ReadsLines, StopsAt, HasNone};
+
+use crate::fault::{AsmFault, Code};
+use crate::line::line_of;
+use crate::lines::Lines;
+use pb_isa::{Insn, NoProgram, Program};
+use std::alloc::{AllocError, Global};
+
+// Empty, or a remark.
+fn is_skipped(line: &str) -> bool
+    ensures { result ≡ is_skipped line.now }
+{
+    let bytes = line.as_bytes();
+    bytes.is_empty() || bytes[0] == b'#'
+}
+
+impl Lines {
+    // Adds what one line says.
+    #[tactic(auto, using(crate::proofs::Slots::slots_push), unfolding(crate::specs::Texts::with_line))]
+    fn add(&mut self, alloc: Global, line: &str) -> Result<(), Code>
+        requires { self.old.taken ≤ 512 }
+        ensures read { Gives (λ _. self.new.insns.items) result (with_line self.old.insns.items line.now) }
+        ensures most { self.new.taken ≤ 512 }
+    {
+        if is_skipped(line) {
+            return Ok(());
+        }
+        let insn = line_of(alloc, line)?;
+        let slots = self.taken + slots_of(insn);
+        if slots > 512 {
+            return Err(Code::TooLong);
+        }
+        self.insns.push(insn)?;
+        self.taken = slots;
+        Ok(())
+    }
+}
+
+// How many slots an instruction takes.
+fn slots_of(insn: Insn) -> usize
+    ensures { result ≡ slots (insn ∷ []) }
+{
+    match insn {
+        Insn::LoadImm(_, _) => 2,
+        _ => 1,
+    }
+}
+
+fn lines_of(alloc: Global, text: &str) -> Result<Vec<&str>, AllocError>
+    ensures { IfOk result (λ v. plain v.items ≡ slice_split (λ b. b == 10) text.now) }
+{
+    text.split('\n').collect(alloc)
+}
+
+// The instructions of all lines.
+fn lines_in(alloc: Global, text: &str) -> Result<Lines, AsmFault>
+    ensures read { ReadsLines result (lines_read 0 [] (slice_split (λ b. b == 10) text.now)) }
+    ensures most { IfOk result (λ l. l.taken ≤ 512) }
+{
+    let Ok(lines) = lines_of(alloc, text) else {
+        return Err(AsmFault { line: 0, code: 1 });
+    };
+    let mut read = Lines {
+        insns: Vec::new(alloc),
+        taken: 0,
+    };
+    for (index, line) in lines.iter().enumerate() {
+        if let Err(code) = read.add(alloc, line) {
+            return Err(AsmFault::at(index, code));
+        }
+    }
+    Ok(read)
+}
+
+/// The program of a text, one instruction a line. Empty lines and lines that begin with `#` are skipped.
+pub fn assemble(alloc: Global, text: &str) -> Result<Program, AsmFault>
+    ensures { Reads result (program_of text.now) }
+{
+    let lines = lines_in(alloc, text)?;
+    if lines.insns.is_empty() {
+        let code = Code::Nothing.code();
+        return Err(AsmFault { line: 0, code });
+    }
+    match Program::new(alloc, lines.insns) {
+        Ok(program) => Ok(program),
+        Err(NoProgram::NoMemory) => Err(AsmFault { line: 0, code: 1 }),
+        Err(NoProgram::NotInRange(_)) => unreachable!(),
+    }
+}
+
+/// Each listing is a text with one reading, its program.
+pub fn listings_read_back()
+    ensures { (p : List Insn) → IsProgram p → AllByRecursion Fits p → program_of (listing p) ≡ Ok p }
+{}
+
+/// The fault that is told is that of the first line at fault, after lines that are read; or no line has an instruction.
+pub fn fault_is_first()
+    ensures { (text : List ℕ) (line told : ℕ) → program_of text ≡ Err (line, told) → StopsAt text line told ⊎ HasNone text line told }
+{}

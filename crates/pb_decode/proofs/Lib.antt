@@ -1,0 +1,4 @@
+mod Bytes
+mod Table
+mod First
+mod Whole

@@ -1,0 +1,5 @@
+pub mod Opcodes
+pub mod Fields
+pub mod Encoding
+pub mod Reading
+pub mod Faults

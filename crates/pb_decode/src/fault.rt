@@ -1,0 +1,72 @@
+//! Why bytes are no program.
+ghost use Rattle.std.specs.Prelude.{◌≡◌};
+ghost use Rattle.pb_decode.specs.Faults.{code_number};
+ghost use Rattle.pb_decode.specs.declared.fault.DecodeFault.TheVariants.{NoMemory};
+
+use pb_base::Refused;
+use std::alloc::{AllocError, AllocFailed};
+use thiserror::Error;
+
+/// What is wrong with the bytes.
+#[derive(Clone, Copy, Debug, PartialEq, Eq)]
+pub enum Code {
+    /// Their length is zero, or no multiple of 8.
+    Length,
+    /// Over 512 slots.
+    TooLong,
+    /// An opcode outside the profile.
+    Opcode,
+    /// A register number over 10.
+    Register,
+    /// An unused field that is not zero.
+    Unused,
+    /// A pair cut off by the end.
+    CutOff,
+    /// A pair's second slot that has more than an immediate.
+    SecondSlot,
+}
+
+impl Code {
+    /// The number by which a code is told.
+    pub fn code(self) -> u8
+        ensures { result ≡ code_number self }
+    {
+        match self {
+            Code::Length => 10,
+            Code::TooLong => 11,
+            Code::Opcode => 12,
+            Code::Register => 13,
+            Code::Unused => 14,
+            Code::CutOff => 15,
+            Code::SecondSlot => 16,
+        }
+    }
+}
+
+/// Why bytes were not decoded: memory was refused, or they are at fault, at a slot (from 0) and with a code: 10 no bytes,
+/// or no multiple of 8, 11 over 512 slots, 12 an opcode outside the profile, 13 a register number over 10, 14 an unused
+/// field that is not zero, 15 a pair cut off by the end, 16 a pair's second slot that has more than an immediate. For 10
+/// and 11 the slot is 0, and for 15 and 16 it is the pair's first.
+#[derive(Clone, Copy, Debug, PartialEq, Eq, Drop, Error)]
+pub enum DecodeFault {
+    #[error("no memory")]
+    NoMemory,
+    #[error("{0}")]
+    Refused(Refused),
+}
+
+impl From<AllocError> for DecodeFault {
+    ghost from_gives = { λ _ e. e ≡ NoMemory };
+
+    fn from(_e: AllocError) -> DecodeFault {
+        DecodeFault::NoMemory
+    }
+}
+
+impl<T: Drop> From<AllocFailed<T>> for DecodeFault {
+    ghost from_gives = { λ _ e. e ≡ NoMemory };
+
+    fn from(_e: AllocFailed<T>) -> DecodeFault {
+        DecodeFault::NoMemory
+    }
+}

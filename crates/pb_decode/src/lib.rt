@@ -1,0 +1,15 @@
+//! Programs as bytes, by the instruction encoding of RFC 9669, and back.
+#![tactic(auto)]
+
+mod fault;
+mod fields;
+mod forms;
+mod reading;
+mod writing;
+
+pub use fault::DecodeFault;
+pub use reading::{decode, either_program_or_fault};
+pub use writing::encode;
+
+#[cfg(test)]
+mod tests;

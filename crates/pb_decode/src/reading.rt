@@ -1,0 +1,171 @@
+//! Bytes to programs.
+ghost use Rattle.std.specs.Prelude.{◌≡◌, ◌≤◌, ◌*◌, ◌%◌, ◌⊎◌, ℕ, List, length, IfOk, IfErr};
+ghost use Rattle.pb_isa.specs.declared.insn.Insn.{Insn};
+ghost use Rattle.pb_isa.specs.Registers.{reg_of};
+ghost use Rattle.pb_decode.specs.declared.fault.Code.{Code};
+ghost use Rattle.pb_decode.specs.declared.fault.Code.TheVariants.{Register};
+ghost use Rattle.pb_decode.specs.Fields.{slot_at};
+ghost use Rattle.pb_decode.specs.Encoding.{encoding, Encodes};
+ghost use Rattle.pb_decode.specs.Reading.{Gives, or_code, is_second, pair_of, insn_of, first_of};
+ghost use Rattle.pb_decode.specs.Faults.{whole_fault, told_as, IsFault, IsTold, IsRefusal, IsRefusalInside, IsNoMemory, IsNoMemoryOr, AreSpelt, AreBytes, HasProgram, HasFault};
+
+use crate::fault::{Code, DecodeFault};
+use crate::fields::Slot;
+use crate::forms::{Form, Source};
+use pb_base::Refused;
+use pb_isa::{Insn, NoProgram, Operand, Program, Reg};
+use std::alloc::Global;
+
+// The register of a number.
+fn register(number: u8) -> Result<Reg, Code>
+    ensures { result ≡ or_code Register (reg_of number) }
+{
+    match Reg::of(number) {
+        Some(reg) => Ok(reg),
+        None => Err(Code::Register),
+    }
+}
+
+// Whether a slot has nothing but an immediate.
+fn is_second(slot: Slot) -> bool
+    ensures { result ≡ is_second slot }
+{
+    slot.opcode == 0 && slot.dst == 0 && slot.src == 0 && slot.offset == 0
+}
+
+// The 64-bit immediate of this low half, whose high half stands in the slot behind.
+fn pair_of(dst: Reg, low: u32, bytes: &[u8]) -> Result<(Insn, &[u8]), Code>
+    ensures { Gives (λ x. (x.0, x.1.now)) result (pair_of dst low bytes.now) }
+{
+    if bytes.len() < 8 {
+        return Err(Code::CutOff);
+    }
+    let second = Slot::at(bytes);
+    if !is_second(second) {
+        return Err(Code::SecondSlot);
+    }
+    let value = u64::from(low) + 0x1_0000_0000 * u64::from(second.imm);
+    Ok((Insn::LoadImm(dst, value), &bytes[8..]))
+}
+
+// The instruction of a form with these fields, and the bytes behind it.
+fn insn_of(form: Form, dst: Reg, src: Reg, slot: Slot, bytes: &[u8]) -> Result<(Insn, &[u8]), Code>
+    ensures { Gives (λ x. (x.0, x.1.now)) result (insn_of form dst src slot bytes.now) }
+{
+    let imm = slot.imm.cast_signed();
+    let offset = slot.offset.cast_signed();
+    let insn = match form {
+        Form::Alu(op, width, Source::K) => Insn::Alu(op, width, dst, Operand::Imm(imm)),
+        Form::Alu(op, width, Source::X) => Insn::Alu(op, width, dst, Operand::Reg(src)),
+        Form::Neg(width) => Insn::Neg(width, dst),
+        Form::LoadImm => return pair_of(dst, slot.imm, bytes),
+        Form::Load(size) => Insn::Load(size, dst, src, offset),
+        Form::StoreImm(size) => Insn::StoreImm(size, dst, offset, imm),
+        Form::Store(size) => Insn::Store(size, dst, offset, src),
+        Form::Jump => Insn::Jump(offset),
+        Form::JumpIf(cmp, width, Source::K) => {
+            Insn::JumpIf(cmp, width, dst, Operand::Imm(imm), offset)
+        }
+        Form::JumpIf(cmp, width, Source::X) => {
+            Insn::JumpIf(cmp, width, dst, Operand::Reg(src), offset)
+        }
+        Form::Call => Insn::Call(imm),
+        Form::Exit => Insn::Exit,
+    };
+    Ok((insn, bytes))
+}
+
+// The instruction at the front, and the bytes behind it; or the lowest code that applies.
+#[tactic(auto, unfolding(crate::specs::Reading::first_with))]
+fn first_of(bytes: &[u8]) -> Result<(Insn, &[u8]), Code>
+    requires { 8 ≤ length bytes.now }
+    ensures { Gives (λ x. (x.0, x.1.now)) result (first_of bytes.now) }
+{
+    let slot = Slot::at(bytes);
+    let Some(form) = Form::of(slot.opcode) else {
+        return Err(Code::Opcode);
+    };
+    let dst = register(slot.dst)?;
+    let src = register(slot.src)?;
+    if !form.is_clean(slot) {
+        return Err(Code::Unused);
+    }
+    insn_of(form, dst, src, slot, &bytes[8..])
+}
+
+// The fault of the whole.
+fn whole_fault(bytes: &[u8]) -> Option<Code>
+    ensures { result ≡ whole_fault bytes.now }
+{
+    if bytes.is_empty() || bytes.len() % 8 != 0 {
+        Some(Code::Length)
+    } else if bytes.len() > 8 * 512 {
+        Some(Code::TooLong)
+    } else {
+        None
+    }
+}
+
+// A fault at a slot.
+fn refused(slot: u16, code: Code) -> DecodeFault
+    ensures { result ≡ told_as slot code }
+{
+    let code = code.code();
+    DecodeFault::Refused(Refused { slot, code })
+}
+
+// The instructions that the bytes spell, one after the other.
+fn insns_of(alloc: Global, bytes: &[u8]) -> Result<Vec<Insn>, DecodeFault>
+    requires whole { length bytes.now % 8 ≡ 0 }
+    requires most { length bytes.now ≤ 8 * 512 }
+    ensures ok { IfOk result (λ v. AreSpelt bytes.now v.items) }
+    ensures err { IfErr result (IsRefusalInside bytes.now) }
+{
+    let mut insns = Vec::new(alloc);
+    let mut rest = bytes;
+    while !rest.is_empty() {
+        let (insn, after) = match first_of(rest) {
+            Ok(found) => found,
+            Err(code) => {
+                let slot = (bytes.len() - rest.len()) / 8;
+                return Err(refused(slot as u16, code));
+            }
+        };
+        insns.push(insn)?;
+        rest = after;
+    }
+    Ok(insns)
+}
+
+// The program that the bytes are, or why they are none.
+fn program_of(alloc: Global, bytes: &[u8]) -> Result<Program, DecodeFault>
+    ensures ok { IfOk result (λ p. Encodes bytes.now p) }
+    ensures err { IfErr result (IsRefusal bytes.now) }
+{
+    if let Some(code) = whole_fault(bytes) {
+        return Err(refused(0, code));
+    }
+    match Program::new(alloc, insns_of(alloc, bytes)?) {
+        Ok(program) => Ok(program),
+        Err(NoProgram::NoMemory) => Err(DecodeFault::NoMemory),
+        Err(NoProgram::NotInRange(_)) => unreachable!(),
+    }
+}
+
+/// The program whose encoding the bytes are. Where they are none's, the first slot at fault and its lowest code.
+pub fn decode(alloc: Global, bytes: &[u8]) -> Result<Program, DecodeFault>
+    ensures ok { IfOk result (λ p. Encodes bytes.now p) }
+    ensures err { IfErr result (IsRefusal bytes.now) }
+    ensures program { (p : List Insn) → Encodes bytes.now p → IfOk result (λ q. q ≡ p) × IfErr result IsNoMemory }
+    ensures fault { (slot told : ℕ) → IsTold bytes.now slot told → IfOk result (λ _. ⊥) × IfErr result (IsNoMemoryOr slot told) }
+{
+    program_of(alloc, bytes)
+}
+
+/// A list of bytes is one program's, or has one fault, and not both.
+pub fn either_program_or_fault()
+    ensures either { (bytes : List ℕ) → AreBytes bytes → HasProgram bytes ⊎ HasFault bytes }
+    ensures not_both { (bytes : List ℕ) (p : List Insn) (slot : ℕ) (code : Code) → Encodes bytes p → IsFault bytes slot code → ⊥ }
+    ensures one_program { (bytes : List ℕ) (p q : List Insn) → Encodes bytes p → Encodes bytes q → p ≡ q }
+    ensures one_fault { (bytes : List ℕ) (s t : ℕ) (c d : Code) → IsFault bytes s c → IsFault bytes t d → (s ≡ t) × (c ≡ d) }
+{}

@@ -1,0 +1,132 @@
+//! Programs to bytes.
+ghost use Rattle.std.specs.Prelude.{◌≡◌, ◌++◌, IfOk, OnOk, ◌<◌};
+ghost use Rattle.pb_isa.specs.declared.insn.Insn.TheVariants as insn;
+ghost use Rattle.pb_isa.specs.Registers.{number};
+ghost use Rattle.pb_decode.specs.Encoding.{slot, first_slot, second_bytes, insn_bytes, encoding};
+
+use crate::fields::Slot;
+use crate::forms::{Form, Source};
+use pb_base::NoMemory;
+use pb_isa::{AluOp, Cmp, Insn, Operand, Program, Reg, Width};
+use std::alloc::{AllocError, Global};
+
+// A register's number.
+fn number(reg: Reg) -> u8
+    ensures number { result ≡ number reg }
+    ensures below { result < 11 }
+{
+    reg.number() as u8
+}
+
+// A slot of a form.
+fn slot(form: Form, dst: u8, src: u8, offset: u16, imm: u32) -> Slot
+    ensures { result ≡ slot form dst src offset imm }
+{
+    let opcode = form.opcode();
+    Slot {
+        opcode,
+        dst,
+        src,
+        offset,
+        imm,
+    }
+}
+
+// The slot of an arithmetic operation.
+fn alu_slot(op: AluOp, width: Width, dst: Reg, operand: Operand) -> Slot
+    ensures slot { result ≡ first_slot (insn.Alu op width dst operand) }
+    ensures dst { result.dst < 16 }
+    ensures src { result.src < 16 }
+{
+    let dst = number(dst);
+    match operand {
+        Operand::Imm(imm) => {
+            let form = Form::Alu(op, width, Source::K);
+            slot(form, dst, 0, 0, imm.cast_unsigned())
+        }
+        Operand::Reg(src) => slot(Form::Alu(op, width, Source::X), dst, number(src), 0, 0),
+    }
+}
+
+// The slot of a conditional jump.
+fn jump_slot(cmp: Cmp, width: Width, dst: Reg, operand: Operand, offset: i16) -> Slot
+    ensures slot { result ≡ first_slot (insn.JumpIf cmp width dst operand offset) }
+    ensures dst { result.dst < 16 }
+    ensures src { result.src < 16 }
+{
+    let dst = number(dst);
+    let offset = offset.cast_unsigned();
+    match operand {
+        Operand::Imm(imm) => {
+            let form = Form::JumpIf(cmp, width, Source::K);
+            slot(form, dst, 0, offset, imm.cast_unsigned())
+        }
+        Operand::Reg(src) => {
+            let form = Form::JumpIf(cmp, width, Source::X);
+            slot(form, dst, number(src), offset, 0)
+        }
+    }
+}
+
+// The first slot of an instruction.
+fn first_slot(insn: Insn) -> Slot
+    ensures slot { result ≡ first_slot insn }
+    ensures dst { result.dst < 16 }
+    ensures src { result.src < 16 }
+{
+    match insn {
+        Insn::Alu(op, width, dst, operand) => alu_slot(op, width, dst, operand),
+        Insn::Neg(width, dst) => slot(Form::Neg(width), number(dst), 0, 0, 0),
+        Insn::LoadImm(dst, value) => {
+            let low = (value % 0x1_0000_0000) as u32;
+            slot(Form::LoadImm, number(dst), 0, 0, low)
+        }
+        Insn::Load(size, dst, base, offset) => {
+            let offset = offset.cast_unsigned();
+            slot(Form::Load(size), number(dst), number(base), offset, 0)
+        }
+        Insn::StoreImm(size, base, offset, imm) => {
+            let (offset, imm) = (offset.cast_unsigned(), imm.cast_unsigned());
+            slot(Form::StoreImm(size), number(base), 0, offset, imm)
+        }
+        Insn::Store(size, base, offset, src) => {
+            let offset = offset.cast_unsigned();
+            slot(Form::Store(size), number(base), number(src), offset, 0)
+        }
+        Insn::Jump(offset) => slot(Form::Jump, 0, 0, offset.cast_unsigned(), 0),
+        Insn::JumpIf(cmp, width, dst, operand, offset) => {
+            jump_slot(cmp, width, dst, operand, offset)
+        }
+        Insn::Call(helper) => slot(Form::Call, 0, 0, 0, helper.cast_unsigned()),
+        Insn::Exit => slot(Form::Exit, 0, 0, 0, 0),
+    }
+}
+
+// Writes an instruction's slots at the end.
+fn put(out: &mut Vec<u8>, insn: Insn) -> Result<(), AllocError>
+    ensures { OnOk result (out.new.items ≡ out.old.items ++ insn_bytes insn) }
+{
+    out.extend_from_slice(&first_slot(insn).bytes())?;
+    if let Insn::LoadImm(_, value) = insn {
+        let second = Slot {
+            opcode: 0,
+            dst: 0,
+            src: 0,
+            offset: 0,
+            imm: (value / 0x1_0000_0000) as u32,
+        };
+        out.extend_from_slice(&second.bytes())?;
+    }
+    Ok(())
+}
+
+/// The one byte list that decodes to this program.
+pub fn encode(alloc: Global, program: &Program) -> Result<Vec<u8>, NoMemory>
+    ensures { IfOk result (λ v. v.items ≡ encoding program.now) }
+{
+    let mut bytes = Vec::new(alloc);
+    for insn in program.insns() {
+        put(&mut bytes, *insn)?;
+    }
+    Ok(bytes)
+}

@@ -1,0 +1,136 @@
+use crate::{AluOp, Cmp, Insn, NoProgram, Operand, Program, Reg, Width, alu, holds};
+use std::alloc::Global;
+use std::process::Abort;
+use std::rt::HostRuntime;
+use std::test::*;
+
+const MINUS_ONE: u64 = 0xffff_ffff_ffff_ffff;
+
+#[test]
+fn arithmetic(rt: HostRuntime) {
+    let table = [
+        // Division by zero gives zero, and the remainder by zero the dividend (RFC 9669, section 4.1).
+        (AluOp::Div, Width::W64, 7, 0, 0),
+        (AluOp::Mod, Width::W64, 7, 0, 7),
+        (AluOp::Div, Width::W32, 7, 0x1_0000_0000, 0),
+        (AluOp::Mod, Width::W32, 0x1_0000_0007, 0, 7),
+        (AluOp::Mod, Width::W64, 0x1_0000_0007, 0, 0x1_0000_0007),
+        // Division is unsigned.
+        (AluOp::Div, Width::W64, MINUS_ONE, 2, 0x7fff_ffff_ffff_ffff),
+        (AluOp::Div, Width::W32, MINUS_ONE, 2, 0x7fff_ffff),
+        // Sums, differences and products wrap.
+        (AluOp::Add, Width::W64, MINUS_ONE, 2, 1),
+        (AluOp::Add, Width::W32, 0xffff_ffff, 2, 1),
+        (AluOp::Sub, Width::W64, 0, 1, MINUS_ONE),
+        (AluOp::Sub, Width::W32, 0, 1, 0xffff_ffff),
+        (AluOp::Mul, Width::W64, 0x8000_0000_0000_0000, 2, 0),
+        (AluOp::Mul, Width::W32, 0x8000_0001, 2, 2),
+        // A shift's amount is masked with 63 or 31.
+        (AluOp::Lsh, Width::W64, 1, 64, 1),
+        (AluOp::Lsh, Width::W64, 1, 63, 0x8000_0000_0000_0000),
+        (AluOp::Lsh, Width::W32, 1, 33, 2),
+        (AluOp::Rsh, Width::W64, MINUS_ONE, 60, 15),
+        (AluOp::Rsh, Width::W32, MINUS_ONE, 28, 15),
+        (
+            AluOp::Arsh,
+            Width::W64,
+            0x8000_0000_0000_0000,
+            63,
+            MINUS_ONE,
+        ),
+        (AluOp::Arsh, Width::W32, 0x8000_0000, 31, 0xffff_ffff),
+        (AluOp::Arsh, Width::W32, 0xffff_ffff_4000_0000, 30, 1),
+        (AluOp::Or, Width::W64, 12, 10, 14),
+        (AluOp::And, Width::W64, 12, 10, 8),
+        (AluOp::Xor, Width::W64, 12, 10, 6),
+        (AluOp::Mov, Width::W64, 1, MINUS_ONE, MINUS_ONE),
+        (AluOp::Mov, Width::W32, 1, MINUS_ONE, 0xffff_ffff),
+    ];
+    for (op, width, a, b, wanted) in table {
+        assert!(rt; alu(op, width, a, b) == wanted, "{op:?} {width:?} {a} {b}");
+    }
+}
+
+#[test]
+fn comparisons(rt: HostRuntime) {
+    let table = [
+        (Cmp::Eq, Width::W64, 0x1_0000_0005, 5, false),
+        (Cmp::Eq, Width::W32, 0x1_0000_0005, 5, true),
+        (Cmp::Ne, Width::W64, 0x1_0000_0005, 5, true),
+        (Cmp::Ne, Width::W32, 0x1_0000_0005, 5, false),
+        (Cmp::Set, Width::W64, 0x1_0000_0000, MINUS_ONE, true),
+        (Cmp::Set, Width::W32, 0x1_0000_0000, MINUS_ONE, false),
+        (Cmp::Gt, Width::W64, MINUS_ONE, 0, true),
+        (Cmp::Sgt, Width::W64, MINUS_ONE, 0, false),
+        (Cmp::Sgt, Width::W32, 0xffff_ffff, 0, false),
+        (Cmp::Sgt, Width::W64, 0xffff_ffff, 0, true),
+        (Cmp::Ge, Width::W64, 5, 5, true),
+        (Cmp::Sge, Width::W64, MINUS_ONE, 0, false),
+        (Cmp::Sge, Width::W32, 0x8000_0000, 0x8000_0000, true),
+        (Cmp::Lt, Width::W64, 0, MINUS_ONE, true),
+        (Cmp::Slt, Width::W64, MINUS_ONE, 0, true),
+        (Cmp::Le, Width::W64, 5, 5, true),
+        (Cmp::Sle, Width::W64, 0, MINUS_ONE, false),
+        (Cmp::Sle, Width::W32, 0x8000_0000, 0x7fff_ffff, true),
+    ];
+    for (cmp, width, a, b, wanted) in table {
+        assert!(rt;
+            holds(cmp, width, a, b) == wanted,
+            "{cmp:?} {width:?} {a} {b}"
+        );
+    }
+}
+
+// How many slots these instructions take, if they make a program; 0 where they are handed back.
+fn slots_of(rt: &impl Abort, alloc: Global, exits: usize, pairs: usize) -> usize {
+    let mut insns = Vec::new(alloc);
+    for _ in 0..exits {
+        insns.push(Insn::Exit).expect(rt, "memory");
+    }
+    for _ in 0..pairs {
+        insns.push(Insn::LoadImm(Reg::R1, 5)).expect(rt, "memory");
+    }
+    match Program::new(alloc, insns) {
+        Ok(program) => program.slots(),
+        Err(NoProgram::NotInRange(_)) => 0,
+        Err(NoProgram::NoMemory) => 1000,
+    }
+}
+
+#[test]
+fn programs(rt: HostRuntime) {
+    let table = [
+        (0, 0, 0),
+        (1, 0, 1),
+        (0, 1, 2),
+        (512, 0, 512),
+        (513, 0, 0),
+        (510, 1, 512),
+        (511, 1, 0),
+        (0, 256, 512),
+        (0, 257, 0),
+    ];
+    for (exits, pairs, wanted) in table {
+        assert!(rt;
+            slots_of(&rt, rt.alloc(), exits, pairs) == wanted,
+            "{exits} {pairs}"
+        );
+    }
+}
+
+#[test]
+fn second_slots_have_no_instruction(rt: HostRuntime) {
+    let pair = Insn::LoadImm(Reg::R1, 5);
+    let last = Insn::Alu(AluOp::Mov, Width::W64, Reg::R0, Operand::Imm(1));
+    let insns = Vec::from_array(rt.alloc(), [pair, last]).expect(&rt, "memory");
+    let program = Program::new(rt.alloc(), insns)
+        .ok()
+        .expect(&rt, "a program");
+    assert!(rt; program.slots() == 3);
+    assert!(rt; program.insns().len() == 2);
+    if program.slots() == 3 {
+        assert!(rt; program.at(0) == Some(pair));
+        assert!(rt; program.at(1) == None);
+        assert!(rt; program.at(2) == Some(last));
+    }
+}
