@@ -11,7 +11,7 @@ use Rattle.pb_state.specs.declared.step.Step.{Step}
 use Rattle.pb_state.specs.declared.step.Step.TheVariants.{Begin, Declare, Prewrite, Stamp, CommitPrimary}
 use Rattle.pb_state.specs.declared.step.Answer.{Answer}
 use Rattle.pb_state.specs.declared.step.Answer.TheVariants.{At, Done, Committed}
-use Rattle.pb_state.specs.State.{cells_of}
+use Rattle.pb_state.specs.State.{ObserverOf, cells_of}
 use Rattle.pb_core.specs.declared.entry.Entry.{Entry}
 use Rattle.pb_core.specs.History.{Has, Member, InHistory, RiseFrom, IsHistory}
 use Rattle.pb_alone.specs.Alone.{ts, entry, change_entries, changes_from}
@@ -148,14 +148,14 @@ pub writes_are : (seat clock : ℕ) (bs : List Writes) → map (λ (m : Member).
 writes_are seat clock [] = refl
 writes_are seat clock (b ∷ bs) = ap (λ l. b ∷ l) (writes_are seat (clock + 2) bs)
 
-module _ (seat clock : ℕ) (bs : List Writes) where
+module _ (observers : List ObserverOf) (seat clock : ℕ) (bs : List Writes) where
   abbrev ms : List Member
   ms = changes_from seat clock bs
 
   abbrev journal : List Entry
   journal = flat_map change_entries ms
 
-  each : (m : Member) → Has ms m → InHistory journal m
+  each : (m : Member) → Has ms m → InHistory observers journal m
   each m h = record {
     begun = in_block change_entries ms m _ h (inl refl);
     what = declared.Script m.writes;
@@ -165,7 +165,7 @@ module _ (seat clock : ℕ) (bs : List Writes) where
     committed = in_block change_entries ms m _ h (commit_in m);
   }
 
-  whole : (m : Member) → InHistory journal m → Has ms m
+  whole : (m : Member) → InHistory observers journal m → Has ms m
   whole m h =
       let b = which_block change_entries ms _ h.begun in
       let d = which_block change_entries ms _ h.declared in
@@ -176,9 +176,9 @@ module _ (seat clock : ℕ) (bs : List Writes) where
       let same_d : d.0 ≡ b.0 = one_each seat clock bs d.0 b.0 d.1 b.1 (declares.0 ∙ sym begins.start) in
       let same_s : s.0 ≡ b.0 = one_each seat clock bs s.0 b.0 s.1 b.1 (stamps.0 ∙ sym begins.start) in
       let commit : b.0.commit ≡ m.commit = ap (λ (x : Member). x.commit) (sym same_s) ∙ stamps.1 in
-      let writes : b.0.writes ≡ m.writes = ap (λ (x : Member). x.writes) (sym same_d) ∙ sym (h.writes_are ∙ ap cells_of declares.1) in
+      let writes : b.0.writes ≡ m.writes = ap (λ (x : Member). x.writes) (sym same_d) ∙ sym (h.writes_are ∙ ap (cells_of observers m.work m.start) declares.1) in
       let same : b.0 ≡ m = (λ i. record { start = begins.start i; commit = commit i; seat = begins.seat i; work = begins.work i; writes = writes i }) in
       subst (Has ms) same b.1
 
-  pub history : IsHistory journal ms
+  pub history : IsHistory observers journal ms
   history = record { each = each; whole = whole; rising = rise 0 seat clock bs (omega arith) }

@@ -17,7 +17,15 @@ use Rattle.pb_state.specs.declared.step.Answer.{Answer}
 use Rattle.pb_state.specs.declared.step.Answer.TheVariants as answers
 use Rattle.pb_state.specs.declared.transaction.Phase.{Phase}
 use Rattle.pb_state.specs.declared.transaction.Phase.TheVariants as phases
-use Rattle.pb_state.specs.State.{StateOf, TransactionOf, phase_in, cells_of}
+use Rattle.pb_state.specs.State.{StateOf, TransactionOf, ObserverOf, phase_in, cells_of, batch_in, acknowledgment}
+use Rattle.pb_base.specs.declared.names.Row.{Row}
+use Rattle.pb_base.specs.declared.cell.Cell.TheVariants.{Data, Ack}
+use Rattle.pb_vm.specs.Finished.{Meant, is_plain, is_empty}
+use Rattle.pb_state.specs.declared.step.Work.{Work}
+use Rattle.pb_state.specs.declared.step.Work.TheVariants as works
+use Rattle.pb_state.specs.declared.step.Declared.TheVariants as declared
+use Rattle.pb_state.specs.Known.{IsKnown, IsKnownIn}
+use Rattle.pb_core.specs.Legal.{AreKnown}
 use Rattle.pb_core.specs.declared.entry.Entry.{Entry}
 use Rattle.pb_core.specs.History.{Has, Member, TellsHistory}
 use Rattle.pb_texts.specs.declared.report.newest.Put.{Put}
@@ -121,52 +129,79 @@ distinct_content (v ∷ ws) d w (inr h) =
 phase_there : (state : StateOf) (start : ℕ) (t : TransactionOf) (c : Ts) → finmap.get state.transactions start ≡ Some t → phase_in state start ≡ Some (phases.Committed c) → t.phase ≡ phases.Committed c
 phase_there state start t c there p = let q : Some t.phase ≡ Some (phases.Committed c) = ap (option_map (λ (u : TransactionOf). u.phase)) (sym there) ∙ p in cc
 
-module _ (journal : List Entry) (state : StateOf) (tells : TellsHistory journal state) where
+known_of : (journal : List Entry) (e : Entry) → AreKnown journal → Has journal e → IsKnownIn e.step
+known_of [] e k h = absurd h
+known_of (d ∷ es) e k (inl q) = subst (λ (z : Entry). IsKnownIn z.step) q k.0
+known_of (d ∷ es) e k (inr h) = known_of es e k.1 h
+
+no_writes : (f : Meant) → is_plain f ≡ true → f.writes ≡ []
+no_writes f e = none_of f.writes (both (is_empty f.talk) (is_empty f.writes) e).1
+  where
+    none_of : (ws : Writes) → is_empty ws ≡ true → ws ≡ []
+    none_of [] e = refl
+    none_of (w ∷ ws) e = cc
+
+-- a write to a data cell is one of a batch
+in_batch : (observers : List ObserverOf) (work : Work) (s : ℕ) (what : Declared) (row : Row) (column : ℕ) (k : Content) → IsKnown what → Has (cells_of observers work s what) (Data row column, k) → Has (batch_in what) (Data row column, k)
+in_batch observers work s (declared.Script batch) row column k known h = h
+in_batch observers works.Script s (declared.Run o f) row column k known h = subst (λ ws. Has ws (Data row column, k)) (no_writes f known.1) h
+in_batch observers (works.Run p r) s (declared.Run o f) row column k known (inl e) =
+    let cells : acknowledgment observers p r ≡ Data row column = ap (λ (w : Cell × Content). w.0) e in
+    absurd (apart p r _ row column cells)
+  where
+    apart : (p : ℕ) (r : Row) (n : ℕ) (row : Row) (column : ℕ) → Ack p r n ≡ Data row column → ⊥
+    apart p r n row column e = cc
+in_batch observers (works.Run p r) s (declared.Run o f) row column k known (inr h) = absurd (subst (λ ws. Has ws (Data row column, k)) (no_writes f known.1) h)
+
+module _ (journal : List Entry) (state : StateOf) (known : AreKnown journal) (tells : TellsHistory journal state) where
   write_of : (seat : ℕ) (start : Ts) (what : Declared) (c : Ts) (w : Cell × Content) → Has journal (record { seat = seat; step = steps.Declare start what; answer = answers.Done }) → phase_in state start.0 ≡ Some (phases.Committed c)
-      → are_distinct (cells_of what) ≡ true → Has (cells_of what) w → IsWrite journal w.0 c.0 w.1
-  write_of seat start what c w entry phase distinct has =
-      let d = tells.declared seat start.0 what entry in
+      → are_distinct (batch_in what) ≡ true → Has (batch_in what) w → IsWrite state.observers journal w.0 c.0 w.1
+  write_of seat start (declared.Run o f) c w entry phase distinct has = absurd has
+  write_of seat start (declared.Script batch) c w entry phase distinct has =
+      let d = tells.declared seat start.0 (declared.Script batch) entry in
       let m : Member = record { start = start.0; commit = c.0; seat = d.t.seat; work = d.t.work; writes = d.t.declared } in
       record {
         m = m;
         in_history = tells.member m (record { t = d.t; there = d.there; phase = phase_there state start.0 d.t c d.there phase; seat = refl; work = refl; writes = refl });
         commit_is = refl;
-        writes = ap (λ ws. content_in ws w.0) d.declared ∙ distinct_content (cells_of what) distinct w has;
+        writes = ap (λ ws. content_in ws w.0) d.declared ∙ distinct_content batch distinct w has;
       }
 
   committed_write : (seat : ℕ) (start : Ts) (what : Declared) (p : Put) (h : Option Phase) → phase_in state start.0 ≡ h → Has journal (record { seat = seat; step = steps.Declare start what; answer = answers.Done })
-      → IfCommitted h (are_distinct (cells_of what) ≡ true) → Has (if_committed h (cells_of what)) p → IsWrite journal p.cell p.commit.0 p.content
+      → IfCommitted h (are_distinct (batch_in what) ≡ true) → Has (if_committed h (batch_in what)) p → IsWrite state.observers journal p.cell p.commit.0 p.content
   committed_write seat start what p None is entry d has = absurd has
   committed_write seat start what p (Some phases.Reading) is entry d has = absurd has
   committed_write seat start what p (Some phases.Declared) is entry d has = absurd has
   committed_write seat start what p (Some (phases.Stamped c)) is entry d has = absurd has
   committed_write seat start what p (Some (phases.Committed c)) is entry d has =
-      let q = map_has (put_by c) (cells_of what) p has in
-      subst (λ (r : Put). IsWrite journal r.cell r.commit.0 r.content) q.2 (write_of seat start what c q.0 entry is d q.1)
+      let q = map_has (put_by c) (batch_in what) p has in
+      subst (λ (r : Put). IsWrite state.observers journal r.cell r.commit.0 r.content) q.2 (write_of seat start what c q.0 entry is d q.1)
   committed_write seat start what p (Some phases.Failed) is entry d has = absurd has
 
-  by_step : (seat : ℕ) (step : Step) (answer : Answer) (p : Put) → Has journal (record { seat = seat; step = step; answer = answer }) → AreTold state step answer → Has (writes_by state step answer) p → IsWrite journal p.cell p.commit.0 p.content
+  by_step : (seat : ℕ) (step : Step) (answer : Answer) (p : Put) → Has journal (record { seat = seat; step = step; answer = answer }) → AreTold state step answer → Has (writes_by state step answer) p → IsWrite state.observers journal p.cell p.commit.0 p.content
   by_step seat (steps.Declare start what) answers.Done p entry told has = committed_write seat start what p (phase_in state start.0) refl entry told has
   by_step seat _ _ p entry told has = absurd has
 
-  sound_from : (es : List Entry) (p : Put) → ((e : Entry) → Has es e → Has journal e) → AllTold state es → Has (all_puts state es) p → IsWrite journal p.cell p.commit.0 p.content
+  sound_from : (es : List Entry) (p : Put) → ((e : Entry) → Has es e → Has journal e) → AllTold state es → Has (all_puts state es) p → IsWrite state.observers journal p.cell p.commit.0 p.content
   sound_from [] p within told has = absurd has
   sound_from (e ∷ es) p within told has = elim (has_which (puts_by state e) (all_puts state es) p has) [
     | inl here ↦ by_step e.seat e.step e.answer p (within e (inl refl)) told.0 here
     | inr later ↦ sound_from es p (λ d h. within d (inr h)) told.1 later
   ]
 
-  whole_for : (x : Cell) (commit : ℕ) (content : Content) → IsWrite journal x commit content → Has (all_puts state journal) (record { cell = x; commit = record { 0 = commit }; content = content })
-  whole_for x commit content h =
+  whole_for : (row : Row) (column commit : ℕ) (content : Content) → IsWrite state.observers journal (Data row column) commit content → Has (all_puts state journal) (record { cell = Data row column; commit = record { 0 = commit }; content = content })
+  whole_for row column commit content h =
+      let x = Data row column in
       let c = tells.committed h.m h.in_history in
       let i = h.in_history in
       let phase : phase_in state h.m.start ≡ Some (phases.Committed (record { 0 = commit })) = ap (option_map (λ (u : TransactionOf). u.phase)) c.there ∙ ap Some c.phase ∙ ap (λ n. Some (phases.Committed (record { 0 = n }))) h.commit_is in
-      let has : Has (cells_of i.what) (x, content) = subst (λ ws. Has ws (x, content)) i.writes_are (content_has h.m.writes x content h.writes) in
+      let all : Has (cells_of state.observers h.m.work h.m.start i.what) (x, content) = subst (λ ws. Has ws (x, content)) i.writes_are (content_has h.m.writes x content h.writes) in
+      let has : Has (batch_in i.what) (x, content) = in_batch state.observers h.m.work h.m.start i.what row column content (known_of journal _ known i.declared) all in
       in_block (puts_by state) journal (record { seat = h.m.seat; step = steps.Declare (record { 0 = h.m.start }) i.what; answer = answers.Done }) _ i.declared
-      (subst (λ o. Has (if_committed o (cells_of i.what)) (record { cell = x; commit = record { 0 = commit }; content = content })) (sym phase) (has_map (put_by (record { 0 = commit })) (cells_of i.what) (x, content) has))
+      (subst (λ o. Has (if_committed o (batch_in i.what)) (record { cell = x; commit = record { 0 = commit }; content = content })) (sym phase) (has_map (put_by (record { 0 = commit })) (batch_in i.what) (x, content) has))
 
-  pub gathers : AllTold state journal → Gathers journal (all_puts state journal)
+  pub gathers : AllTold state journal → Gathers state.observers journal (all_puts state journal)
   gathers told = record {
     sound = λ p h. sound_from journal p (λ e k. k) told (contains_has (all_puts state journal) p h);
-    whole = λ x commit content h. has_contains (all_puts state journal) _ (whole_for x commit content h);
+    whole = λ row column commit content h. has_contains (all_puts state journal) _ (whole_for row column commit content h);
   }

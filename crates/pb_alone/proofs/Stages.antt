@@ -155,7 +155,7 @@ module _ (s : StateOf) (seat : ℕ) (x : Cell) (k : Content) where
     begin_refused = ap (λ b. first_reason ((40, is_out s) ∷ (41, not b) ∷ [])) (lt-ltb seat s.seats seated)
 
     pub declare_refused : refusal s1 seat (Declare (ts a) (declared.Script batch)) ≡ None
-    declare_refused = allowed_own s1 seat a t1 declare_reasons seated own1
+    declare_refused = allowed_own s1 seat a t1 (declare_reasons s.observers a (declared.Script batch)) seated own1
 
     pub prewrite_refused : refusal s2 seat (Prewrite (ts a) x) ≡ None
     prewrite_refused =

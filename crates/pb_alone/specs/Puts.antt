@@ -11,7 +11,7 @@ use Rattle.pb_state.specs.declared.step.Answer.{Answer}
 use Rattle.pb_state.specs.declared.step.Answer.TheVariants as answers
 use Rattle.pb_state.specs.declared.transaction.Phase.{Phase}
 use Rattle.pb_state.specs.declared.transaction.Phase.TheVariants as phases
-use Rattle.pb_state.specs.State.{StateOf, phase_in, cells_of}
+use Rattle.pb_state.specs.State.{StateOf, phase_in, batch_in}
 use Rattle.pb_core.specs.declared.entry.Entry.{Entry}
 use Rattle.pb_texts.specs.declared.report.newest.Put.{Put}
 
@@ -25,7 +25,7 @@ if_committed _ ws = []
 
 -- the writes that an entry declared, if they are committed
 abbrev pub writes_by : StateOf → Step → Answer → List Put
-writes_by state (steps.Declare start what) answers.Done = if_committed (phase_in state start.0) (cells_of what)
+writes_by state (steps.Declare start what) answers.Done = if_committed (phase_in state start.0) (batch_in what)
 writes_by state _ _ = []
 
 abbrev pub puts_by : StateOf → Entry → List Put
@@ -37,7 +37,7 @@ IfCommitted (Some (phases.Committed c)) P = P
 IfCommitted _ P = Unit {0}
 
 abbrev pub AreTold : StateOf → Step → Answer → Type 0
-AreTold state (steps.Declare start what) answers.Done = IfCommitted (phase_in state start.0) (are_distinct (cells_of what) ≡ true)
+AreTold state (steps.Declare start what) answers.Done = IfCommitted (phase_in state start.0) (are_distinct (batch_in what) ≡ true)
 AreTold state _ _ = Unit {0}
 
 -- the writes that these entries declared, if they are committed

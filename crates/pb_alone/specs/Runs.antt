@@ -1,5 +1,5 @@
 -- What a run of a script leaves: the changes made, and the report written.
-use Rattle.std.specs.Prelude.{◌≡◌, ℕ, Bool, true, false, List, [], map, Option, Result, Ok, Err}
+use Rattle.std.specs.Prelude.{◌≡◌, ℕ, Bool, true, false, List, map, Option, Result, Ok, Err}
 use Rattle.std.specs.FinMap as finite
 use Rattle.std.specs.Io.KnownBytes.{Appends}
 use Rattle.pb_base.specs.Batch.{Writes}
@@ -14,11 +14,12 @@ use Rattle.pb_alone.specs.declared.fault.RunFault.TheVariants as faults
 use Rattle.pb_alone.specs.declared.fault.ReportFault.{ReportFault}
 use Rattle.pb_alone.specs.declared.fault.ReportFault.TheVariants as ends
 use Rattle.pb_alone.specs.Committed.{IsNewestIn}
+use Rattle.pb_alone.specs.Tallies.{runs_in}
 use Rattle.pb_alone.specs.Faults.{IsEnd}
 
--- the report of the journal, with the marks and locks that stand; there are no runs of observers
+-- the report of the journal, with the runs of each observer, and the marks and locks that stand
 abbrev pub IsReportIn : SharedOf → List ℕ → Type 0
-IsReportIn shared text = IsReportOf (IsNewestIn shared.journal) [] (finite.len shared.state.marks) (lock_count shared.state.entries) text
+IsReportIn shared text = IsReportOf (IsNewestIn shared.state.observers shared.journal) (runs_in shared) (finite.len shared.state.marks) (lock_count shared.state.entries) text
 
 -- the report was written
 pub record Wrote (shared : SharedOf) (old now : Option (List ℕ)) : Type 0 where
@@ -43,7 +44,7 @@ pub record Made (text : List ℕ) (shared : SharedOf) : Type 0 where
   pub batches : List Writes
   pub read : script_of text ≡ Ok batches
   pub members : List Member
-  pub history : IsHistory shared.journal members
+  pub history : IsHistory shared.state.observers shared.journal members
   pub writes : map (λ m. m.writes) members ≡ batches
 
 -- the script was not read

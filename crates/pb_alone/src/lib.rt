@@ -3,8 +3,10 @@
 
 mod change;
 mod fault;
+mod observers;
 mod output;
 mod run;
+mod tallies;
 mod texts;
 
 pub use change::change_all;

@@ -6,6 +6,7 @@ ghost use Rattle.pb_base.specs.Batch.{is_batch};
 ghost use Rattle.pb_alone.specs.Runs.{IsReportIn, Reports};
 
 use crate::fault::ReportFault;
+use crate::tallies::tallies_of;
 use pb_base::{Batch, NoMemory, Sink, Ts};
 use pb_core::{Answer, Declared, Entry, Phase, Shared, Step};
 use pb_store::Tablet;
@@ -28,7 +29,7 @@ fn add_writes(puts: &mut Vec<Put>, batch: &Batch, commit: Ts) -> Result<(), NoMe
     Ok(())
 }
 
-// Adds what an entry's transaction wrote, if the entry declares it and it is committed.
+// Adds what an entry's transaction wrote to data cells, if the entry declares it and it is committed.
 fn add_entry<T: Tablet>(
     puts: &mut Vec<Put>,
     shared: &Shared<T>,
@@ -48,12 +49,13 @@ fn add_entry<T: Tablet>(
     };
     match what.get() {
         Declared::Script(batch) => add_writes(puts, batch, commit),
+        Declared::Run(_, _) => Ok(()),
     }
 }
 
-// The committed writes of a table.
+// The committed writes of a table to data cells.
 fn puts_of<T: Tablet>(alloc: Global, shared: &Shared<T>) -> Result<Vec<Put>, NoMemory>
-    ensures { IfOk result (λ v. Gathers shared.now.journal v.items) }
+    ensures { IfOk result (λ v. Gathers shared.now.state.observers shared.now.journal v.items) }
 {
     let mut puts = Vec::new(alloc);
     for entry in shared.journal() {
@@ -67,10 +69,12 @@ fn text_of<T: Tablet>(alloc: Global, shared: &Shared<T>) -> Result<String, NoMem
     ensures { IfOk result (λ s. IsReportIn shared.now (string_bytes s)) }
 {
     let puts = puts_of(alloc, shared)?;
-    report_of(alloc, &puts, shared.marks(), shared.locks())
+    let tallies = tallies_of(alloc, shared)?;
+    report_of(alloc, &puts, &tallies, shared.marks(), shared.locks())
 }
 
-/// Writes the report of a table: the newest committed write of each data cell, and what is left to do.
+/// Writes the report of a table: the newest committed write of each data cell, the runs of each observer, and what is
+/// left to do.
 pub fn report<T: Tablet, S: Sink>(
     alloc: Global,
     sink: &mut S,

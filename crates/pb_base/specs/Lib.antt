@@ -1,3 +1,4 @@
 pub mod Cell
 pub mod Sink
 pub mod Batch
+pub mod Same

@@ -7,12 +7,14 @@ use Rattle.std.proofs.lemmas.Bool.{eqb-true, eq-eqb}
 use Rattle.pb_base.specs.declared.names.Ts.{Ts}
 use Rattle.pb_state.specs.declared.step.Declared.{Declared}
 use Rattle.pb_state.specs.declared.step.Step.{Step}
-use Rattle.pb_state.specs.declared.step.Step.TheVariants.{Begin, Declare, Stamp, CommitPrimary}
+use Rattle.pb_state.specs.declared.step.Step.TheVariants.{Begin, Read, Declare, Stamp, CommitPrimary}
 use Rattle.pb_state.specs.declared.step.Answer.{Answer}
 use Rattle.pb_state.specs.declared.step.Answer.TheVariants.{At, Done, Committed}
 use Rattle.pb_state.specs.declared.transaction.Phase.{Phase}
 use Rattle.pb_state.specs.declared.transaction.Phase.TheVariants as phases
-use Rattle.pb_state.specs.State.{StateOf, TransactionOf, Transactions, cells_of}
+use Rattle.pb_base.specs.declared.cell.Cell.{Cell}
+use Rattle.pb_state.specs.State.{StateOf, TransactionOf, Transactions, ObserverOf, cells_of}
+use Rattle.pb_state.specs.Declarations.{is_its}
 use Rattle.pb_state.specs.Refusal.{is_reading}
 use Rattle.pb_core.specs.declared.entry.Entry.{Entry}
 use Rattle.pb_core.specs.History.{Has, IsEntry}
@@ -49,22 +51,23 @@ PastStamp h c = (h ≡ phases.Stamped (ts c)) ⊎ ((h ≡ phases.Committed (ts c
 -- what an answered step says of its transaction from then on
 abbrev pub Told : StateOf → ℕ → Step → Answer → Type 0
 Told state seat (Begin work) (At s) = (t : TransactionOf) × (got state s.0 ≡ Some t) × (t.seat ≡ seat) × (t.work ≡ work)
-Told state seat (Declare s what) Done = (t : TransactionOf) × (got state s.0 ≡ Some t) × (is_reading t.phase ≡ false) × (t.declared ≡ cells_of what)
+Told state seat (Declare s what) Done = (t : TransactionOf) × (got state s.0 ≡ Some t) × (is_reading t.phase ≡ false) × (t.declared ≡ cells_of state.observers t.work s.0 what)
 Told state seat (Stamp s) (At c) = (t : TransactionOf) × (got state s.0 ≡ Some t) × PastStamp t.phase c.0
 Told state seat (CommitPrimary s) Committed = (t : TransactionOf) × (got state s.0 ≡ Some t) × (c : ℕ) × (t.phase ≡ phases.Committed (ts c))
 Told state seat _ _ = Unit {0}
 
 -- the entries that a transaction has behind it
-pub record Logged (journal : List Entry) (s : ℕ) (t : TransactionOf) : Type 0 where
+pub record Logged (observers : List ObserverOf) (journal : List Entry) (s : ℕ) (t : TransactionOf) : Type 0 where
   pub begun : IsEntry journal t.seat (Begin t.work) (At (ts s))
-  pub declared : is_reading t.phase ≡ false → (what : Declared) × IsEntry journal t.seat (Declare (ts s) what) Done × (t.declared ≡ cells_of what)
+  pub reads : (x : Cell) (a : Answer) → Has t.reads (x, a) → IsEntry journal t.seat (Read (ts s) x) a
+  pub declared : is_reading t.phase ≡ false → (what : Declared) × IsEntry journal t.seat (Declare (ts s) what) Done × (t.declared ≡ cells_of observers t.work s what) × (is_its observers t.work s t.reads what ≡ true)
   pub stamped : (c : ℕ) → (t.phase ≡ phases.Stamped (ts c)) ⊎ (t.phase ≡ phases.Committed (ts c)) → IsEntry journal t.seat (Stamp (ts s)) (At (ts c))
   pub committed : (c : ℕ) → t.phase ≡ phases.Committed (ts c) → IsEntry journal t.seat (CommitPrimary (ts s)) Committed
 
 pub record Agrees (journal : List Entry) (state : StateOf) : Type 0 where
   pub early : (s : ℕ) (t : TransactionOf) → got state s ≡ Some t → s ≤ state.clock
   pub told : (e : Entry) → Has journal e → Told state e.seat e.step e.answer
-  pub logged : (s : ℕ) (t : TransactionOf) → got state s ≡ Some t → Logged journal s t
+  pub logged : (s : ℕ) (t : TransactionOf) → got state s ≡ Some t → Logged state.observers journal s t
 
 -- how a transaction may go on
 pub record Later (t u : TransactionOf) : Type 0 where
@@ -80,17 +83,18 @@ later_same t = record { seat = refl; work = refl; past = λ h. (h, refl); stampe
 abbrev Grows : StateOf → StateOf → Type 0
 Grows old new = (s : ℕ) (t : TransactionOf) → got old s ≡ Some t → (u : TransactionOf) × (got new s ≡ Some u) × Later t u
 
-told_on : (old new : StateOf) → Grows old new → (seat : ℕ) (step : Step) (answer : Answer) → Told old seat step answer → Told new seat step answer
-told_on old new g seat (Begin work) (At s) t = let u = g s.0 t.0 t.1 in (u.0, u.1, u.2.seat ∙ t.2, u.2.work ∙ t.3)
-told_on old new g seat (Declare s what) Done t = let u = g s.0 t.0 t.1 in let p = u.2.past t.2 in (u.0, u.1, p.0, p.1 ∙ t.3)
-told_on old new g seat (Stamp s) (At c) t = let u = g s.0 t.0 t.1 in (u.0, u.1, u.2.stamped c.0 t.2)
-told_on old new g seat (CommitPrimary s) Committed t = let u = g s.0 t.0 t.1 in (u.0, u.1, t.2, u.2.committed t.2 t.3)
-told_on old new g seat _ _ t = tt
+told_on : (old new : StateOf) → new.observers ≡ old.observers → Grows old new → (seat : ℕ) (step : Step) (answer : Answer) → Told old seat step answer → Told new seat step answer
+told_on old new obs g seat (Begin work) (At s) t = let u = g s.0 t.0 t.1 in (u.0, u.1, u.2.seat ∙ t.2, u.2.work ∙ t.3)
+told_on old new obs g seat (Declare s what) Done t = let u = g s.0 t.0 t.1 in let p = u.2.past t.2 in (u.0, u.1, p.0, p.1 ∙ t.3 ∙ sym (λ i. cells_of (obs i) (u.2.work i) s.0 what))
+told_on old new obs g seat (Stamp s) (At c) t = let u = g s.0 t.0 t.1 in (u.0, u.1, u.2.stamped c.0 t.2)
+told_on old new obs g seat (CommitPrimary s) Committed t = let u = g s.0 t.0 t.1 in (u.0, u.1, t.2, u.2.committed t.2 t.3)
+told_on old new obs g seat _ _ t = tt
 
-logged_front : (journal : List Entry) (e : Entry) (s : ℕ) (t : TransactionOf) → Logged journal s t → Logged (journal ++ e ∷ []) s t
-logged_front journal e s t l = record {
+logged_front : (observers : List ObserverOf) (journal : List Entry) (e : Entry) (s : ℕ) (t : TransactionOf) → Logged observers journal s t → Logged observers (journal ++ e ∷ []) s t
+logged_front observers journal e s t l = record {
   begun = has_front journal e _ l.begun;
-  declared = λ h. let d = l.declared h in (d.0, has_front journal e _ d.1, d.2);
+  reads = λ x a h. has_front journal e _ (l.reads x a h);
+  declared = λ h. let d = l.declared h in (d.0, has_front journal e _ d.1, d.2, d.3);
   stamped = λ c h. has_front journal e _ (l.stamped c h);
   committed = λ c h. has_front journal e _ (l.committed c h);
 }
@@ -117,7 +121,7 @@ got_there m s u w n =
     ∙ ap (λ b. cond b (Some u) (map.get m w)) (not_true _ (λ e. n (eqb-true w s (sym (unsigned_tied w s) ∙ e))))
 
 module _ (journal : List Entry) (e : Entry) (old new : StateOf) (a : Agrees journal old) (s : ℕ) (u : TransactionOf)
-    (is : new.transactions ≡ map.insert old.transactions s u) (clock : old.clock ≤ new.clock) (low : s ≤ new.clock) where
+    (is : new.transactions ≡ map.insert old.transactions s u) (clock : old.clock ≤ new.clock) (low : s ≤ new.clock) (obs : new.observers ≡ old.observers) where
   here : got new s ≡ Some u
   here = ap (λ m. map.get m s) is ∙ got_here old.transactions s u
 
@@ -130,28 +134,28 @@ module _ (journal : List Entry) (e : Entry) (old new : StateOf) (a : Agrees jour
     | inr n ↦ let b = a.early w v (sym (there w n) ∙ h) in omega arith
   ]
 
-  logged_put : Logged (journal ++ e ∷ []) s u → (w : ℕ) (v : TransactionOf) → got new w ≡ Some v → Logged (journal ++ e ∷ []) w v
+  logged_put : Logged old.observers (journal ++ e ∷ []) s u → (w : ℕ) (v : TransactionOf) → got new w ≡ Some v → Logged old.observers (journal ++ e ∷ []) w v
   logged_put l w v h = elim (same_number w s) [
     | inl q ↦
         let now : got new s ≡ Some v = subst (λ k. got new k ≡ Some v) q h in
         let z = here in
         let same : u ≡ v = cc in
-        subst (λ k. Logged (journal ++ e ∷ []) k v) (sym q) (subst (Logged (journal ++ e ∷ []) s) same l)
-    | inr n ↦ logged_front journal e w v (a.logged w v (sym (there w n) ∙ h))
+        subst (λ k. Logged old.observers (journal ++ e ∷ []) k v) (sym q) (subst (Logged old.observers (journal ++ e ∷ []) s) same l)
+    | inr n ↦ logged_front old.observers journal e w v (a.logged w v (sym (there w n) ∙ h))
   ]
 
-  agrees_put : Grows old new → Told new e.seat e.step e.answer → Logged (journal ++ e ∷ []) s u → Agrees (journal ++ e ∷ []) new
+  agrees_put : Grows old new → Told new e.seat e.step e.answer → Logged old.observers (journal ++ e ∷ []) s u → Agrees (journal ++ e ∷ []) new
   agrees_put g told l = record {
     early = early_put;
     told = λ d h. elim (has_more journal e d h) [
       | inl q ↦ subst (λ (z : Entry). Told new z.seat z.step z.answer) q told
-      | inr q ↦ told_on old new g d.seat d.step d.answer (a.told d q)
+      | inr q ↦ told_on old new obs g d.seat d.step d.answer (a.told d q)
     ];
-    logged = logged_put l;
+    logged = λ w v h. subst (λ o. Logged o (journal ++ e ∷ []) w v) (sym obs) (logged_put l w v h);
   }
 
   -- a transaction that was there goes on
-  pub agrees_change : (t : TransactionOf) → got old s ≡ Some t → Later t u → (got new s ≡ Some u → Told new e.seat e.step e.answer) → Logged (journal ++ e ∷ []) s u → Agrees (journal ++ e ∷ []) new
+  pub agrees_change : (t : TransactionOf) → got old s ≡ Some t → Later t u → (got new s ≡ Some u → Told new e.seat e.step e.answer) → Logged old.observers (journal ++ e ∷ []) s u → Agrees (journal ++ e ∷ []) new
   agrees_change t was later told = agrees_put (λ w v h. elim (same_number w s) [
     | inl q ↦
         let now : got old s ≡ Some v = subst (λ k. got old k ≡ Some v) q h in
@@ -161,5 +165,16 @@ module _ (journal : List Entry) (e : Entry) (old new : StateOf) (a : Agrees jour
   ]) (told here)
 
   -- a new one
-  pub agrees_new : got old s ≡ None → (got new s ≡ Some u → Told new e.seat e.step e.answer) → Logged (journal ++ e ∷ []) s u → Agrees (journal ++ e ∷ []) new
+  pub agrees_new : got old s ≡ None → (got new s ≡ Some u → Told new e.seat e.step e.answer) → Logged old.observers (journal ++ e ∷ []) s u → Agrees (journal ++ e ∷ []) new
   agrees_new was told = agrees_put (λ w v h. (v, there w (λ q. let now : got old s ≡ Some v = subst (λ k. got old k ≡ Some v) q h in cc) ∙ h, later_same v)) (told here)
+
+-- a step that changes nothing
+pub agrees_same : (journal : List Entry) (e : Entry) (old new : StateOf) → Agrees journal old → new ≡ old → Told old e.seat e.step e.answer → Agrees (journal ++ e ∷ []) new
+agrees_same journal e old new a is told = subst (Agrees (journal ++ e ∷ [])) (sym is) (record {
+  early = a.early;
+  told = λ d h. elim (has_more journal e d h) [
+    | inl q ↦ subst (λ (z : Entry). Told old z.seat z.step z.answer) q told
+    | inr q ↦ a.told d q
+  ];
+  logged = λ w v h. logged_front old.observers journal e w v (a.logged w v h);
+})

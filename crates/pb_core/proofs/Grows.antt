@@ -40,6 +40,9 @@ same_len m n is = rw is (omega arith)
 
 case_entries : (s : StateOf) (seat : ℕ) (step : Step) (a : Answer) (t : StateOf) → Case s seat step a t → map.len t.entries ≤ map.len s.entries + 2
 case_entries s seat (steps.Begin work) (answers.At n) t c = same_len _ _ (ap (λ (x : StateOf). x.entries) c.new_is)
+case_entries s seat (steps.Read n x) (answers.Locked u p) t c = same_len _ _ (ap (λ (x : StateOf). x.entries) c.new_is)
+case_entries s seat (steps.Read n x) (answers.Found v) t c = same_len _ _ (ap (λ (x : StateOf). x.entries) c.new_is)
+case_entries s seat (steps.Read n x) answers.Absent t c = same_len _ _ (ap (λ (x : StateOf). x.entries) c.new_is)
 case_entries s seat (steps.Declare n what) answers.Done t c = same_len _ _ (ap (λ (x : StateOf). x.entries) c.new_is)
 case_entries s seat (steps.Prewrite n x) answers.Done t c = subst (λ (e : Entries). map.len e ≤ map.len s.entries + 2) (sym (ap (λ (x : StateOf). x.entries) c.new_is)) (len_put_two s.entries _ _ _ _)
 case_entries s seat (steps.Prewrite n x) answers.Conflict t c = same_len _ _ (ap (λ (x : StateOf). x.entries) c.new_is)
@@ -50,6 +53,9 @@ case_entries s seat _ _ t c = absurd c
 
 case_marks : (s : StateOf) (seat : ℕ) (step : Step) (a : Answer) (t : StateOf) → Case s seat step a t → t.marks ≡ s.marks
 case_marks s seat (steps.Begin work) (answers.At n) t c = ap (λ (x : StateOf). x.marks) c.new_is
+case_marks s seat (steps.Read n x) (answers.Locked u p) t c = ap (λ (x : StateOf). x.marks) c.new_is
+case_marks s seat (steps.Read n x) (answers.Found v) t c = ap (λ (x : StateOf). x.marks) c.new_is
+case_marks s seat (steps.Read n x) answers.Absent t c = ap (λ (x : StateOf). x.marks) c.new_is
 case_marks s seat (steps.Declare n what) answers.Done t c = ap (λ (x : StateOf). x.marks) c.new_is
 case_marks s seat (steps.Prewrite n x) answers.Done t c = ap (λ (x : StateOf). x.marks) c.new_is
 case_marks s seat (steps.Prewrite n x) answers.Conflict t c = ap (λ (x : StateOf). x.marks) c.new_is
@@ -72,11 +78,11 @@ run_marks s (e ∷ es) t r = run_marks r.0 es t r.2 ∙ case_marks s e.seat e.st
 -- the entries of a table can be counted, and so can its marks
 pub few_entries : (j : List Entry) (bs : List (List ℕ)) (s : StateOf) (o l : ℕ) → IsKept j bs s o l → map.len s.entries < 2 ^ 64
 few_entries j bs s o l k =
-    let grown = run_entries (opened s.seats o) j s k.legal.run in
-    let none : map.len (opened s.seats o).entries ≡ 0 = map.len-empty slot_cmp _ in
+    let grown = run_entries (opened s.observers s.seats o) j s k.legal.run in
+    let none : map.len (opened s.observers s.seats o).entries ≡ 0 = map.len-empty slot_cmp _ in
     omega (arith, grown, none, k.room, k.bounded)
 
 pub few_marks : (j : List Entry) (bs : List (List ℕ)) (s : StateOf) (o l : ℕ) → IsKept j bs s o l → map.len s.marks < 2 ^ 64
 few_marks j bs s o l k =
-    let none : map.len s.marks ≡ 0 = ap map.len (run_marks (opened s.seats o) j s k.legal.run) ∙ map.len-empty cell_cmp _ in
+    let none : map.len s.marks ≡ 0 = ap map.len (run_marks (opened s.observers s.seats o) j s k.legal.run) ∙ map.len-empty cell_cmp _ in
     omega (arith, none)

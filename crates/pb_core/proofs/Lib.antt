@@ -5,3 +5,4 @@ pub mod Steps
 pub mod Tells
 pub mod Fresh
 mod Grows
+pub mod RunLaws

@@ -7,19 +7,20 @@ use Rattle.pb_base.specs.declared.names.Ts.{Ts}
 use Rattle.pb_state.specs.declared.step.Work.{Work}
 use Rattle.pb_state.specs.declared.step.Declared.{Declared}
 use Rattle.pb_state.specs.declared.step.Step.{Step}
-use Rattle.pb_state.specs.declared.step.Step.TheVariants.{Begin, Declare, Prewrite, Stamp, CommitPrimary}
+use Rattle.pb_state.specs.declared.step.Step.TheVariants.{Begin, Read, Declare, Prewrite, Stamp, CommitPrimary}
 use Rattle.pb_state.specs.declared.step.Answer.{Answer}
-use Rattle.pb_state.specs.declared.step.Answer.TheVariants.{At, Done, Conflict, Committed, Lost}
+use Rattle.pb_state.specs.declared.step.Answer.TheVariants.{At, Locked, Found, Absent, Done, Conflict, Committed, Lost}
 use Rattle.pb_state.specs.declared.transaction.Phase.{Phase}
 use Rattle.pb_state.specs.declared.transaction.Phase.TheVariants as phases
-use Rattle.pb_state.specs.State.{StateOf, TransactionOf, opened, begun, cells_of}
-use Rattle.pb_state.specs.Refusal.{refusal, is_reading, is_declared}
-use Rattle.pb_state.specs.Machine.{Case, Begins, Declares, Prewrites, Conflicts, Stamps, CommitsPrimary, Loses}
-use Rattle.pb_state.specs.Allowed.{declares, may_prewrite, may_stamp, may_commit, own_held, own_seat}
+use Rattle.pb_state.specs.State.{StateOf, TransactionOf, ObserverOf, opened, begun, cells_of}
+use Rattle.pb_state.specs.Declarations.{is_its}
+use Rattle.pb_state.specs.Refusal.{own, refusal, is_reading, is_declared}
+use Rattle.pb_state.specs.Machine.{Case, with_read, Begins, Declares, Prewrites, Conflicts, Stamps, CommitsPrimary, Loses}
+use Rattle.pb_state.specs.Allowed.{may_read, declares, may_prewrite, may_stamp, may_commit, own_held, own_seat}
 use Rattle.pb_core.specs.declared.entry.Entry.{Entry}
 use Rattle.pb_core.specs.Legal.{Run, IsLegal}
-use Rattle.pb_core.specs.History.{IsEntry}
-use Rattle.pb_core.proofs.Agree.{ts, got, has_front, has_last, PastStamp, Told, Agrees, agrees_change, agrees_new}
+use Rattle.pb_core.specs.History.{Has, IsEntry}
+use Rattle.pb_core.proofs.Agree.{ts, got, has_front, has_last, has_more, PastStamp, Told, Agrees, agrees_change, agrees_new, agrees_same}
 
 abbrev entry : ℕ → Step → Answer → Entry
 entry seat step answer = record { seat = seat; step = step; answer = answer }
@@ -59,10 +60,40 @@ module _ (journal : List Entry) (seat : ℕ) (old new : StateOf) (a : Agrees jou
       let clock : new.clock ≡ s = ap (λ (z : StateOf). z.clock) m.new_is in
       let fresh = m.fresh in
       let unknown : got old s ≡ None = none_if _ (λ t h. let z = a.early s t h in omega (arith, z, fresh)) in
-      agrees_new journal e old new a s (begun seat work) (ap (λ (z : StateOf). z.transactions) m.new_is) (omega (arith, clock, fresh)) (omega (arith, clock)) unknown
+      agrees_new journal e old new a s (begun seat work) (ap (λ (z : StateOf). z.transactions) m.new_is) (omega (arith, clock, fresh)) (omega (arith, clock)) (ap (λ (z : StateOf). z.observers) m.new_is) unknown
       (λ h. (begun seat work, h, refl, refl))
       (record {
         begun = has_last journal e;
+        reads = λ x b h. absurd h;
+        declared = λ h. cc;
+        stamped = λ c p. absurd (elim p [ inl q ↦ cc | inr q ↦ cc ]);
+        committed = λ c q. cc;
+      })
+
+  -- a read is recorded
+  records : (s : Ts) (x : Cell) (b : Answer) (t : TransactionOf) → own old seat s.0 ≡ Some t → refusal old seat (Read s x) ≡ None → new ≡ record old { transactions = map.insert old.transactions s.0 (with_read t x b) }
+      → Told new seat (Read s x) b → Agrees (journal ++ entry seat (Read s x) b ∷ []) new
+  records s x b t of allowed new-is told =
+      let e = entry seat (Read s x) b in
+      let may = may_read old seat s x allowed in
+      let may-is = may.1 in
+      let same : may.0 ≡ t = cc in
+      let reading : is_reading t.phase ≡ true = ap (λ (t : TransactionOf). is_reading t.phase) (sym same) ∙ may.2 in
+      let was = own_held old seat s.0 t of in
+      let mine = own_seat old seat s.0 t of in
+      let l = a.logged s.0 t was in
+      let r = reading_is t.phase reading in
+      let clock : new.clock ≡ old.clock = ap (λ (z : StateOf). z.clock) new-is in
+      let low = a.early s.0 t was in
+      agrees_change journal e old new a s.0 (with_read t x b) (ap (λ (z : StateOf). z.transactions) new-is) (omega (arith, clock)) (omega (arith, clock, low)) (ap (λ (z : StateOf). z.observers) new-is) t was
+      (record { seat = refl; work = refl; past = λ h. cc; stamped = λ c p. absurd (elim p [ inl q ↦ cc | inr z ↦ elim z [ inl q ↦ cc | inr q ↦ cc ] ]); committed = λ c q. cc })
+      (λ h. told)
+      (record {
+        begun = has_front journal e _ l.begun;
+        reads = λ y d h. elim (has_more t.reads (x, b) (y, d) h) [
+          | inl q ↦ subst (λ (w : Cell × Answer). IsEntry (journal ++ e ∷ []) t.seat (Read s w.0) w.1) q (subst (λ n. IsEntry (journal ++ e ∷ []) n (Read s x) b) (sym mine) (has_last journal e))
+          | inr q ↦ has_front journal e _ (l.reads y d q)
+        ];
         declared = λ h. cc;
         stamped = λ c p. absurd (elim p [ inl q ↦ cc | inr q ↦ cc ]);
         committed = λ c q. cc;
@@ -75,30 +106,33 @@ module _ (journal : List Entry) (seat : ℕ) (old new : StateOf) (a : Agrees jou
       let own-is = m.of in let may-is = may.1 in
       let same : may.0 ≡ m.t = cc in
       let reading : is_reading m.t.phase ≡ true = ap (λ (t : TransactionOf). is_reading t.phase) (sym same) ∙ may.2 in
+      let its : is_its old.observers m.t.work s.0 m.t.reads what ≡ true = ap (λ (t : TransactionOf). is_its old.observers t.work s.0 t.reads what) (sym same) ∙ may.3 in
+      let obs : new.observers ≡ old.observers = ap (λ (z : StateOf). z.observers) m.new_is in
       let was = own_held old seat s.0 m.t m.of in
       let mine = own_seat old seat s.0 m.t m.of in
-      let u : TransactionOf = record m.t { phase = phases.Declared; declared = cells_of what } in
+      let u : TransactionOf = record m.t { phase = phases.Declared; declared = cells_of old.observers m.t.work s.0 what } in
       let clock : new.clock ≡ old.clock = ap (λ (z : StateOf). z.clock) m.new_is in
       let low = a.early s.0 m.t was in
-      agrees_change journal e old new a s.0 u (ap (λ (z : StateOf). z.transactions) m.new_is) (omega (arith, clock)) (omega (arith, clock, low)) m.t was
+      agrees_change journal e old new a s.0 u (ap (λ (z : StateOf). z.transactions) m.new_is) (omega (arith, clock)) (omega (arith, clock, low)) obs m.t was
       (record { seat = refl; work = refl; past = λ h. cc; stamped = λ c p. let r = reading_is m.t.phase reading in absurd (elim p [ inl q ↦ cc | inr z ↦ elim z [ inl q ↦ cc | inr q ↦ cc ] ]); committed = λ c q. let r = reading_is m.t.phase reading in cc })
-      (λ h. (u, h, refl, refl))
+      (λ h. (u, h, refl, sym (ap (λ o. cells_of o m.t.work s.0 what) obs)))
       (record {
         begun = has_front journal e _ (a.logged s.0 m.t was).begun;
-        declared = λ h. (what, subst (λ n. IsEntry (journal ++ e ∷ []) n (Declare s what) Done) (sym mine) (has_last journal e), refl);
+        reads = λ x b h. has_front journal e _ ((a.logged s.0 m.t was).reads x b h);
+        declared = λ h. (what, subst (λ n. IsEntry (journal ++ e ∷ []) n (Declare s what) Done) (sym mine) (has_last journal e), refl, its);
         stamped = λ c p. absurd (elim p [ inl q ↦ cc | inr q ↦ cc ]);
         committed = λ c q. cc;
       })
 
   -- a declared transaction that prewrites or fails
-  goes_on : (step : Step) (answer : Answer) (s : ℕ) (t u : TransactionOf) → got old s ≡ Some t → is_declared t.phase ≡ true → u.seat ≡ t.seat → u.work ≡ t.work → u.declared ≡ t.declared
-      → (u.phase ≡ t.phase) ⊎ (u.phase ≡ phases.Failed) → new.transactions ≡ map.insert old.transactions s u → new.clock ≡ old.clock → Told new seat step answer → Agrees (journal ++ entry seat step answer ∷ []) new
-  goes_on step answer s t u was phase same-seat same-work same-writes how is clock told =
+  goes_on : (step : Step) (answer : Answer) (s : ℕ) (t u : TransactionOf) → got old s ≡ Some t → is_declared t.phase ≡ true → u.seat ≡ t.seat → u.work ≡ t.work → u.reads ≡ t.reads → u.declared ≡ t.declared
+      → (u.phase ≡ t.phase) ⊎ (u.phase ≡ phases.Failed) → new.transactions ≡ map.insert old.transactions s u → new.clock ≡ old.clock → new.observers ≡ old.observers → Told new seat step answer → Agrees (journal ++ entry seat step answer ∷ []) new
+  goes_on step answer s t u was phase same-seat same-work same-reads same-writes how is clock obs told =
       let e = entry seat step answer in
       let low = a.early s t was in
       let l = a.logged s t was in
       let past = past_declared t.phase phase in
-      agrees_change journal e old new a s u is (omega (arith, clock)) (omega (arith, clock, low)) t was
+      agrees_change journal e old new a s u is (omega (arith, clock)) (omega (arith, clock, low)) obs t was
       (record {
         seat = same-seat;
         work = same-work;
@@ -109,7 +143,13 @@ module _ (journal : List Entry) (seat : ℕ) (old new : StateOf) (a : Agrees jou
       (λ h. told)
       (record {
         begun = subst (λ n. IsEntry (journal ++ e ∷ []) n (Begin u.work) (At (ts s))) (sym same-seat) (subst (λ w. IsEntry (journal ++ e ∷ []) t.seat (Begin w) (At (ts s))) (sym same-work) (has_front journal e _ l.begun));
-        declared = λ h. let d = l.declared past in (d.0, subst (λ n. IsEntry (journal ++ e ∷ []) n (Declare (ts s) d.0) Done) (sym same-seat) (has_front journal e _ d.1), same-writes ∙ d.2);
+        reads = λ x b h. subst (λ n. IsEntry (journal ++ e ∷ []) n (Read (ts s) x) b) (sym same-seat) (has_front journal e _ (l.reads x b (subst (λ rs. Has rs (x, b)) same-reads h)));
+        declared = λ h. let d = l.declared past in (
+          d.0,
+          subst (λ n. IsEntry (journal ++ e ∷ []) n (Declare (ts s) d.0) Done) (sym same-seat) (has_front journal e _ d.1),
+          same-writes ∙ d.2 ∙ ap (λ w. cells_of old.observers w s d.0) (sym same-work),
+          (λ i. is_its old.observers (same-work i) s (same-reads i) d.0) ∙ d.3,
+        );
         stamped = λ c p. absurd (elim how [
           | inl q ↦ no_stamp_declared t.phase phase c (elim p [ inl x ↦ inl (sym q ∙ x) | inr x ↦ inr (inl (sym q ∙ x)) ])
           | inr q ↦ elim p [ inl x ↦ cc | inr x ↦ cc ]
@@ -123,7 +163,7 @@ module _ (journal : List Entry) (seat : ℕ) (old new : StateOf) (a : Agrees jou
       let own-is = m.of in let may-is = may.of in
       let same : may.t ≡ m.t = cc in
       goes_on (Prewrite s x) Done s.0 m.t (record m.t { prewritten = m.t.prewritten ++ x ∷ [] }) (own_held old seat s.0 m.t m.of) (ap (λ (t : TransactionOf). is_declared t.phase) (sym same) ∙ may.phase)
-      refl refl refl (inl refl) (ap (λ (z : StateOf). z.transactions) m.new_is) (ap (λ (z : StateOf). z.clock) m.new_is) tt
+      refl refl refl refl (inl refl) (ap (λ (z : StateOf). z.transactions) m.new_is) (ap (λ (z : StateOf). z.clock) m.new_is) (ap (λ (z : StateOf). z.observers) m.new_is) tt
 
   conflicts : (s : Ts) (x : Cell) → refusal old seat (Prewrite s x) ≡ None → Conflicts old seat s.0 x new → Agrees (journal ++ entry seat (Prewrite s x) Conflict ∷ []) new
   conflicts s x allowed m =
@@ -131,7 +171,7 @@ module _ (journal : List Entry) (seat : ℕ) (old new : StateOf) (a : Agrees jou
       let own-is = m.of in let may-is = may.of in
       let same : may.t ≡ m.t = cc in
       goes_on (Prewrite s x) Conflict s.0 m.t (record m.t { phase = phases.Failed }) (own_held old seat s.0 m.t m.of) (ap (λ (t : TransactionOf). is_declared t.phase) (sym same) ∙ may.phase)
-      refl refl refl (inr refl) (ap (λ (z : StateOf). z.transactions) m.new_is) (ap (λ (z : StateOf). z.clock) m.new_is) tt
+      refl refl refl refl (inr refl) (ap (λ (z : StateOf). z.transactions) m.new_is) (ap (λ (z : StateOf). z.clock) m.new_is) (ap (λ (z : StateOf). z.observers) m.new_is) tt
 
   stamps : (s : Ts) (c : ℕ) → refusal old seat (Stamp s) ≡ None → Stamps old seat s.0 c new → Agrees (journal ++ entry seat (Stamp s) (At (ts c)) ∷ []) new
   stamps s c allowed m =
@@ -149,12 +189,13 @@ module _ (journal : List Entry) (seat : ℕ) (old new : StateOf) (a : Agrees jou
       let fresh = m.fresh in
       let low = a.early s.0 m.t was in
       let logged : IsEntry (journal ++ e ∷ []) m.t.seat (Stamp s) (At (ts c)) = subst (λ n. IsEntry (journal ++ e ∷ []) n (Stamp s) (At (ts c))) (sym mine) (has_last journal e) in
-      agrees_change journal e old new a s.0 u (ap (λ (z : StateOf). z.transactions) m.new_is) (omega (arith, clock, fresh)) (omega (arith, clock, fresh, low)) m.t was
+      agrees_change journal e old new a s.0 u (ap (λ (z : StateOf). z.transactions) m.new_is) (omega (arith, clock, fresh)) (omega (arith, clock, fresh, low)) (ap (λ (z : StateOf). z.observers) m.new_is) m.t was
       (record { seat = refl; work = refl; past = λ h. (refl, refl); stamped = λ d p. absurd (no_stamp_declared m.t.phase phase d p); committed = λ d q. absurd (no_commit_declared m.t.phase phase d q) })
       (λ h. (u, h, inl refl))
       (record {
         begun = has_front journal e _ l.begun;
-        declared = λ h. let d = l.declared past in (d.0, has_front journal e _ d.1, d.2);
+        reads = λ x b h. has_front journal e _ (l.reads x b h);
+        declared = λ h. let d = l.declared past in (d.0, has_front journal e _ d.1, d.2, d.3);
         stamped = λ d p. elim p [ inl q ↦ (let k : ts c ≡ ts d = cc in subst (λ n. IsEntry (journal ++ e ∷ []) m.t.seat (Stamp s) (At n)) k logged) | inr q ↦ cc ];
         committed = λ d q. cc;
       })
@@ -170,7 +211,7 @@ module _ (journal : List Entry) (seat : ℕ) (old new : StateOf) (a : Agrees jou
       let u : TransactionOf = record m.t { phase = phases.Committed (ts m.c) } in
       let clock : new.clock ≡ old.clock = ap (λ (z : StateOf). z.clock) m.new_is in
       let low = a.early s.0 m.t was in
-      agrees_change journal e old new a s.0 u (ap (λ (z : StateOf). z.transactions) m.new_is) (omega (arith, clock)) (omega (arith, clock, low)) m.t was
+      agrees_change journal e old new a s.0 u (ap (λ (z : StateOf). z.transactions) m.new_is) (omega (arith, clock)) (omega (arith, clock, low)) (ap (λ (z : StateOf). z.observers) m.new_is) m.t was
       (record {
         seat = refl;
         work = refl;
@@ -181,7 +222,8 @@ module _ (journal : List Entry) (seat : ℕ) (old new : StateOf) (a : Agrees jou
       (λ h. (u, h, m.c, refl))
       (record {
         begun = has_front journal e _ l.begun;
-        declared = λ h. let d = l.declared past in (d.0, has_front journal e _ d.1, d.2);
+        reads = λ x b h. has_front journal e _ (l.reads x b h);
+        declared = λ h. let d = l.declared past in (d.0, has_front journal e _ d.1, d.2, d.3);
         stamped = λ d p. has_front journal e _ (l.stamped d (inl (elim p [ inl q ↦ cc | inr q ↦ (let k : ts m.c ≡ ts d = cc in stamped ∙ ap phases.Stamped k) ])));
         committed = λ d q. subst (λ n. IsEntry (journal ++ e ∷ []) n (CommitPrimary s) Committed) (sym mine) (has_last journal e);
       })
@@ -199,18 +241,22 @@ module _ (journal : List Entry) (seat : ℕ) (old new : StateOf) (a : Agrees jou
       let u : TransactionOf = record m.t { phase = phases.Failed } in
       let clock : new.clock ≡ old.clock = ap (λ (z : StateOf). z.clock) m.new_is in
       let low = a.early s.0 m.t was in
-      agrees_change journal e old new a s.0 u (ap (λ (z : StateOf). z.transactions) m.new_is) (omega (arith, clock)) (omega (arith, clock, low)) m.t was
+      agrees_change journal e old new a s.0 u (ap (λ (z : StateOf). z.transactions) m.new_is) (omega (arith, clock)) (omega (arith, clock, low)) (ap (λ (z : StateOf). z.observers) m.new_is) m.t was
       (record { seat = refl; work = refl; past = λ h. (refl, refl); stamped = λ d p. inr (inr refl); committed = λ d q. cc })
       (λ h. tt)
       (record {
         begun = has_front journal e _ l.begun;
-        declared = λ h. let d = l.declared past in (d.0, has_front journal e _ d.1, d.2);
+        reads = λ x b h. has_front journal e _ (l.reads x b h);
+        declared = λ h. let d = l.declared past in (d.0, has_front journal e _ d.1, d.2, d.3);
         stamped = λ d p. absurd (elim p [ inl q ↦ cc | inr q ↦ cc ]);
         committed = λ d q. cc;
       })
 
   case_agrees : (step : Step) (answer : Answer) → refusal old seat step ≡ None → Case old seat step answer new → Agrees (journal ++ entry seat step answer ∷ []) new
   case_agrees (Begin work) (At s) h m = begins work s.0 m
+  case_agrees (Read s x) (Locked start primary) h m = agrees_same journal (entry seat (Read s x) (Locked start primary)) old new a m.new_is tt
+  case_agrees (Read s x) (Found v) h m = records s x (Found v) m.t m.of h m.new_is tt
+  case_agrees (Read s x) Absent h m = records s x Absent m.t m.of h m.new_is tt
   case_agrees (Declare s what) Done h m = declared_now s what h m
   case_agrees (Prewrite s x) Done h m = prewrites s x h m
   case_agrees (Prewrite s x) Conflict h m = conflicts s x h m
@@ -235,12 +281,12 @@ run_agrees before old (e ∷ es) new a r =
     subst (λ b. Agrees b new) (append_one before e es)
     (run_agrees (before ++ e ∷ []) r.0 es new (case_agrees before e.seat old r.0 a e.step e.answer m.allowed m.taken) r.2)
 
-nothing_agrees : (seats clock : ℕ) → Agrees [] (opened seats clock)
-nothing_agrees seats clock = record {
+nothing_agrees : (observers : List ObserverOf) (seats clock : ℕ) → Agrees [] (opened observers seats clock)
+nothing_agrees observers seats clock = record {
   early = λ s t h. let none = map.get-empty {X = TransactionOf} nat_cmp s in cc;
   told = λ e h. absurd h;
   logged = λ s t h. let none = map.get-empty {X = TransactionOf} nat_cmp s in absurd cc;
 }
 
-pub legal_agrees : (seats clock : ℕ) (journal : List Entry) (state : StateOf) → IsLegal seats clock journal state → Agrees journal state
-legal_agrees seats clock journal state l = run_agrees [] (opened seats clock) journal state (nothing_agrees seats clock) l.run
+pub legal_agrees : (observers : List ObserverOf) (seats clock : ℕ) (journal : List Entry) (state : StateOf) → IsLegal observers seats clock journal state → Agrees journal state
+legal_agrees observers seats clock journal state l = run_agrees [] (opened observers seats clock) journal state (nothing_agrees observers seats clock) l.run

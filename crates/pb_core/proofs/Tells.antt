@@ -6,7 +6,7 @@ use Rattle.pb_state.specs.declared.step.Step.TheVariants.{Begin, Declare, Stamp,
 use Rattle.pb_state.specs.declared.step.Answer.TheVariants.{At, Done, Committed}
 use Rattle.pb_state.specs.declared.transaction.Phase.{Phase}
 use Rattle.pb_state.specs.declared.transaction.Phase.TheVariants as phases
-use Rattle.pb_state.specs.State.{StateOf, TransactionOf}
+use Rattle.pb_state.specs.State.{StateOf, TransactionOf, ObserverOf, cells_of}
 use Rattle.pb_state.specs.Refusal.{is_reading}
 use Rattle.pb_core.specs.declared.entry.Entry.{Entry}
 use Rattle.pb_core.specs.Legal.{IsLegal}
@@ -24,13 +24,14 @@ same_stamp h c d e p = elim p [
 ]
 
 module _ (journal : List Entry) (state : StateOf) (a : Agrees journal state) where
-  is_committed : (m : Member) → InHistory journal m → IsCommitted state m
+  pub is_committed : (m : Member) → InHistory state.observers journal m → IsCommitted state m
   is_committed m h =
       let b = a.told _ h.begun in
       let d = a.told _ h.declared in
       let s = a.told _ h.stamped in
       let c = a.told _ h.committed in
       let o = got state m.start in
+      let work : m.work ≡ d.0.work = sym b.3 ∙ ap (λ (t : TransactionOf). t.work) (one o d.0 b.0 d.1 b.1) in
       let commit : c.2 ≡ m.commit = same_stamp c.0.phase c.2 m.commit c.3 (subst (λ (t : TransactionOf). PastStamp t.phase m.commit) (one o c.0 s.0 c.1 s.1) s.2) in
       record {
         t = c.0;
@@ -38,10 +39,10 @@ module _ (journal : List Entry) (state : StateOf) (a : Agrees journal state) whe
         phase = c.3 ∙ ap (λ n. phases.Committed (ts n)) commit;
         seat = sym b.2 ∙ ap (λ (t : TransactionOf). t.seat) (one o c.0 b.0 c.1 b.1);
         work = sym b.3 ∙ ap (λ (t : TransactionOf). t.work) (one o c.0 b.0 c.1 b.1);
-        writes = h.writes_are ∙ sym d.3 ∙ ap (λ (t : TransactionOf). t.declared) (one o c.0 d.0 c.1 d.1);
+        writes = h.writes_are ∙ ap (λ w. cells_of state.observers w m.start h.what) work ∙ sym d.3 ∙ ap (λ (t : TransactionOf). t.declared) (one o c.0 d.0 c.1 d.1);
       }
 
-  is_member : (m : Member) → IsCommitted state m → InHistory journal m
+  is_member : (m : Member) → IsCommitted state m → InHistory state.observers journal m
   is_member m h =
       let l = a.logged m.start h.t h.there in
       let past : is_reading h.t.phase ≡ false = ap is_reading h.phase in
@@ -50,7 +51,7 @@ module _ (journal : List Entry) (state : StateOf) (a : Agrees journal state) whe
         begun = subst (λ n. IsEntry journal n (Begin m.work) (At (ts m.start))) (sym h.seat) (subst (λ w. IsEntry journal h.t.seat (Begin w) (At (ts m.start))) (sym h.work) l.begun);
         what = d.0;
         declared = subst (λ n. IsEntry journal n (Declare (ts m.start) d.0) Done) (sym h.seat) d.1;
-        writes_are = h.writes ∙ d.2;
+        writes_are = h.writes ∙ d.2 ∙ ap (λ w. cells_of state.observers w m.start d.0) (sym h.work);
         stamped = subst (λ n. IsEntry journal n (Stamp (ts m.start)) (At (ts m.commit))) (sym h.seat) (l.stamped m.commit (inr h.phase));
         committed = subst (λ n. IsEntry journal n (CommitPrimary (ts m.start)) Committed) (sym h.seat) (l.committed m.commit h.phase);
       }
@@ -58,7 +59,7 @@ module _ (journal : List Entry) (state : StateOf) (a : Agrees journal state) whe
   is_declared_by : (seat start : ℕ) (what : Declared) → IsEntry journal seat (Declare (ts start) what) Done → IsDeclared state start what
   is_declared_by seat start what h = let d = a.told _ h in record { t = d.0; there = d.1; declared = d.3 }
 
-pub tells : (seats clock : ℕ) (journal : List Entry) (state : StateOf) → IsLegal seats clock journal state → TellsHistory journal state
-tells seats clock journal state l =
-    let a = legal_agrees seats clock journal state l in
+pub tells : (observers : List ObserverOf) (seats clock : ℕ) (journal : List Entry) (state : StateOf) → IsLegal observers seats clock journal state → TellsHistory journal state
+tells observers seats clock journal state l =
+    let a = legal_agrees observers seats clock journal state l in
     record { committed = is_committed journal state a; member = is_member journal state a; declared = is_declared_by journal state a }

@@ -11,7 +11,7 @@ use Rattle.pb_state.specs.declared.step.Step.TheVariants.{Begin, Declare, Stamp,
 use Rattle.pb_state.specs.declared.step.Answer.{Answer}
 use Rattle.pb_state.specs.declared.step.Answer.TheVariants.{At, Done, Committed}
 use Rattle.pb_state.specs.declared.transaction.Phase.TheVariants as phases
-use Rattle.pb_state.specs.State.{StateOf, TransactionOf, cells_of}
+use Rattle.pb_state.specs.State.{StateOf, TransactionOf, ObserverOf, cells_of}
 use Rattle.pb_core.specs.declared.entry.Entry.{Entry}
 
 -- a list has an item
@@ -32,11 +32,11 @@ pub record Member : Type 0 where
   pub writes : Writes
 
 -- a transaction of the journal with the answer `Committed`: its commit is its stamp, its writes are what it declared
-pub record InHistory (journal : List Entry) (m : Member) : Type 0 where
+pub record InHistory (observers : List ObserverOf) (journal : List Entry) (m : Member) : Type 0 where
   pub begun : IsEntry journal m.seat (Begin m.work) (At (record { 0 = m.start }))
   pub what : Declared
   pub declared : IsEntry journal m.seat (Declare (record { 0 = m.start }) what) Done
-  pub writes_are : m.writes ≡ cells_of what
+  pub writes_are : m.writes ≡ cells_of observers m.work m.start what
   pub stamped : IsEntry journal m.seat (Stamp (record { 0 = m.start })) (At (record { 0 = m.commit }))
   pub committed : IsEntry journal m.seat (CommitPrimary (record { 0 = m.start })) Committed
 
@@ -45,18 +45,18 @@ abbrev pub WritesTo : Member → Cell → Content → Type 0
 WritesTo m x content = content_in m.writes x ≡ Some content
 
 -- of the writes to x with a commit at most s, this is the one with the greatest
-pub record IsSnapshot (journal : List Entry) (s : ℕ) (x : Cell) (start commit : ℕ) (content : Content) : Type 0 where
+pub record IsSnapshot (observers : List ObserverOf) (journal : List Entry) (s : ℕ) (x : Cell) (start commit : ℕ) (content : Content) : Type 0 where
   pub m : Member
-  pub in_history : InHistory journal m
+  pub in_history : InHistory observers journal m
   pub start_is : m.start ≡ start
   pub commit_is : m.commit ≡ commit
   pub writes : WritesTo m x content
   pub seen : commit ≤ s
-  pub greatest : (n : Member) (k : Content) → InHistory journal n → WritesTo n x k → n.commit ≤ s → n.commit ≤ commit
+  pub greatest : (n : Member) (k : Content) → InHistory observers journal n → WritesTo n x k → n.commit ≤ s → n.commit ≤ commit
 
 -- no write to x has a commit at most s
-abbrev pub NoSnapshot : List Entry → ℕ → Cell → Type 0
-NoSnapshot journal s x = (n : Member) (k : Content) → InHistory journal n → WritesTo n x k → s < n.commit
+abbrev pub NoSnapshot : List ObserverOf → List Entry → ℕ → Cell → Type 0
+NoSnapshot observers journal s x = (n : Member) (k : Content) → InHistory observers journal n → WritesTo n x k → s < n.commit
 
 -- the state has this transaction, committed
 pub record IsCommitted (state : StateOf) (m : Member) : Type 0 where
@@ -71,12 +71,12 @@ pub record IsCommitted (state : StateOf) (m : Member) : Type 0 where
 pub record IsDeclared (state : StateOf) (start : ℕ) (what : Declared) : Type 0 where
   pub t : TransactionOf
   pub there : map.get state.transactions start ≡ Some t
-  pub declared : t.declared ≡ cells_of what
+  pub declared : t.declared ≡ cells_of state.observers t.work start what
 
 -- the history of a journal, told by the state that it leads to
 pub record TellsHistory (journal : List Entry) (state : StateOf) : Type 0 where
-  pub committed : (m : Member) → InHistory journal m → IsCommitted state m
-  pub member : (m : Member) → IsCommitted state m → InHistory journal m
+  pub committed : (m : Member) → InHistory state.observers journal m → IsCommitted state m
+  pub member : (m : Member) → IsCommitted state m → InHistory state.observers journal m
   pub declared : (seat start : ℕ) (what : Declared) → IsEntry journal seat (Declare (record { 0 = start }) what) Done → IsDeclared state start what
 
 -- the greatest commit so far is below the next
@@ -85,7 +85,7 @@ RiseFrom low [] = Unit {0}
 RiseFrom low (m ∷ ms) = (low < m.commit) × RiseFrom m.commit ms
 
 -- the history as a list, in the order of the commits, each transaction once
-pub record IsHistory (journal : List Entry) (ms : List Member) : Type 0 where
-  pub each : (m : Member) → Has ms m → InHistory journal m
-  pub whole : (m : Member) → InHistory journal m → Has ms m
+pub record IsHistory (observers : List ObserverOf) (journal : List Entry) (ms : List Member) : Type 0 where
+  pub each : (m : Member) → Has ms m → InHistory observers journal m
+  pub whole : (m : Member) → InHistory observers journal m → Has ms m
   pub rising : RiseFrom 0 ms

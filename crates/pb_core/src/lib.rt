@@ -5,5 +5,8 @@ mod entry;
 mod shared;
 
 pub use entry::{Entry, Received, Seat};
-pub use pb_state::{Answer, Declaration, Declared, Phase, Step, Work};
+pub use pb_state::{
+    Accepted, Answer, Declaration, Declared, Finished, Moved, Observer, Phase, Record, Seen, Step,
+    Vm, Work, acknowledged_in,
+};
 pub use shared::{OpenRefused, Shared};

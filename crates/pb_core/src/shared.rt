@@ -4,7 +4,7 @@ ghost use Rattle.pb_core.specs.Calls.{IsFresh, IsBlank};
 
 use crate::entry::{Book, Entry, Received, Seat};
 use pb_base::{NoMemory, Refusal, Ts};
-use pb_state::{Answer, Phase, State, Step};
+use pb_state::{Answer, Observer, Phase, State, Step};
 use pb_store::{Table, Tablet};
 use std::alloc::Global;
 use std::marker::Model;
@@ -35,9 +35,11 @@ impl<T: Tablet> Model for Shared<T> {
     ghost invariant = { λ s. IsKept s.journal.items s.books.items s.state s.opened s.limit };
 }
 
-/// A table that couldn't be opened, handed back: code 4 where it isn't empty, 1 where there was no memory.
+/// A table that couldn't be opened, handed back with its observers: code 4 where it isn't empty, 1 where there was no
+/// memory.
 pub struct OpenRefused<T: Tablet> {
     pub table: Table<T>,
+    pub observers: Vec<Observer>,
     pub code: u8,
 }
 
@@ -54,6 +56,12 @@ fn append<X: Drop>(list: &mut Vec<X>, item: X)
     ensures { list.new.items ≡ list.old.items ++ item ∷ [] }
 {
     list.push(item).unwrap();
+}
+
+fn same(answer: &Answer) -> Answer
+    ensures { result ≡ answer.now }
+{
+    *answer
 }
 
 // Empty books, one a seat.
@@ -85,20 +93,24 @@ fn empty_seats(alloc: Global, count: u32) -> Result<Vec<Seat>, NoMemory>
 }
 
 impl<T: Tablet> Shared<T> {
-    ghost use Rattle.std.specs.Prelude.{◌≡◌, ◌≤◌, ◌<◌, ◌↔◌, IfOk, IfErr, OnOk, OnErr, [], ℕ, Err, Some, None, true, false};
+    ghost use Rattle.std.specs.Prelude.{◌≡◌, ◌≤◌, ◌<◌, ◌↔◌, IfOk, IfErr, OnOk, OnErr, [], length, ℕ, Err, Some, None, true, false};
     ghost use Rattle.pb_store.specs.Contents.{nothing, is_nothing};
     ghost use Rattle.std.specs.FinMap as map;
     ghost use Rattle.pb_state.specs.State.{opened, phase_in, lock_count};
     ghost use Rattle.pb_core.specs.Calls.{AreSeats, Calls, refusal_in, no_memory};
-    ghost use Rattle.pb_core.specs.Legal.{IsLegal};
+    ghost use Rattle.pb_core.specs.Legal.{IsLegal, AreKnown};
     ghost use Rattle.pb_core.specs.History.{TellsHistory};
+    ghost use Rattle.pb_core.specs.Reads.{TellsReads};
+    ghost use Rattle.pb_core.specs.Runs.{TellsRuns};
 
-    /// Opens a table for as many seats, with `last` the last timestamp given out so far and room for `limit` entries.
+    /// Opens a table for these observers and as many seats, with `last` the last timestamp given out so far and room for
+    /// `limit` entries.
     ///
-    /// It hands the table back with code 4 where it isn't empty, and with code 1 where memory is refused.
+    /// It hands table and observers back with code 4 where it isn't empty, and with code 1 where memory is refused.
     pub fn open(
         alloc: Global,
         table: Table<T>,
+        observers: Vec<Observer>,
         seats: u32,
         last: Ts,
         limit: usize,
@@ -106,23 +118,37 @@ impl<T: Tablet> Shared<T> {
         requires some { 1 ≤ seats }
         requires few { seats ≤ 64 }
         requires bounded { limit ≤ 1000000 }
-        ensures shared { IfOk result (λ s. s.0 ≡ record { journal = []; state = opened seats last.0; opened = last.0; limit = limit }) }
+        requires numbered { length observers.items ≤ 32 }
+        ensures shared { IfOk result (λ s. s.0 ≡ record { journal = []; state = opened observers.items seats last.0; opened = last.0; limit = limit }) }
         ensures seats { IfOk result (λ s. AreSeats s.0 s.1.items) }
         ensures empty { OnOk result (is_nothing table.contents ≡ true) }
         ensures handed_back { IfErr result (λ e. e.table ≡ table) }
+        ensures observers { IfErr result (λ e. e.observers ≡ observers) }
         ensures full { is_nothing table.contents ≡ false → IfErr result (λ e. e.code ≡ 4) }
         ensures memory { is_nothing table.contents ≡ true → IfErr result (λ e. e.code ≡ 1) }
     {
         if !table.is_empty() {
-            return Err(OpenRefused { table, code: 4 });
+            return Err(OpenRefused {
+                table,
+                observers,
+                code: 4,
+            });
         }
         let Ok(books) = empty_books(alloc, seats) else {
-            return Err(OpenRefused { table, code: 1 });
+            return Err(OpenRefused {
+                table,
+                observers,
+                code: 1,
+            });
         };
         let Ok(all) = empty_seats(alloc, seats) else {
-            return Err(OpenRefused { table, code: 1 });
+            return Err(OpenRefused {
+                table,
+                observers,
+                code: 1,
+            });
         };
-        let state = State::new(alloc, table, seats, last);
+        let state = State::new(alloc, table, observers, seats, last);
         let shared = Shared {
             state,
             journal: Vec::new(alloc),
@@ -148,8 +174,11 @@ impl<T: Tablet> Shared<T> {
     /// The entries of all answered calls, in order.
     pub fn journal(&self) -> &[Entry]
         ensures entries { result.now ≡ self.now.journal }
-        ensures legal { IsLegal self.now.state.seats self.now.opened self.now.journal self.now.state }
+        ensures legal { IsLegal self.now.state.observers self.now.state.seats self.now.opened self.now.journal self.now.state }
+        ensures known { AreKnown self.now.journal }
         ensures history { TellsHistory self.now.journal self.now.state }
+        ensures reads { TellsReads self.now.state.observers self.now.state.seats self.now.opened self.now.journal }
+        ensures runs { TellsRuns self.now.journal self.now.state }
     {
         &self.journal
     }
@@ -174,6 +203,14 @@ impl<T: Tablet> Shared<T> {
         ensures { result.0 ≡ self.now.state.clock }
     {
         self.state.clock()
+    }
+
+    /// The observers, by their numbers.
+    pub fn observers(&self) -> &[Observer]
+        ensures observers { result.now ≡ self.now.state.observers }
+        ensures few { length result.now ≤ 32 }
+    {
+        self.state.observers()
     }
 
     /// How many seats the table has.
@@ -259,6 +296,7 @@ impl<T: Tablet> Shared<T> {
         ensures table { OnErr result (self.new ≡ self.old) }
         ensures seat { OnErr result (seat.new ≡ seat.old) }
     {
+        step.known();
         let kept = step.copy()?;
         let told = step.copy()?;
         make_room(&mut self.journal)?;
@@ -271,10 +309,14 @@ impl<T: Tablet> Shared<T> {
         let entry = Entry {
             seat: seat.number,
             step: kept,
-            answer,
+            answer: same(&answer),
         };
         append(&mut self.journal, entry);
-        append(&mut seat.received, Received { step: told, answer });
+        let received = Received {
+            step: told,
+            answer: same(&answer),
+        };
+        append(&mut seat.received, received);
         Ok(answer)
     }
 }

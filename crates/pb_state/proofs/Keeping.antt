@@ -5,7 +5,8 @@ use Rattle.std.specs.Cmp.{unsigned_tied, nat_cmp_total}
 use Rattle.std.specs.FinMap as map
 use Rattle.std.proofs.lemmas.Bool.{eqb-true}
 use Rattle.pb_state.specs.State.{TransactionOf, Transactions}
-use Rattle.pb_state.specs.Kept.{IsKept}
+use Rattle.pb_store.specs.Contents.{Entries}
+use Rattle.pb_state.specs.Kept.{IsKept, IsWhole}
 
 branches : {A : Type 0} (b : Bool) (x y : Option A) (w : A) → cond b x y ≡ Some w → (b ≡ true) ⊎ (y ≡ Some w)
 branches true x y w e = inl refl
@@ -19,15 +20,16 @@ inserted_or ts k u s v e =
       | inr old ↦ inr old
     ]
 
-pub kept_put : (clock later k : ℕ) (ts new : Transactions) (u : TransactionOf) → IsKept clock ts → clock ≤ later → k ≤ later → new ≡ map.insert ts k u → IsKept later new
-kept_put clock later k ts new u kept le low is = record {
+pub kept_put : (e f : Entries) (clock later k : ℕ) (ts new : Transactions) (u : TransactionOf) → IsKept e clock ts → clock ≤ later → k ≤ later → new ≡ map.insert ts k u → IsWhole f → IsKept f later new
+kept_put e f clock later k ts new u kept le low is whole = record {
   begun = λ s v e.
       elim (inserted_or ts k u s v (ap (λ m. map.get m s) (sym is) ∙ e)) [
         | inl same ↦ omega arith
         | inr old ↦ let b = kept.begun s v old in omega arith
       ];
+  whole = whole;
 }
 
 -- a change of a transaction that is there
-pub kept_change : (clock later k : ℕ) (ts new : Transactions) (t u : TransactionOf) → IsKept clock ts → map.get ts k ≡ Some t → clock ≤ later → new ≡ map.insert ts k u → IsKept later new
-kept_change clock later k ts new t u kept there le is = let b = kept.begun k t there in kept_put clock later k ts new u kept le (omega arith) is
+pub kept_change : (e f : Entries) (clock later k : ℕ) (ts new : Transactions) (t u : TransactionOf) → IsKept e clock ts → map.get ts k ≡ Some t → clock ≤ later → new ≡ map.insert ts k u → IsWhole f → IsKept f later new
+kept_change e f clock later k ts new t u kept there le is whole = let b = kept.begun k t there in kept_put e f clock later k ts new u kept le (omega arith) is whole

@@ -5,3 +5,6 @@ pub mod Keeping
 pub mod Newest
 pub mod Commits
 mod Walking
+mod Whole
+mod Records
+mod Runs

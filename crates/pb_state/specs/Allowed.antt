@@ -9,11 +9,12 @@ use Rattle.pb_base.specs.declared.names.Ts.{Ts}
 use Rattle.pb_base.specs.Batch.{Writes, content_in, primary_in}
 use Rattle.pb_state.specs.declared.step.Work.{Work}
 use Rattle.pb_state.specs.declared.step.Declared.{Declared}
-use Rattle.pb_state.specs.declared.step.Step.TheVariants.{Begin, Declare, Prewrite, Stamp, CommitPrimary}
+use Rattle.pb_state.specs.declared.step.Step.TheVariants.{Begin, Read, Declare, Prewrite, Stamp, CommitPrimary}
 use Rattle.pb_state.specs.declared.transaction.Phase.{Phase}
 use Rattle.pb_state.specs.declared.transaction.Phase.TheVariants as phases
 use Rattle.pb_state.specs.State.{StateOf, TransactionOf, is_among}
-use Rattle.pb_state.specs.Refusal.{own, of_seat, is_foreign, no_seat, is_out, is_reading, is_declared, is_stamped, is_early, is_whole, first_reason, reasons_of_own, refusal, declare_reasons, prewrite_reasons, stamp_reasons, commit_reasons}
+use Rattle.pb_state.specs.Declarations.{is_its}
+use Rattle.pb_state.specs.Refusal.{own, of_seat, is_foreign, no_seat, is_out, is_unknown, is_reading, is_declared, is_stamped, is_early, is_whole, first_reason, reasons_of_own, refusal, read_reasons, declare_reasons, prewrite_reasons, stamp_reasons, commit_reasons}
 
 pub none_first : (n : ℕ) (b : Bool) (rs : List (ℕ × Bool)) → first_reason ((n, b) ∷ rs) ≡ None → (b ≡ false) × (first_reason rs ≡ None)
 none_first n true rs e = cc
@@ -64,7 +65,7 @@ owned s seat start why e =
     (o.0, o.1, sym (ap (λ x. first_reason (reasons_of_own x why)) o.1) ∙ p.1)
 
 pub begin_fits : (s : StateOf) (seat : ℕ) (work : Work) → refusal s seat (Begin work) ≡ None → is_out s ≡ false
-begin_fits s seat work e = (none_first 40 (is_out s) ((41, no_seat s seat) ∷ []) e).0
+begin_fits s seat work e = (none_first 40 (is_out s) ((41, no_seat s seat) ∷ (47, is_unknown s.observers work) ∷ []) e).0
 
 abbrev stamp_rest : StateOf → ℕ → Ts → List (ℕ × Bool)
 stamp_rest s seat start = (41, is_foreign s seat start.0) ∷ reasons_of_own (own s seat start.0) stamp_reasons
@@ -72,9 +73,15 @@ stamp_rest s seat start = (41, is_foreign s seat start.0) ∷ reasons_of_own (ow
 pub stamp_fits : (s : StateOf) (seat : ℕ) (start : Ts) → refusal s seat (Stamp start) ≡ None → is_out s ≡ false
 stamp_fits s seat start e = (none_first 40 (is_out s) (stamp_rest s seat start) e).0
 
-pub declares : (s : StateOf) (seat : ℕ) (start : Ts) (what : Declared) → refusal s seat (Declare start what) ≡ None → (t : TransactionOf) × (own s seat start.0 ≡ Some t) × (is_reading t.phase ≡ true)
+pub declares : (s : StateOf) (seat : ℕ) (start : Ts) (what : Declared) → refusal s seat (Declare start what) ≡ None → (t : TransactionOf) × (own s seat start.0 ≡ Some t) × (is_reading t.phase ≡ true) × (is_its s.observers t.work start.0 t.reads what ≡ true)
 declares s seat start what e =
-    let o = owned s seat start.0 declare_reasons e in
+    let o = owned s seat start.0 (declare_reasons s.observers start.0 what) e in
+    let p = none_first 42 (not (is_reading o.0.phase)) ((43, not (is_its s.observers o.0.work start.0 o.0.reads what)) ∷ []) o.2 in
+    (o.0, o.1, not_false _ p.0, not_false _ (none_first 43 (not (is_its s.observers o.0.work start.0 o.0.reads what)) [] p.1).0)
+
+pub may_read : (s : StateOf) (seat : ℕ) (start : Ts) (x : Cell) → refusal s seat (Read start x) ≡ None → (t : TransactionOf) × (own s seat start.0 ≡ Some t) × (is_reading t.phase ≡ true)
+may_read s seat start x e =
+    let o = owned s seat start.0 read_reasons e in
     (o.0, o.1, not_false _ (none_first 42 (not (is_reading o.0.phase)) [] o.2).0)
 
 -- what a `Prewrite` finds

@@ -1,5 +1,8 @@
 pub mod State
 pub mod Starts
+pub mod Known
+pub mod Declarations
+pub mod Fitting
 pub mod Refusal
 pub mod Kept
 pub mod Machine

@@ -1,8 +1,9 @@
--- The steps of the shared table (OSDI 2010, sections 2.2 and 2.3): what each may answer, and the state that it leaves.
-use Rattle.std.specs.Prelude.{◌≡◌, ℕ, ◌+◌, ◌⊎◌, true, false, is_some, [], ◌∷◌, ◌++◌, Some, None}
+-- The steps of the shared table (OSDI 2010, sections 2.2 to 2.4): what each may answer, and the state that it leaves.
+use Rattle.std.specs.Prelude.{◌≡◌, ℕ, ◌+◌, ◌<◌, ◌≤◌, ◌⊎◌, true, false, is_some, [], ◌∷◌, ◌++◌, Some, None}
 use Rattle.std.specs.FinMap as map
 use Rattle.pb_base.specs.declared.cell.Cell.{Cell}
 use Rattle.pb_base.specs.declared.content.Content.{Content}
+use Rattle.pb_base.specs.declared.content.Version.{Version}
 use Rattle.pb_base.specs.Batch.{content_in, primary_in}
 use Rattle.pb_store.specs.declared.slot.Item.TheVariants as items
 use Rattle.pb_store.specs.declared.slot.Sort.TheVariants as sorts
@@ -10,11 +11,11 @@ use Rattle.pb_store.specs.Contents.{Entries, slot_at}
 use Rattle.pb_state.specs.declared.step.Work.{Work}
 use Rattle.pb_state.specs.declared.step.Declared.{Declared}
 use Rattle.pb_state.specs.declared.step.Step.{Step}
-use Rattle.pb_state.specs.declared.step.Step.TheVariants.{Begin, Declare, Prewrite, Stamp, CommitPrimary}
+use Rattle.pb_state.specs.declared.step.Step.TheVariants.{Begin, Read, Declare, Prewrite, Stamp, CommitPrimary}
 use Rattle.pb_state.specs.declared.step.Answer.{Answer}
-use Rattle.pb_state.specs.declared.step.Answer.TheVariants.{At, Done, Conflict, Committed, Lost}
+use Rattle.pb_state.specs.declared.step.Answer.TheVariants.{At, Locked, Found, Absent, Done, Conflict, Committed, Lost}
 use Rattle.pb_state.specs.declared.transaction.Phase.TheVariants as phases
-use Rattle.pb_state.specs.State.{StateOf, TransactionOf, begun, cells_of, lock_at, NoLock, SomeLock, NoWriteFrom, SomeWriteFrom}
+use Rattle.pb_state.specs.State.{StateOf, TransactionOf, begun, cells_of, lock_at, NoLock, SomeLock, NoWriteFrom, SomeWriteFrom, NoLockUpTo, IsVersion, NoVersion}
 use Rattle.pb_state.specs.Refusal.{own, refusal}
 
 -- the state with this under a start
@@ -33,10 +34,39 @@ pub record Begins (old : StateOf) (seat : ℕ) (work : Work) (s : ℕ) (new : St
   pub fresh : s ≡ old.clock + 1
   pub new_is : new ≡ record old { clock = s; transactions = map.insert old.transactions s (begun seat work) }
 
+-- a transaction that records a read
+abbrev pub with_read : TransactionOf → Cell → Answer → TransactionOf
+with_read t x a = record t { reads = t.reads ++ (x, a) ∷ [] }
+
+-- a lock at most s stands on x
+pub record ReadsLocked (old : StateOf) (seat s : ℕ) (x : Cell) (start : ℕ) (primary : Cell) (new : StateOf) : Type 0 where
+  pub t : TransactionOf
+  pub of : own old seat s ≡ Some t
+  pub low : start ≤ s
+  pub locked : lock_at old.entries x start ≡ Some primary
+  pub newest : (u : ℕ) → start < u → u ≤ s → lock_at old.entries x u ≡ None
+  pub new_is : new ≡ old
+
+-- none does: the newest version at most s is told and recorded
+pub record ReadsFound (old : StateOf) (seat s : ℕ) (x : Cell) (v : Version) (new : StateOf) : Type 0 where
+  pub t : TransactionOf
+  pub of : own old seat s ≡ Some t
+  pub unlocked : NoLockUpTo old.entries x s
+  pub version : IsVersion old.entries x s v
+  pub new_is : new ≡ with_transaction old s (with_read t x (Found v))
+
+-- and there is no version at most s
+pub record ReadsAbsent (old : StateOf) (seat s : ℕ) (x : Cell) (new : StateOf) : Type 0 where
+  pub t : TransactionOf
+  pub of : own old seat s ≡ Some t
+  pub unlocked : NoLockUpTo old.entries x s
+  pub none : NoVersion old.entries x s
+  pub new_is : new ≡ with_transaction old s (with_read t x Absent)
+
 pub record Declares (old : StateOf) (seat s : ℕ) (what : Declared) (new : StateOf) : Type 0 where
   pub t : TransactionOf
   pub of : own old seat s ≡ Some t
-  pub new_is : new ≡ with_transaction old s (record t { phase = phases.Declared; declared = cells_of what })
+  pub new_is : new ≡ with_transaction old s (record t { phase = phases.Declared; declared = cells_of old.observers t.work s what })
 
 -- neither a lock nor a later write record stands on x: data and lock are put there
 pub record Prewrites (old : StateOf) (seat s : ℕ) (x : Cell) (new : StateOf) : Type 0 where
@@ -91,6 +121,9 @@ pub record Loses (old : StateOf) (seat s : ℕ) (new : StateOf) : Type 0 where
 -- what a step that isn't refused answers and leaves
 abbrev pub Case : StateOf → ℕ → Step → Answer → StateOf → Type 0
 Case old seat (Begin work) (At s) new = Begins old seat work s.0 new
+Case old seat (Read s x) (Locked start primary) new = ReadsLocked old seat s.0 x start.0 primary new
+Case old seat (Read s x) (Found v) new = ReadsFound old seat s.0 x v new
+Case old seat (Read s x) Absent new = ReadsAbsent old seat s.0 x new
 Case old seat (Declare s what) Done new = Declares old seat s.0 what new
 Case old seat (Prewrite s x) Done new = Prewrites old seat s.0 x new
 Case old seat (Prewrite s x) Conflict new = Conflicts old seat s.0 x new

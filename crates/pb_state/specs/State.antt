@@ -1,23 +1,32 @@
 -- The state of the shared table, without journal and books.
-use Rattle.std.specs.Prelude.{◌≡◌, ℕ, ◌<◌, ◌≤◌, ◌^◌, Bool, true, false, count_by, List, [], Option, Some, None, is_some, option_map, refl}
+use Rattle.std.specs.Prelude.{◌≡◌, ℕ, ◌<◌, ◌≤◌, ◌^◌, Bool, true, false, count_by, List, [], Option, Some, None, is_some, option_map, slice_get, ◌∷◌, refl}
 use Rattle.std.specs.Coded.{Coded, code_by, coded×, coded_ℕ, coded_list}
 use base.Stored.{coded_unit}
 use Rattle.std.specs.List.{list_any}
 use Rattle.std.specs.Ordering.{nat_cmp, eq_by_cmp}
 use Rattle.std.specs.FinMap as map
 use Rattle.pb_base.specs.declared.cell.Cell.{Cell}
+use Rattle.pb_base.specs.declared.cell.Cell.TheVariants.{Data, Ack}
 use Rattle.pb_base.specs.declared.content.Content.{Content}
+use Rattle.pb_base.specs.declared.content.Content.TheVariants as contents
+use Rattle.pb_base.specs.declared.names.Row.{Row}
+use Rattle.pb_base.specs.declared.names.Ts.{Ts}
 use Rattle.pb_base.specs.Cell.{cell_cmp}
+use Rattle.pb_base.specs.declared.content.Version.{Version}
 use Rattle.pb_base.specs.Batch.{Writes}
+use Rattle.pb_vm.specs.Accepted.{AcceptedOf, accepted_code}
 use Rattle.pb_store.specs.declared.slot.Item.{Item}
 use Rattle.pb_store.specs.declared.slot.Item.TheVariants as items
 use Rattle.pb_store.specs.declared.slot.Sort.{Sort}
 use Rattle.pb_store.specs.declared.slot.Sort.TheVariants as sorts
 use Rattle.pb_store.specs.Contents.{Entries, Marks, slot_at}
 use Rattle.pb_state.specs.declared.step.Work.{Work}
+use Rattle.pb_state.specs.declared.step.Work.TheVariants as works
 use Rattle.pb_state.specs.declared.step.Answer.{Answer}
 use Rattle.pb_state.specs.declared.step.Declared.{Declared}
 use Rattle.pb_state.specs.declared.step.Declared.TheVariants as declared
+use Rattle.pb_state.specs.declared.transaction.Cells.{Cells}
+use Rattle.pb_state.specs.declared.transaction.Cells.TheVariants.{Nothing, Batch, Acknowledgment}
 use Rattle.pb_state.specs.declared.transaction.Phase.{Phase}
 use Rattle.pb_state.specs.declared.transaction.Phase.TheVariants as phases
 use Rattle.pb_base.specs.contracts.cell.Cell as cell
@@ -40,26 +49,70 @@ pub record TransactionOf : Type 0 where
 abbrev pub Transactions : Type 0
 Transactions = map.FinMap nat_cmp TransactionOf
 
--- entries and marks of the table, the last timestamp given out, and the transactions by their starts
+-- an observer: its name, the column that it observes, and its accepted program
+pub record ObserverOf : Type 0 where
+  pub name : List ℕ
+  pub column : ℕ
+  pub program : AcceptedOf
+
+-- entries and marks of the table, its observers by their numbers, the last timestamp given out, and the transactions by
+-- their starts
 pub record StateOf : Type 0 where
   pub entries : Entries
   pub marks : Marks
+  pub observers : List ObserverOf
   pub clock : ℕ
   pub seats : ℕ
   pub transactions : Transactions
 
 -- before any step
-abbrev pub opened : ℕ → ℕ → StateOf
-opened seats last = record { entries = map.empty; marks = map.empty; clock = last; seats = seats; transactions = map.empty }
+abbrev pub opened : List ObserverOf → ℕ → ℕ → StateOf
+opened observers seats last = record { entries = map.empty; marks = map.empty; observers = observers; clock = last; seats = seats; transactions = map.empty }
 
--- the cells that a declaration names, with their contents
-abbrev pub cells_of : Declared → Writes
-cells_of (declared.Script batch) = batch
+-- ---- observers
 
--- nothing before the declaration
-abbrev pub declared_by : Option Declared → Writes
-declared_by None = []
-declared_by (Some what) = cells_of what
+abbrev pub column_in : Option ObserverOf → ℕ
+column_in None = 0
+column_in (Some o) = o.column
+
+-- the column of an observer
+abbrev pub column_of : List ObserverOf → ℕ → ℕ
+column_of observers o = column_in (slice_get observers o)
+
+-- the cell that an observer observes in a row, and its acknowledgment
+abbrev pub observed : List ObserverOf → ℕ → Row → Cell
+observed observers o row = Data row (column_of observers o)
+
+abbrev pub acknowledgment : List ObserverOf → ℕ → Row → Cell
+acknowledgment observers o row = Ack o row (column_of observers o)
+
+abbrev pub acknowledgment_at : Option ObserverOf → ℕ → Row → Option Cell
+acknowledgment_at None o row = None
+acknowledgment_at (Some observer) o row = Some (Ack o row observer.column)
+
+-- the acknowledgment of a run, where there is its observer
+abbrev pub acknowledgment_by : List ObserverOf → Work → Option Cell
+acknowledgment_by observers works.Script = None
+acknowledgment_by observers (works.Run o row) = acknowledgment_at (slice_get observers o) o row
+
+-- ---- transactions
+
+-- what a declaration writes: a script its batch; a run of start s its acknowledgment, stamped with s, and then the writes
+-- of its program
+abbrev pub cells_of : List ObserverOf → Work → ℕ → Declared → Writes
+cells_of observers work s (declared.Script batch) = batch
+cells_of observers works.Script s (declared.Run o f) = f.writes
+cells_of observers (works.Run p row) s (declared.Run o f) = (acknowledgment observers p row, contents.Stamp (record { 0 = s })) ∷ f.writes
+
+abbrev pub batch_in : Declared → Writes
+batch_in (declared.Script batch) = batch
+batch_in (declared.Run o f) = []
+
+-- what a transaction has declared that it writes
+abbrev pub cells_in : Cells → Writes
+cells_in Nothing = []
+cells_in (Batch what) = batch_in what
+cells_in (Acknowledgment x s) = (x, contents.Stamp s) ∷ []
 
 -- as it begins
 abbrev pub begun : ℕ → Work → TransactionOf
@@ -99,6 +152,26 @@ lock_at e x s = primary_of (map.get e (slot_at x sorts.Lock s))
 abbrev pub write_at : Entries → Cell → ℕ → Option ℕ
 write_at e x c = start_of (map.get e (slot_at x sorts.Write c))
 
+-- no lock of a start at most s stands on x
+abbrev pub NoLockUpTo : Entries → Cell → ℕ → Type 0
+NoLockUpTo e x s = (u : ℕ) → u ≤ s → lock_at e x u ≡ None
+
+-- the lock on x of the greatest start at most s, with its primary
+abbrev pub IsLockUpTo : Entries → Cell → ℕ → Option (Ts × Cell) → Type 0
+IsLockUpTo e x s None = NoLockUpTo e x s
+IsLockUpTo e x s (Some l) = (l.0.0 ≤ s) × (lock_at e x l.0.0 ≡ Some l.1) × ((u : ℕ) → l.0.0 < u → u ≤ s → lock_at e x u ≡ None)
+
+-- the version of x with the greatest commit at most s
+pub record IsVersion (e : Entries) (x : Cell) (s : ℕ) (v : Version) : Type 0 where
+  pub low : v.commit.0 ≤ s
+  pub written : write_at e x v.commit.0 ≡ Some v.start.0
+  pub content : data_at e x v.start.0 ≡ Some v.content
+  pub newest : (c : ℕ) → v.commit.0 < c → c ≤ s → write_at e x c ≡ None
+
+-- x has no version of a commit at most s
+abbrev pub NoVersion : Entries → Cell → ℕ → Type 0
+NoVersion e x s = (c : ℕ) → c ≤ s → write_at e x c ≡ None
+
 -- no lock stands on x
 abbrev pub NoLock : Entries → Cell → Type 0
 NoLock e x = (u : ℕ) → u < 2 ^ 64 → lock_at e x u ≡ None
@@ -134,13 +207,20 @@ transaction_code =
     (λ p. record { seat = p.0; work = p.1.0; phase = p.1.1.0; reads = p.1.1.1.0; declared = p.1.1.1.1.0; prewritten = p.1.1.1.1.1 })
     (λ _. refl)
 
+abbrev pub observer_code : Coded ObserverOf
+observer_code =
+    code_by (List ℕ × (ℕ × AcceptedOf)) (coded× (coded_list coded_ℕ) (coded× coded_ℕ accepted_code))
+    (λ o. (o.name, (o.column, o.program)))
+    (λ p. record { name = p.0; column = p.1.0; program = p.1.1 })
+    (λ _. refl)
+
 abbrev pub transactions_code : Coded Transactions
 transactions_code = map.code coded_ℕ transaction_code
 
 abbrev pub state_code : Coded StateOf
 state_code =
-    code_by (Entries × (Marks × (ℕ × (ℕ × Transactions))))
-    (coded× (map.code slot.the_row.coded item.the_row.coded) (coded× (map.code cell.the_row.coded coded_unit) (coded× coded_ℕ (coded× coded_ℕ transactions_code))))
-    (λ s. (s.entries, (s.marks, (s.clock, (s.seats, s.transactions)))))
-    (λ p. record { entries = p.0; marks = p.1.0; clock = p.1.1.0; seats = p.1.1.1.0; transactions = p.1.1.1.1 })
+    code_by (Entries × (Marks × (List ObserverOf × (ℕ × (ℕ × Transactions)))))
+    (coded× (map.code slot.the_row.coded item.the_row.coded) (coded× (map.code cell.the_row.coded coded_unit) (coded× (coded_list observer_code) (coded× coded_ℕ (coded× coded_ℕ transactions_code)))))
+    (λ s. (s.entries, (s.marks, (s.observers, (s.clock, (s.seats, s.transactions))))))
+    (λ p. record { entries = p.0; marks = p.1.0; observers = p.1.1.0; clock = p.1.1.1.0; seats = p.1.1.1.1.0; transactions = p.1.1.1.1.1 })
     (λ _. refl)

@@ -1,13 +1,18 @@
 //! The state of the shared table, and the steps that it takes.
-ghost use Rattle.std.specs.Prelude.{◌≡◌, ◌<◌, ◌^◌, ◌⊎◌, is_some, MatchBool};
+ghost use Rattle.std.specs.Prelude.{◌≡◌, ◌<◌, ◌^◌, ◌⊎◌, is_some, true, IfOk, MatchBool, MatchOption};
 ghost use Rattle.std.specs.FinMap as map;
 ghost use Rattle.pb_store.specs.Contents.{Contents, AreEdits, after_edits, slot_at};
-ghost use Rattle.pb_state.specs.State.{SomeLock, SomeWriteFrom, NoLock, NoWriteFrom, lock_at, lock_count, is_lock};
+ghost use Rattle.pb_state.specs.State.{SomeLock, SomeWriteFrom, NoLock, NoWriteFrom, IsLockUpTo, IsVersion, NoVersion, lock_at, lock_count, is_lock, content_of, cells_in, cells_of};
 ghost use Rattle.pb_state.specs.Machine.{put_lock, commit_lock};
+ghost use Rattle.pb_state.specs.Kept.{IsWhole};
+ghost use Rattle.pb_state.specs.Declarations.{is_its};
+ghost use Rattle.pb_base.specs.Batch.{primary_in};
 
-use crate::step::{Answer, Declaration, Step, Work};
-use crate::transaction::{Phase, Transaction, Transactions};
-use pb_base::{Cell, Content, NoMemory, Refusal, Ts};
+use crate::declaration::{acknowledgment_of, is_its};
+use crate::observer::Observer;
+use crate::step::{Answer, Declaration, Declared, Step, Work};
+use crate::transaction::{Cells, Phase, Transaction, Transactions};
+use pb_base::{Cell, Content, NoMemory, Refusal, Ts, Version};
 use pb_store::{Edit, Item, Slot, Sort, Table, Tablet};
 use std::alloc::Global;
 use std::marker::Model;
@@ -22,6 +27,7 @@ const LAST: Ts = Ts(u64::MAX);
 pub struct State<T: Tablet> {
     alloc: Global,
     table: Table<T>,
+    observers: Vec<Observer>,
     clock: u64,
     seats: u32,
     transactions: Transactions,
@@ -36,9 +42,9 @@ impl<T: Tablet> Model for State<T> {
 
     ghost use Rattle.pb_state.specs.Kept.{state_of, IsKept};
 
-    ghost view = { λ s. state_of s.table s.clock s.seats s.transactions };
+    ghost view = { λ s. state_of s.table s.observers.items s.clock s.seats s.transactions };
 
-    ghost invariant = { λ s. IsKept s.clock s.transactions };
+    ghost invariant = { λ s. IsKept s.table.contents.entries s.clock s.transactions };
 }
 
 impl<T: Tablet> State<T> {
@@ -48,17 +54,24 @@ impl<T: Tablet> State<T> {
     ghost use Rattle.std.specs.Option.{option_copied};
     ghost use Rattle.pb_state.specs.declared.step.Work.{Work};
     ghost use Rattle.pb_state.specs.declared.step.Declared.{Declared};
-    ghost use Rattle.pb_state.specs.Refusal.{refusal, reasons, first_reason, own};
+    ghost use Rattle.pb_state.specs.Refusal.{refusal, reasons, first_reason, own, is_unknown};
     ghost use Rattle.pb_state.specs.Machine.{Machine};
 
     /// A state over an empty table, with seats numbered from 0 and the last timestamp given out.
-    pub fn new(alloc: Global, table: Table<T>, seats: u32, last: Ts) -> State<T>
+    pub fn new(
+        alloc: Global,
+        table: Table<T>,
+        observers: Vec<Observer>,
+        seats: u32,
+        last: Ts,
+    ) -> State<T>
         requires { table.contents ≡ nothing }
-        ensures { result ≡ opened seats last.0 }
+        ensures { result ≡ opened observers.items seats last.0 }
     {
         State {
             alloc,
             table,
+            observers,
             clock: last.0,
             seats,
             transactions: Transactions::new(alloc),
@@ -70,6 +83,13 @@ impl<T: Tablet> State<T> {
         ensures { result.0 ≡ self.now.clock }
     {
         Ts(self.clock)
+    }
+
+    /// The observers, by their numbers.
+    pub fn observers(&self) -> &[Observer]
+        ensures { result.now ≡ self.now.observers }
+    {
+        &self.observers
     }
 
     /// How many seats there are.
@@ -118,8 +138,9 @@ impl<T: Tablet> State<T> {
         ensures { result ≡ refusal self.now seat step.now }
     {
         match step {
-            Step::Begin(_) => self.begin_refused(seat),
-            Step::Declare(start, _) => self.declare_refused(seat, *start),
+            Step::Begin(work) => self.begin_refused(seat, *work),
+            Step::Read(start, _) => self.read_refused(seat, *start),
+            Step::Declare(start, what) => self.declare_refused(seat, *start, what.get()),
             Step::Prewrite(start, cell) => self.prewrite_refused(seat, *start, *cell),
             Step::Stamp(start) => self.stamp_refused(seat, *start),
             Step::CommitPrimary(start) => self.primary_refused(seat, *start),
@@ -142,8 +163,17 @@ impl<T: Tablet> State<T> {
         }
     }
 
-    fn begin_refused(&self, seat: u32) -> Option<Refusal>
-        ensures { (work : Work) → result ≡ first_reason (reasons self.now seat (Step.Begin work)) }
+    fn is_unknown(&self, work: Work) -> bool
+        ensures { result ≡ is_unknown self.now.observers work }
+    {
+        match work {
+            Work::Script => false,
+            Work::Run(observer, _) => observer.number() as usize >= self.observers.len(),
+        }
+    }
+
+    fn begin_refused(&self, seat: u32, work: Work) -> Option<Refusal>
+        ensures { result ≡ first_reason (reasons self.now seat (Step.Begin work)) }
     {
         if self.clock == u64::MAX {
             return Some(Refusal(40));
@@ -151,11 +181,14 @@ impl<T: Tablet> State<T> {
         if seat >= self.seats {
             return Some(Refusal(41));
         }
+        if self.is_unknown(work) {
+            return Some(Refusal(47));
+        }
         None
     }
 
-    fn declare_refused(&self, seat: u32, start: Ts) -> Option<Refusal>
-        ensures { (what : Declared) → result ≡ first_reason (reasons self.now seat (Step.Declare start what)) }
+    fn read_refused(&self, seat: u32, start: Ts) -> Option<Refusal>
+        ensures { (x : Cell) → result ≡ first_reason (reasons self.now seat (Step.Read start x)) }
     {
         if seat >= self.seats {
             return Some(Refusal(41));
@@ -165,6 +198,25 @@ impl<T: Tablet> State<T> {
         };
         if !transaction.phase().is_reading() {
             return Some(Refusal(42));
+        }
+        None
+    }
+
+    fn declare_refused(&self, seat: u32, start: Ts, what: &Declared) -> Option<Refusal>
+        ensures { result ≡ first_reason (reasons self.now seat (Step.Declare start what.now)) }
+    {
+        if seat >= self.seats {
+            return Some(Refusal(41));
+        }
+        let Some(transaction) = self.own(seat, start) else {
+            return Some(Refusal(41));
+        };
+        if !transaction.phase().is_reading() {
+            return Some(Refusal(42));
+        }
+        let reads = transaction.reads();
+        if !is_its(&self.observers, transaction.work(), start, reads, what) {
+            return Some(Refusal(43));
         }
         None
     }
@@ -222,6 +274,7 @@ impl<T: Tablet> State<T> {
     {
         match step {
             Step::Begin(work) => self.begin(seat, *work),
+            Step::Read(start, cell) => self.read(seat, *start, cell),
             Step::Declare(start, what) => self.declare(seat, *start, what),
             Step::Prewrite(start, cell) => self.prewrite(seat, *start, cell),
             Step::Stamp(start) => Ok(self.stamp(seat, *start)),
@@ -241,14 +294,39 @@ impl<T: Tablet> State<T> {
         Ok(Answer::At(Ts(start)))
     }
 
+    fn read(&mut self, seat: u32, start: Ts, cell: &Cell) -> Result<Answer, NoMemory>
+        requires { refusal self.old seat (Step.Read start cell.now) ≡ None }
+        ensures taken { IfOk result (λ a. Machine self.old seat (Step.Read start cell.now) a self.new) }
+        ensures same { OnErr result (self.new ≡ self.old) }
+    {
+        let _seat = seat;
+        if let Some((lock, primary)) = lock_on(&self.table, cell, start) {
+            return Ok(Answer::Locked {
+                start: lock,
+                primary,
+            });
+        }
+        let answer = match version_of(&self.table, cell, start) {
+            Some(version) => Answer::Found(version),
+            None => Answer::Absent,
+        };
+        self.transactions.record_read(start, *cell, &answer)?;
+        Ok(answer)
+    }
+
     fn declare(&mut self, seat: u32, start: Ts, what: &Declaration) -> Result<Answer, NoMemory>
         requires { refusal self.old seat (Step.Declare start what.now) ≡ None }
         ensures taken { IfOk result (λ a. Machine self.old seat (Step.Declare start what.now) a self.new) }
         ensures same { OnErr result (self.new ≡ self.old) }
     {
         let _seat = seat;
-        let what = what.share()?;
-        self.transactions.declare(start, what);
+        let Some(transaction) = self.transactions.get(start) else {
+            unreachable!()
+        };
+        let work = transaction.work();
+        let reads = transaction.reads();
+        let cells = cells_of(&self.observers, work, start, reads, what)?;
+        self.transactions.declare(start, cells);
         Ok(Answer::Done)
     }
 
@@ -317,6 +395,7 @@ impl<T: Tablet> State<T> {
         let State {
             alloc: _,
             table,
+            observers: _,
             clock: _,
             seats: _,
             transactions: _,
@@ -333,6 +412,67 @@ fn slot_of(cell: &Cell, sort: Sort, ts: Ts) -> Slot
         sort,
         ts,
     }
+}
+
+// The lock of a start at most this one that stands on the cell, with its primary.
+fn lock_on<T: Tablet>(table: &Table<T>, cell: &Cell, high: Ts) -> Option<(Ts, Cell)>
+    ensures { IsLockUpTo table.now.contents.entries cell.now high.0 result }
+{
+    match table.newest(*cell, Sort::Lock, high) {
+        Some((start, Item::Lock(primary))) => Some((start, primary)),
+        _ => None,
+    }
+}
+
+fn content_of(item: Option<Item>) -> Option<Content>
+    ensures { result ≡ content_of item }
+{
+    match item {
+        Some(Item::Data(content)) => Some(content),
+        _ => None,
+    }
+}
+
+// The newest version of the cell with a commit at most this one. A write record's data are there.
+fn version_of<T: Tablet>(table: &Table<T>, cell: &Cell, high: Ts) -> Option<Version>
+    requires { IsWhole table.now.contents.entries }
+    ensures { MatchOption result (NoVersion table.now.contents.entries cell.now high.0) (IsVersion table.now.contents.entries cell.now high.0) }
+{
+    let Some((commit, Item::Write(start))) = table.newest(*cell, Sort::Write, high) else {
+        return None;
+    };
+    let Some(content) = content_of(table.get(slot_of(cell, Sort::Data, start))) else {
+        unreachable!()
+    };
+    Some(Version {
+        start,
+        commit,
+        content,
+    })
+}
+
+// What a declaration, which is one of its transaction, writes.
+fn cells_of(
+    observers: &[Observer],
+    work: Work,
+    start: Ts,
+    reads: &[(Cell, Answer)],
+    what: &Declaration,
+) -> Result<Cells, NoMemory>
+    requires { is_its observers.now work start.0 reads.now what.now ≡ true }
+    ensures cells { IfOk result (λ c. cells_in c ≡ cells_of observers.now work start.0 what.now) }
+    ensures some { IfOk result (λ c. is_some (primary_in (cells_in c)) ≡ true) }
+{
+    let _reads = reads;
+    if let Declared::Script(batch) = what.get() {
+        let _primary = batch.primary();
+        let what = what.share()?;
+        return Ok(Cells::Batch(what));
+    }
+    let Some(acknowledgment) = acknowledgment_of(observers, work) else {
+        unreachable!()
+    };
+    Ok(Cells::Acknowledgment(acknowledgment, start))
 }
 
 // Whether a lock stands on the cell, or a write record of this timestamp or later.

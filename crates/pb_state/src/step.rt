@@ -1,7 +1,8 @@
 //! The steps that are asked of the table, and their answers.
 ghost use Rattle.std.specs.Prelude.{◌≡◌, IfOk};
 
-use pb_base::{Batch, Cell, NoMemory, Ts};
+use pb_base::{Batch, Cell, NoMemory, ObserverNo, Row, Ts, Version};
+use pb_vm::Finished;
 use std::alloc::Global;
 use std::marker::Model;
 use std::sync::Arc;
@@ -11,12 +12,16 @@ use std::sync::Arc;
 pub enum Work {
     /// A change of a script.
     Script,
+    /// A run of this observer on the cell of its column in this row (OSDI 2010, section 2.4).
+    Run(ObserverNo, Row),
 }
 
 /// What a transaction declares that it writes.
 #[derive(Drop)]
 pub enum Declared {
     Script(Batch),
+    /// A run of this observer, ended.
+    Run(ObserverNo, Finished),
 }
 
 /// What is declared, with several owners: steps, the journal and the table share it. Contracts see what it holds.
@@ -35,6 +40,7 @@ impl Model for Declaration {
 
 impl Declaration {
     ghost use Rattle.std.specs.Prelude.{◌≡◌, IfOk};
+    ghost use Rattle.pb_state.specs.Known.{IsKnown};
 
     /// The first owner.
     pub fn new(alloc: Global, declared: Declared) -> Result<Declaration, NoMemory>
@@ -52,6 +58,18 @@ impl Declaration {
         Ok(Declaration { owner })
     }
 
+    /// What a script declares is a batch, and a declared run has its program's meaning.
+    pub fn known(&self)
+        ensures { IsKnown self.now }
+    {
+        match self.get() {
+            Declared::Script(batch) => {
+                let _ = batch.len();
+            }
+            Declared::Run(_, finished) => finished.known(),
+        }
+    }
+
     /// What is declared.
     pub fn get(&self) -> &Declared
         ensures { result.now ≡ self.now }
@@ -65,6 +83,8 @@ impl Declaration {
 pub enum Step {
     /// A new transaction.
     Begin(Work),
+    /// Reads a cell in the transaction's snapshot: its newest version of a commit at most its start.
+    Read(Ts, Cell),
     /// Says what the transaction writes, its first cell the primary.
     Declare(Ts, Declaration),
     /// Locks a declared cell and writes its data, the primary before the others.
@@ -76,12 +96,25 @@ pub enum Step {
 }
 
 impl Step {
+    ghost use Rattle.pb_state.specs.Known.{IsKnownIn};
+
+    /// What it declares is known, if it does.
+    pub fn known(&self)
+        ensures { IsKnownIn self.now }
+    {
+        match self {
+            Step::Declare(_, what) => what.known(),
+            _ => {}
+        }
+    }
+
     /// The same step again.
     pub fn copy(&self) -> Result<Step, NoMemory>
         ensures { IfOk result (λ s. s ≡ self.now) }
     {
         match self {
             Step::Begin(work) => Ok(Step::Begin(*work)),
+            Step::Read(start, cell) => Ok(Step::Read(*start, *cell)),
             Step::Declare(start, what) => {
                 let what = what.share()?;
                 Ok(Step::Declare(*start, what))
@@ -98,6 +131,12 @@ impl Step {
 pub enum Answer {
     /// A timestamp given out: a start or a commit.
     At(Ts),
+    /// A lock stands on the cell, of this start and with this primary; what the cell holds isn't known yet.
+    Locked { start: Ts, primary: Cell },
+    /// The newest version in the snapshot.
+    Found(Version),
+    /// There is none.
+    Absent,
     Done,
     /// Another transaction has a lock on the cell, or wrote it since this one began; it has failed.
     Conflict,

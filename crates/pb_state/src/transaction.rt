@@ -4,7 +4,7 @@ ghost use Rattle.std.specs.List.{list_all};
 ghost use Rattle.pb_state.specs.State.{is_among};
 ghost use Rattle.pb_state.specs.Starts.{AreRising, IsAt, IsNowhere};
 
-use crate::step::{Declaration, Declared, Work};
+use crate::step::{Answer, Declaration, Declared, Work};
 use pb_base::{Batch, Cell, Content, NoMemory, Refusal, Ts};
 use pb_store::{Edit, Table, Tablet};
 use std::alloc::Global;
@@ -44,38 +44,68 @@ impl Phase {
     }
 }
 
+/// What a transaction has declared that it writes.
+#[derive(Drop)]
+pub(crate) enum Cells {
+    Nothing,
+    Batch(Declaration),
+    /// A run's acknowledgment alone, with its stamp.
+    Acknowledgment(Cell, Ts),
+}
+
 /// A transaction.
 #[derive(Drop)]
 pub(crate) struct Transaction {
     seat: u32,
     work: Work,
     phase: Phase,
-    declared: Option<Declaration>,
+    reads: Vec<(Cell, Answer)>,
+    cells: Cells,
     prewritten: Vec<Cell>,
 }
 
 impl Model for Transaction {
-    ghost use Rattle.std.specs.Prelude.{[]};
-    ghost use Rattle.pb_state.specs.State.{TransactionOf, transaction_code, declared_by};
+    ghost use Rattle.pb_state.specs.State.{TransactionOf, transaction_code, cells_in};
 
     ghost Value = { TransactionOf };
 
     ghost coded = { transaction_code };
 
-    ghost view = { λ t. record { seat = t.seat; work = t.work; phase = t.phase; reads = []; declared = declared_by t.declared; prewritten = t.prewritten.items } };
+    ghost view = { λ t. record { seat = t.seat; work = t.work; phase = t.phase; reads = t.reads.items; declared = cells_in t.cells; prewritten = t.prewritten.items } };
 
     ghost use Rattle.std.specs.Prelude.{◌≡◌, ◌||◌, true, is_some};
+    ghost use Rattle.pb_base.specs.Batch.{primary_in};
     ghost use Rattle.pb_state.specs.Refusal.{is_reading};
 
     // Past reading it has declared what it writes.
-    ghost invariant = { λ t. (is_reading t.phase || is_some t.declared) ≡ true };
+    ghost invariant = { λ t. (is_reading t.phase || is_some (primary_in (cells_in t.cells))) ≡ true };
+}
+
+impl Cells {
+    ghost use Rattle.std.specs.Prelude.{◌≡◌};
+    ghost use Rattle.pb_base.specs.Batch.{primary_in};
+    ghost use Rattle.pb_state.specs.State.{cells_in};
+
+    /// The first of them.
+    pub(crate) fn primary(&self) -> Option<Cell>
+        ensures { result ≡ primary_in (cells_in self.now) }
+    {
+        match self {
+            Cells::Nothing => None,
+            Cells::Batch(what) => match what.get() {
+                Declared::Script(batch) => Some(batch.primary()),
+                Declared::Run(_, _) => None,
+            },
+            Cells::Acknowledgment(acknowledgment, _) => Some(*acknowledgment),
+        }
+    }
 }
 
 impl Transaction {
     ghost use Rattle.std.specs.Prelude.{◌≡◌, OnOk, OnErr, ◌++◌, ◌∷◌, [], is_some, true, false};
     ghost use Rattle.pb_base.specs.Batch.{content_in, primary_in};
     ghost use Rattle.pb_store.specs.Contents.{AreEdits, after_edits};
-    ghost use Rattle.pb_state.specs.State.{begun, is_among, cells_of};
+    ghost use Rattle.pb_state.specs.State.{begun, is_among, cells_in};
     ghost use Rattle.pb_state.specs.Refusal.{is_whole, is_early, is_reading, prewrite_reasons, first_reason};
 
     pub(crate) fn begun(alloc: Global, seat: u32, work: Work) -> Transaction
@@ -85,7 +115,8 @@ impl Transaction {
             seat,
             work,
             phase: Phase::Reading,
-            declared: None,
+            reads: Vec::new(alloc),
+            cells: Cells::Nothing,
             prewritten: Vec::new(alloc),
         }
     }
@@ -94,6 +125,19 @@ impl Transaction {
         ensures { result ≡ self.now.seat }
     {
         self.seat
+    }
+
+    pub(crate) fn work(&self) -> Work
+        ensures { result ≡ self.now.work }
+    {
+        self.work
+    }
+
+    /// What it read, in order.
+    pub(crate) fn reads(&self) -> &[(Cell, Answer)]
+        ensures { result.now ≡ self.now.reads }
+    {
+        &self.reads
     }
 
     pub(crate) fn phase(&self) -> Phase
@@ -106,11 +150,19 @@ impl Transaction {
     pub(crate) fn content(&self, cell: Cell) -> Option<Content>
         ensures { result ≡ content_in self.now.declared cell }
     {
-        match &self.declared {
-            None => None,
-            Some(what) => match what.get() {
+        match &self.cells {
+            Cells::Nothing => None,
+            Cells::Batch(what) => match what.get() {
                 Declared::Script(batch) => batch.content(cell),
+                Declared::Run(_, _) => None,
             },
+            Cells::Acknowledgment(acknowledgment, stamp) => {
+                if cell == *acknowledgment {
+                    Some(Content::Stamp(*stamp))
+                } else {
+                    None
+                }
+            }
         }
     }
 
@@ -127,12 +179,7 @@ impl Transaction {
         ensures first { result ≡ primary_in self.now.declared }
         ensures some { is_reading self.now.phase ≡ false → is_some result ≡ true }
     {
-        match &self.declared {
-            None => None,
-            Some(what) => match what.get() {
-                Declared::Script(batch) => Some(batch.primary()),
-            },
-        }
+        self.cells.primary()
     }
 
     pub(crate) fn is_prewritten(&self, cell: &Cell) -> bool
@@ -177,11 +224,21 @@ impl Transaction {
         self.phase = phase;
     }
 
-    fn declare(&mut self, what: Declaration)
-        ensures { self.new ≡ record self.old { phase = Phase.Declared; declared = cells_of what } }
+    fn declare(&mut self, cells: Cells)
+        requires { is_some (primary_in (cells_in cells)) ≡ true }
+        ensures { self.new ≡ record self.old { phase = Phase.Declared; declared = cells_in cells } }
     {
         self.phase = Phase::Declared;
-        self.declared = Some(what);
+        self.cells = cells;
+    }
+
+    // Records what a read was answered.
+    fn record_read(&mut self, cell: Cell, answer: &Answer) -> Result<(), NoMemory>
+        ensures ok { OnOk result (self.new ≡ record self.old { reads = self.old.reads ++ (cell, answer.now) ∷ [] }) }
+        ensures err { OnErr result (self.new ≡ self.old) }
+    {
+        self.reads.push((cell, *answer))?;
+        Ok(())
     }
 
     // Does the edits in the table and adds a prewritten cell, or neither.
@@ -207,11 +264,13 @@ impl Transaction {
     pub(crate) fn is_whole(&self) -> bool
         ensures { result ≡ is_whole self.now }
     {
-        match &self.declared {
-            None => true,
-            Some(what) => match what.get() {
+        match &self.cells {
+            Cells::Nothing => true,
+            Cells::Batch(what) => match what.get() {
                 Declared::Script(batch) => are_among(&self.prewritten, batch),
+                Declared::Run(_, _) => true,
             },
+            Cells::Acknowledgment(acknowledgment, _) => self.prewritten.contains(acknowledgment),
         }
     }
 }
@@ -287,12 +346,13 @@ fn place_of(list: &[(u64, Transaction)], start: u64) -> Option<usize>
 }
 
 impl Transactions {
-    ghost use Rattle.std.specs.Prelude.{◌≡◌, ◌<◌, ◌++◌, ◌∷◌, [], ℕ, OnOk, OnErr, Some, None, false};
+    ghost use Rattle.std.specs.Prelude.{◌≡◌, ◌<◌, ◌++◌, ◌∷◌, [], ℕ, OnOk, OnErr, Some, None, is_some, true, false};
     ghost use Rattle.pb_state.specs.Refusal.{is_reading};
     ghost use Rattle.std.specs.Option.{option_copied};
     ghost use Rattle.std.specs.FinMap as map;
     ghost use Rattle.pb_store.specs.Contents.{AreEdits, after_edits};
-    ghost use Rattle.pb_state.specs.State.{TransactionOf, cells_of};
+    ghost use Rattle.pb_state.specs.State.{TransactionOf, cells_in};
+    ghost use Rattle.pb_base.specs.Batch.{primary_in};
 
     pub(crate) fn new(alloc: Global) -> Transactions
         ensures { result ≡ map.empty }
@@ -331,13 +391,31 @@ impl Transactions {
         }
     }
 
-    pub(crate) fn declare(&mut self, start: Ts, what: Declaration)
-        ensures { (t : TransactionOf) → map.get self.old start.0 ≡ Some t → self.new ≡ map.insert self.old start.0 (record t { phase = Phase.Declared; declared = cells_of what }) }
+    pub(crate) fn declare(&mut self, start: Ts, cells: Cells)
+        requires { is_some (primary_in (cells_in cells)) ≡ true }
+        ensures { (t : TransactionOf) → map.get self.old start.0 ≡ Some t → self.new ≡ map.insert self.old start.0 (record t { phase = Phase.Declared; declared = cells_in cells }) }
     {
         if let Some(place) = place_of(&self.list, start.0) {
             let entry = &mut self.list[place];
-            entry.1.declare(what);
+            entry.1.declare(cells);
         }
+    }
+
+    /// Records what a read was answered.
+    pub(crate) fn record_read(
+        &mut self,
+        start: Ts,
+        cell: Cell,
+        answer: &Answer,
+    ) -> Result<(), NoMemory>
+        ensures ok { OnOk result ((t : TransactionOf) → map.get self.old start.0 ≡ Some t → self.new ≡ map.insert self.old start.0 (record t { reads = t.reads ++ (cell, answer.now) ∷ [] })) }
+        ensures err { OnErr result (self.new ≡ self.old) }
+    {
+        let Some(place) = place_of(&self.list, start.0) else {
+            return Ok(());
+        };
+        let entry = &mut self.list[place];
+        entry.1.record_read(cell, answer)
     }
 
     /// Does the edits in the table and adds a prewritten cell to the transaction, or neither.

@@ -30,8 +30,11 @@ cell_lines es = flat_map (λ e. cell_line e.0 e.1) es
 abbrev pub Runs : Type 0
 Runs = List (List ℕ × ℕ)
 
+abbrev pub run_line : List ℕ × ℕ → List ℕ
+run_line r = codes "runs " ++ (r.0 ++ (codes " " ++ (decimal r.1 ++ codes "\n")))
+
 abbrev pub run_lines : Runs → List ℕ
-run_lines runs = flat_map (λ r. codes "runs " ++ (r.0 ++ (codes " " ++ (decimal r.1 ++ codes "\n")))) runs
+run_lines runs = flat_map run_line runs
 
 abbrev pub last_line : ℕ → ℕ → List ℕ
 last_line marks locks = if (marks == 0) && (locks == 0) then codes "quiet\n" else codes "marks " ++ (decimal marks ++ (codes " locks " ++ (decimal locks ++ codes "\n")))

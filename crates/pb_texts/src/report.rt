@@ -1,6 +1,7 @@
 //! The report of a history: what is newest at each data cell, and what is left to do.
 mod lines;
 mod newest;
+mod tally;
 
 ghost use Rattle.std.specs.Prelude.{◌≡◌, ℕ, List, [], IfOk, string_bytes};
 ghost use Rattle.pb_texts.specs.Reports.{IsReport, AreApart};
@@ -9,22 +10,27 @@ ghost use Rattle.pb_texts.specs.declared.report.newest.Put.{Put};
 
 use crate::report::lines::last_line;
 use crate::report::newest::{cell_lines, newest_of};
+use crate::report::tally::run_lines;
 pub use lines::Newest;
 pub use newest::Put;
 use pb_base::NoMemory;
 use std::alloc::Global;
+pub use tally::Tally;
 
-/// The report of these committed writes, with so many marks and locks left.
+/// The report of these committed writes and runs, with so many marks and locks left.
 pub fn report_of(
     alloc: Global,
     puts: &[Put],
+    tallies: &[Tally],
     marks: usize,
     locks: usize,
 ) -> Result<String, NoMemory>
-    ensures { IfOk result (λ s. IsReport puts.now [] marks locks (string_bytes s)) }
+    ensures { IfOk result (λ s. IsReport puts.now tallies.now marks locks (string_bytes s)) }
 {
     let table = newest_of(alloc, puts)?;
     let mut text = cell_lines(alloc, &table)?;
+    let runs = run_lines(alloc, tallies)?;
+    text.push_str(runs.as_str())?;
     let last = last_line(alloc, marks, locks)?;
     text.push_str(last.as_str())?;
     Ok(text)

@@ -1,5 +1,5 @@
 //! What a machine leaves at its end.
-ghost use Rattle.std.specs.Prelude.{◌≡◌, ◌↔◌, IsTrue, []};
+ghost use Rattle.std.specs.Prelude.{◌≡◌, ◌↔◌, IsTrue, true, []};
 ghost use Rattle.pb_isa.specs.Meaning.{Means};
 ghost use Rattle.pb_vm.specs.Finished.{IsMeant, is_plain};
 
@@ -51,9 +51,10 @@ impl Finished {
         }
     }
 
-    /// Result and writes are what the program means.
+    /// Result and writes are what the program means; so far it asks and writes nothing.
     pub fn known(&self)
-        ensures { IsMeant self.now }
+        ensures meant { IsMeant self.now }
+        ensures plain { is_plain self.now ≡ true }
     {
         let _ = &self.end;
     }

@@ -187,10 +187,6 @@ fn manifests_are_judged(rt: HostRuntime) {
     let table = [
         ("{", "manifest: code 50\n"),
         ("[]", "manifest: code 51\n"),
-        (
-            "{\"profile\":1,\"observers\":[{\"name\":\"w\",\"column\":0,\"helpers\":[],\"code\":\"\"}]}",
-            "manifest: code 57\n",
-        ),
     ];
     for (manifest, err) in table {
         let files = Held {
@@ -272,7 +268,7 @@ fn last_refusal<T: Tablet>(
 ) -> u8
     requires { limit ≤ 1000000 }
 {
-    match Shared::open(rt.alloc(), table, 1, last, limit) {
+    match Shared::open(rt.alloc(), table, Vec::new(rt.alloc()), 1, last, limit) {
         Ok((mut shared, mut seats)) => {
             let mut number = 0;
             for step in steps {
@@ -281,7 +277,13 @@ fn last_refusal<T: Tablet>(
             shared.close();
             number
         }
-        Err(OpenRefused { table, code }) => {
+        Err(
+            OpenRefused {
+                table,
+                observers: _,
+                code,
+            },
+        ) => {
             table.close();
             code
         }

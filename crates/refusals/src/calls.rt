@@ -69,6 +69,7 @@ pub fn step_copies(alloc: Global) -> Result<bool, NoMemory> {
             (Declared::Script(batch), Declared::Script(copy)) => Ok(
                 start == same && is_same(batch, copy),
             ),
+            _ => Ok(false),
         },
         _ => Ok(false),
     }
@@ -122,7 +123,7 @@ pub fn state_takes(alloc: Global) -> Result<bool, NoMemory> {
         Step::Stamp(Ts(1)),
         Step::CommitPrimary(Ts(1)),
     ];
-    let mut state = State::new(alloc, table(alloc)?, 1, Ts(0));
+    let mut state = State::new(alloc, table(alloc)?, Vec::new(alloc), 1, Ts(0));
     let mut held = true;
     for step in &steps {
         held = held && takes(&mut state, step);
@@ -155,7 +156,7 @@ pub fn shared_calls(alloc: Global) -> Result<bool, NoMemory> {
         Step::Stamp(Ts(1)),
         Step::CommitPrimary(Ts(1)),
     ];
-    match Shared::open(alloc, table(alloc)?, 1, Ts(0), 100) {
+    match Shared::open(alloc, table(alloc)?, Vec::new(alloc), 1, Ts(0), 100) {
         Ok((mut shared, mut seats)) => {
             let mut held = true;
             for step in &steps {
@@ -164,7 +165,13 @@ pub fn shared_calls(alloc: Global) -> Result<bool, NoMemory> {
             shared.close();
             Ok(held)
         }
-        Err(OpenRefused { table, code: _ }) => {
+        Err(
+            OpenRefused {
+                table,
+                observers: _,
+                code: _,
+            },
+        ) => {
             table.close();
             Err(NoMemory)
         }

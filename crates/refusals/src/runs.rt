@@ -24,17 +24,29 @@ pub fn script_parses(alloc: Global) -> Result<bool, NoMemory> {
 
 /// `Shared::open`.
 pub fn shared_opens(alloc: Global) -> Result<bool, NoMemory> {
-    match Shared::open(alloc, table(alloc)?, 3, Ts(5), 100) {
+    match Shared::open(alloc, table(alloc)?, Vec::new(alloc), 3, Ts(5), 100) {
         Ok((shared, seats)) => {
             shared.close();
             Ok(seats.len() == 3)
         }
-        Err(OpenRefused { table, code }) => match Shared::open(alloc, table, 3, Ts(5), 100) {
+        Err(
+            OpenRefused {
+                table,
+                observers,
+                code,
+            },
+        ) => match Shared::open(alloc, table, observers, 3, Ts(5), 100) {
             Ok((shared, seats)) => {
                 shared.close();
                 Ok(code == 1 && seats.len() == 3)
             }
-            Err(OpenRefused { table, code: _ }) => {
+            Err(
+                OpenRefused {
+                    table,
+                    observers: _,
+                    code: _,
+                },
+            ) => {
                 table.close();
                 Ok(false)
             }
@@ -46,13 +58,19 @@ pub fn shared_opens(alloc: Global) -> Result<bool, NoMemory> {
 fn ran(alloc: Global, page: &mut Page) -> Result<Result<(), RunFault>, NoMemory>
     requires { page.old.failed ≡ false }
 {
-    match Shared::open(alloc, table(alloc)?, 1, Ts(0), 100) {
+    match Shared::open(alloc, table(alloc)?, Vec::new(alloc), 1, Ts(0), 100) {
         Ok((shared, seats)) => {
             let (shared, _seats, outcome) = run_alone(alloc, SCRIPT, shared, seats, page);
             shared.close();
             Ok(outcome)
         }
-        Err(OpenRefused { table, code: _ }) => {
+        Err(
+            OpenRefused {
+                table,
+                observers: _,
+                code: _,
+            },
+        ) => {
             table.close();
             Err(NoMemory)
         }

@@ -24,5 +24,5 @@ returns g c =
     let es = c.journal-entry-items.result.now in
     let state = c.args.shared.now.state in
     let all : take c.loop-entry.entry-index es ≡ c.args.shared.now.journal = take_all c.loop-entry.entry-index es c.loop-entry-test.false ∙ c.journal-entry-items.ensures.entries in
-    subst (Gathers c.args.shared.now.journal) (sym (c.loop-entry.invariant.gathered ∙ ap (all_puts state) all))
-    (gathers c.args.shared.now.journal state c.journal-entry-items.ensures.history (subst (AllTold state) all c.loop-entry.invariant.told))
+    subst (Gathers c.args.shared.now.state.observers c.args.shared.now.journal) (sym (c.loop-entry.invariant.gathered ∙ ap (all_puts state) all))
+    (gathers c.args.shared.now.journal state c.journal-entry-items.ensures.known c.journal-entry-items.ensures.history (subst (AllTold state) all c.loop-entry.invariant.told))

@@ -6,7 +6,7 @@ use Rattle.pb_alone.proofs.Whole.{clean_fresh, made, ended}
 use Rattle.pb_alone.proofs.run.run.Goals as goal
 
 pub change_all-requires-clause-clean : goal.change_all-requires-clause-clean
-change_all-requires-clause-clean g c = clean_fresh _ _ _ c.args.shared.now.state c.requires.fresh c.journal.ensures.legal
+change_all-requires-clause-clean g c = clean_fresh _ _ _ _ c.args.shared.now.state c.requires.fresh c.journal.ensures.legal
 
 pub returns-in_err-change_all-clause-keeps : goal.returns-in_err-change_all-clause-keeps
 returns-in_err-change_all-clause-keeps g c = goes_on_seated c.args.shared.now _ c.change_all.new.shared c.change_all.new.seat c.args.seats.now.items c.requires.fresh c.requires.seated (omega (arith, c.requires.seated.counted, c.seats.ensures.seats, c.seats.ensures.some)) (search rules) c.in_err-change_all.ensures.goes

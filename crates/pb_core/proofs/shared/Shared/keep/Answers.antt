@@ -15,4 +15,4 @@ invariant_of-self-2 g c =
     let seated : seat < length s.books.items = search rules in
     let room : length s.journal.items < s.limit = search rules in
     let read : c.index_mut-book.result.now ≡ get_or s.books.items seat [] = get_or_read s.books.items seat _ seated c.index_mut-book.ensures.value [] in
-    kept_more s.journal.items s.books.items s.state s.opened s.limit seat c.args.step.now c.in_ok-answer.answer c.take.new.self _ _ c.self.invariant m seated room (search rules) (search (rules, read))
+    kept_more s.journal.items s.books.items s.state s.opened s.limit seat c.args.step.now c.in_ok-answer.answer c.take.new.self _ _ c.self.invariant c.known.ensures m seated room (search rules) (search (rules, read))

@@ -1,7 +1,4 @@
 use Rattle.pb_state.proofs.state.State.refused.Goals as goal
 
-pub returns-in-Begin : goal.returns-in-Begin
-returns-in-Begin g c = rw c.in-Begin.is (c.begin_refused.ensures c.in-Begin.field-0)
-
-pub returns-in-Declare : goal.returns-in-Declare
-returns-in-Declare g c = rw c.in-Declare.is (c.declare_refused.ensures c.in-Declare.field-1)
+pub returns-in-Read : goal.returns-in-Read
+returns-in-Read g c = rw c.in-Read.is (c.read_refused.ensures c.in-Read.field-1)

@@ -1,5 +1,5 @@
 use Rattle.std.proofs.Common.{◌≡◌, ◌∙◌, ap, subst}
-use Rattle.pb_state.specs.State.{TransactionOf, cells_of}
+use Rattle.pb_state.specs.State.{TransactionOf, cells_in}
 use Rattle.pb_state.specs.declared.transaction.Phase.TheVariants as phases
 use Rattle.pb_state.specs.Starts.{IsAt, IsNowhere}
 use Rattle.pb_state.proofs.Rising.{held, not_held, changed}
@@ -11,7 +11,7 @@ returns-in-Some c = λ t is.
     let here = held c.self.inside.list.items c.args.self.now c.args.start.0 c.in-Some.place c.index_mut-entry.result.now c.self.invariant c.self.view_is at c.index_mut-entry.ensures.value in
     let same : c.index_mut-entry.result.now.1 ≡ t = cc in
     changed c.self.inside.list.items c.args.self.now c.args.start.0 c.in-Some.place c.index_mut-entry.result.now _ _ c.self.invariant c.self.view_is at c.index_mut-entry.ensures.value
-    (c.declare.ensures ∙ ap (λ (u : TransactionOf). record u { phase = phases.Declared; declared = cells_of c.args.what }) same)
+    (c.declare.ensures ∙ ap (λ (u : TransactionOf). record u { phase = phases.Declared; declared = cells_in c.args.cells }) same)
 
 pub returns-in_default : goal.returns-in_default
 returns-in_default c = λ t is.

@@ -1,0 +1,69 @@
+//! How often each observer ran.
+ghost use Rattle.std.specs.Prelude.{◌≡◌, IfOk, string_bytes};
+ghost use Rattle.pb_alone.specs.Tallies.{is_committed, is_run_of, run_count, runs_in};
+
+use pb_base::NoMemory;
+use pb_core::{Answer, Entry, Observer, Phase, Shared, Step, Work};
+use pb_store::Tablet;
+use pb_texts::Tally;
+use std::alloc::Global;
+
+fn is_committed(phase: Option<Phase>) -> bool
+    ensures { result ≡ is_committed phase }
+{
+    matches!(phase, Some(Phase::Committed(_)))
+}
+
+// Whether the entry begins a run of the observer that is committed.
+fn is_run_of<T: Tablet>(shared: &Shared<T>, number: usize, entry: &Entry) -> bool
+    ensures { result ≡ is_run_of shared.now.state number entry.now }
+{
+    let Step::Begin(Work::Run(observer, _)) = &entry.step else {
+        return false;
+    };
+    let Answer::At(start) = &entry.answer else {
+        return false;
+    };
+    observer.number() as usize == number && is_committed(shared.phase(*start))
+}
+
+fn run_count<T: Tablet>(shared: &Shared<T>, number: usize) -> usize
+    ensures { result ≡ run_count shared.now number }
+{
+    let mut count = 0;
+    for entry in shared.journal() {
+        if is_run_of(shared, number, entry) {
+            count += 1;
+        }
+    }
+    count
+}
+
+fn tally_of<T: Tablet>(
+    alloc: Global,
+    shared: &Shared<T>,
+    number: usize,
+    observer: &Observer,
+) -> Result<Tally, NoMemory>
+    ensures { IfOk result (λ t. t ≡ (observer.now.name, run_count shared.now number)) }
+{
+    let name = String::from_str(alloc, observer.name.as_str())?;
+    let runs = run_count(shared, number);
+    Ok(Tally { name, runs })
+}
+
+/// Each observer's name, with the number of its committed runs.
+pub(crate) fn tallies_of<T: Tablet>(
+    alloc: Global,
+    shared: &Shared<T>,
+) -> Result<Vec<Tally>, NoMemory>
+    ensures { IfOk result (λ v. v.items ≡ runs_in shared.now) }
+{
+    let mut tallies = Vec::new(alloc);
+    let observers = shared.observers();
+    for number in 0..observers.len() {
+        let tally = tally_of(alloc, shared, number, &observers[number])?;
+        tallies.push(tally)?;
+    }
+    Ok(tallies)
+}
