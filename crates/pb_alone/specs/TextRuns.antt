@@ -1,40 +1,55 @@
 -- A run of a manifest's and a script's texts.
-use Rattle.std.specs.Prelude.{◌≡◌, ℕ, Bool, false, List, [], Option, Some, None, Result, Ok, Err}
-use Rattle.pb_state.specs.State.{opened}
+use Rattle.std.specs.Prelude.{◌≡◌, ℕ, Bool, false, List, [], map, Option, Result, Ok, Err}
+use Rattle.pb_state.specs.State.{ObserverOf, opened}
 use Rattle.pb_core.specs.Calls.{SharedOf}
-use Rattle.pb_texts.specs.declared.manifest.code.Code.{Code}
-use Rattle.pb_texts.specs.Codes.{manifest_code}
-use Rattle.pb_texts.specs.Manifests.{manifest_fault}
+use Rattle.pb_registry.specs.declared.code.Code.{Code}
+use Rattle.pb_registry.specs.declared.manifest.RegistryFault.{RegistryFault}
+use Rattle.pb_registry.specs.Judging.{told}
+use Rattle.pb_registry.specs.Manifests.{manifest_of}
+use Rattle.pb_registry.specs.Observers as registry
 use Rattle.pb_alone.specs.declared.fault.RunFault.{RunFault}
 use Rattle.pb_alone.specs.declared.fault.RunFault.TheVariants as faults
 use Rattle.pb_alone.specs.Runs.{Runs}
 
--- a table with one seat and room for a million entries, as opened
-abbrev pub fresh : ℕ → SharedOf
-fresh last = record { journal = []; state = opened [] 1 last; opened = last; limit = 1000000 }
+-- an observer of a manifest, as a table has it
+abbrev pub observer_of : registry.ObserverOf → ObserverOf
+observer_of o = record { name = o.name; column = o.column; program = o.program }
 
--- the manifest has no fault, and the script ran so on a fresh table
+abbrev pub observers_of : List registry.ObserverOf → List ObserverOf
+observers_of os = map observer_of os
+
+-- the manifest is read as these observers
+pub record IsRead (manifest : List ℕ) (observers : List ObserverOf) : Type 0 where
+  pub uploaded : List registry.ObserverOf
+  pub judged : manifest_of manifest ≡ Ok uploaded
+  pub taken : observers ≡ observers_of uploaded
+
+-- a table with these observers, one seat and room for a million entries, as opened
+abbrev pub fresh : List ObserverOf → ℕ → SharedOf
+fresh observers last = record { journal = []; state = opened observers 1 last; opened = last; limit = 1000000 }
+
+-- the manifest was read as observers, and the script ran so on a fresh table with exactly them
 pub record RanOn (manifest script : List ℕ) (last : ℕ) (old now : Option (List ℕ)) (failed : Bool) (result : Result (Unit {0}) RunFault) : Type 0 where
-  pub judged : manifest_fault manifest ≡ None
+  pub observers : List ObserverOf
+  pub judged : IsRead manifest observers
   pub after : SharedOf
-  pub runs : Runs script (fresh last) after old now failed result
+  pub runs : Runs script (fresh observers last) after old now failed result
 
--- the manifest is at fault, with this code and no place
-pub record IsManifestFault (manifest : List ℕ) (observer : Option ℕ) (number : ℕ) : Type 0 where
+-- the manifest is at fault, and this tells how
+pub record IsManifestFault (manifest : List ℕ) (f : RegistryFault) : Type 0 where
   pub cause : Code
-  pub fault : manifest_fault manifest ≡ Some cause
-  pub whole : observer ≡ None
-  pub told : number ≡ manifest_code cause
+  pub fault : manifest_of manifest ≡ Err cause
+  pub tells : f ≡ told cause
 
 -- the manifest was refused
 abbrev pub IsBadManifest : List ℕ → RunFault → Type 0
-IsBadManifest manifest (faults.Manifest f) = IsManifestFault manifest f.observer f.code
+IsBadManifest manifest (faults.Manifest f) = IsManifestFault manifest f
 IsBadManifest manifest faults.NoMemory = Unit {0}
 IsBadManifest manifest _ = ⊥
 
 -- how a run of two texts ended, and what the sink had taken and has taken
 abbrev pub RunsTexts : List ℕ → List ℕ → ℕ → Option (List ℕ) → Option (List ℕ) → Bool → Result (Unit {0}) RunFault → Type 0
-RunsTexts manifest script last old now failed (Err (faults.Manifest f)) = IsManifestFault manifest f.observer f.code × (now ≡ old) × (failed ≡ false)
+RunsTexts manifest script last old now failed (Err (faults.Manifest f)) = IsManifestFault manifest f × (now ≡ old) × (failed ≡ false)
 RunsTexts manifest script last old now failed (Err faults.NoMemory) = (now ≡ old) × (failed ≡ false)
 RunsTexts manifest script last old now failed (Err (faults.Script f)) = RanOn manifest script last old now failed (Err (faults.Script f))
 RunsTexts manifest script last old now failed (Err (faults.Refused n)) = RanOn manifest script last old now failed (Err (faults.Refused n))

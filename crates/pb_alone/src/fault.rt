@@ -5,7 +5,8 @@ ghost use Rattle.pb_alone.specs.declared.fault.ReportFault.TheVariants as ends;
 ghost use Rattle.pb_alone.specs.Faults.{of_report};
 
 use pb_base::NoMemory;
-use pb_texts::{RegistryFault, ScriptFault};
+use pb_registry::RegistryFault;
+use pb_texts::ScriptFault;
 use thiserror::Error;
 
 /// Why a run ended before its report was written.

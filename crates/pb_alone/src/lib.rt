@@ -5,6 +5,7 @@ mod change;
 mod due;
 mod fault;
 mod observe;
+mod observers;
 mod output;
 mod run;
 mod tallies;

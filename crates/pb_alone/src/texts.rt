@@ -1,27 +1,29 @@
 //! A manifest's and a script's texts, run on a table of their own.
-ghost use Rattle.std.specs.Prelude.{◌≡◌, false, None, OnOk, IfErr};
+ghost use Rattle.std.specs.Prelude.{◌≡◌, ◌≤◌, false, length, Ok, IfOk, IfErr};
 ghost use Rattle.pb_store.specs.Contents.{nothing};
-ghost use Rattle.pb_texts.specs.Manifests.{manifest_fault};
-ghost use Rattle.pb_alone.specs.TextRuns.{RunsTexts, IsBadManifest};
+ghost use Rattle.pb_registry.specs.Manifests.{manifest_of};
+ghost use Rattle.pb_alone.specs.TextRuns.{RunsTexts, IsBadManifest, IsRead};
 
 use crate::fault::RunFault;
+use crate::observers::observers_of;
 use crate::run::run_alone;
 use pb_base::{Sink, Ts};
 use pb_core::{OpenRefused, Shared};
+use pb_registry::Registry;
+use pb_state::Observer;
 use pb_store::{Table, Tablet};
-use pb_texts::Registry;
 use std::alloc::Global;
 
 /// How many entries the journal of a run may have.
 const JOURNAL_LIMIT: usize = 1_000_000;
 
-// Reads the manifest. It has no observers, so that nothing is kept of it.
-fn judge(alloc: Global, manifest: &str) -> Result<(), RunFault>
-    ensures ok { OnOk result (manifest_fault manifest.now ≡ None) }
+// The manifest's observers, its fault as one of the run.
+fn read(alloc: Global, manifest: &str) -> Result<Registry, RunFault>
+    ensures ok { IfOk result (λ os. manifest_of manifest.now ≡ Ok os) }
     ensures err { IfErr result (IsBadManifest manifest.now) }
 {
     match Registry::from_json(alloc, manifest) {
-        Ok(_) => Ok(()),
+        Ok(registry) => Ok(registry),
         Err(fault) => {
             if fault.code == 1 {
                 Err(RunFault::NoMemory)
@@ -30,6 +32,16 @@ fn judge(alloc: Global, manifest: &str) -> Result<(), RunFault>
             }
         }
     }
+}
+
+// The same, as a table takes them.
+fn observers_in(alloc: Global, manifest: &str) -> Result<Vec<Observer>, RunFault>
+    ensures ok { IfOk result (λ v. IsRead manifest.now v.items) }
+    ensures few { IfOk result (λ v. length v.items ≤ 32) }
+    ensures err { IfErr result (IsBadManifest manifest.now) }
+{
+    let registry = read(alloc, manifest)?;
+    Ok(observers_of(alloc, registry)?)
 }
 
 /// Runs a manifest's and a script's texts on an empty table, with `last` the last timestamp given out, and writes the
@@ -48,11 +60,14 @@ pub fn run_texts<T: Tablet, S: Sink>(
     requires unfailed { S.failed sink.old ≡ false }
     ensures { RunsTexts manifest.now script.now last.0 (S.taken sink.old) (S.taken sink.new) (S.failed sink.new) result }
 {
-    if let Err(fault) = judge(alloc, manifest) {
-        table.close();
-        return Err(fault);
-    }
-    match Shared::open(alloc, table, Vec::new(alloc), 1, last, JOURNAL_LIMIT) {
+    let observers = match observers_in(alloc, manifest) {
+        Ok(observers) => observers,
+        Err(fault) => {
+            table.close();
+            return Err(fault);
+        }
+    };
+    match Shared::open(alloc, table, observers, 1, last, JOURNAL_LIMIT) {
         Ok((shared, seats)) => {
             let (shared, _seats, outcome) = run_alone(alloc, script, shared, seats, sink);
             shared.close();

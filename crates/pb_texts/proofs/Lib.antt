@@ -8,7 +8,6 @@ pub mod Parts
 pub mod Trims
 pub mod Newests
 pub mod OneReport
-pub mod Counted
 pub mod ByText
 pub mod Filled
 pub mod Asked

@@ -2,8 +2,6 @@
 use Rattle.std.specs.Prelude.{ℕ}
 use Rattle.pb_texts.specs.declared.script.code.Code as script
 use Rattle.pb_texts.specs.declared.script.code.Code.TheVariants as script_codes
-use Rattle.pb_texts.specs.declared.manifest.code.Code as manifest
-use Rattle.pb_texts.specs.declared.manifest.code.Code.TheVariants as manifest_codes
 
 abbrev pub script_code : script.Code → ℕ
 script_code script_codes.Memory = 1
@@ -14,10 +12,3 @@ script_code script_codes.Twice = 73
 script_code script_codes.Seventeenth = 74
 script_code script_codes.TooMany = 75
 script_code script_codes.Second = 76
-
-abbrev pub manifest_code : manifest.Code → ℕ
-manifest_code manifest_codes.Memory = 1
-manifest_code manifest_codes.Text = 50
-manifest_code manifest_codes.Form = 51
-manifest_code manifest_codes.TooMany = 52
-manifest_code manifest_codes.Observer = 57

@@ -8,6 +8,4 @@ pub mod Scripts
 pub mod Sinks
 pub mod ReportLines
 pub mod Reports
-pub mod Manifests
 pub mod CommandLines
-pub mod FaultTexts

@@ -1,13 +1,11 @@
-//! The words, files and texts of the program: command lines, manifests, scripts and reports.
+//! The words, files and texts of the program: command lines, scripts and reports.
 #![tactic(auto)]
 
-mod manifest;
 mod report;
 mod script;
 mod sink;
 mod words;
 
-pub use manifest::{Registry, RegistryFault};
 pub use report::{Newest, Put, Tally, one_report, report_of};
 pub use script::{ScriptFault, fault_is_first, parse_script, reads_small_batches};
 pub use sink::write_all;

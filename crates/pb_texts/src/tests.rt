@@ -1,8 +1,7 @@
 ghost use Rattle.std.specs.Prelude.{◌≤◌, length};
 
-use crate::{Options, Put, Registry, options, parse_script, report_of, write_all};
+use crate::{Options, Put, options, parse_script, report_of, write_all};
 use pb_base::{Cell, Column, Content, ObserverNo, Out, Row, Sink, Ts};
-use std::alloc::Global;
 use std::process::Abort;
 use std::rt::HostRuntime;
 
@@ -92,62 +91,6 @@ fn cells_are_in_order(rt: HostRuntime) {
 fn nothing_is_quiet(rt: HostRuntime) {
     let text = report_of(rt.alloc(), &[], 0, 0).expect(&rt, "memory");
     assert!(rt; text.as_str() == "quiet\n");
-}
-
-// The code of a manifest's fault, 0 where it is taken.
-fn judged(rt: &HostRuntime, text: &str) -> u8 {
-    match Registry::from_json(rt.alloc(), text) {
-        Ok(_) => 0,
-        Err(fault) => fault.code,
-    }
-}
-
-const OBSERVER: &str = "{\"name\":\"watch\",\"column\":0,\"helpers\":[],\"code\":\"\"}";
-
-#[test]
-fn manifests(rt: HostRuntime) {
-    let table = [
-        ("{\"profile\":1,\"observers\":[]}", 0),
-        (" { \"observers\" : [ ] , \"profile\" : 1 } \n", 0),
-        ("", 50),
-        ("{\"profile\":1,\"observers\":[]", 50),
-        ("{\"profile\":1,\"observers\":[]} x", 50),
-        ("[]", 51),
-        ("{\"profile\":1}", 51),
-        ("{\"profile\":2,\"observers\":[]}", 51),
-        ("{\"profile\":1.0,\"observers\":[]}", 51),
-        ("{\"profile\":1e0,\"observers\":[]}", 51),
-        ("{\"profile\":-1,\"observers\":[]}", 51),
-        ("{\"profile\":\"1\",\"observers\":[]}", 51),
-        ("{\"profile\":1,\"observers\":{}}", 51),
-        ("{\"profile\":1,\"observers\":[],\"x\":0}", 51),
-        ("{\"profile\":2,\"observers\":[],\"profile\":1}", 0),
-        ("{\"profile\":1,\"observers\":[],\"profile\":2}", 51),
-        ("{\"profile\":1,\"observers\":[5]}", 51),
-    ];
-    for (text, wanted) in table {
-        assert!(rt; judged(&rt, text) == wanted, "{text}");
-    }
-}
-
-fn manifest_of(rt: &impl Abort, alloc: Global, count: usize) -> String {
-    let mut text = String::from_str(alloc, "{\"profile\":1,\"observers\":[").expect(rt, "memory");
-    for place in 0..count {
-        if place > 0 {
-            text.push_str(",").expect(rt, "memory");
-        }
-        text.push_str(OBSERVER).expect(rt, "memory");
-    }
-    text.push_str("]}").expect(rt, "memory");
-    text
-}
-
-#[test]
-fn observers_are_refused(rt: HostRuntime) {
-    for (count, wanted) in [(1, 57), (32, 57), (33, 52)] {
-        let text = manifest_of(&rt, rt.alloc(), count);
-        assert!(rt; judged(&rt, text.as_str()) == wanted, "{count}");
-    }
 }
 
 #[test]

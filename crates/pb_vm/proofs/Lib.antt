@@ -4,3 +4,4 @@ pub mod Firsts
 pub mod Lines
 pub mod Turns
 pub mod Same
+pub mod Back

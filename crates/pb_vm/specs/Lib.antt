@@ -7,3 +7,4 @@ pub mod Finished
 pub mod Position
 pub mod Vm
 pub mod Keeping
+pub mod Encodings

@@ -3,6 +3,7 @@ ghost use Rattle.std.specs.Prelude.{◌≡◌, ◌<◌, ◌≤◌, IfOk, IfErr, 
 ghost use Rattle.std.specs.List.{list_all};
 ghost use Rattle.pb_vm.specs.Encoding.{is_known};
 ghost use Rattle.pb_vm.specs.Rules.{rule_code, broken, is_reached, is_written, ends, sets};
+ghost use Rattle.pb_vm.specs.Encodings.{EncodingsAreTaken};
 ghost use Rattle.pb_vm.specs.Verdict.{size_fault, rule_fault, IsTaken, IsFault};
 
 use crate::accepted::Accepted;
@@ -109,6 +110,11 @@ fn rule_fault(program: &[Insn]) -> Option<Refused>
     }
     None
 }
+
+/// Each program of 1 to 512 of these instructions that keeps the rules has an encoding which is accepted as that program.
+pub fn encodings_are_taken()
+    ensures { EncodingsAreTaken }
+{}
 
 /// Reads and judges a program, 8 bytes a slot (RFC 9669, section 3).
 pub fn accept(alloc: Global, bytes: &[u8]) -> Result<Accepted, AcceptFault>

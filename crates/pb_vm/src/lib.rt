@@ -16,7 +16,7 @@ pub use accepted::Accepted;
 pub use ask::{Ask, Moved, Phase};
 pub use change::Record;
 pub use finished::Finished;
-pub use judge::{AcceptFault, accept};
+pub use judge::{AcceptFault, accept, encodings_are_taken};
 pub use vm::Vm;
 
 #[cfg(test)]

@@ -187,10 +187,6 @@ fn manifests_are_judged(rt: HostRuntime) {
     let table = [
         ("{", "manifest: code 50\n"),
         ("[]", "manifest: code 51\n"),
-        (
-            "{\"profile\":1,\"observers\":[{\"name\":\"w\",\"column\":0,\"helpers\":[],\"code\":\"\"}]}",
-            "manifest: code 57\n",
-        ),
     ];
     for (manifest, err) in table {
         let files = Held {

@@ -2,7 +2,7 @@ use Rattle.std.proofs.Common.{sym, subst}
 use Rattle.std.proofs.lemmas.Result.{err_from_is_err_and}
 use Rattle.pb_core.specs.Calls.{SharedOf}
 use Rattle.pb_alone.specs.Faults.{IsEnd}
-use Rattle.pb_alone.proofs.Upto.{goes5, end1, end2, end3, end4, changes}
+use Rattle.pb_alone.proofs.Upto.{goes3, goes4, goes5, end1, end2, end3, end4, changes}
 use Rattle.pb_alone.proofs.change.change.Goals as goal
 
 pub returns-clause-goes : goal.returns-clause-goes
@@ -60,3 +60,18 @@ returns-in_err-take-4-clause-err g c =
     _ c.take-3.new.shared c.take-3.new.seat c.in_ok-take-2.ensures.ok
     _ c.take-4.new.shared c.take-4.new.seat c.in_ok-take-3.ensures.ok
     c.in_err-take-4.field-0.0 c.in_err-take-4.ensures.fault))
+
+pub returns-in_err-take-3-clause-goes : goal.returns-in_err-take-3-clause-goes
+returns-in_err-take-3-clause-goes g c =
+    rw (c.in_err-take-3.ensures.table, c.in_err-take-3.ensures.seat) (goes3 c.args.shared.now c.args.seat.now c.args.batch c.primary-cell.result c.primary-cell.ensures c.requires.small c.requires.clean c.requires.seated
+    _ c.take.new.shared c.take.new.seat c.in_ok-start.ensures.ok c.in-At.start c.in-At.is c.in_ok-what.what c.in_ok-what.ensures
+    _ c.take-2.new.shared c.take-2.new.seat c.in_ok-take.ensures.ok
+    _ c.take-3.new.shared c.take-3.new.seat c.in_ok-take-2.ensures.ok)
+
+pub returns-in_err-take-4-clause-goes : goal.returns-in_err-take-4-clause-goes
+returns-in_err-take-4-clause-goes g c =
+    rw (c.in_err-take-4.ensures.table, c.in_err-take-4.ensures.seat) (goes4 c.args.shared.now c.args.seat.now c.args.batch c.primary-cell.result c.primary-cell.ensures c.requires.small c.requires.clean c.requires.seated
+    _ c.take.new.shared c.take.new.seat c.in_ok-start.ensures.ok c.in-At.start c.in-At.is c.in_ok-what.what c.in_ok-what.ensures
+    _ c.take-2.new.shared c.take-2.new.seat c.in_ok-take.ensures.ok
+    _ c.take-3.new.shared c.take-3.new.seat c.in_ok-take-2.ensures.ok
+    _ c.take-4.new.shared c.take-4.new.seat c.in_ok-take-3.ensures.ok)

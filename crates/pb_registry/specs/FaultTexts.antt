@@ -1,0 +1,13 @@
+-- How the fault of a manifest is told.
+use Rattle.std.specs.Prelude.{ℕ, List, ◌++◌, codes, Option, Some, None}
+use Rattle.std.specs.Fmt.{decimal}
+use Rattle.pb_base.specs.declared.refusal.Refused.{Refused}
+use Rattle.pb_registry.specs.declared.manifest.RegistryFault.{RegistryFault}
+
+abbrev pub told_at : Option ℕ → ℕ → Option Refused → List ℕ
+told_at None code r = codes "code " ++ decimal code
+told_at (Some observer) code None = codes "observer " ++ (decimal observer ++ (codes " code " ++ decimal code))
+told_at (Some observer) code (Some r) = codes "observer " ++ (decimal observer ++ (codes " code " ++ (decimal code ++ (codes " slot " ++ (decimal r.slot ++ (codes " code " ++ decimal r.code))))))
+
+abbrev pub fault_text : RegistryFault → List ℕ
+fault_text f = told_at f.observer f.code f.program

@@ -1,0 +1,7 @@
+pub mod Codes
+pub mod Reading
+pub mod Observers
+pub mod Uploads
+pub mod Manifests
+pub mod FaultTexts
+pub mod Judging

@@ -1,0 +1,12 @@
+//! The manifest: which observers there are, each with an accepted program.
+#![tactic(auto)]
+
+mod code;
+mod form;
+mod manifest;
+mod observer;
+
+pub use manifest::{Registry, RegistryFault};
+
+#[cfg(test)]
+mod tests;

@@ -1,7 +1,0 @@
-use Rattle.std.proofs.Common.{sym, ap, ◌∙◌}
-use Rattle.pb_texts.specs.Manifests.{count_in}
-use Rattle.pb_texts.proofs.Counted.{members_counted}
-use Rattle.pb_texts.proofs.manifest.form.member_count.Goals as goal
-
-pub returns-in-Some : goal.returns-in-Some
-returns-in-Some c = c.len.ensures.len ∙ sym (members_counted c.in-Some.members.now.entries) ∙ ap count_in c.in-Some.ensures

@@ -1,0 +1,5 @@
+use Rattle.pb_vm.proofs.Back.{taken_back}
+use Rattle.pb_vm.proofs.judge.encodings_are_taken.Goals as goal
+
+pub returns : goal.returns
+returns c = taken_back
