@@ -15,6 +15,9 @@ type Boxed = Box<dyn Tablet + Send + Drop>;
 
 const MANIFEST: &[u8] = b"{\"profile\":1,\"observers\":[]}";
 
+// mov64 r0, 0 and exit.
+const WATCH: &str = "b7000000000000009500000000000000";
+
 // The two files of a run, at the paths `m` and `s`.
 #[derive(Drop)]
 struct Held<'a> {
@@ -184,10 +187,7 @@ fn scripts_run(rt: HostRuntime) {
 
 #[test]
 fn manifests_are_judged(rt: HostRuntime) {
-    let table = [
-        ("{", "manifest: code 50\n"),
-        ("[]", "manifest: code 51\n"),
-    ];
+    let table = [("{", "manifest: code 50\n"), ("[]", "manifest: code 51\n")];
     for (manifest, err) in table {
         let files = Held {
             alloc: rt.alloc(),
@@ -195,6 +195,79 @@ fn manifests_are_judged(rt: HostRuntime) {
             script: Ok(b"put 7 0 2a\n"),
         };
         assert!(rt; ends(&rt, files, 1, "", err), "{manifest}");
+    }
+}
+
+// A manifest of one observer.
+fn manifest_of(
+    rt: &impl Abort,
+    alloc: Global,
+    name: &str,
+    column: u32,
+    helpers: &str,
+    code: &str,
+) -> String {
+    format!(in alloc;
+        "{{\"profile\":1,\"observers\":[{{\"name\":\"{name}\",\"column\":{column},\"helpers\":{helpers},\"code\":\"{code}\"}}]}}"
+    ).expect(rt, "memory")
+}
+
+// Whether a run of one change with this manifest tells this fault.
+fn is_refused(rt: &HostRuntime, manifest: &str, fault: &str) -> bool {
+    let files = Held {
+        alloc: rt.alloc(),
+        manifest: Ok(manifest.as_bytes()),
+        script: Ok(b"put 7 0 2a\n"),
+    };
+    ends(rt, files, 1, "", fault)
+}
+
+#[test]
+fn observers_are_judged(rt: HostRuntime) {
+    let table = [
+        (("Watch", 0, "[]", WATCH), "manifest: observer 0 code 53\n"),
+        (("watch", 16, "[]", WATCH), "manifest: observer 0 code 54\n"),
+        (("watch", 0, "[]", "b"), "manifest: observer 0 code 55\n"),
+        (
+            ("watch", 0, "[]", "b7"),
+            "manifest: observer 0 code 56 slot 0 code 10\n",
+        ),
+        (
+            ("watch", 0, "[]", "9500000000000000"),
+            "manifest: observer 0 code 56 slot 0 code 21\n",
+        ),
+        (
+            ("watch", 0, "[]", "b700000000000000"),
+            "manifest: observer 0 code 56 slot 0 code 36\n",
+        ),
+        (("watch", 0, "[2]", WATCH), "manifest: code 57\n"),
+    ];
+    for ((name, column, helpers, code), fault) in table {
+        let manifest = manifest_of(&rt, rt.alloc(), name, column, helpers, code);
+        assert!(rt; is_refused(&rt, manifest.as_str(), fault), "{fault}");
+    }
+    let two =
+        "{\"profile\":1,\"observers\":[{\"name\":\"a\",\"column\":0,\"helpers\":[],\"code\":\"\"},{\"name\":\"b\",\"column\":0,\"helpers\":[],\"code\":\"\"}]}";
+    assert!(rt; is_refused(&rt, two, "manifest: code 57\n"));
+}
+
+#[test]
+fn observers_without_a_change_do_not_run(rt: HostRuntime) {
+    let table = [
+        ("", "runs watch 0\nquiet\n"),
+        (
+            "put 7 1 2a\n",
+            "cell 7 1 commit 2 value 2a\nruns watch 0\nquiet\n",
+        ),
+    ];
+    let manifest = manifest_of(&rt, rt.alloc(), "watch", 0, "[]", WATCH);
+    for (script, out) in table {
+        let files = Held {
+            alloc: rt.alloc(),
+            manifest: Ok(manifest.as_bytes()),
+            script: Ok(script.as_bytes()),
+        };
+        assert!(rt; ends(&rt, files, 0, out, ""), "{script}");
     }
 }
 
