@@ -1,19 +1,25 @@
-ghost use Rattle.std.specs.Prelude.{◌≡◌, ◌≤◌, None, false};
+ghost use Rattle.std.specs.Prelude.{◌≡◌, ◌≤◌, None, false, length};
 
 use crate::end_all;
+use pb_alone::run_alone;
 use pb_base::{Batch, Cell, Column, Content, NoMemory, Row, Sink, SinkFault, Ts};
 use pb_command::{PathFault, Paths, command};
-use pb_core::{Declaration, Declared, OpenRefused, Seat, Shared, Step, Work};
+use pb_core::{Answer, Declaration, Declared, Observer, OpenRefused, Seat, Shared, Step, Work};
 use pb_memtablet::ListTablet;
 use pb_store::{Table, Tablet};
 use pb_texts::Options;
+use pb_vm::accept;
 use std::alloc::Global;
 use std::process::Abort;
 use std::rt::HostRuntime;
+use std::sync::Arc;
 
 type Boxed = Box<dyn Tablet + Send + Drop>;
 
 const MANIFEST: &[u8] = b"{\"profile\":1,\"observers\":[]}";
+
+// mov64 r0, 0 and exit.
+const WATCH: &str = "b7000000000000009500000000000000";
 
 // The two files of a run, at the paths `m` and `s`.
 #[derive(Drop)]
@@ -184,10 +190,7 @@ fn scripts_run(rt: HostRuntime) {
 
 #[test]
 fn manifests_are_judged(rt: HostRuntime) {
-    let table = [
-        ("{", "manifest: code 50\n"),
-        ("[]", "manifest: code 51\n"),
-    ];
+    let table = [("{", "manifest: code 50\n"), ("[]", "manifest: code 51\n")];
     for (manifest, err) in table {
         let files = Held {
             alloc: rt.alloc(),
@@ -196,6 +199,183 @@ fn manifests_are_judged(rt: HostRuntime) {
         };
         assert!(rt; ends(&rt, files, 1, "", err), "{manifest}");
     }
+}
+
+// A manifest of one observer.
+fn manifest_of(
+    rt: &impl Abort,
+    alloc: Global,
+    name: &str,
+    column: u32,
+    helpers: &str,
+    code: &str,
+) -> String {
+    format!(in alloc;
+        "{{\"profile\":1,\"observers\":[{{\"name\":\"{name}\",\"column\":{column},\"helpers\":{helpers},\"code\":\"{code}\"}}]}}"
+    ).expect(rt, "memory")
+}
+
+// Whether a run of one change with this manifest tells this fault.
+fn is_refused(rt: &HostRuntime, manifest: &str, fault: &str) -> bool {
+    let files = Held {
+        alloc: rt.alloc(),
+        manifest: Ok(manifest.as_bytes()),
+        script: Ok(b"put 7 0 2a\n"),
+    };
+    ends(rt, files, 1, "", fault)
+}
+
+#[test]
+fn observers_are_judged(rt: HostRuntime) {
+    let table = [
+        (("Watch", 0, "[]", WATCH), "manifest: observer 0 code 53\n"),
+        (("watch", 16, "[]", WATCH), "manifest: observer 0 code 54\n"),
+        (("watch", 0, "[]", "b"), "manifest: observer 0 code 55\n"),
+        (
+            ("watch", 0, "[]", "b7"),
+            "manifest: observer 0 code 56 slot 0 code 10\n",
+        ),
+        (
+            ("watch", 0, "[]", "9500000000000000"),
+            "manifest: observer 0 code 56 slot 0 code 21\n",
+        ),
+        (
+            ("watch", 0, "[]", "b700000000000000"),
+            "manifest: observer 0 code 56 slot 0 code 36\n",
+        ),
+        (("watch", 0, "[2]", WATCH), "manifest: code 57\n"),
+    ];
+    for ((name, column, helpers, code), fault) in table {
+        let manifest = manifest_of(&rt, rt.alloc(), name, column, helpers, code);
+        assert!(rt; is_refused(&rt, manifest.as_str(), fault), "{fault}");
+    }
+    let two =
+        "{\"profile\":1,\"observers\":[{\"name\":\"a\",\"column\":0,\"helpers\":[],\"code\":\"\"},{\"name\":\"b\",\"column\":0,\"helpers\":[],\"code\":\"\"}]}";
+    assert!(rt; is_refused(&rt, two, "manifest: code 57\n"));
+}
+
+#[test]
+fn observers_without_a_change_do_not_run(rt: HostRuntime) {
+    let table = [
+        ("", "runs watch 0\nquiet\n"),
+        (
+            "put 7 1 2a\n",
+            "cell 7 1 commit 2 value 2a\nruns watch 0\nquiet\n",
+        ),
+    ];
+    let manifest = manifest_of(&rt, rt.alloc(), "watch", 0, "[]", WATCH);
+    for (script, out) in table {
+        let files = Held {
+            alloc: rt.alloc(),
+            manifest: Ok(manifest.as_bytes()),
+            script: Ok(script.as_bytes()),
+        };
+        assert!(rt; ends(&rt, files, 0, out, ""), "{script}");
+    }
+}
+
+#[test]
+fn observers_run(rt: HostRuntime) {
+    let table = [
+        (
+            "put 7 0 2a\n",
+            "cell 7 0 commit 2 value 2a\nruns watch 1\nquiet\n",
+        ),
+        (
+            "put 7 0 2a\nput 7 0 2b\n",
+            "cell 7 0 commit 4 value 2b\nruns watch 1\nquiet\n",
+        ),
+    ];
+    let manifest = manifest_of(&rt, rt.alloc(), "watch", 0, "[]", WATCH);
+    for (script, out) in table {
+        let files = Held {
+            alloc: rt.alloc(),
+            manifest: Ok(manifest.as_bytes()),
+            script: Ok(script.as_bytes()),
+        };
+        assert!(rt; ends(&rt, files, 0, out, ""), "{script}");
+    }
+}
+
+// How many entries the journal of one change and its run has, the run's start and commit, and whether it committed.
+fn told<T: Tablet>(shared: &Shared<T>) -> (usize, Ts, Ts, bool) {
+    let journal = shared.journal();
+    if journal.len() != 12 {
+        return (journal.len(), Ts(0), Ts(0), false);
+    }
+    match (&journal[5].step, journal[5].answer, journal[10].answer) {
+        (Step::Begin(Work::Run(_, _)), Answer::At(start), Answer::At(commit)) => {
+            let is_committed = matches!(journal[11].answer, Answer::Committed);
+            (12, start, commit, is_committed)
+        }
+        _ => (12, Ts(0), Ts(0), false),
+    }
+}
+
+// The same, of a run of one change on a table of these tablets with this observer of column 0.
+fn told_of<T: Tablet>(
+    rt: &HostRuntime,
+    parts: Vec<(Row, T)>,
+    observers: Vec<Observer>,
+) -> (usize, Ts, Ts, bool)
+    requires { length observers.items ≤ 32 }
+{
+    let failed = (0, Ts(0), Ts(0), false);
+    match Table::new(parts) {
+        Ok(table) => match Shared::open(rt.alloc(), table, observers, 1, Ts(0), 100) {
+            Ok((shared, seats)) => {
+                let mut sheet = Sheet {
+                    bytes: Vec::new(rt.alloc()),
+                    left: usize::MAX,
+                    fails: true,
+                    failed: false,
+                };
+                let (shared, _seats, _outcome) = run_alone(
+                    rt.alloc(),
+                    "put 7 0 2a\n",
+                    shared,
+                    seats,
+                    &mut sheet,
+                );
+                let told = told(&shared);
+                shared.close();
+                told
+            }
+            Err(
+                OpenRefused {
+                    table,
+                    observers: _,
+                    code: _,
+                },
+            ) => {
+                table.close();
+                failed
+            }
+        },
+        Err((parts, _)) => {
+            end_all(parts);
+            failed
+        }
+    }
+}
+
+#[test]
+fn a_run_has_seven_entries(rt: HostRuntime) -> Result<(), NoMemory> {
+    let bytes = b"\xb7\0\0\0\0\0\0\0\x95\0\0\0\0\0\0\0";
+    let program = match accept(rt.alloc(), bytes) {
+        Ok(program) => program,
+        Err(_) => return Err(NoMemory),
+    };
+    let mut observers = Vec::new(rt.alloc());
+    observers.push(Observer {
+        name: String::from_str(rt.alloc(), "watch")?,
+        column: Column::new(0).expect(&rt, "a column"),
+        program: Arc::new(rt.alloc(), program)?,
+    })?;
+    let mut parts: Vec<(Row, Boxed)> = Vec::new(rt.alloc());
+    parts.push((Row(0), Box::new(rt.alloc(), ListTablet::new(rt.alloc()))?))?;
+    assert!(rt; told_of(&rt, parts, observers) == (12, Ts(3), Ts(4), true));
+    Ok(())
 }
 
 #[test]

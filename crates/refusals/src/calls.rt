@@ -9,7 +9,8 @@ use pb_state::State;
 use pb_store::{Edit, Item, Slot, Sort, Table};
 use std::alloc::Global;
 
-fn column() -> Result<Column, NoMemory> {
+/// Column 0.
+pub fn column() -> Result<Column, NoMemory> {
     match Column::new(0) {
         Some(column) => Ok(column),
         None => Err(NoMemory),
@@ -178,7 +179,8 @@ pub fn shared_calls(alloc: Global) -> Result<bool, NoMemory> {
     }
 }
 
-fn calls(shared: &mut Shared<ListTablet>, seats: &mut Vec<Seat>, step: &Step) -> bool {
+/// Whether the first seat's call is answered, or refused for memory with nothing changed and then answered.
+pub fn calls(shared: &mut Shared<ListTablet>, seats: &mut Vec<Seat>, step: &Step) -> bool {
     let Some(seat) = seats.first_mut() else {
         return false;
     };

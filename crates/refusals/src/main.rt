@@ -5,6 +5,7 @@
 #![tactic(auto)]
 
 mod calls;
+mod observers;
 mod page;
 mod runs;
 
@@ -19,7 +20,11 @@ fn all(rt: &HostRuntime) -> Result<bool, pb_base::NoMemory> {
     let runs = runs::script_parses(alloc)?
         && runs::shared_opens(alloc)?
         && runs::script_runs(alloc)?;
-    Ok(copies && table && shared && runs)
+    let observers = observers::programs_are_accepted(alloc)?
+        && observers::manifests_are_read(alloc)?
+        && observers::machines_start(alloc)?
+        && observers::runs_are_declared(alloc)?;
+    Ok(copies && table && shared && runs && observers)
 }
 
 fn main(rt: HostRuntime) -> ExitCode {

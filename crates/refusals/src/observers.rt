@@ -1,0 +1,162 @@
+//! Calls on programs, machines, manifests, and tables with an observer.
+ghost use Rattle.std.specs.Prelude.{◌≡◌, ◌≤◌, length, IfOk};
+
+use crate::calls::{batch, calls, column, table};
+use pb_base::{Cell, Content, NoMemory, ObserverNo, Row, Ts, Version};
+use pb_core::{
+    Declaration, Declared, Finished, Observer, OpenRefused, Record, Seat, Shared, Step, Vm, Work,
+};
+use pb_memtablet::ListTablet;
+use pb_registry::Registry;
+use pb_vm::{AcceptFault, Accepted, Phase, accept};
+use std::alloc::Global;
+use std::sync::Arc;
+
+// mov64 r0, 0 and exit.
+const PROGRAM: &[u8] = b"\xb7\0\0\0\0\0\0\0\x95\0\0\0\0\0\0\0";
+
+const MANIFEST: &str =
+    "{\"profile\":1,\"observers\":[{\"name\":\"watch\",\"column\":0,\"helpers\":[],\"code\":\"b7000000000000009500000000000000\"}]}";
+
+fn program(alloc: Global) -> Result<Accepted, NoMemory> {
+    match accept(alloc, PROGRAM) {
+        Ok(program) => Ok(program),
+        Err(_) => Err(NoMemory),
+    }
+}
+
+/// `accept`.
+pub fn programs_are_accepted(alloc: Global) -> Result<bool, NoMemory> {
+    match accept(alloc, PROGRAM) {
+        Ok(program) => Ok(program.slots() == 2),
+        Err(AcceptFault::Refused(_)) => Ok(false),
+        Err(AcceptFault::NoMemory) => Ok(program(alloc)?.slots() == 2),
+    }
+}
+
+fn is_watch(registry: Registry) -> bool {
+    match registry.into_parts() {
+        Some((name, column, program)) => {
+            name.as_str() == "watch" && column.number() == 0 && program.slots() == 2
+        }
+        None => false,
+    }
+}
+
+/// `Registry::from_json`.
+pub fn manifests_are_read(alloc: Global) -> Result<bool, NoMemory> {
+    match Registry::from_json(alloc, MANIFEST) {
+        Ok(registry) => Ok(is_watch(registry)),
+        Err(fault) => match Registry::from_json(alloc, MANIFEST) {
+            Ok(registry) => Ok(fault.code == 1 && is_watch(registry)),
+            Err(_) => Ok(false),
+        },
+    }
+}
+
+// The record of a cell that was deleted at 2.
+fn change(cell: Cell) -> Record {
+    let version = Version {
+        start: Ts(1),
+        commit: Ts(2),
+        content: Content::Deleted,
+    };
+    Record::new(cell, &version, Ts(0))
+}
+
+// The run of a program on that record at 3, to its end.
+fn finished(alloc: Global, program: &Arc<Accepted>) -> Result<Finished, NoMemory> {
+    let cell = Cell::Data(Row(7), column()?);
+    let mut vm = match Vm::start(alloc, program, change(cell), Ts(3)) {
+        Ok(vm) => vm,
+        Err(_) => Vm::start(alloc, program, change(cell), Ts(3))?,
+    };
+    for _ in 0..2u32 {
+        if let Phase::Going = vm.phase() {
+            vm.step();
+        }
+    }
+    match vm.phase() {
+        Phase::Over(_) => Ok(vm.finish()),
+        _ => Err(NoMemory),
+    }
+}
+
+/// `Vm::start`.
+pub fn machines_start(alloc: Global) -> Result<bool, NoMemory> {
+    let program = Arc::new(alloc, program(alloc)?)?;
+    let finished = finished(alloc, &program)?;
+    Ok(finished.is_of(&program) && finished.run() == Ts(3) && finished.result() == 0)
+}
+
+// The one observer of a table.
+fn observers(alloc: Global, program: &Arc<Accepted>) -> Result<Vec<Observer>, NoMemory>
+    ensures { IfOk result (λ v. length v.items ≤ 32) }
+{
+    let mut observers = Vec::new(alloc);
+    observers.push(Observer {
+        name: String::from_str(alloc, "watch")?,
+        column: column()?,
+        program: Arc::try_clone(program)?,
+    })?;
+    Ok(observers)
+}
+
+// Whether each step is answered, also where it is refused once.
+fn all_called(shared: Shared<ListTablet>, seats: Vec<Seat>, steps: &[Step]) -> bool {
+    let mut shared = shared;
+    let mut seats = seats;
+    let mut held = true;
+    for step in steps {
+        held = held && calls(&mut shared, &mut seats, step);
+    }
+    shared.close();
+    held
+}
+
+/// `Shared::open` with an observer, and `Shared::call` with the steps of its run up to its declaration.
+pub fn runs_are_declared(alloc: Global) -> Result<bool, NoMemory> {
+    let program = Arc::new(alloc, program(alloc)?)?;
+    let cell = Cell::Data(Row(7), column()?);
+    let Some(watch) = ObserverNo::new(0) else {
+        return Ok(false);
+    };
+    let run = Declared::Run(watch, finished(alloc, &program)?);
+    let steps = [
+        Step::Begin(Work::Script),
+        Step::Declare(
+            Ts(1),
+            Declaration::new(alloc, Declared::Script(batch(alloc)?))?,
+        ),
+        Step::Prewrite(Ts(1), cell),
+        Step::Stamp(Ts(1)),
+        Step::CommitPrimary(Ts(1)),
+        Step::Begin(Work::Run(watch, Row(7))),
+        Step::Read(Ts(3), cell),
+        Step::Read(Ts(3), Cell::Ack(watch, Row(7), column()?)),
+        Step::Declare(Ts(3), Declaration::new(alloc, run)?),
+    ];
+    let observers = observers(alloc, &program)?;
+    match Shared::open(alloc, table(alloc)?, observers, 1, Ts(0), 100) {
+        Ok((shared, seats)) => Ok(all_called(shared, seats, &steps)),
+        Err(
+            OpenRefused {
+                table,
+                observers,
+                code,
+            },
+        ) => match Shared::open(alloc, table, observers, 1, Ts(0), 100) {
+            Ok((shared, seats)) => Ok(all_called(shared, seats, &steps) && code == 1),
+            Err(
+                OpenRefused {
+                    table,
+                    observers: _,
+                    code: _,
+                },
+            ) => {
+                table.close();
+                Ok(false)
+            }
+        },
+    }
+}
