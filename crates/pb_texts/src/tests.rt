@@ -1,7 +1,8 @@
 ghost use Rattle.std.specs.Prelude.{◌≤◌, length};
 
-use crate::{Options, Put, options, parse_script, report_of, write_all};
+use crate::{Options, Put, Tally, options, parse_script, report_of, write_all};
 use pb_base::{Cell, Column, Content, ObserverNo, Out, Row, Sink, Ts};
+use std::alloc::Global;
 use std::process::Abort;
 use std::rt::HostRuntime;
 
@@ -62,7 +63,7 @@ fn newest_is_reported(rt: HostRuntime) {
         put(&rt, 7, 0, 4, Content::Deleted),
         put(&rt, 7, 0, 2, value(&[42])),
     ];
-    let text = report_of(rt.alloc(), &puts, 0, 0).expect(&rt, "memory");
+    let text = report_of(rt.alloc(), &puts, &[], 0, 0).expect(&rt, "memory");
     assert!(rt; text.as_str() == "cell 7 0 commit 4 deleted\nquiet\n");
 }
 
@@ -80,7 +81,7 @@ fn cells_are_in_order(rt: HostRuntime) {
         acknowledgment,
         put(&rt, 0, 0, 4, value(&[1, 0])),
     ];
-    let text = report_of(rt.alloc(), &puts, 0, 2).expect(&rt, "memory");
+    let text = report_of(rt.alloc(), &puts, &[], 0, 2).expect(&rt, "memory");
     assert!(rt;
         text.as_str()
             == "cell 0 0 commit 4 value 01\ncell 1000 15 commit 2 value 00\nmarks 0 locks 2\n"
@@ -89,8 +90,27 @@ fn cells_are_in_order(rt: HostRuntime) {
 
 #[test]
 fn nothing_is_quiet(rt: HostRuntime) {
-    let text = report_of(rt.alloc(), &[], 0, 0).expect(&rt, "memory");
+    let text = report_of(rt.alloc(), &[], &[], 0, 0).expect(&rt, "memory");
     assert!(rt; text.as_str() == "quiet\n");
+}
+
+fn tally(rt: &impl Abort, alloc: Global, name: &str, runs: usize) -> Tally {
+    let name = String::from_str(alloc, name).expect(rt, "memory");
+    Tally { name, runs }
+}
+
+#[test]
+fn runs_stand_before_the_last_line(rt: HostRuntime) {
+    let puts = [put(&rt, 7, 0, 2, value(&[42]))];
+    let tallies = [
+        tally(&rt, rt.alloc(), "watch", 1),
+        tally(&rt, rt.alloc(), "copy-2", 0),
+    ];
+    let text = report_of(rt.alloc(), &puts, &tallies, 1, 0).expect(&rt, "memory");
+    assert!(rt;
+        text.as_str()
+            == "cell 7 0 commit 2 value 2a\nruns watch 1\nruns copy-2 0\nmarks 1 locks 0\n"
+    );
 }
 
 #[test]
