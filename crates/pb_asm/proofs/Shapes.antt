@@ -6,7 +6,7 @@ use Rattle.pb_isa.specs.declared.insn.AluOp.TheVariants.{Add, Sub, Mul, Div, Or,
 use Rattle.pb_isa.specs.declared.insn.Cmp.{Cmp}
 use Rattle.pb_isa.specs.declared.insn.Cmp.TheVariants.{Eq, Gt, Ge, Set, Ne, Sgt, Sge, Lt, Le, Slt, Sle}
 use Rattle.pb_isa.specs.declared.insn.Width.{Width}
-use Rattle.pb_isa.specs.declared.insn.Width.TheVariants.{W32, W64}
+use Rattle.pb_isa.specs.declared.insn.Width.TheVariants.{Bits32, Bits64}
 use Rattle.pb_isa.specs.declared.insn.Size.{Size}
 use Rattle.pb_isa.specs.declared.insn.Size.TheVariants.{B, H, W, Dw}
 use Rattle.std.specs.List.{slice_split, before_first, after_first, position_or_len}
@@ -148,8 +148,8 @@ size_above W = refl
 size_above Dw = refl
 
 width_above : (w : Width) → above 48 (width_name w) ≡ true
-width_above W32 = refl
-width_above W64 = refl
+width_above Bits32 = refl
+width_above Bits64 = refl
 
 pub name_above : (w : Word) → above 48 (name w) ≡ true
 name_above (Alu op w) = above_append 48 (op_name op) (width_name w) (op_above op) (width_above w)
@@ -163,9 +163,9 @@ name_above (JumpIf c w) = above_append 48 (cmp_name c) (width_name w) (cmp_above
 name_above Call = refl
 name_above Exit = refl
 
-each_width : (P : Width → Type 0) → P W32 → P W64 → (w : Width) → P w
-each_width P a b W32 = a
-each_width P a b W64 = b
+each_width : (P : Width → Type 0) → P Bits32 → P Bits64 → (w : Width) → P w
+each_width P a b Bits32 = a
+each_width P a b Bits64 = b
 
 -- each word is the one of its name
 pub word_back : (w : Word) → word_named (name w) ≡ Some w
@@ -205,8 +205,8 @@ word_back (Store B) = refl
 word_back (Store H) = refl
 word_back (Store W) = refl
 word_back (Store Dw) = refl
-word_back (Neg W32) = refl
-word_back (Neg W64) = refl
+word_back (Neg Bits32) = refl
+word_back (Neg Bits64) = refl
 word_back LoadImm = refl
 word_back Jump = refl
 word_back Call = refl

@@ -9,7 +9,7 @@ use Rattle.pb_isa.specs.declared.insn.AluOp.TheVariants.{Add, Sub, Mul, Div, Or,
 use Rattle.pb_isa.specs.declared.insn.Cmp.{Cmp}
 use Rattle.pb_isa.specs.declared.insn.Cmp.TheVariants.{Eq, Gt, Ge, Set, Ne, Sgt, Sge, Lt, Le, Slt, Sle}
 use Rattle.pb_isa.specs.declared.insn.Width.{Width}
-use Rattle.pb_isa.specs.declared.insn.Width.TheVariants.{W32, W64}
+use Rattle.pb_isa.specs.declared.insn.Width.TheVariants.{Bits32, Bits64}
 use Rattle.pb_isa.specs.declared.insn.Size.{Size}
 use Rattle.pb_isa.specs.declared.insn.Size.TheVariants.{B, H, W, Dw}
 use Rattle.pb_asm.specs.declared.names.Word.{Word}
@@ -49,8 +49,8 @@ size_name W = codes "w"
 size_name Dw = codes "dw"
 
 abbrev pub width_name : Width → List ℕ
-width_name W32 = codes "32"
-width_name W64 = codes "64"
+width_name Bits32 = codes "32"
+width_name Bits64 = codes "64"
 
 -- the first word of a line
 abbrev pub name : Word → List ℕ
@@ -71,10 +71,10 @@ sizes = B ∷ H ∷ W ∷ Dw ∷ []
 -- every word that there is
 unfoldable pub words : List Word
 words =
-    flat_map (λ op. Alu op W32 ∷ Alu op W64 ∷ []) (Add ∷ Sub ∷ Mul ∷ Div ∷ Or ∷ And ∷ Lsh ∷ Rsh ∷ Mod ∷ Xor ∷ Mov ∷ Arsh ∷ [])
-    ++ flat_map (λ c. JumpIf c W32 ∷ JumpIf c W64 ∷ []) (Eq ∷ Gt ∷ Ge ∷ Set ∷ Ne ∷ Sgt ∷ Sge ∷ Lt ∷ Le ∷ Slt ∷ Sle ∷ [])
+    flat_map (λ op. Alu op Bits32 ∷ Alu op Bits64 ∷ []) (Add ∷ Sub ∷ Mul ∷ Div ∷ Or ∷ And ∷ Lsh ∷ Rsh ∷ Mod ∷ Xor ∷ Mov ∷ Arsh ∷ [])
+    ++ flat_map (λ c. JumpIf c Bits32 ∷ JumpIf c Bits64 ∷ []) (Eq ∷ Gt ∷ Ge ∷ Set ∷ Ne ∷ Sgt ∷ Sge ∷ Lt ∷ Le ∷ Slt ∷ Sle ∷ [])
     ++ map Load sizes ++ map StoreImm sizes ++ map Store sizes
-    ++ Neg W32 ∷ Neg W64 ∷ LoadImm ∷ Jump ∷ Call ∷ Exit ∷ []
+    ++ Neg Bits32 ∷ Neg Bits64 ∷ LoadImm ∷ Jump ∷ Call ∷ Exit ∷ []
 
 abbrev pub word_in : List ℕ → List Word → Option Word
 word_in text [] = None

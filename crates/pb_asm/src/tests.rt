@@ -26,25 +26,30 @@ fn lines(rt: HostRuntime) {
     let table = [
         (
             "div64 r0, r1",
-            Insn::Alu(AluOp::Div, Width::W64, Reg::R0, Operand::Reg(Reg::R1)),
+            Insn::Alu(AluOp::Div, Width::Bits64, Reg::R0, Operand::Reg(Reg::R1)),
         ),
         (
             "mod32 r0, r1",
-            Insn::Alu(AluOp::Mod, Width::W32, Reg::R0, Operand::Reg(Reg::R1)),
+            Insn::Alu(AluOp::Mod, Width::Bits32, Reg::R0, Operand::Reg(Reg::R1)),
         ),
         (
             "add64 r1, -32",
-            Insn::Alu(AluOp::Add, Width::W64, Reg::R1, Operand::Imm(-32)),
+            Insn::Alu(AluOp::Add, Width::Bits64, Reg::R1, Operand::Imm(-32)),
         ),
         (
             "mov32 r10, -2147483648",
-            Insn::Alu(AluOp::Mov, Width::W32, Reg::R10, Operand::Imm(-2147483648)),
+            Insn::Alu(
+                AluOp::Mov,
+                Width::Bits32,
+                Reg::R10,
+                Operand::Imm(-2147483648),
+            ),
         ),
         (
             "mov64 r9, 2147483647",
-            Insn::Alu(AluOp::Mov, Width::W64, Reg::R9, Operand::Imm(2147483647)),
+            Insn::Alu(AluOp::Mov, Width::Bits64, Reg::R9, Operand::Imm(2147483647)),
         ),
-        ("neg64 r1", Insn::Neg(Width::W64, Reg::R1)),
+        ("neg64 r1", Insn::Neg(Width::Bits64, Reg::R1)),
         ("lddw r0, 4294967303", Insn::LoadImm(Reg::R0, 4_294_967_303)),
         (
             "lddw r0, 18446744073709551615",
@@ -68,11 +73,11 @@ fn lines(rt: HostRuntime) {
         ("ja -3", Insn::Jump(-3)),
         (
             "jsgt32 r3, -5, +2",
-            Insn::JumpIf(Cmp::Sgt, Width::W32, Reg::R3, Operand::Imm(-5), 2),
+            Insn::JumpIf(Cmp::Sgt, Width::Bits32, Reg::R3, Operand::Imm(-5), 2),
         ),
         (
             "jeq64 r1, r2, +0",
-            Insn::JumpIf(Cmp::Eq, Width::W64, Reg::R1, Operand::Reg(Reg::R2), 0),
+            Insn::JumpIf(Cmp::Eq, Width::Bits64, Reg::R1, Operand::Reg(Reg::R2), 0),
         ),
         ("call -1", Insn::Call(-1)),
         ("exit", Insn::Exit),

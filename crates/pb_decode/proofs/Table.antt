@@ -8,7 +8,7 @@ use Rattle.pb_isa.specs.Registers.{number, reg_of}
 use Rattle.pb_isa.specs.declared.insn.AluOp.TheVariants.{Add, Sub, Mul, Div, Or, And, Lsh, Rsh, Mod, Xor, Mov, Arsh}
 use Rattle.pb_isa.specs.declared.insn.Cmp.TheVariants.{Eq, Gt, Ge, Set, Ne, Sgt, Sge, Lt, Le, Slt, Sle}
 use Rattle.pb_isa.specs.declared.insn.Width.{Width}
-use Rattle.pb_isa.specs.declared.insn.Width.TheVariants.{W32, W64}
+use Rattle.pb_isa.specs.declared.insn.Width.TheVariants.{Bits32, Bits64}
 use Rattle.pb_isa.specs.declared.insn.Size.TheVariants.{B, H, W, Dw}
 use Rattle.pb_decode.specs.declared.forms.Form.{Form}
 use Rattle.pb_decode.specs.declared.forms.Form.TheVariants.{Alu, Neg, LoadImm, Load, StoreImm, Store, Jump, JumpIf, Call, Exit}
@@ -31,11 +31,11 @@ in_list n g (f ∷ fs) h = found n f g fs (in_list n g fs) (opcode f == n) refl 
 pub form_front : (n : ℕ) (f : Form) → form_of n ≡ Some f → opcode f ≡ n
 form_front n f h = in_list n f forms h
 
-each_form : (P : Width → Source → Type 0) → P W32 K → P W32 X → P W64 K → P W64 X → (w : Width) (s : Source) → P w s
-each_form P a b c d W32 K = a
-each_form P a b c d W32 X = b
-each_form P a b c d W64 K = c
-each_form P a b c d W64 X = d
+each_form : (P : Width → Source → Type 0) → P Bits32 K → P Bits32 X → P Bits64 K → P Bits64 X → (w : Width) (s : Source) → P w s
+each_form P a b c d Bits32 K = a
+each_form P a b c d Bits32 X = b
+each_form P a b c d Bits64 K = c
+each_form P a b c d Bits64 X = d
 
 -- every form is found by its opcode
 pub form_back : (f : Form) → form_of (opcode f) ≡ Some f
@@ -75,8 +75,8 @@ form_back (Store B) = refl
 form_back (Store H) = refl
 form_back (Store W) = refl
 form_back (Store Dw) = refl
-form_back (Neg W32) = refl
-form_back (Neg W64) = refl
+form_back (Neg Bits32) = refl
+form_back (Neg Bits64) = refl
 form_back LoadImm = refl
 form_back Jump = refl
 form_back Call = refl

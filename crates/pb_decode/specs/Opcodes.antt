@@ -6,7 +6,7 @@ use Rattle.pb_isa.specs.declared.insn.AluOp.TheVariants.{Add, Sub, Mul, Div, Or,
 use Rattle.pb_isa.specs.declared.insn.Cmp.{Cmp}
 use Rattle.pb_isa.specs.declared.insn.Cmp.TheVariants.{Eq, Gt, Ge, Set, Ne, Sgt, Sge, Lt, Le, Slt, Sle}
 use Rattle.pb_isa.specs.declared.insn.Width.{Width}
-use Rattle.pb_isa.specs.declared.insn.Width.TheVariants.{W32, W64}
+use Rattle.pb_isa.specs.declared.insn.Width.TheVariants.{Bits32, Bits64}
 use Rattle.pb_isa.specs.declared.insn.Size.{Size}
 use Rattle.pb_isa.specs.declared.insn.Size.TheVariants.{B, H, W, Dw}
 use Rattle.pb_decode.specs.declared.forms.Form.{Form}
@@ -57,13 +57,13 @@ source_bit X = 8
 
 -- the low three bits, the class: ALU and ALU64
 abbrev pub alu_class : Width → ℕ
-alu_class W32 = 4
-alu_class W64 = 7
+alu_class Bits32 = 4
+alu_class Bits64 = 7
 
 -- JMP32 and JMP
 abbrev pub jump_class : Width → ℕ
-jump_class W32 = 6
-jump_class W64 = 5
+jump_class Bits32 = 6
+jump_class Bits64 = 5
 
 -- The opcode. Negation is code 8, a call 8 and an exit 9; the 64-bit immediate has class LD, mode IMM and size DW, and
 -- the other loads and stores have mode MEM, which is 3.
@@ -81,7 +81,7 @@ opcode Exit = 5 + 16 * 9
 
 -- each width with each source
 abbrev pub each : (Width → Source → Form) → List Form
-each f = f W32 K ∷ f W32 X ∷ f W64 K ∷ f W64 X ∷ []
+each f = f Bits32 K ∷ f Bits32 X ∷ f Bits64 K ∷ f Bits64 X ∷ []
 
 abbrev pub sizes : List Size
 sizes = W ∷ H ∷ B ∷ Dw ∷ []
@@ -92,7 +92,7 @@ forms =
     flat_map (λ op. each (Alu op)) (Add ∷ Sub ∷ Mul ∷ Div ∷ Or ∷ And ∷ Lsh ∷ Rsh ∷ Mod ∷ Xor ∷ Mov ∷ Arsh ∷ [])
     ++ flat_map (λ c. each (JumpIf c)) (Eq ∷ Gt ∷ Ge ∷ Set ∷ Ne ∷ Sgt ∷ Sge ∷ Lt ∷ Le ∷ Slt ∷ Sle ∷ [])
     ++ map Load sizes ++ map StoreImm sizes ++ map Store sizes
-    ++ Neg W32 ∷ Neg W64 ∷ LoadImm ∷ Jump ∷ Call ∷ Exit ∷ []
+    ++ Neg Bits32 ∷ Neg Bits64 ∷ LoadImm ∷ Jump ∷ Call ∷ Exit ∷ []
 
 abbrev pub with_opcode : ℕ → List Form → Option Form
 with_opcode n [] = None

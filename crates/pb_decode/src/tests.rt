@@ -47,14 +47,14 @@ fn wide_immediate_of_llvm(rt: HostRuntime) {
 fn encodings(rt: HostRuntime) {
     let table = [
         (
-            Insn::Alu(AluOp::Div, Width::W64, Reg::R0, Operand::Reg(Reg::R1)),
+            Insn::Alu(AluOp::Div, Width::Bits64, Reg::R0, Operand::Reg(Reg::R1)),
             0x3f10_0000_0000_0000,
         ),
         (
-            Insn::Alu(AluOp::Mod, Width::W32, Reg::R0, Operand::Reg(Reg::R1)),
+            Insn::Alu(AluOp::Mod, Width::Bits32, Reg::R0, Operand::Reg(Reg::R1)),
             0x9c10_0000_0000_0000,
         ),
-        (Insn::Neg(Width::W64, Reg::R1), 0x8701_0000_0000_0000),
+        (Insn::Neg(Width::Bits64, Reg::R1), 0x8701_0000_0000_0000),
         (
             Insn::Load(Size::Dw, Reg::R2, Reg::R1, 48),
             0x7912_3000_0000_0000,
@@ -64,7 +64,7 @@ fn encodings(rt: HostRuntime) {
             0x7b2a_e0ff_0000_0000,
         ),
         (
-            Insn::JumpIf(Cmp::Sgt, Width::W32, Reg::R3, Operand::Imm(-5), 2),
+            Insn::JumpIf(Cmp::Sgt, Width::Bits32, Reg::R3, Operand::Imm(-5), 2),
             0x6603_0200_fbff_ffff,
         ),
     ];

@@ -57,8 +57,8 @@ pub fn alu(op: AluOp, width: Width, a: u64, b: u64) -> u64
     ensures { result ≡ alu op width a b }
 {
     match width {
-        Width::W64 => alu_64(op, a, b),
-        Width::W32 => u64::from(alu_32(op, low(a), low(b))),
+        Width::Bits64 => alu_64(op, a, b),
+        Width::Bits32 => u64::from(alu_32(op, low(a), low(b))),
     }
 }
 
@@ -103,7 +103,7 @@ pub fn holds(cmp: Cmp, width: Width, a: u64, b: u64) -> bool
     ensures { result ≡ holds cmp width a b }
 {
     match width {
-        Width::W64 => holds_64(cmp, a, b),
-        Width::W32 => holds_32(cmp, low(a), low(b)),
+        Width::Bits64 => holds_64(cmp, a, b),
+        Width::Bits32 => holds_32(cmp, low(a), low(b)),
     }
 }

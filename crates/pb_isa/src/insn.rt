@@ -51,8 +51,8 @@ impl Reg {
 /// On how many bits an operation or a comparison works (RFC 9669, section 4).
 #[derive(Clone, Copy, Debug, PartialEq, Eq)]
 pub enum Width {
-    W32,
-    W64,
+    Bits32,
+    Bits64,
 }
 
 /// How many bytes a load or a store moves: 1, 2, 4 or 8 (RFC 9669, section 5).

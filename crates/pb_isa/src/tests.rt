@@ -10,41 +10,47 @@ const MINUS_ONE: u64 = 0xffff_ffff_ffff_ffff;
 fn arithmetic(rt: HostRuntime) {
     let table = [
         // Division by zero gives zero, and the remainder by zero the dividend (RFC 9669, section 4.1).
-        (AluOp::Div, Width::W64, 7, 0, 0),
-        (AluOp::Mod, Width::W64, 7, 0, 7),
-        (AluOp::Div, Width::W32, 7, 0x1_0000_0000, 0),
-        (AluOp::Mod, Width::W32, 0x1_0000_0007, 0, 7),
-        (AluOp::Mod, Width::W64, 0x1_0000_0007, 0, 0x1_0000_0007),
+        (AluOp::Div, Width::Bits64, 7, 0, 0),
+        (AluOp::Mod, Width::Bits64, 7, 0, 7),
+        (AluOp::Div, Width::Bits32, 7, 0x1_0000_0000, 0),
+        (AluOp::Mod, Width::Bits32, 0x1_0000_0007, 0, 7),
+        (AluOp::Mod, Width::Bits64, 0x1_0000_0007, 0, 0x1_0000_0007),
         // Division is unsigned.
-        (AluOp::Div, Width::W64, MINUS_ONE, 2, 0x7fff_ffff_ffff_ffff),
-        (AluOp::Div, Width::W32, MINUS_ONE, 2, 0x7fff_ffff),
+        (
+            AluOp::Div,
+            Width::Bits64,
+            MINUS_ONE,
+            2,
+            0x7fff_ffff_ffff_ffff,
+        ),
+        (AluOp::Div, Width::Bits32, MINUS_ONE, 2, 0x7fff_ffff),
         // Sums, differences and products wrap.
-        (AluOp::Add, Width::W64, MINUS_ONE, 2, 1),
-        (AluOp::Add, Width::W32, 0xffff_ffff, 2, 1),
-        (AluOp::Sub, Width::W64, 0, 1, MINUS_ONE),
-        (AluOp::Sub, Width::W32, 0, 1, 0xffff_ffff),
-        (AluOp::Mul, Width::W64, 0x8000_0000_0000_0000, 2, 0),
-        (AluOp::Mul, Width::W32, 0x8000_0001, 2, 2),
+        (AluOp::Add, Width::Bits64, MINUS_ONE, 2, 1),
+        (AluOp::Add, Width::Bits32, 0xffff_ffff, 2, 1),
+        (AluOp::Sub, Width::Bits64, 0, 1, MINUS_ONE),
+        (AluOp::Sub, Width::Bits32, 0, 1, 0xffff_ffff),
+        (AluOp::Mul, Width::Bits64, 0x8000_0000_0000_0000, 2, 0),
+        (AluOp::Mul, Width::Bits32, 0x8000_0001, 2, 2),
         // A shift's amount is masked with 63 or 31.
-        (AluOp::Lsh, Width::W64, 1, 64, 1),
-        (AluOp::Lsh, Width::W64, 1, 63, 0x8000_0000_0000_0000),
-        (AluOp::Lsh, Width::W32, 1, 33, 2),
-        (AluOp::Rsh, Width::W64, MINUS_ONE, 60, 15),
-        (AluOp::Rsh, Width::W32, MINUS_ONE, 28, 15),
+        (AluOp::Lsh, Width::Bits64, 1, 64, 1),
+        (AluOp::Lsh, Width::Bits64, 1, 63, 0x8000_0000_0000_0000),
+        (AluOp::Lsh, Width::Bits32, 1, 33, 2),
+        (AluOp::Rsh, Width::Bits64, MINUS_ONE, 60, 15),
+        (AluOp::Rsh, Width::Bits32, MINUS_ONE, 28, 15),
         (
             AluOp::Arsh,
-            Width::W64,
+            Width::Bits64,
             0x8000_0000_0000_0000,
             63,
             MINUS_ONE,
         ),
-        (AluOp::Arsh, Width::W32, 0x8000_0000, 31, 0xffff_ffff),
-        (AluOp::Arsh, Width::W32, 0xffff_ffff_4000_0000, 30, 1),
-        (AluOp::Or, Width::W64, 12, 10, 14),
-        (AluOp::And, Width::W64, 12, 10, 8),
-        (AluOp::Xor, Width::W64, 12, 10, 6),
-        (AluOp::Mov, Width::W64, 1, MINUS_ONE, MINUS_ONE),
-        (AluOp::Mov, Width::W32, 1, MINUS_ONE, 0xffff_ffff),
+        (AluOp::Arsh, Width::Bits32, 0x8000_0000, 31, 0xffff_ffff),
+        (AluOp::Arsh, Width::Bits32, 0xffff_ffff_4000_0000, 30, 1),
+        (AluOp::Or, Width::Bits64, 12, 10, 14),
+        (AluOp::And, Width::Bits64, 12, 10, 8),
+        (AluOp::Xor, Width::Bits64, 12, 10, 6),
+        (AluOp::Mov, Width::Bits64, 1, MINUS_ONE, MINUS_ONE),
+        (AluOp::Mov, Width::Bits32, 1, MINUS_ONE, 0xffff_ffff),
     ];
     for (op, width, a, b, wanted) in table {
         assert!(rt; alu(op, width, a, b) == wanted, "{op:?} {width:?} {a} {b}");
@@ -54,24 +60,24 @@ fn arithmetic(rt: HostRuntime) {
 #[test]
 fn comparisons(rt: HostRuntime) {
     let table = [
-        (Cmp::Eq, Width::W64, 0x1_0000_0005, 5, false),
-        (Cmp::Eq, Width::W32, 0x1_0000_0005, 5, true),
-        (Cmp::Ne, Width::W64, 0x1_0000_0005, 5, true),
-        (Cmp::Ne, Width::W32, 0x1_0000_0005, 5, false),
-        (Cmp::Set, Width::W64, 0x1_0000_0000, MINUS_ONE, true),
-        (Cmp::Set, Width::W32, 0x1_0000_0000, MINUS_ONE, false),
-        (Cmp::Gt, Width::W64, MINUS_ONE, 0, true),
-        (Cmp::Sgt, Width::W64, MINUS_ONE, 0, false),
-        (Cmp::Sgt, Width::W32, 0xffff_ffff, 0, false),
-        (Cmp::Sgt, Width::W64, 0xffff_ffff, 0, true),
-        (Cmp::Ge, Width::W64, 5, 5, true),
-        (Cmp::Sge, Width::W64, MINUS_ONE, 0, false),
-        (Cmp::Sge, Width::W32, 0x8000_0000, 0x8000_0000, true),
-        (Cmp::Lt, Width::W64, 0, MINUS_ONE, true),
-        (Cmp::Slt, Width::W64, MINUS_ONE, 0, true),
-        (Cmp::Le, Width::W64, 5, 5, true),
-        (Cmp::Sle, Width::W64, 0, MINUS_ONE, false),
-        (Cmp::Sle, Width::W32, 0x8000_0000, 0x7fff_ffff, true),
+        (Cmp::Eq, Width::Bits64, 0x1_0000_0005, 5, false),
+        (Cmp::Eq, Width::Bits32, 0x1_0000_0005, 5, true),
+        (Cmp::Ne, Width::Bits64, 0x1_0000_0005, 5, true),
+        (Cmp::Ne, Width::Bits32, 0x1_0000_0005, 5, false),
+        (Cmp::Set, Width::Bits64, 0x1_0000_0000, MINUS_ONE, true),
+        (Cmp::Set, Width::Bits32, 0x1_0000_0000, MINUS_ONE, false),
+        (Cmp::Gt, Width::Bits64, MINUS_ONE, 0, true),
+        (Cmp::Sgt, Width::Bits64, MINUS_ONE, 0, false),
+        (Cmp::Sgt, Width::Bits32, 0xffff_ffff, 0, false),
+        (Cmp::Sgt, Width::Bits64, 0xffff_ffff, 0, true),
+        (Cmp::Ge, Width::Bits64, 5, 5, true),
+        (Cmp::Sge, Width::Bits64, MINUS_ONE, 0, false),
+        (Cmp::Sge, Width::Bits32, 0x8000_0000, 0x8000_0000, true),
+        (Cmp::Lt, Width::Bits64, 0, MINUS_ONE, true),
+        (Cmp::Slt, Width::Bits64, MINUS_ONE, 0, true),
+        (Cmp::Le, Width::Bits64, 5, 5, true),
+        (Cmp::Sle, Width::Bits64, 0, MINUS_ONE, false),
+        (Cmp::Sle, Width::Bits32, 0x8000_0000, 0x7fff_ffff, true),
     ];
     for (cmp, width, a, b, wanted) in table {
         assert!(rt;
@@ -121,7 +127,7 @@ fn programs(rt: HostRuntime) {
 #[test]
 fn second_slots_have_no_instruction(rt: HostRuntime) {
     let pair = Insn::LoadImm(Reg::R1, 5);
-    let last = Insn::Alu(AluOp::Mov, Width::W64, Reg::R0, Operand::Imm(1));
+    let last = Insn::Alu(AluOp::Mov, Width::Bits64, Reg::R0, Operand::Imm(1));
     let insns = Vec::from_array(rt.alloc(), [pair, last]).expect(&rt, "memory");
     let program = Program::new(rt.alloc(), insns)
         .ok()

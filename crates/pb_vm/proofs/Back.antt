@@ -9,7 +9,7 @@ use Rattle.std.proofs.lemmas.Bool.Decides.{nat_tests}
 use Rattle.pb_isa.specs.declared.insn.Insn.{Insn}
 use Rattle.pb_isa.specs.declared.insn.Insn.TheVariants.{Alu, Exit}
 use Rattle.pb_isa.specs.declared.insn.AluOp.TheVariants.{Mov}
-use Rattle.pb_isa.specs.declared.insn.Width.TheVariants.{W32, W64}
+use Rattle.pb_isa.specs.declared.insn.Width.TheVariants.{Bits32, Bits64}
 use Rattle.pb_isa.specs.declared.insn.Operand.TheVariants as operands
 use Rattle.pb_isa.specs.declared.insn.Reg.{Reg}
 use Rattle.pb_isa.specs.declared.insn.Reg.TheVariants.{R0, R1, R2, R3, R4, R5, R6, R7, R8, R9, R10}
@@ -27,7 +27,7 @@ record Back (i : Insn) : Type 0 where
   eight : (rest : List ℕ) → length (encoded i ++ rest) ≡ 8 + length rest
   first : (k : ℕ) (rest : List ℕ) → first_chunks 8 (suc k) (encoded i ++ rest) ≡ encoded i ∷ first_chunks 8 k rest
 
-mov_clean : (d : Reg) (k : ℤ) → slot_code (encoded (Alu Mov W64 d (operands.Imm k))) ≡ None
+mov_clean : (d : Reg) (k : ℤ) → slot_code (encoded (Alu Mov Bits64 d (operands.Imm k))) ≡ None
 mov_clean R0 k = refl
 mov_clean R1 k = refl
 mov_clean R2 k = refl
@@ -60,13 +60,13 @@ bound (negsuc n) f = omega arith
 same_value : (k : ℤ) → FitsSigned w32 k → cast_signed w32 (from_le_bytes w32 (to_le_bytes w32 (cast_unsigned w32 k))) ≡ k
 same_value k f = ap (cast_signed w32) (from_le_bytes-to_le_bytes_4 (cast_unsigned w32 k) (bound k f)) ∙ to_z-of_z w32 k f
 
-mov_same : (d : Reg) (k : ℤ) → FitsSigned w32 k → insn_of (encoded (Alu Mov W64 d (operands.Imm k))) ≡ Alu Mov W64 d (operands.Imm k)
-mov_same d k f = ap (λ r. Alu Mov W64 r (operands.Imm (cast_signed w32 (from_le_bytes w32 (to_le_bytes w32 (cast_unsigned w32 k)))))) (same_number d) ∙ ap (λ z. Alu Mov W64 d (operands.Imm z)) (same_value k f)
+mov_same : (d : Reg) (k : ℤ) → FitsSigned w32 k → insn_of (encoded (Alu Mov Bits64 d (operands.Imm k))) ≡ Alu Mov Bits64 d (operands.Imm k)
+mov_same d k f = ap (λ r. Alu Mov Bits64 r (operands.Imm (cast_signed w32 (from_le_bytes w32 (to_le_bytes w32 (cast_unsigned w32 k)))))) (same_number d) ∙ ap (λ z. Alu Mov Bits64 d (operands.Imm z)) (same_value k f)
 
 back : (i : Insn) → HasEncoding i → Back i
-back (Alu Mov W64 d (operands.Imm k)) f = record { clean = mov_clean d k; same = mov_same d k f; eight = λ rest. omega arith; first = λ k rest. refl }
-back (Alu Mov W64 d (operands.Reg r)) f = absurd f
-back (Alu Mov W32 d x) f = absurd f
+back (Alu Mov Bits64 d (operands.Imm k)) f = record { clean = mov_clean d k; same = mov_same d k f; eight = λ rest. omega arith; first = λ k rest. refl }
+back (Alu Mov Bits64 d (operands.Reg r)) f = absurd f
+back (Alu Mov Bits32 d x) f = absurd f
 back (Alu op w d x) f = absurd f
 back Exit f = record { clean = refl; same = refl; eight = λ rest. omega arith; first = λ k rest. refl }
 back i f = absurd f

@@ -12,7 +12,7 @@ use Rattle.std.specs.Cmp.Derive.{both_true}
 use Rattle.std.proofs.lemmas.Bool.{cases_lt}
 use Rattle.pb_isa.specs.declared.insn.Insn.TheVariants.{Alu, Exit}
 use Rattle.pb_isa.specs.declared.insn.AluOp.TheVariants.{Mov}
-use Rattle.pb_isa.specs.declared.insn.Width.TheVariants.{W64}
+use Rattle.pb_isa.specs.declared.insn.Width.TheVariants.{Bits64}
 use Rattle.pb_isa.specs.declared.insn.Operand.TheVariants.{Imm}
 use Rattle.pb_isa.specs.declared.insn.Reg.{Reg}
 use Rattle.pb_isa.specs.Registers.{number}
@@ -149,7 +149,7 @@ encodes_all (suc k) bytes n f h =
     let more = encodes_all k (drop 8 bytes) rest (record { each = λ x. rw (get_or-drop 8 bytes x 0) (f.each (8 + x)) }) (λ m l. h (suc m) (omega arith)) in
     ap (λ t. t ++ encoding (map insn_of (first_chunks 8 k (drop 8 bytes)))) one ∙ ap (λ t. take 8 bytes ++ t) more ∙ take-append-drop 8 bytes
 
-either_known : (b : Bool) (d : Reg) (z : ℤ) → is_known (if b then Alu Mov W64 d (Imm z) else Exit) ≡ true
+either_known : (b : Bool) (d : Reg) (z : ℤ) → is_known (if b then Alu Mov Bits64 d (Imm z) else Exit) ≡ true
 either_known true d z = refl
 either_known false d z = refl
 

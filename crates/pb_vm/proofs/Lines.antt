@@ -5,7 +5,7 @@ use Rattle.pb_isa.specs.declared.insn.Insn.{Insn}
 use Rattle.pb_isa.specs.declared.insn.Insn.TheVariants.{Alu, Neg, LoadImm, Load, StoreImm, Store, Jump, JumpIf, Call, Exit}
 use Rattle.pb_isa.specs.Slots.{layout, places_of, insn_at, slots}
 use Rattle.pb_isa.specs.declared.insn.AluOp.TheVariants.{Mov}
-use Rattle.pb_isa.specs.declared.insn.Width.TheVariants.{W32, W64}
+use Rattle.pb_isa.specs.declared.insn.Width.TheVariants.{Bits32, Bits64}
 use Rattle.pb_isa.specs.declared.insn.Operand.TheVariants as operands
 use Rattle.pb_isa.specs.declared.insn.Reg.{Reg}
 use Rattle.pb_vm.specs.Encoding.{is_known}
@@ -49,9 +49,9 @@ pub insn_known : (p : List Insn) (n : ℕ) → list_all is_known p ≡ true → 
 insn_known p n h = rw (layout_known p h) (get_some p n)
 
 pub exit_only : (i : Insn) → is_known i ≡ true → loaded i ≡ None → i ≡ Exit
-exit_only (Alu Mov W64 d (operands.Imm k)) h e = cc
-exit_only (Alu Mov W64 d (operands.Reg r)) h e = cc
-exit_only (Alu Mov W32 d x) h e = cc
+exit_only (Alu Mov Bits64 d (operands.Imm k)) h e = cc
+exit_only (Alu Mov Bits64 d (operands.Reg r)) h e = cc
+exit_only (Alu Mov Bits32 d x) h e = cc
 exit_only (Alu op w d x) h e = cc
 exit_only Exit h e = refl
 exit_only i h e = cc
@@ -59,9 +59,9 @@ exit_only i h e = cc
 pub pair_in : (x y : Reg × ℤ) → Some x ≡ Some y → x ≡ y
 pair_in x y e = cc
 
-pub mov_only : (i : Insn) (d : Reg) (k : ℤ) → loaded i ≡ Some (d, k) → i ≡ Alu Mov W64 d (operands.Imm k)
-mov_only (Alu Mov W64 r (operands.Imm z)) d k e = ap (λ p. Alu Mov W64 p.0 (operands.Imm p.1)) (pair_in (r, z) (d, k) e)
-mov_only (Alu Mov W64 r (operands.Reg x)) d k e = cc
-mov_only (Alu Mov W32 r x) d k e = cc
+pub mov_only : (i : Insn) (d : Reg) (k : ℤ) → loaded i ≡ Some (d, k) → i ≡ Alu Mov Bits64 d (operands.Imm k)
+mov_only (Alu Mov Bits64 r (operands.Imm z)) d k e = ap (λ p. Alu Mov Bits64 p.0 (operands.Imm p.1)) (pair_in (r, z) (d, k) e)
+mov_only (Alu Mov Bits64 r (operands.Reg x)) d k e = cc
+mov_only (Alu Mov Bits32 r x) d k e = cc
 mov_only (Alu op w r x) d k e = cc
 mov_only i d k e = cc

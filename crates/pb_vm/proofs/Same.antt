@@ -7,7 +7,7 @@ use Rattle.std.proofs.lemmas.Bool.Decides.{Decides-eqb}
 use Rattle.pb_isa.specs.declared.insn.Insn.{Insn}
 use Rattle.pb_isa.specs.declared.insn.Insn.TheVariants.{Alu}
 use Rattle.pb_isa.specs.declared.insn.AluOp.TheVariants.{Mov}
-use Rattle.pb_isa.specs.declared.insn.Width.TheVariants.{W64}
+use Rattle.pb_isa.specs.declared.insn.Width.TheVariants.{Bits64}
 use Rattle.pb_isa.specs.declared.insn.Operand.TheVariants.{Imm}
 use Rattle.pb_isa.specs.declared.insn.Reg.{Reg}
 use Rattle.pb_isa.specs.declared.insn.Reg.TheVariants.{R0, R1, R2, R3, R4, R5, R6, R7, R8, R9, R10}
@@ -36,7 +36,7 @@ same_immediate : (j k : ℤ) → SFits w32 j → SFits w32 k → of_z w32 j ≡ 
 same_immediate j k f g h = sym (to_z-of_z w32 j f) ∙ ap (to_z w32) h ∙ to_z-of_z w32 k g
 
 mov_of : Reg → ℤ → Insn
-mov_of d k = Alu Mov W64 d (Imm k)
+mov_of d k = Alu Mov Bits64 d (Imm k)
 
 there : (d e : Reg) (j k : ℤ) → SFits w32 j → SFits w32 k → number d ≡ number e → of_z w32 j ≡ of_z w32 k → mov_of d j ≡ mov_of e k
 there d e j k f g h i = ap (λ x. mov_of x j) (same_register d e h) ∙ ap (mov_of e) (same_immediate j k f g i)
@@ -46,7 +46,7 @@ unfolding mov_of
 back d e j k h = ap (λ p. p.1) (pair_in (d, j) (e, k) (ap loaded h))
 
 -- two mov64 into one register are the same where their immediates are
-pub same_movs : (a b : Insn) (d e : Reg) (j k : ℤ) → SFits w32 j → SFits w32 k → number d ≡ number e → a ≡ Alu Mov W64 d (Imm j) → b ≡ Alu Mov W64 e (Imm k) → Decides (nat_eq (of_z w32 j) (of_z w32 k)) (a ≡ b)
+pub same_movs : (a b : Insn) (d e : Reg) (j k : ℤ) → SFits w32 j → SFits w32 k → number d ≡ number e → a ≡ Alu Mov Bits64 d (Imm j) → b ≡ Alu Mov Bits64 e (Imm k) → Decides (nat_eq (of_z w32 j) (of_z w32 k)) (a ≡ b)
 unfolding mov_of
 same_movs a b d e j k f g h x y =
     let t = Decides-eqb (of_z w32 j) (of_z w32 k) in

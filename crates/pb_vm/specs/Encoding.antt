@@ -6,7 +6,7 @@ use mir.Syntax.{w16, w32}
 use Rattle.pb_isa.specs.declared.insn.Insn.{Insn}
 use Rattle.pb_isa.specs.declared.insn.Insn.TheVariants.{Alu, Exit}
 use Rattle.pb_isa.specs.declared.insn.AluOp.TheVariants.{Mov}
-use Rattle.pb_isa.specs.declared.insn.Width.TheVariants.{W64}
+use Rattle.pb_isa.specs.declared.insn.Width.TheVariants.{Bits64}
 use Rattle.pb_isa.specs.declared.insn.Operand.TheVariants.{Imm}
 use Rattle.pb_isa.specs.declared.insn.Reg.{Reg}
 use Rattle.pb_isa.specs.declared.insn.Reg.TheVariants.{R0, R1, R2, R3, R4, R5, R6, R7, R8, R9, R10}
@@ -14,13 +14,13 @@ use Rattle.pb_isa.specs.Registers.{number}
 
 -- mov64 of an immediate, or exit
 abbrev pub is_known : Insn → Bool
-is_known (Alu Mov W64 d (Imm k)) = true
+is_known (Alu Mov Bits64 d (Imm k)) = true
 is_known Exit = true
 is_known _ = false
 
 -- opcode, registers (the low half the destination, the high half the source), offset and immediate, low bytes first
 abbrev pub encoded : Insn → List ℕ
-encoded (Alu Mov W64 d (Imm k)) = 183 ∷ number d ∷ 0 ∷ 0 ∷ to_le_bytes w32 (cast_unsigned w32 k)
+encoded (Alu Mov Bits64 d (Imm k)) = 183 ∷ number d ∷ 0 ∷ 0 ∷ to_le_bytes w32 (cast_unsigned w32 k)
 encoded Exit = 149 ∷ 0 ∷ 0 ∷ 0 ∷ 0 ∷ 0 ∷ 0 ∷ 0 ∷ []
 encoded _ = []
 
@@ -72,7 +72,7 @@ register n =
     else if nat_eq n 8 then R8 else if nat_eq n 9 then R9 else R10
 
 abbrev pub insn_of : List ℕ → Insn
-insn_of s = if is_mov s then Alu Mov W64 (register (registers s % 16)) (Imm (cast_signed w32 (immediate s))) else Exit
+insn_of s = if is_mov s then Alu Mov Bits64 (register (registers s % 16)) (Imm (cast_signed w32 (immediate s))) else Exit
 
 -- eight bytes each
 abbrev pub slots_in : List ℕ → List (List ℕ)

@@ -4,7 +4,7 @@ use mir.Syntax.{w32}
 use Rattle.pb_isa.specs.declared.insn.Insn.{Insn}
 use Rattle.pb_isa.specs.declared.insn.Insn.TheVariants.{Alu, Exit}
 use Rattle.pb_isa.specs.declared.insn.AluOp.TheVariants.{Mov}
-use Rattle.pb_isa.specs.declared.insn.Width.TheVariants.{W64}
+use Rattle.pb_isa.specs.declared.insn.Width.TheVariants.{Bits64}
 use Rattle.pb_isa.specs.declared.insn.Operand.TheVariants.{Imm}
 use Rattle.pb_vm.specs.Encoding.{encoding, program_of}
 use Rattle.pb_vm.specs.Rules.{Accepts}
@@ -12,7 +12,7 @@ use Rattle.pb_vm.specs.Verdict.{refusal}
 
 -- one of the two instructions, with an immediate of 32 bits
 abbrev pub HasEncoding : Insn → Type 0
-HasEncoding (Alu Mov W64 d (Imm k)) = FitsSigned w32 k
+HasEncoding (Alu Mov Bits64 d (Imm k)) = FitsSigned w32 k
 HasEncoding Exit = Unit {0}
 HasEncoding _ = ⊥
 

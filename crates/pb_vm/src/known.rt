@@ -11,7 +11,7 @@ pub fn loaded(insn: Insn) -> Option<(Reg, i32)>
     ensures { result ≡ loaded insn }
 {
     match insn {
-        Insn::Alu(AluOp::Mov, Width::W64, destination, Operand::Imm(immediate)) => {
+        Insn::Alu(AluOp::Mov, Width::Bits64, destination, Operand::Imm(immediate)) => {
             Some((destination, immediate))
         }
         _ => None,

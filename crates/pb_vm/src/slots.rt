@@ -67,7 +67,7 @@ fn insn_of(slot: &[u8; 8]) -> Insn
     if slot[0] == MOV {
         let destination = register(slot[1] % 16);
         let value = immediate(slot).cast_signed();
-        Insn::Alu(AluOp::Mov, Width::W64, destination, Operand::Imm(value))
+        Insn::Alu(AluOp::Mov, Width::Bits64, destination, Operand::Imm(value))
     } else {
         Insn::Exit
     }

@@ -14,7 +14,7 @@ use std::process::ExitCode;
 fn program_of(alloc: Global, slots: u16) -> Result<Option<Program>, NoMemory> {
     let mut insns = Vec::new(alloc);
     for _ in 1..slots {
-        insns.push(Insn::Alu(AluOp::Mov, Width::W64, Reg::R0, Operand::Imm(0)))?;
+        insns.push(Insn::Alu(AluOp::Mov, Width::Bits64, Reg::R0, Operand::Imm(0)))?;
     }
     insns.push(Insn::Exit)?;
     Ok(Program::new(alloc, insns).ok())

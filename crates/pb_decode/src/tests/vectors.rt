@@ -7,7 +7,7 @@
 use crate::tests::is_pair;
 use pb_isa::Operand::{Imm, Reg};
 use pb_isa::Reg::{R1, R2, R3, R9, R10};
-use pb_isa::Width::{W32, W64};
+use pb_isa::Width::{Bits32, Bits64};
 use pb_isa::{AluOp, Cmp, Insn, Size};
 use std::rt::HostRuntime;
 use std::test::*;
@@ -17,59 +17,62 @@ fn arithmetic_64_with_immediates(rt: HostRuntime) {
     let table: [(Insn, u64); 12] = [
         // r1 += -5
         (
-            Insn::Alu(AluOp::Add, W64, R1, Imm(-5)),
+            Insn::Alu(AluOp::Add, Bits64, R1, Imm(-5)),
             0x0701_0000_fbffffff,
         ),
         // r1 -= -5
         (
-            Insn::Alu(AluOp::Sub, W64, R1, Imm(-5)),
+            Insn::Alu(AluOp::Sub, Bits64, R1, Imm(-5)),
             0x1701_0000_fbffffff,
         ),
         // r1 *= -5
         (
-            Insn::Alu(AluOp::Mul, W64, R1, Imm(-5)),
+            Insn::Alu(AluOp::Mul, Bits64, R1, Imm(-5)),
             0x2701_0000_fbffffff,
         ),
         // r1 /= -5
         (
-            Insn::Alu(AluOp::Div, W64, R1, Imm(-5)),
+            Insn::Alu(AluOp::Div, Bits64, R1, Imm(-5)),
             0x3701_0000_fbffffff,
         ),
         // r1 |= -5
-        (Insn::Alu(AluOp::Or, W64, R1, Imm(-5)), 0x4701_0000_fbffffff),
+        (
+            Insn::Alu(AluOp::Or, Bits64, R1, Imm(-5)),
+            0x4701_0000_fbffffff,
+        ),
         // r1 &= -5
         (
-            Insn::Alu(AluOp::And, W64, R1, Imm(-5)),
+            Insn::Alu(AluOp::And, Bits64, R1, Imm(-5)),
             0x5701_0000_fbffffff,
         ),
         // r1 <<= -5
         (
-            Insn::Alu(AluOp::Lsh, W64, R1, Imm(-5)),
+            Insn::Alu(AluOp::Lsh, Bits64, R1, Imm(-5)),
             0x6701_0000_fbffffff,
         ),
         // r1 >>= -5
         (
-            Insn::Alu(AluOp::Rsh, W64, R1, Imm(-5)),
+            Insn::Alu(AluOp::Rsh, Bits64, R1, Imm(-5)),
             0x7701_0000_fbffffff,
         ),
         // r1 %= -5
         (
-            Insn::Alu(AluOp::Mod, W64, R1, Imm(-5)),
+            Insn::Alu(AluOp::Mod, Bits64, R1, Imm(-5)),
             0x9701_0000_fbffffff,
         ),
         // r1 ^= -5
         (
-            Insn::Alu(AluOp::Xor, W64, R1, Imm(-5)),
+            Insn::Alu(AluOp::Xor, Bits64, R1, Imm(-5)),
             0xa701_0000_fbffffff,
         ),
         // r1 = -5
         (
-            Insn::Alu(AluOp::Mov, W64, R1, Imm(-5)),
+            Insn::Alu(AluOp::Mov, Bits64, R1, Imm(-5)),
             0xb701_0000_fbffffff,
         ),
         // r1 s>>= -5
         (
-            Insn::Alu(AluOp::Arsh, W64, R1, Imm(-5)),
+            Insn::Alu(AluOp::Arsh, Bits64, R1, Imm(-5)),
             0xc701_0000_fbffffff,
         ),
     ];
@@ -86,59 +89,62 @@ fn arithmetic_64_with_registers(rt: HostRuntime) {
     let table: [(Insn, u64); 12] = [
         // r1 += r2
         (
-            Insn::Alu(AluOp::Add, W64, R1, Reg(R2)),
+            Insn::Alu(AluOp::Add, Bits64, R1, Reg(R2)),
             0x0f21_0000_00000000,
         ),
         // r1 -= r2
         (
-            Insn::Alu(AluOp::Sub, W64, R1, Reg(R2)),
+            Insn::Alu(AluOp::Sub, Bits64, R1, Reg(R2)),
             0x1f21_0000_00000000,
         ),
         // r1 *= r2
         (
-            Insn::Alu(AluOp::Mul, W64, R1, Reg(R2)),
+            Insn::Alu(AluOp::Mul, Bits64, R1, Reg(R2)),
             0x2f21_0000_00000000,
         ),
         // r1 /= r2
         (
-            Insn::Alu(AluOp::Div, W64, R1, Reg(R2)),
+            Insn::Alu(AluOp::Div, Bits64, R1, Reg(R2)),
             0x3f21_0000_00000000,
         ),
         // r1 |= r2
-        (Insn::Alu(AluOp::Or, W64, R1, Reg(R2)), 0x4f21_0000_00000000),
+        (
+            Insn::Alu(AluOp::Or, Bits64, R1, Reg(R2)),
+            0x4f21_0000_00000000,
+        ),
         // r1 &= r2
         (
-            Insn::Alu(AluOp::And, W64, R1, Reg(R2)),
+            Insn::Alu(AluOp::And, Bits64, R1, Reg(R2)),
             0x5f21_0000_00000000,
         ),
         // r1 <<= r2
         (
-            Insn::Alu(AluOp::Lsh, W64, R1, Reg(R2)),
+            Insn::Alu(AluOp::Lsh, Bits64, R1, Reg(R2)),
             0x6f21_0000_00000000,
         ),
         // r1 >>= r2
         (
-            Insn::Alu(AluOp::Rsh, W64, R1, Reg(R2)),
+            Insn::Alu(AluOp::Rsh, Bits64, R1, Reg(R2)),
             0x7f21_0000_00000000,
         ),
         // r1 %= r2
         (
-            Insn::Alu(AluOp::Mod, W64, R1, Reg(R2)),
+            Insn::Alu(AluOp::Mod, Bits64, R1, Reg(R2)),
             0x9f21_0000_00000000,
         ),
         // r1 ^= r2
         (
-            Insn::Alu(AluOp::Xor, W64, R1, Reg(R2)),
+            Insn::Alu(AluOp::Xor, Bits64, R1, Reg(R2)),
             0xaf21_0000_00000000,
         ),
         // r1 = r2
         (
-            Insn::Alu(AluOp::Mov, W64, R1, Reg(R2)),
+            Insn::Alu(AluOp::Mov, Bits64, R1, Reg(R2)),
             0xbf21_0000_00000000,
         ),
         // r1 s>>= r2
         (
-            Insn::Alu(AluOp::Arsh, W64, R1, Reg(R2)),
+            Insn::Alu(AluOp::Arsh, Bits64, R1, Reg(R2)),
             0xcf21_0000_00000000,
         ),
     ];
@@ -154,30 +160,63 @@ fn arithmetic_64_with_registers(rt: HostRuntime) {
 fn arithmetic_32_with_immediates(rt: HostRuntime) {
     let table: [(Insn, u64); 12] = [
         // w3 += 7
-        (Insn::Alu(AluOp::Add, W32, R3, Imm(7)), 0x0403_0000_07000000),
+        (
+            Insn::Alu(AluOp::Add, Bits32, R3, Imm(7)),
+            0x0403_0000_07000000,
+        ),
         // w3 -= 7
-        (Insn::Alu(AluOp::Sub, W32, R3, Imm(7)), 0x1403_0000_07000000),
+        (
+            Insn::Alu(AluOp::Sub, Bits32, R3, Imm(7)),
+            0x1403_0000_07000000,
+        ),
         // w3 *= 7
-        (Insn::Alu(AluOp::Mul, W32, R3, Imm(7)), 0x2403_0000_07000000),
+        (
+            Insn::Alu(AluOp::Mul, Bits32, R3, Imm(7)),
+            0x2403_0000_07000000,
+        ),
         // w3 /= 7
-        (Insn::Alu(AluOp::Div, W32, R3, Imm(7)), 0x3403_0000_07000000),
+        (
+            Insn::Alu(AluOp::Div, Bits32, R3, Imm(7)),
+            0x3403_0000_07000000,
+        ),
         // w3 |= 7
-        (Insn::Alu(AluOp::Or, W32, R3, Imm(7)), 0x4403_0000_07000000),
+        (
+            Insn::Alu(AluOp::Or, Bits32, R3, Imm(7)),
+            0x4403_0000_07000000,
+        ),
         // w3 &= 7
-        (Insn::Alu(AluOp::And, W32, R3, Imm(7)), 0x5403_0000_07000000),
+        (
+            Insn::Alu(AluOp::And, Bits32, R3, Imm(7)),
+            0x5403_0000_07000000,
+        ),
         // w3 <<= 7
-        (Insn::Alu(AluOp::Lsh, W32, R3, Imm(7)), 0x6403_0000_07000000),
+        (
+            Insn::Alu(AluOp::Lsh, Bits32, R3, Imm(7)),
+            0x6403_0000_07000000,
+        ),
         // w3 >>= 7
-        (Insn::Alu(AluOp::Rsh, W32, R3, Imm(7)), 0x7403_0000_07000000),
+        (
+            Insn::Alu(AluOp::Rsh, Bits32, R3, Imm(7)),
+            0x7403_0000_07000000,
+        ),
         // w3 %= 7
-        (Insn::Alu(AluOp::Mod, W32, R3, Imm(7)), 0x9403_0000_07000000),
+        (
+            Insn::Alu(AluOp::Mod, Bits32, R3, Imm(7)),
+            0x9403_0000_07000000,
+        ),
         // w3 ^= 7
-        (Insn::Alu(AluOp::Xor, W32, R3, Imm(7)), 0xa403_0000_07000000),
+        (
+            Insn::Alu(AluOp::Xor, Bits32, R3, Imm(7)),
+            0xa403_0000_07000000,
+        ),
         // w3 = 7
-        (Insn::Alu(AluOp::Mov, W32, R3, Imm(7)), 0xb403_0000_07000000),
+        (
+            Insn::Alu(AluOp::Mov, Bits32, R3, Imm(7)),
+            0xb403_0000_07000000,
+        ),
         // w3 s>>= 7
         (
-            Insn::Alu(AluOp::Arsh, W32, R3, Imm(7)),
+            Insn::Alu(AluOp::Arsh, Bits32, R3, Imm(7)),
             0xc403_0000_07000000,
         ),
     ];
@@ -194,59 +233,62 @@ fn arithmetic_32_with_registers(rt: HostRuntime) {
     let table: [(Insn, u64); 12] = [
         // w3 += w9
         (
-            Insn::Alu(AluOp::Add, W32, R3, Reg(R9)),
+            Insn::Alu(AluOp::Add, Bits32, R3, Reg(R9)),
             0x0c93_0000_00000000,
         ),
         // w3 -= w9
         (
-            Insn::Alu(AluOp::Sub, W32, R3, Reg(R9)),
+            Insn::Alu(AluOp::Sub, Bits32, R3, Reg(R9)),
             0x1c93_0000_00000000,
         ),
         // w3 *= w9
         (
-            Insn::Alu(AluOp::Mul, W32, R3, Reg(R9)),
+            Insn::Alu(AluOp::Mul, Bits32, R3, Reg(R9)),
             0x2c93_0000_00000000,
         ),
         // w3 /= w9
         (
-            Insn::Alu(AluOp::Div, W32, R3, Reg(R9)),
+            Insn::Alu(AluOp::Div, Bits32, R3, Reg(R9)),
             0x3c93_0000_00000000,
         ),
         // w3 |= w9
-        (Insn::Alu(AluOp::Or, W32, R3, Reg(R9)), 0x4c93_0000_00000000),
+        (
+            Insn::Alu(AluOp::Or, Bits32, R3, Reg(R9)),
+            0x4c93_0000_00000000,
+        ),
         // w3 &= w9
         (
-            Insn::Alu(AluOp::And, W32, R3, Reg(R9)),
+            Insn::Alu(AluOp::And, Bits32, R3, Reg(R9)),
             0x5c93_0000_00000000,
         ),
         // w3 <<= w9
         (
-            Insn::Alu(AluOp::Lsh, W32, R3, Reg(R9)),
+            Insn::Alu(AluOp::Lsh, Bits32, R3, Reg(R9)),
             0x6c93_0000_00000000,
         ),
         // w3 >>= w9
         (
-            Insn::Alu(AluOp::Rsh, W32, R3, Reg(R9)),
+            Insn::Alu(AluOp::Rsh, Bits32, R3, Reg(R9)),
             0x7c93_0000_00000000,
         ),
         // w3 %= w9
         (
-            Insn::Alu(AluOp::Mod, W32, R3, Reg(R9)),
+            Insn::Alu(AluOp::Mod, Bits32, R3, Reg(R9)),
             0x9c93_0000_00000000,
         ),
         // w3 ^= w9
         (
-            Insn::Alu(AluOp::Xor, W32, R3, Reg(R9)),
+            Insn::Alu(AluOp::Xor, Bits32, R3, Reg(R9)),
             0xac93_0000_00000000,
         ),
         // w3 = w9
         (
-            Insn::Alu(AluOp::Mov, W32, R3, Reg(R9)),
+            Insn::Alu(AluOp::Mov, Bits32, R3, Reg(R9)),
             0xbc93_0000_00000000,
         ),
         // w3 s>>= w9
         (
-            Insn::Alu(AluOp::Arsh, W32, R3, Reg(R9)),
+            Insn::Alu(AluOp::Arsh, Bits32, R3, Reg(R9)),
             0xcc93_0000_00000000,
         ),
     ];
@@ -262,9 +304,9 @@ fn arithmetic_32_with_registers(rt: HostRuntime) {
 fn others(rt: HostRuntime) {
     let table: [(Insn, u64); 5] = [
         // r1 = -r1
-        (Insn::Neg(W64, R1), 0x8701_0000_00000000),
+        (Insn::Neg(Bits64, R1), 0x8701_0000_00000000),
         // w3 = -w3
-        (Insn::Neg(W32, R3), 0x8403_0000_00000000),
+        (Insn::Neg(Bits32, R3), 0x8403_0000_00000000),
         // goto +3
         (Insn::Jump(3), 0x0500_0300_00000000),
         // call 2
@@ -321,57 +363,57 @@ fn jumps_64_with_immediates(rt: HostRuntime) {
     let table: [(Insn, u64); 11] = [
         // if r1 == -5 goto +2
         (
-            Insn::JumpIf(Cmp::Eq, W64, R1, Imm(-5), 2),
+            Insn::JumpIf(Cmp::Eq, Bits64, R1, Imm(-5), 2),
             0x1501_0200_fbffffff,
         ),
         // if r1 > -5 goto +2
         (
-            Insn::JumpIf(Cmp::Gt, W64, R1, Imm(-5), 2),
+            Insn::JumpIf(Cmp::Gt, Bits64, R1, Imm(-5), 2),
             0x2501_0200_fbffffff,
         ),
         // if r1 >= -5 goto +2
         (
-            Insn::JumpIf(Cmp::Ge, W64, R1, Imm(-5), 2),
+            Insn::JumpIf(Cmp::Ge, Bits64, R1, Imm(-5), 2),
             0x3501_0200_fbffffff,
         ),
         // if r1 & -5 goto +2
         (
-            Insn::JumpIf(Cmp::Set, W64, R1, Imm(-5), 2),
+            Insn::JumpIf(Cmp::Set, Bits64, R1, Imm(-5), 2),
             0x4501_0200_fbffffff,
         ),
         // if r1 != -5 goto +2
         (
-            Insn::JumpIf(Cmp::Ne, W64, R1, Imm(-5), 2),
+            Insn::JumpIf(Cmp::Ne, Bits64, R1, Imm(-5), 2),
             0x5501_0200_fbffffff,
         ),
         // if r1 s> -5 goto +2
         (
-            Insn::JumpIf(Cmp::Sgt, W64, R1, Imm(-5), 2),
+            Insn::JumpIf(Cmp::Sgt, Bits64, R1, Imm(-5), 2),
             0x6501_0200_fbffffff,
         ),
         // if r1 s>= -5 goto +2
         (
-            Insn::JumpIf(Cmp::Sge, W64, R1, Imm(-5), 2),
+            Insn::JumpIf(Cmp::Sge, Bits64, R1, Imm(-5), 2),
             0x7501_0200_fbffffff,
         ),
         // if r1 < -5 goto +2
         (
-            Insn::JumpIf(Cmp::Lt, W64, R1, Imm(-5), 2),
+            Insn::JumpIf(Cmp::Lt, Bits64, R1, Imm(-5), 2),
             0xa501_0200_fbffffff,
         ),
         // if r1 <= -5 goto +2
         (
-            Insn::JumpIf(Cmp::Le, W64, R1, Imm(-5), 2),
+            Insn::JumpIf(Cmp::Le, Bits64, R1, Imm(-5), 2),
             0xb501_0200_fbffffff,
         ),
         // if r1 s< -5 goto +2
         (
-            Insn::JumpIf(Cmp::Slt, W64, R1, Imm(-5), 2),
+            Insn::JumpIf(Cmp::Slt, Bits64, R1, Imm(-5), 2),
             0xc501_0200_fbffffff,
         ),
         // if r1 s<= -5 goto +2
         (
-            Insn::JumpIf(Cmp::Sle, W64, R1, Imm(-5), 2),
+            Insn::JumpIf(Cmp::Sle, Bits64, R1, Imm(-5), 2),
             0xd501_0200_fbffffff,
         ),
     ];
@@ -388,57 +430,57 @@ fn jumps_64_with_registers(rt: HostRuntime) {
     let table: [(Insn, u64); 11] = [
         // if r1 == r2 goto +2
         (
-            Insn::JumpIf(Cmp::Eq, W64, R1, Reg(R2), 2),
+            Insn::JumpIf(Cmp::Eq, Bits64, R1, Reg(R2), 2),
             0x1d21_0200_00000000,
         ),
         // if r1 > r2 goto +2
         (
-            Insn::JumpIf(Cmp::Gt, W64, R1, Reg(R2), 2),
+            Insn::JumpIf(Cmp::Gt, Bits64, R1, Reg(R2), 2),
             0x2d21_0200_00000000,
         ),
         // if r1 >= r2 goto +2
         (
-            Insn::JumpIf(Cmp::Ge, W64, R1, Reg(R2), 2),
+            Insn::JumpIf(Cmp::Ge, Bits64, R1, Reg(R2), 2),
             0x3d21_0200_00000000,
         ),
         // if r1 & r2 goto +2
         (
-            Insn::JumpIf(Cmp::Set, W64, R1, Reg(R2), 2),
+            Insn::JumpIf(Cmp::Set, Bits64, R1, Reg(R2), 2),
             0x4d21_0200_00000000,
         ),
         // if r1 != r2 goto +2
         (
-            Insn::JumpIf(Cmp::Ne, W64, R1, Reg(R2), 2),
+            Insn::JumpIf(Cmp::Ne, Bits64, R1, Reg(R2), 2),
             0x5d21_0200_00000000,
         ),
         // if r1 s> r2 goto +2
         (
-            Insn::JumpIf(Cmp::Sgt, W64, R1, Reg(R2), 2),
+            Insn::JumpIf(Cmp::Sgt, Bits64, R1, Reg(R2), 2),
             0x6d21_0200_00000000,
         ),
         // if r1 s>= r2 goto +2
         (
-            Insn::JumpIf(Cmp::Sge, W64, R1, Reg(R2), 2),
+            Insn::JumpIf(Cmp::Sge, Bits64, R1, Reg(R2), 2),
             0x7d21_0200_00000000,
         ),
         // if r1 < r2 goto +2
         (
-            Insn::JumpIf(Cmp::Lt, W64, R1, Reg(R2), 2),
+            Insn::JumpIf(Cmp::Lt, Bits64, R1, Reg(R2), 2),
             0xad21_0200_00000000,
         ),
         // if r1 <= r2 goto +2
         (
-            Insn::JumpIf(Cmp::Le, W64, R1, Reg(R2), 2),
+            Insn::JumpIf(Cmp::Le, Bits64, R1, Reg(R2), 2),
             0xbd21_0200_00000000,
         ),
         // if r1 s< r2 goto +2
         (
-            Insn::JumpIf(Cmp::Slt, W64, R1, Reg(R2), 2),
+            Insn::JumpIf(Cmp::Slt, Bits64, R1, Reg(R2), 2),
             0xcd21_0200_00000000,
         ),
         // if r1 s<= r2 goto +2
         (
-            Insn::JumpIf(Cmp::Sle, W64, R1, Reg(R2), 2),
+            Insn::JumpIf(Cmp::Sle, Bits64, R1, Reg(R2), 2),
             0xdd21_0200_00000000,
         ),
     ];
@@ -455,57 +497,57 @@ fn jumps_32_with_immediates(rt: HostRuntime) {
     let table: [(Insn, u64); 11] = [
         // if w3 == 7 goto +300
         (
-            Insn::JumpIf(Cmp::Eq, W32, R3, Imm(7), 300),
+            Insn::JumpIf(Cmp::Eq, Bits32, R3, Imm(7), 300),
             0x1603_2c01_07000000,
         ),
         // if w3 > 7 goto +300
         (
-            Insn::JumpIf(Cmp::Gt, W32, R3, Imm(7), 300),
+            Insn::JumpIf(Cmp::Gt, Bits32, R3, Imm(7), 300),
             0x2603_2c01_07000000,
         ),
         // if w3 >= 7 goto +300
         (
-            Insn::JumpIf(Cmp::Ge, W32, R3, Imm(7), 300),
+            Insn::JumpIf(Cmp::Ge, Bits32, R3, Imm(7), 300),
             0x3603_2c01_07000000,
         ),
         // if w3 & 7 goto +300
         (
-            Insn::JumpIf(Cmp::Set, W32, R3, Imm(7), 300),
+            Insn::JumpIf(Cmp::Set, Bits32, R3, Imm(7), 300),
             0x4603_2c01_07000000,
         ),
         // if w3 != 7 goto +300
         (
-            Insn::JumpIf(Cmp::Ne, W32, R3, Imm(7), 300),
+            Insn::JumpIf(Cmp::Ne, Bits32, R3, Imm(7), 300),
             0x5603_2c01_07000000,
         ),
         // if w3 s> 7 goto +300
         (
-            Insn::JumpIf(Cmp::Sgt, W32, R3, Imm(7), 300),
+            Insn::JumpIf(Cmp::Sgt, Bits32, R3, Imm(7), 300),
             0x6603_2c01_07000000,
         ),
         // if w3 s>= 7 goto +300
         (
-            Insn::JumpIf(Cmp::Sge, W32, R3, Imm(7), 300),
+            Insn::JumpIf(Cmp::Sge, Bits32, R3, Imm(7), 300),
             0x7603_2c01_07000000,
         ),
         // if w3 < 7 goto +300
         (
-            Insn::JumpIf(Cmp::Lt, W32, R3, Imm(7), 300),
+            Insn::JumpIf(Cmp::Lt, Bits32, R3, Imm(7), 300),
             0xa603_2c01_07000000,
         ),
         // if w3 <= 7 goto +300
         (
-            Insn::JumpIf(Cmp::Le, W32, R3, Imm(7), 300),
+            Insn::JumpIf(Cmp::Le, Bits32, R3, Imm(7), 300),
             0xb603_2c01_07000000,
         ),
         // if w3 s< 7 goto +300
         (
-            Insn::JumpIf(Cmp::Slt, W32, R3, Imm(7), 300),
+            Insn::JumpIf(Cmp::Slt, Bits32, R3, Imm(7), 300),
             0xc603_2c01_07000000,
         ),
         // if w3 s<= 7 goto +300
         (
-            Insn::JumpIf(Cmp::Sle, W32, R3, Imm(7), 300),
+            Insn::JumpIf(Cmp::Sle, Bits32, R3, Imm(7), 300),
             0xd603_2c01_07000000,
         ),
     ];
@@ -522,57 +564,57 @@ fn jumps_32_with_registers(rt: HostRuntime) {
     let table: [(Insn, u64); 11] = [
         // if w3 == w9 goto +300
         (
-            Insn::JumpIf(Cmp::Eq, W32, R3, Reg(R9), 300),
+            Insn::JumpIf(Cmp::Eq, Bits32, R3, Reg(R9), 300),
             0x1e93_2c01_00000000,
         ),
         // if w3 > w9 goto +300
         (
-            Insn::JumpIf(Cmp::Gt, W32, R3, Reg(R9), 300),
+            Insn::JumpIf(Cmp::Gt, Bits32, R3, Reg(R9), 300),
             0x2e93_2c01_00000000,
         ),
         // if w3 >= w9 goto +300
         (
-            Insn::JumpIf(Cmp::Ge, W32, R3, Reg(R9), 300),
+            Insn::JumpIf(Cmp::Ge, Bits32, R3, Reg(R9), 300),
             0x3e93_2c01_00000000,
         ),
         // if w3 & w9 goto +300
         (
-            Insn::JumpIf(Cmp::Set, W32, R3, Reg(R9), 300),
+            Insn::JumpIf(Cmp::Set, Bits32, R3, Reg(R9), 300),
             0x4e93_2c01_00000000,
         ),
         // if w3 != w9 goto +300
         (
-            Insn::JumpIf(Cmp::Ne, W32, R3, Reg(R9), 300),
+            Insn::JumpIf(Cmp::Ne, Bits32, R3, Reg(R9), 300),
             0x5e93_2c01_00000000,
         ),
         // if w3 s> w9 goto +300
         (
-            Insn::JumpIf(Cmp::Sgt, W32, R3, Reg(R9), 300),
+            Insn::JumpIf(Cmp::Sgt, Bits32, R3, Reg(R9), 300),
             0x6e93_2c01_00000000,
         ),
         // if w3 s>= w9 goto +300
         (
-            Insn::JumpIf(Cmp::Sge, W32, R3, Reg(R9), 300),
+            Insn::JumpIf(Cmp::Sge, Bits32, R3, Reg(R9), 300),
             0x7e93_2c01_00000000,
         ),
         // if w3 < w9 goto +300
         (
-            Insn::JumpIf(Cmp::Lt, W32, R3, Reg(R9), 300),
+            Insn::JumpIf(Cmp::Lt, Bits32, R3, Reg(R9), 300),
             0xae93_2c01_00000000,
         ),
         // if w3 <= w9 goto +300
         (
-            Insn::JumpIf(Cmp::Le, W32, R3, Reg(R9), 300),
+            Insn::JumpIf(Cmp::Le, Bits32, R3, Reg(R9), 300),
             0xbe93_2c01_00000000,
         ),
         // if w3 s< w9 goto +300
         (
-            Insn::JumpIf(Cmp::Slt, W32, R3, Reg(R9), 300),
+            Insn::JumpIf(Cmp::Slt, Bits32, R3, Reg(R9), 300),
             0xce93_2c01_00000000,
         ),
         // if w3 s<= w9 goto +300
         (
-            Insn::JumpIf(Cmp::Sle, W32, R3, Reg(R9), 300),
+            Insn::JumpIf(Cmp::Sle, Bits32, R3, Reg(R9), 300),
             0xde93_2c01_00000000,
         ),
     ];
