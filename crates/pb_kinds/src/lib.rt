@@ -1,0 +1,11 @@
+//! What is known of registers and stack bytes before a program runs.
+//!
+//! The kinds and their join are the project's own profile: RFC 9669 leaves verification to the platform.
+#![tactic(auto)]
+
+mod frame;
+
+pub use frame::{Frame, Kind, entry, join};
+
+#[cfg(test)]
+mod tests;
