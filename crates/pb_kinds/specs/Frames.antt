@@ -47,3 +47,16 @@ meet_bytes = both (λ a b. a && b)
 
 unfoldable pub join : Frame → Frame → Frame
 join a b = record { kinds = meet_kinds a.kinds b.kinds; written = meet_bytes a.written b.written }
+
+abbrev pub is_unset : Kind → Bool
+is_unset Unset = true
+is_unset _ = false
+
+abbrev pub is_number : Kind → Bool
+is_number Number = true
+is_number _ = false
+
+abbrev pub is_pointer : Kind → Bool
+is_pointer (Stack k) = true
+is_pointer (Record k) = true
+is_pointer _ = false

@@ -1,6 +1,6 @@
 //! Kinds, frames, and what two frames both say.
 ghost use Rattle.std.specs.Prelude.{◌≡◌};
-ghost use Rattle.pb_kinds.specs.Frames.{join, meet, meet_kinds, meet_bytes, entry};
+ghost use Rattle.pb_kinds.specs.Frames.{join, meet, meet_kinds, meet_bytes, entry, is_unset, is_number, is_pointer};
 ghost use Rattle.pb_kinds.specs.Meet.{IsMeet};
 
 /// What is known of a register.
@@ -14,6 +14,32 @@ pub enum Kind {
     Stack(i64),
     /// It points to the change record, at this distance from the record's first byte.
     Record(i64),
+}
+
+impl Kind {
+    /// Whether nothing is known.
+    pub fn is_unset(self) -> bool
+        ensures { result ≡ is_unset self }
+    {
+        self == Kind::Unset
+    }
+
+    /// Whether it is a number.
+    pub fn is_number(self) -> bool
+        ensures { result ≡ is_number self }
+    {
+        self == Kind::Number
+    }
+
+    /// Whether it points to the stack or to the record.
+    pub fn is_pointer(self) -> bool
+        ensures { result ≡ is_pointer self }
+    {
+        match self {
+            Kind::Unset | Kind::Number => false,
+            Kind::Stack(_) | Kind::Record(_) => true,
+        }
+    }
 }
 
 /// What is known before an instruction: the kinds of the registers by number, and which stack bytes are written, from the

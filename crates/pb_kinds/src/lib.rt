@@ -4,8 +4,10 @@
 #![tactic(auto)]
 
 mod frame;
+mod ranges;
 
 pub use frame::{Frame, Kind, entry, join};
+pub use ranges::{in_record, in_stack};
 
 #[cfg(test)]
 mod tests;

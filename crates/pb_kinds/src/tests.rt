@@ -1,4 +1,4 @@
-use crate::{Frame, Kind, entry, join};
+use crate::{Frame, Kind, entry, in_record, in_stack, join};
 use std::rt::HostRuntime;
 use std::test::*;
 
@@ -66,5 +66,58 @@ fn a_byte_is_written_where_both_say_so(rt: HostRuntime) {
         assert!(rt; joined.written[0] == wanted, "{a} {b}");
         assert!(rt; joined.written[511] == wanted, "{a} {b}");
         assert!(rt; !joined.written[256], "{a} {b}");
+    }
+}
+
+#[test]
+fn both_ends_of_the_stack_and_the_record(rt: HostRuntime) {
+    for bytes in [1, 2, 4, 8, 32] {
+        let size = i64::from(bytes);
+        assert!(rt; in_stack(-512, bytes), "{bytes}");
+        assert!(rt; !in_stack(-513, bytes), "{bytes}");
+        assert!(rt; in_stack(-size, bytes), "{bytes}");
+        assert!(rt; !in_stack(1 - size, bytes), "{bytes}");
+        assert!(rt; in_record(0, bytes), "{bytes}");
+        assert!(rt; !in_record(-1, bytes), "{bytes}");
+        assert!(rt; in_record(80 - size, bytes), "{bytes}");
+        assert!(rt; !in_record(81 - size, bytes), "{bytes}");
+    }
+    for far in [i64::MIN, i64::MAX] {
+        assert!(rt; !in_stack(far, 8), "{far}");
+        assert!(rt; !in_record(far, 8), "{far}");
+    }
+}
+
+#[test]
+fn written_bytes(rt: HostRuntime) {
+    let mut frame = entry();
+    frame.write(-512, 4);
+    frame.write(-1, 1);
+    let table = [
+        (-512, 4, true),
+        (-512, 5, false),
+        (-509, 1, true),
+        (-508, 1, false),
+        (-1, 1, true),
+        (-2, 2, false),
+    ];
+    for (at, bytes, wanted) in table {
+        assert!(rt; in_stack(at, bytes));
+        assert!(rt; frame.are_written(at, bytes) == wanted, "{at} {bytes}");
+    }
+}
+
+#[test]
+fn what_kinds_say(rt: HostRuntime) {
+    let table = [
+        (Kind::Unset, true, false, false),
+        (Kind::Number, false, true, false),
+        (Kind::Stack(0), false, false, true),
+        (Kind::Record(0), false, false, true),
+    ];
+    for (kind, unset, number, pointer) in table {
+        assert!(rt; kind.is_unset() == unset, "{kind:?}");
+        assert!(rt; kind.is_number() == number, "{kind:?}");
+        assert!(rt; kind.is_pointer() == pointer, "{kind:?}");
     }
 }
