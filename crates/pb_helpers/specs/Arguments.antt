@@ -1,0 +1,60 @@
+-- Which arguments a helper accepts: for each, the codes that the registers break before a call, lowest first. Row and
+-- column stand in R1 and R2, and R3 points to 32 stack bytes, which reading fills and writing takes.
+use Rattle.std.specs.Prelude.{ℕ, ℤ, Bool, true, false, not, ◌&&◌, if◌then◌else◌, List, [], ◌∷◌, ◌++◌, Option, Some, None}
+use Rattle.pb_isa.specs.Helpers.{Helper, Read, Write, Delete, Start}
+use Rattle.pb_kinds.specs.declared.frame.Kind.{Kind}
+use Rattle.pb_kinds.specs.declared.frame.Kind.TheVariants.{Stack}
+use Rattle.pb_kinds.specs.declared.frame.Frame.{Frame}
+use Rattle.pb_kinds.specs.Frames.{kind_of, is_unset, is_number}
+use Rattle.pb_kinds.specs.Ranges.{in_stack, are_written}
+use Rattle.pb_helpers.specs.declared.code.Code.{Code}
+use Rattle.pb_helpers.specs.declared.code.Code.TheVariants.{ReadsUnset, OutsideStack, UnwrittenByte, NotDeclared, WrongArgument}
+use Rattle.pb_helpers.specs.Codes.{when, AreRising}
+
+-- the register with this number is read
+abbrev pub unset : Frame → ℕ → List Code
+unset f r = when (is_unset (kind_of f r)) ReadsUnset
+
+-- n stack bytes from z on are read
+abbrev pub stack_reads : Frame → ℤ → ℕ → List Code
+stack_reads f z n = if in_stack z n then when (not (are_written f z n)) UnwrittenByte else OutsideStack ∷ []
+
+-- n bytes from z on are written
+abbrev pub stack_writes : ℤ → ℕ → List Code
+stack_writes z n = when (not (in_stack z n)) OutsideStack
+
+abbrev pub filled_bytes : Kind → List Code
+filled_bytes (Stack k) = stack_writes k 32
+filled_bytes _ = []
+
+abbrev pub taken_bytes : Frame → Kind → List Code
+taken_bytes f (Stack k) = stack_reads f k 32
+taken_bytes f _ = []
+
+-- row and column are numbers: every number is accepted
+abbrev pub is_cell : Frame → Bool
+is_cell f = is_number (kind_of f 1) && is_number (kind_of f 2)
+
+abbrev pub is_place : Kind → Bool
+is_place (Stack k) = true
+is_place _ = false
+
+abbrev pub read_rules : Frame → List Code
+read_rules f = unset f 1 ++ unset f 2 ++ unset f 3 ++ filled_bytes (kind_of f 3) ++ when (not (is_cell f && is_place (kind_of f 3))) WrongArgument
+
+abbrev pub write_rules : Frame → List Code
+write_rules f = unset f 1 ++ unset f 2 ++ unset f 3 ++ taken_bytes f (kind_of f 3) ++ when (not (is_cell f && is_place (kind_of f 3))) WrongArgument
+
+abbrev pub delete_rules : Frame → List Code
+delete_rules f = unset f 1 ++ unset f 2 ++ when (not (is_cell f)) WrongArgument
+
+-- the rules of a call, of the declared helper if there is one
+abbrev pub call_rules : Frame → Option Helper → List Code
+call_rules f None = NotDeclared ∷ []
+call_rules f (Some Read) = read_rules f
+call_rules f (Some Write) = write_rules f
+call_rules f (Some Delete) = delete_rules f
+call_rules f (Some Start) = []
+
+abbrev pub ArgumentCodesRise : Type 0
+ArgumentCodesRise = (f : Frame) (h : Option Helper) → AreRising 21 31 (call_rules f h)

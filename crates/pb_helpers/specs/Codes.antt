@@ -1,0 +1,43 @@
+-- The codes of the verifier's rules. They are this project's own profile.
+use Rattle.std.specs.Prelude.{ℕ, ◌≤◌, Bool, true, false, List, [], ◌∷◌, map, Option, Some, None}
+use Rattle.pb_helpers.specs.declared.code.Code.{Code}
+use Rattle.pb_helpers.specs.declared.code.Code.TheVariants.{ReadsUnset, WritesR10, PointerArithmetic, PointerStored, OutsideStack, UnwrittenByte, OutsideRecord, WritesRecord, ThroughNumber, NotDeclared, WrongArgument, BackwardJump, JumpOutside, JumpIntoPair, Unreachable, FallsOff, ExitsWithPointer, PointerCompared}
+
+abbrev pub code_number : Code → ℕ
+code_number ReadsUnset = 21
+code_number WritesR10 = 22
+code_number PointerArithmetic = 23
+code_number PointerStored = 24
+code_number OutsideStack = 25
+code_number UnwrittenByte = 26
+code_number OutsideRecord = 27
+code_number WritesRecord = 28
+code_number ThroughNumber = 29
+code_number NotDeclared = 30
+code_number WrongArgument = 31
+code_number BackwardJump = 32
+code_number JumpOutside = 33
+code_number JumpIntoPair = 34
+code_number Unreachable = 35
+code_number FallsOff = 36
+code_number ExitsWithPointer = 37
+code_number PointerCompared = 38
+
+-- a code is listed where its rule is broken
+abbrev pub when : Bool → Code → List Code
+when true code = code ∷ []
+when false code = []
+
+-- of codes that are listed lowest first
+abbrev pub lowest : List Code → Option Code
+lowest [] = None
+lowest (c ∷ cs) = Some c
+
+-- the numbers rise from low to high; one can stand there twice
+abbrev pub RisesWithin : ℕ → ℕ → List ℕ → Type 0
+RisesWithin low high [] = low ≤ high
+RisesWithin low high (n ∷ ns) = (low ≤ n) × RisesWithin n high ns
+
+-- the codes are listed lowest first, all from low to high
+abbrev pub AreRising : ℕ → ℕ → List Code → Type 0
+AreRising low high cs = RisesWithin low high (map code_number cs)

@@ -1,0 +1,122 @@
+//! Which arguments a helper accepts.
+ghost use Rattle.std.specs.Prelude.{◌≡◌, ◌<◌, is_some, IsTrue};
+ghost use Rattle.pb_isa.specs.Helpers.{called};
+ghost use Rattle.pb_helpers.specs.Codes.{lowest};
+ghost use Rattle.pb_helpers.specs.Arguments.{unset, stack_reads, stack_writes, filled_bytes, taken_bytes, is_cell, is_place, read_rules, write_rules, delete_rules, call_rules, ArgumentCodesRise};
+
+use crate::code::Code;
+use crate::table::HelperTable;
+use pb_kinds::{Frame, Kind, in_stack};
+
+/// The code of a read of the register with this number.
+pub fn unset_code(frame: &Frame, register: usize) -> Option<Code>
+    requires { register < 11 }
+    ensures { result ≡ lowest (unset frame.now register) }
+{
+    Code::ReadsUnset.when(frame.kinds[register].is_unset())
+}
+
+/// The lowest code of a read of so many stack bytes, from this distance to the stack's end on.
+pub fn stack_read_code(frame: &Frame, at: i64, bytes: u8) -> Option<Code>
+    ensures { result ≡ lowest (stack_reads frame.now at bytes) }
+{
+    if in_stack(at, bytes) {
+        Code::UnwrittenByte.when(!frame.are_written(at, bytes))
+    } else {
+        Some(Code::OutsideStack)
+    }
+}
+
+/// The code of a write of so many bytes, from this distance to the stack's end on.
+pub fn stack_write_code(at: i64, bytes: u8) -> Option<Code>
+    ensures { result ≡ lowest (stack_writes at bytes) }
+{
+    Code::OutsideStack.when(!in_stack(at, bytes))
+}
+
+// The 32 bytes that a helper fills.
+fn filled_bytes(place: Kind) -> Option<Code>
+    ensures { result ≡ lowest (filled_bytes place) }
+{
+    match place {
+        Kind::Stack(at) => stack_write_code(at, 32),
+        Kind::Unset | Kind::Number | Kind::Record(_) => None,
+    }
+}
+
+// The 32 bytes that a helper takes.
+fn taken_bytes(frame: &Frame, place: Kind) -> Option<Code>
+    ensures { result ≡ lowest (taken_bytes frame.now place) }
+{
+    match place {
+        Kind::Stack(at) => stack_read_code(frame, at, 32),
+        Kind::Unset | Kind::Number | Kind::Record(_) => None,
+    }
+}
+
+fn is_cell(frame: &Frame) -> bool
+    ensures { result ≡ is_cell frame.now }
+{
+    frame.kinds[1].is_number() && frame.kinds[2].is_number()
+}
+
+fn is_place(kind: Kind) -> bool
+    ensures { result ≡ is_place kind }
+{
+    match kind {
+        Kind::Stack(_) => true,
+        Kind::Unset | Kind::Number | Kind::Record(_) => false,
+    }
+}
+
+#[tactic(auto, using(crate::proofs::Lowest::lowest_append))]
+fn read_code(frame: &Frame) -> Option<Code>
+    ensures { result ≡ lowest (read_rules frame.now) }
+{
+    unset_code(frame, 1)
+        .or(unset_code(frame, 2))
+        .or(unset_code(frame, 3))
+        .or(filled_bytes(frame.kinds[3]))
+        .or(Code::WrongArgument.when(!(is_cell(frame) && is_place(frame.kinds[3]))))
+}
+
+#[tactic(auto, using(crate::proofs::Lowest::lowest_append))]
+fn write_code(frame: &Frame) -> Option<Code>
+    ensures { result ≡ lowest (write_rules frame.now) }
+{
+    unset_code(frame, 1)
+        .or(unset_code(frame, 2))
+        .or(unset_code(frame, 3))
+        .or(taken_bytes(frame, frame.kinds[3]))
+        .or(Code::WrongArgument.when(!(is_cell(frame) && is_place(frame.kinds[3]))))
+}
+
+#[tactic(auto, using(crate::proofs::Lowest::lowest_append))]
+fn delete_code(frame: &Frame) -> Option<Code>
+    ensures { result ≡ lowest (delete_rules frame.now) }
+{
+    unset_code(frame, 1)
+        .or(unset_code(frame, 2))
+        .or(Code::WrongArgument.when(!is_cell(frame)))
+}
+
+/// The lowest code of the rules that a call of the helper with this number breaks; none where the helper is declared and
+/// accepts what the registers hold.
+pub fn argument_code(helpers: HelperTable, number: i32, frame: &Frame) -> Option<Code>
+    ensures { result ≡ lowest (call_rules frame.now (called helpers number)) }
+{
+    if !helpers.declares(number) {
+        return Some(Code::NotDeclared);
+    }
+    match number {
+        1 => read_code(frame),
+        2 => write_code(frame),
+        3 => delete_code(frame),
+        _ => None,
+    }
+}
+
+/// The codes of a call are listed lowest first, all from 21 to 31.
+pub fn argument_codes_rise()
+    ensures { ArgumentCodesRise }
+{}

@@ -1,0 +1,79 @@
+//! The rules that an instruction can break.
+ghost use Rattle.std.specs.Prelude.{◌≡◌, if◌then◌else◌};
+ghost use Rattle.pb_helpers.specs.Codes.{code_number, when, lowest};
+
+/// What is wrong with an instruction.
+#[derive(Clone, Copy, Debug, PartialEq, Eq)]
+pub enum Code {
+    /// It reads an unset register.
+    ReadsUnset,
+    /// It writes R10.
+    WritesR10,
+    /// Arithmetic on a pointer.
+    PointerArithmetic,
+    /// It stores a pointer.
+    PointerStored,
+    /// Bytes outside the stack.
+    OutsideStack,
+    /// It reads a stack byte that isn't written.
+    UnwrittenByte,
+    /// Bytes outside the change record.
+    OutsideRecord,
+    /// It writes the change record.
+    WritesRecord,
+    /// It reads or writes through a number.
+    ThroughNumber,
+    /// The helper isn't declared.
+    NotDeclared,
+    /// A helper's argument is of a wrong kind.
+    WrongArgument,
+    /// It jumps backward.
+    BackwardJump,
+    /// It jumps outside the program.
+    JumpOutside,
+    /// It jumps to the second slot of a pair.
+    JumpIntoPair,
+    /// Nothing leads to it.
+    Unreachable,
+    /// It leads past the last slot.
+    FallsOff,
+    /// It exits with a pointer.
+    ExitsWithPointer,
+    /// It compares a pointer.
+    PointerCompared,
+}
+
+impl Code {
+    /// The number by which a code is told.
+    pub fn code(self) -> u8
+        ensures { result ≡ code_number self }
+    {
+        match self {
+            Code::ReadsUnset => 21,
+            Code::WritesR10 => 22,
+            Code::PointerArithmetic => 23,
+            Code::PointerStored => 24,
+            Code::OutsideStack => 25,
+            Code::UnwrittenByte => 26,
+            Code::OutsideRecord => 27,
+            Code::WritesRecord => 28,
+            Code::ThroughNumber => 29,
+            Code::NotDeclared => 30,
+            Code::WrongArgument => 31,
+            Code::BackwardJump => 32,
+            Code::JumpOutside => 33,
+            Code::JumpIntoPair => 34,
+            Code::Unreachable => 35,
+            Code::FallsOff => 36,
+            Code::ExitsWithPointer => 37,
+            Code::PointerCompared => 38,
+        }
+    }
+
+    /// This code where its rule is broken.
+    pub fn when(self, broken: bool) -> Option<Code>
+        ensures { result ≡ lowest (when broken self) }
+    {
+        if broken { Some(self) } else { None }
+    }
+}

@@ -1,0 +1,18 @@
+//! The helpers that a program may call, and which arguments each accepts.
+//!
+//! RFC 9669 leaves helpers to the platform (section 4.3.1): these four, and the rules of their arguments, are the project's
+//! own profile.
+#![tactic(auto)]
+
+mod arguments;
+mod code;
+mod table;
+
+pub use arguments::{
+    argument_code, argument_codes_rise, stack_read_code, stack_write_code, unset_code,
+};
+pub use code::Code;
+pub use table::HelperTable;
+
+#[cfg(test)]
+mod tests;

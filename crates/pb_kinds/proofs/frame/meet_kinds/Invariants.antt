@@ -1,0 +1,6 @@
+use Rattle.std.proofs.Common.{◌≡◌, ◌++◌, take, drop}
+use Rattle.pb_kinds.specs.Frames.{meet_kinds}
+use Rattle.pb_kinds.proofs.frame.meet_kinds.Given as goal
+
+abbrev pub invariant-loop-i : goal.invariant-loop-i
+invariant-loop-i l = l.kinds ≡ meet_kinds (take l.i l.a) (take l.i l.b) ++ drop l.i l.a

@@ -1,0 +1,62 @@
+-- Frames: what is known of the registers and the stack bytes before an instruction. RFC 9669 has no verifier: the kinds
+-- are this project's own profile.
+use Rattle.std.specs.Prelude.{ℕ, pos, Bool, true, false, ◌&&◌, if◌then◌else◌, List, [], ◌∷◌, replicate, slice_index_or}
+use Rattle.std.specs.Ordering.{int_eq}
+use Rattle.pb_kinds.specs.declared.frame.Kind.{Kind}
+use Rattle.pb_kinds.specs.declared.frame.Kind.TheVariants.{Unset, Number, Stack, Record}
+use Rattle.pb_kinds.specs.declared.frame.Frame.{Frame}
+
+-- what is known of a register, by its number
+abbrev pub kind_of : Frame → ℕ → Kind
+kind_of f r = slice_index_or f.kinds r Unset
+
+-- whether a stack byte is written, counted from the lowest
+abbrev pub is_written : Frame → ℕ → Bool
+is_written f i = slice_index_or f.written i false
+
+-- at entry register 1 points to the record and register 10 to the end of the stack, and no byte is written
+unfoldable pub entry : Frame
+entry = record {
+  kinds = Unset ∷ Record (pos 0) ∷ Unset ∷ Unset ∷ Unset ∷ Unset ∷ Unset ∷ Unset ∷ Unset ∷ Unset ∷ Stack (pos 0) ∷ [];
+  written = replicate 512 false;
+}
+
+abbrev pub same_kind : Kind → Kind → Bool
+same_kind Unset Unset = true
+same_kind Number Number = true
+same_kind (Stack k) (Stack m) = int_eq k m
+same_kind (Record k) (Record m) = int_eq k m
+same_kind _ _ = false
+
+-- unequal kinds give Unset
+abbrev pub meet : Kind → Kind → Kind
+meet a b = if same_kind a b then a else Unset
+
+-- element by element
+abbrev pub both : {A : Type 0} → (A → A → A) → List A → List A → List A
+both f (a ∷ r) (b ∷ s) = f a b ∷ both f r s
+both f [] s = []
+both f (a ∷ r) [] = []
+
+abbrev pub meet_kinds : List Kind → List Kind → List Kind
+meet_kinds = both meet
+
+-- a byte is written where both say so
+abbrev pub meet_bytes : List Bool → List Bool → List Bool
+meet_bytes = both (λ a b. a && b)
+
+unfoldable pub join : Frame → Frame → Frame
+join a b = record { kinds = meet_kinds a.kinds b.kinds; written = meet_bytes a.written b.written }
+
+abbrev pub is_unset : Kind → Bool
+is_unset Unset = true
+is_unset _ = false
+
+abbrev pub is_number : Kind → Bool
+is_number Number = true
+is_number _ = false
+
+abbrev pub is_pointer : Kind → Bool
+is_pointer (Stack k) = true
+is_pointer (Record k) = true
+is_pointer _ = false

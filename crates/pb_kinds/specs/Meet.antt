@@ -1,0 +1,15 @@
+-- The join is the meet of two frames: a fact stands in it exactly where both have it.
+use Rattle.std.specs.Prelude.{◌≡◌, ◌≢◌, ◌↔◌, ℕ, IsTrue}
+use Rattle.pb_kinds.specs.declared.frame.Kind.{Kind}
+use Rattle.pb_kinds.specs.declared.frame.Kind.TheVariants.{Unset}
+use Rattle.pb_kinds.specs.declared.frame.Frame.{Frame}
+use Rattle.pb_kinds.specs.Frames.{kind_of, is_written}
+
+-- the register is known to be of this kind, which is one that says something
+pub record IsKnown (f : Frame) (r : ℕ) (k : Kind) : Type 0 where
+  pub kind : kind_of f r ≡ k
+  pub set : k ≢ Unset
+
+pub record IsMeet (a b f : Frame) : Type 0 where
+  pub kinds : (r : ℕ) (k : Kind) → IsKnown f r k ↔ (IsKnown a r k × IsKnown b r k)
+  pub bytes : (i : ℕ) → IsTrue (is_written f i) ↔ (IsTrue (is_written a i) × IsTrue (is_written b i))

@@ -1,0 +1,102 @@
+//! Kinds, frames, and what two frames both say.
+ghost use Rattle.std.specs.Prelude.{◌≡◌};
+ghost use Rattle.pb_kinds.specs.Frames.{join, meet, meet_kinds, meet_bytes, entry, is_unset, is_number, is_pointer};
+ghost use Rattle.pb_kinds.specs.Meet.{IsMeet};
+
+/// What is known of a register.
+#[derive(Clone, Copy, Debug, PartialEq, Eq)]
+pub enum Kind {
+    /// Nothing: it can be unset.
+    Unset,
+    /// It holds a number, whichever.
+    Number,
+    /// It points to the stack, at this distance from the stack's end.
+    Stack(i64),
+    /// It points to the change record, at this distance from the record's first byte.
+    Record(i64),
+}
+
+impl Kind {
+    /// Whether nothing is known.
+    pub fn is_unset(self) -> bool
+        ensures { result ≡ is_unset self }
+    {
+        self == Kind::Unset
+    }
+
+    /// Whether it is a number.
+    pub fn is_number(self) -> bool
+        ensures { result ≡ is_number self }
+    {
+        self == Kind::Number
+    }
+
+    /// Whether it points to the stack or to the record.
+    pub fn is_pointer(self) -> bool
+        ensures { result ≡ is_pointer self }
+    {
+        match self {
+            Kind::Unset | Kind::Number => false,
+            Kind::Stack(_) | Kind::Record(_) => true,
+        }
+    }
+}
+
+/// What is known before an instruction: the kinds of the registers by number, and which stack bytes are written, from the
+/// lowest.
+#[derive(Clone, Copy)]
+pub struct Frame {
+    pub kinds: [Kind; 11],
+    pub written: [bool; 512],
+}
+
+/// The frame at entry: register 1 points to the record and register 10 to the end of the stack, and nothing is written.
+#[tactic(auto, unfolding(crate::specs::Frames::entry))]
+pub fn entry() -> Frame
+    ensures { result ≡ entry }
+{
+    let mut kinds = [Kind::Unset; 11];
+    kinds[1] = Kind::Record(0);
+    kinds[10] = Kind::Stack(0);
+    Frame {
+        kinds,
+        written: [false; 512],
+    }
+}
+
+fn meet(a: Kind, b: Kind) -> Kind
+    ensures { result ≡ meet a b }
+{
+    if a == b { a } else { Kind::Unset }
+}
+
+fn meet_kinds(a: &[Kind; 11], b: &[Kind; 11]) -> [Kind; 11]
+    ensures { result ≡ meet_kinds a.now b.now }
+{
+    let mut kinds = *a;
+    for i in 0..11 {
+        kinds[i] = meet(a[i], b[i]);
+    }
+    kinds
+}
+
+fn meet_bytes(a: &[bool; 512], b: &[bool; 512]) -> [bool; 512]
+    ensures { result ≡ meet_bytes a.now b.now }
+{
+    let mut written = *a;
+    for i in 0..512 {
+        written[i] = a[i] && b[i];
+    }
+    written
+}
+
+/// What both frames say, and no more: where two ways lead to one slot, the frame there is the join of theirs.
+pub fn join(a: &Frame, b: &Frame) -> Frame
+    ensures value { result ≡ join a.now b.now }
+    ensures meet { IsMeet a.now b.now result }
+{
+    Frame {
+        kinds: meet_kinds(&a.kinds, &b.kinds),
+        written: meet_bytes(&a.written, &b.written),
+    }
+}

@@ -1,0 +1,13 @@
+//! What is known of registers and stack bytes before a program runs.
+//!
+//! The kinds and their join are the project's own profile: RFC 9669 leaves verification to the platform.
+#![tactic(auto)]
+
+mod frame;
+mod ranges;
+
+pub use frame::{Frame, Kind, entry, join};
+pub use ranges::{in_record, in_stack};
+
+#[cfg(test)]
+mod tests;

@@ -1,0 +1,75 @@
+//! Which bytes a pointer reaches, and which of them are written.
+ghost use Rattle.std.specs.Prelude.{◌≡◌, ◌≤◌, ◌+◌, length, replicate, true, IsTrue};
+ghost use Rattle.std.specs.List.{list_all};
+ghost use Rattle.pb_kinds.specs.Ranges.{in_stack, in_record, from_low, are_written, filled, with_written};
+
+use crate::frame::Frame;
+
+/// Whether so many bytes lie all in the stack, from this distance to the stack's end on.
+pub fn in_stack(at: i64, bytes: u8) -> bool
+    ensures { result ≡ in_stack at bytes }
+{
+    -512 <= at && at <= -i64::from(bytes)
+}
+
+/// Whether so many bytes lie all in the change record, from this distance to its first byte on.
+pub fn in_record(at: i64, bytes: u8) -> bool
+    ensures { result ≡ in_record at bytes }
+{
+    0 <= at && at <= 80 - i64::from(bytes)
+}
+
+// The place of a stack byte, counted from the lowest.
+fn from_low(at: i64, bytes: u8) -> usize
+    requires { IsTrue (in_stack at bytes) }
+    ensures place { result ≡ from_low at }
+    ensures fits { result + bytes ≤ 512 }
+{
+    (at + 512) as usize
+}
+
+fn all_true(bytes: &[bool]) -> bool
+    ensures { result ≡ list_all (λ b. b) bytes.now }
+{
+    for b in bytes {
+        if !*b {
+            return false;
+        }
+    }
+    true
+}
+
+fn fill(bytes: &mut [bool])
+    ensures { bytes.new ≡ replicate (length bytes.old) true }
+{
+    for b in bytes.iter_mut() {
+        *b = true;
+    }
+}
+
+fn fill_from(written: &mut [bool; 512], low: usize, bytes: usize)
+    requires { low + bytes ≤ 512 }
+    ensures { written.new ≡ filled written.old low bytes }
+{
+    fill(&mut written[low..low + bytes]);
+}
+
+impl Frame {
+    /// Whether so many stack bytes are all written, from this distance to the stack's end on.
+    pub fn are_written(&self, at: i64, bytes: u8) -> bool
+        requires inside { IsTrue (in_stack at bytes) }
+        ensures { result ≡ are_written self.now at bytes }
+    {
+        let low = from_low(at, bytes);
+        all_true(&self.written[low..low + usize::from(bytes)])
+    }
+
+    /// Notes that so many stack bytes are written, from this distance to the stack's end on.
+    pub fn write(&mut self, at: i64, bytes: u8)
+        requires inside { IsTrue (in_stack at bytes) }
+        ensures { self.new ≡ with_written self.old at bytes }
+    {
+        let low = from_low(at, bytes);
+        fill_from(&mut self.written, low, usize::from(bytes));
+    }
+}

@@ -1,0 +1,4 @@
+pub mod Lowest
+pub mod Rising
+pub mod Near
+pub mod Outs

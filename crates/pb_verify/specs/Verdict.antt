@@ -1,0 +1,21 @@
+-- What the verifier answers.
+use Rattle.std.specs.Prelude.{◌≡◌, List}
+use Rattle.pb_isa.specs.declared.insn.Insn.{Insn}
+use Rattle.pb_isa.specs.Helpers.{HelperSet}
+use Rattle.pb_helpers.specs.declared.code.Code.{Code}
+use Rattle.pb_helpers.specs.Codes.{code_number}
+use Rattle.pb_verify.specs.declared.verifier.VerifyFault.{VerifyFault}
+use Rattle.pb_verify.specs.declared.verifier.VerifyFault.TheVariants.{NoMemory, Refused}
+use Rattle.pb_verify.specs.Accepted.{AcceptedOf}
+use Rattle.pb_verify.specs.Arriving.{Accepts, Refuses}
+
+-- the program with its table, which the rules accept
+pub record IsAccepted (p : List Insn) (h : HelperSet) (a : AcceptedOf) : Type 0 where
+  pub program : a.program ≡ p
+  pub helpers : a.helpers ≡ h
+  pub accepts : Accepts p h
+
+-- memory was refused, or this is the first slot at fault with its lowest code
+abbrev pub IsFault : List Insn → HelperSet → VerifyFault → Type 0
+IsFault p h NoMemory = Unit {0}
+IsFault p h (Refused r) = (c : Code) × (r.code ≡ code_number c) × Refuses p h r.slot c

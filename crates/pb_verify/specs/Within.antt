@@ -1,0 +1,22 @@
+-- How far the pointers of frames are from where they began: before slot n at most n steps of 2 ^ 31.
+use Rattle.std.specs.Prelude.{ℕ, ◌≤◌, nat_abs, List, Option, Some, None, slice_index_or}
+use Rattle.pb_kinds.specs.declared.frame.Kind.{Kind}
+use Rattle.pb_kinds.specs.declared.frame.Kind.TheVariants.{Unset, Number, Stack, Record}
+use Rattle.pb_kinds.specs.declared.frame.Frame.{Frame}
+use Rattle.pb_kinds.specs.Frames.{kind_of}
+
+abbrev pub IsNear : ℕ → Kind → Type 0
+IsNear b Unset = Unit {0}
+IsNear b Number = Unit {0}
+IsNear b (Stack k) = nat_abs k ≤ b
+IsNear b (Record k) = nat_abs k ≤ b
+
+pub record IsWithin (b : ℕ) (f : Frame) : Type 0 where
+  pub each : (r : ℕ) → IsNear b (kind_of f r)
+
+abbrev pub IsWithinIf : ℕ → Option Frame → Type 0
+IsWithinIf b None = Unit {0}
+IsWithinIf b (Some f) = IsWithin b f
+
+pub record AllWithin (b : ℕ) (fs : List (Option Frame)) : Type 0 where
+  pub every : (k : ℕ) → IsWithinIf b (slice_index_or fs k None)

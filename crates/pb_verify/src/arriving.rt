@@ -1,0 +1,48 @@
+//! The frame with which a slot is reached.
+ghost use Rattle.std.specs.Prelude.{◌≡◌, ◌<◌, length};
+ghost use Rattle.pb_isa.specs.Slots.{slots};
+ghost use Rattle.pb_verify.specs.Arriving.{merge, sent, arriving};
+
+use crate::following::leads_to;
+use pb_isa::{Insn, Program};
+use pb_kinds::{Frame, entry, join};
+
+fn merge(known: Option<Frame>, more: Option<Frame>) -> Option<Frame>
+    ensures { result ≡ merge known more }
+{
+    match (known, more) {
+        (None, more) => more,
+        (Some(first), None) => Some(first),
+        (Some(first), Some(second)) => Some(join(&first, &second)),
+    }
+}
+
+fn sent(insn: Option<Insn>, from: usize, to: usize, out: Option<Frame>) -> Option<Frame>
+    requires { from < 512 }
+    ensures { result ≡ sent insn from to out }
+{
+    match insn {
+        None => None,
+        Some(insn) => if leads_to(from, insn, to) { out } else { None },
+    }
+}
+
+/// The frame before a slot, where these are the frames after the slots before it.
+pub fn arriving(program: &Program, slot: usize, outs: &[Option<Frame>]) -> Option<Frame>
+    requires inside { slot < slots program.now }
+    requires before { length outs.now ≡ slot }
+    ensures { result ≡ arriving program.now slot outs.now }
+{
+    if slot == 0 {
+        return Some(entry());
+    }
+    let _slots = program.slots();
+    let mut known = None;
+    for earlier in 0..slot {
+        known = merge(
+            known,
+            sent(program.at(earlier), earlier, slot, outs[earlier]),
+        );
+    }
+    known
+}

@@ -1,0 +1,14 @@
+//! The verifier: which programs are accepted, and where and why another is refused.
+//!
+//! RFC 9669 leaves verification to the platform: the rules are the project's own profile.
+#![tactic(auto)]
+
+mod accepted;
+mod arriving;
+mod following;
+mod rules;
+mod verifier;
+
+pub use accepted::Accepted;
+pub use rules::codes_rise;
+pub use verifier::{VerifyFault, verify};

@@ -1,0 +1,82 @@
+//! Whether the rules hold at every slot.
+ghost use Rattle.std.specs.Prelude.{◌≡◌, ◌<◌, ◌+◌, ◌^◌, ℕ, [], Some, IfOk, IfErr, MatchResult};
+ghost use Rattle.pb_isa.specs.Slots.{slots, insn_at};
+ghost use Rattle.pb_helpers.specs.Codes.{lowest};
+ghost use Rattle.pb_verify.specs.Arriving.{codes_at, leaving};
+ghost use Rattle.pb_verify.specs.Verdict.{IsAccepted, IsFault};
+ghost use Rattle.pb_verify.specs.Within.{IsWithinIf};
+
+use crate::accepted::Accepted;
+use crate::arriving::arriving;
+use crate::following::after;
+use crate::rules::broken;
+use pb_base::Refused;
+use pb_helpers::{Code, HelperTable};
+use pb_isa::Program;
+use pb_kinds::Frame;
+use std::alloc::Global;
+use thiserror::Error;
+
+/// Why a program isn't accepted: memory was refused, or the rules fail, at a slot (from 0) and with a code from 21 to 38.
+#[derive(Clone, Copy, Debug, PartialEq, Eq, Drop, Error)]
+pub enum VerifyFault {
+    #[error("no memory")]
+    NoMemory,
+    #[error("{0}")]
+    Refused(Refused),
+}
+
+// The frame after a slot, or the lowest code of the rules that are broken there.
+fn leaving(
+    program: &Program,
+    helpers: HelperTable,
+    slot: usize,
+    arriving: Option<Frame>,
+) -> Result<Option<Frame>, Code>
+    requires inside { slot < slots program.now }
+    requires near { IsWithinIf (2 ^ 62) arriving }
+    ensures value { MatchResult
+        result
+        (λ out. (codes_at program.now helpers slot (insn_at program.now slot) arriving ≡ []) × (out ≡ leaving (insn_at program.now slot) arriving))
+        (λ code. lowest (codes_at program.now helpers slot (insn_at program.now slot) arriving) ≡ Some code) }
+    ensures near { IfOk result (λ out. (b : ℕ) → IsWithinIf b arriving → IsWithinIf (b + 2147483648) out) }
+{
+    match (program.at(slot), arriving) {
+        (None, _) => Ok(None),
+        (Some(_), None) => Err(Code::Unreachable),
+        (Some(insn), Some(frame)) => match broken(program, helpers, slot, &frame, insn) {
+            Some(code) => Err(code),
+            None => Ok(Some(after(&frame, insn))),
+        },
+    }
+}
+
+/// Accepts a program where the rules hold at every slot with these helpers. Else it tells the first slot at fault, with the
+/// lowest code there, and drops the program.
+pub fn verify(
+    alloc: Global,
+    program: Program,
+    helpers: HelperTable,
+) -> Result<Accepted, VerifyFault>
+    ensures accepted { IfOk result (IsAccepted program helpers) }
+    ensures refused { IfErr result (IsFault program helpers) }
+{
+    let mut outs: Vec<Option<Frame>> = Vec::new(alloc);
+    for slot in 0..program.slots() {
+        let known = arriving(&program, slot, &outs);
+        match leaving(&program, helpers, slot, known) {
+            Err(code) => {
+                return Err(VerifyFault::Refused(Refused {
+                    slot: slot as u16,
+                    code: code.code(),
+                }));
+            }
+            Ok(out) => {
+                if outs.push(out).is_err() {
+                    return Err(VerifyFault::NoMemory);
+                }
+            }
+        }
+    }
+    Ok(Accepted::new(program, helpers))
+}
