@@ -1,8 +1,10 @@
 -- How many slots instructions take together.
 use Rattle.std.proofs.Common.{◌≡◌, ◌+◌, ◌<◌, ◌≤◌, ◌⊎◌, inl, inr, List, [], ◌∷◌, ◌++◌, length, arith}
+use Rattle.std.specs.List.{AllByRecursion}
 use Rattle.std.proofs.lemmas.List.{length-append}
 use Rattle.pb_isa.specs.declared.insn.Insn.{Insn}
 use Rattle.pb_isa.specs.declared.insn.Insn.TheVariants.{Alu, Neg, LoadImm, Load, StoreImm, Store, Jump, JumpIf, Call, Exit}
+use Rattle.pb_isa.specs.Bounds.{Fits}
 use Rattle.pb_isa.specs.Slots.{places_of, layout, slots}
 
 pub slots_push : (p : List Insn) (i : Insn) → slots (p ++ i ∷ []) ≡ slots p + slots (i ∷ [])
@@ -22,6 +24,11 @@ some_place (Jump o) = omega arith
 some_place (JumpIf c w d a o) = omega arith
 some_place (Call k) = omega arith
 some_place Exit = omega arith
+
+-- one more instruction whose numbers fit
+pub all_push : (p : List Insn) (i : Insn) → AllByRecursion Fits p → Fits i → AllByRecursion Fits (p ++ i ∷ [])
+all_push [] i h f = (f, tt)
+all_push (j ∷ p) i h f = (h.0, all_push p i h.1 f)
 
 -- some instructions that take at most 512 slots are a program
 pub never_refused : (p : List Insn) → 0 < length p → slots p ≤ 512 → (slots p ≡ 0) ⊎ (512 < slots p) → ⊥

@@ -24,11 +24,13 @@ fn is_skipped(line: &str) -> bool
 
 impl Lines {
     // Adds what one line says.
-    #[tactic(auto, using(crate::proofs::Slots::slots_push), unfolding(crate::specs::Texts::with_line))]
+    #[tactic(auto, using(crate::proofs::Slots::slots_push, crate::proofs::Slots::all_push), unfolding(crate::specs::Texts::with_line))]
     fn add(&mut self, alloc: Global, line: &str) -> Result<(), Code>
-        requires { self.old.taken ≤ 512 }
+        requires most { self.old.taken ≤ 512 }
+        requires fits { AllByRecursion Fits self.old.insns.items }
         ensures read { Gives (λ _. self.new.insns.items) result (with_line self.old.insns.items line.now) }
         ensures most { self.new.taken ≤ 512 }
+        ensures fits { AllByRecursion Fits self.new.insns.items }
     {
         if is_skipped(line) {
             return Ok(());
@@ -44,9 +46,10 @@ impl Lines {
     }
 }
 
-// How many slots an instruction takes.
+// How many slots an instruction takes. Its numbers fit by their types.
 fn slots_of(insn: Insn) -> usize
-    ensures { result ≡ slots (insn ∷ []) }
+    ensures slots { result ≡ slots (insn ∷ []) }
+    ensures fits { Fits insn }
 {
     match insn {
         Insn::LoadImm(_, _) => 2,
@@ -64,6 +67,7 @@ fn lines_of(alloc: Global, text: &str) -> Result<Vec<&str>, AllocError>
 fn lines_in(alloc: Global, text: &str) -> Result<Lines, AsmFault>
     ensures read { ReadsLines result (lines_read 0 [] (slice_split (λ b. b == 10) text.now)) }
     ensures most { IfOk result (λ l. l.taken ≤ 512) }
+    ensures fits { IfOk result (λ l. AllByRecursion Fits l.insns.items) }
 {
     let Ok(lines) = lines_of(alloc, text) else {
         return Err(AsmFault { line: 0, code: 1 });
@@ -82,7 +86,9 @@ fn lines_in(alloc: Global, text: &str) -> Result<Lines, AsmFault>
 
 /// The program of a text, one instruction a line. Empty lines and lines that begin with `#` are skipped.
 pub fn assemble(alloc: Global, text: &str) -> Result<Program, AsmFault>
-    ensures { Reads result (program_of text.now) }
+    ensures read { Reads result (program_of text.now) }
+    ensures program { IfOk result IsProgram }
+    ensures fits { IfOk result (AllByRecursion Fits) }
 {
     let lines = lines_in(alloc, text)?;
     if lines.insns.is_empty() {

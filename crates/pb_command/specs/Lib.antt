@@ -1,1 +1,3 @@
+pub mod Files
 pub mod Commands
+pub mod Programs

@@ -1,19 +1,19 @@
-//! Where files are read.
-ghost use Rattle.std.specs.Prelude.{◌≡◌, List, ℕ, Option, IfOk};
-ghost use Rattle.pb_command.specs.Commands.{IsKnownAs};
+//! Where files are read and written.
+ghost use Rattle.std.specs.Prelude.{◌≡◌, List, ℕ, Option, IfOk, OnOk};
+ghost use Rattle.pb_command.specs.Files.{IsKnownAs, KeepsOthers};
 
-/// Why a file isn't read.
+/// Why a file isn't read or written.
 #[derive(Clone, Copy, Debug, PartialEq, Eq, Drop)]
 pub enum PathFault {
-    /// It isn't there, or a read failed.
+    /// It isn't there or can't be made, or a read or a write failed.
     Failed,
-    /// It has more than 16,777,216 bytes.
+    /// It has more than 16,777,216 bytes. Of a write it says no more than `Failed`.
     TooLarge,
     /// A growth was refused.
     NoMemory,
 }
 
-/// Reads files by their paths, and tells what a path holds, where that is known.
+/// Reads and writes files by their paths, and tells what a path holds, where that is known.
 pub trait Paths {
     ghost held: { Self → List ℕ → Option (List ℕ) };
 
@@ -21,4 +21,9 @@ pub trait Paths {
     fn read(&mut self, path: &str) -> Result<Vec<u8>, PathFault>
         ensures bytes { IfOk result (λ v. IsKnownAs (held self.old path.now) v.items) }
         ensures same { held self.new ≡ held self.old };
+
+    /// Makes the bytes the whole file at a path. Where that fails, the path may hold anything.
+    fn write(&mut self, path: &str, bytes: &[u8]) -> Result<(), PathFault>
+        ensures bytes { OnOk result (IsKnownAs (held self.new path.now) bytes.now) }
+        ensures others { KeepsOthers (held self.old) (held self.new) path.now };
 }

@@ -11,8 +11,8 @@ use Rattle.clap.specs.Simple.{Shape, built, argument_words, entered, names_of}
 use Rattle.clap.specs.Kinds.{Kinds, or_else, check_kinds}
 use Rattle.clap.specs.Takes.{is_given}
 use Rattle.clap.specs.Faults.{fault_of, level_fault, entered_fault, check_fault, walk_fault, turn_fault, word_fault, other_fault}
-use Rattle.pb_texts.specs.CommandLines.{program_app, both, run_in, command_in, command_of}
-use Rattle.pb_texts.proofs.Filled.{Full, run_rules, full_rows}
+use Rattle.pb_texts.specs.CommandLines.{program_app, Request, Run, Asm, Dis, both, command_in, command_of}
+use Rattle.pb_texts.proofs.Filled.{Full, one_operand, two_operands, one_alone, two_alone, full_rows}
 
 chosen : {A : Type 0} (b : Bool) (x y z : A) → cond b x y ≡ z → ((b ≡ true) × (x ≡ z)) ⊎ ((b ≡ false) × (y ≡ z))
 chosen true x y z h = inl (refl, h)
@@ -65,89 +65,98 @@ top = (built program_app).top
 abbrev names : Names
 names = names_of (built program_app)
 
-abbrev Runs : Option (Text × List Text) → Type 0
-Runs None = Unit {0}
-Runs (Some p) = p.0 ≡ codes "run"
+abbrev IsName : Text → Type 0
+IsName name = (name ≡ codes "run") ⊎ ((name ≡ codes "asm") ⊎ (name ≡ codes "dis"))
 
-abbrev RunStep : Step → Type 0
-RunStep (next w) = Unit {0}
-RunStep (trailing p) = Unit {0}
-RunStep (subcommand name) = name ≡ codes "run"
-RunStep value = Unit {0}
+-- a walk that stopped did so at one of the subcommands
+abbrev Stops : Option (Text × List Text) → Type 0
+Stops None = Unit {0}
+Stops (Some p) = IsName p.0
+
+abbrev StopStep : Step → Type 0
+StopStep (next w) = Unit {0}
+StopStep (trailing p) = Unit {0}
+StopStep (subcommand name) = IsName name
+StopStep value = Unit {0}
 
 abbrev Named : Option Text → Type 0
 Named None = Unit {0}
-Named (Some name) = (name ≡ codes "run") ⊎ (name ≡ codes "help")
+Named (Some name) = IsName name ⊎ (name ≡ codes "help")
 
-named_by : (a b : Bool) → Named (option_map (λ (s : Text × List Text). s.0) (cond a (Some (codes "run", [])) (cond b (Some (codes "help", [])) None)))
-named_by true b = inl refl
-named_by false true = inr refl
-named_by false false = tt
+abbrev name_if : Bool → Text → Option (Text × List Text) → Option (Text × List Text)
+name_if b name others = cond b (Some (name, [])) others
+
+named_by : (a b c d : Bool) → Named (option_map (λ (s : Text × List Text). s.0) (name_if a (codes "run") (name_if b (codes "asm") (name_if c (codes "dis") (name_if d (codes "help") None)))))
+named_by true b c d = inl (inl refl)
+named_by false true c d = inl (inr (inl refl))
+named_by false false true d = inl (inr (inr refl))
+named_by false false false true = inr refl
+named_by false false false false = tt
 
 named : (w : Waiting) (word : Text) → Named (subcommand_met names w word)
-named idle word = named_by (answers_to word (codes "run", [])) (answers_to word (codes "help", []))
+named idle word = named_by (answers_to word (codes "run", [])) (answers_to word (codes "asm", [])) (answers_to word (codes "dis", [])) (answers_to word (codes "help", []))
 named (option id) word = tt
 named positional word = tt
 
-step_if : (b : Bool) (x y : Held × Step) → RunStep x.1 → RunStep y.1 → RunStep (cond b x y).1
+step_if : (b : Bool) (x y : Held × Step) → StopStep x.1 → StopStep y.1 → StopStep (cond b x y).1
 step_if true x y f g = f
 step_if false x y f g = g
 
-plain_runs : (c : List Rule) (w : Waiting) (word : Text) (h : Held) → RunStep (plain_word c w word h).1
-plain_runs c idle word h = tt
-plain_runs c (option id) word h = tt
-plain_runs c positional word h = tt
+plain_stops : (c : List Rule) (w : Waiting) (word : Text) (h : Held) → StopStep (plain_word c w word h).1
+plain_stops c idle word h = tt
+plain_stops c (option id) word h = tt
+plain_stops c positional word h = tt
 
-after_runs : (c : List Rule) (w : Waiting) (word : Text) (h : Held) (q : Outcome) → RunStep (after_flag c w word h q).1
-after_runs c w word h done = tt
-after_runs c w word h (waits id) = tt
-after_runs c w word h plain = plain_runs c w word h
-after_runs c w word h refused = plain_runs c w word h
+after_stops : (c : List Rule) (w : Waiting) (word : Text) (h : Held) (q : Outcome) → StopStep (after_flag c w word h q).1
+after_stops c w word h done = tt
+after_stops c w word h (waits id) = tt
+after_stops c w word h plain = plain_stops c w word h
+after_stops c w word h refused = plain_stops c w word h
 
-short_runs : (c : List Rule) (w : Waiting) (word : Text) (o : Option Text) (h : Held) → RunStep (short_or_plain c w word o h).1
-short_runs c w word None h = plain_runs c w word h
-short_runs c w word (Some flags) h = after_runs c w word (bundle c flags h).0 (bundle c flags h).1
+short_stops : (c : List Rule) (w : Waiting) (word : Text) (o : Option Text) (h : Held) → StopStep (short_or_plain c w word o h).1
+short_stops c w word None h = plain_stops c w word h
+short_stops c w word (Some flags) h = after_stops c w word (bundle c flags h).0 (bundle c flags h).1
 
-long_runs : (c : List Rule) (w : Waiting) (word : Text) (o : Option (Text × Option Text)) (h : Held) → RunStep (long_or_other c w word o h).1
-long_runs c w word None h = short_runs c w word (short_of word) h
-long_runs c w word (Some p) h = after_runs c w word (long_met c (arg_by_long c p.0) p.1 h).0 (long_met c (arg_by_long c p.0) p.1 h).1
+long_stops : (c : List Rule) (w : Waiting) (word : Text) (o : Option (Text × Option Text)) (h : Held) → StopStep (long_or_other c w word o h).1
+long_stops c w word None h = short_stops c w word (short_of word) h
+long_stops c w word (Some p) h = after_stops c w word (long_met c (arg_by_long c p.0) p.1 h).0 (long_met c (arg_by_long c p.0) p.1 h).1
 
-other_runs : (o : Option Text) (w : Waiting) (position : ℕ) (word : Text) (h : Held) → Named o → other_fault top o word h ≡ [] → RunStep (subcommand_or_other top.rules o w position word h).1
-other_runs None w position word h n e = step_if (bytes_eq word (45 ∷ 45 ∷ [])) _ _ tt (long_runs top.rules w word (long_of word) h)
-other_runs (Some name) w position word h (inl run) e = run
-other_runs (Some name) w position word h (inr helps) e =
+other_stops : (o : Option Text) (w : Waiting) (position : ℕ) (word : Text) (h : Held) → Named o → other_fault top o word h ≡ [] → StopStep (subcommand_or_other top.rules o w position word h).1
+other_stops None w position word h n e = step_if (bytes_eq word (45 ∷ 45 ∷ [])) _ _ tt (long_stops top.rules w word (long_of word) h)
+other_stops (Some name) w position word h (inl known) e = known
+other_stops (Some name) w position word h (inr helps) e =
     let k : other_fault top (Some (codes "help")) word h ≡ [] = subst (λ (n : Text). other_fault top (Some n) word h ≡ []) helps e in
     absurd cc
 
-word_runs : (b : Bool) (w : Waiting) (position : ℕ) (word : Text) (h : Held) → word_fault top names b w word h ≡ [] → RunStep (word_met top.rules names b w position word h).1
-word_runs true w position word h e = tt
-word_runs false w position word h e = other_runs (subcommand_met names w word) w position word h (named w word) e
+word_stops : (b : Bool) (w : Waiting) (position : ℕ) (word : Text) (h : Held) → word_fault top names b w word h ≡ [] → StopStep (word_met top.rules names b w position word h).1
+word_stops true w position word h e = tt
+word_stops false w position word h e = other_stops (subcommand_met names w word) w position word h (named w word) e
 
-positional_runs : (o : Option Rule) (word : Text) (w : Walk) (h : Held) → Runs w.stopped → Runs (to_positional top.rules o word w h).stopped
-positional_runs None word w h g = g
-positional_runs (Some a) word w h g = tt
+positional_stops : (o : Option Rule) (word : Text) (w : Walk) (h : Held) → Stops w.stopped → Stops (to_positional top.rules o word w h).stopped
+positional_stops None word w h g = g
+positional_stops (Some a) word w h g = tt
 
-step_runs : (word : Text) (w : Walk) (h : Held) (s : Step) → RunStep s → Runs w.stopped → Runs (after_step top.rules word w h s).stopped
-step_runs word w h (next q) r g = g
-step_runs word w h (trailing p) r g = g
-step_runs word w h (subcommand name) r g = r
-step_runs word w h value r g = positional_runs (arg_by_index top.rules w.position) word w h g
+step_stops : (word : Text) (w : Walk) (h : Held) (s : Step) → StopStep s → Stops w.stopped → Stops (after_step top.rules word w h s).stopped
+step_stops word w h (next q) r g = g
+step_stops word w h (trailing p) r g = g
+step_stops word w h (subcommand name) r g = r
+step_stops word w h value r g = positional_stops (arg_by_index top.rules w.position) word w h g
 
 unless_stopped : (o : Option (Text × List Text)) (k : Kinds) → o ≡ None → cond (is_some o) [] k ≡ [] → k ≡ []
 unless_stopped None k is h = h
 unless_stopped (Some p) k is h = absurd cc
 
 -- a word, at a walk that has stopped there or not
-turn_runs : (o : Option (Text × List Text)) (w : Walk) (word : Text) → w.stopped ≡ o → Runs o → turn_fault top names w word ≡ [] → Runs (walked_from top.rules names o w word).stopped
-turn_runs (Some p) w word is g e = g
-turn_runs None w word is g e = step_runs word w _ _ (word_runs w.is_trailing w.waiting w.position word w.held (or_else_none _ _ (unless_stopped w.stopped _ is e)).0) (subst Runs (sym is) tt)
+turn_stops : (o : Option (Text × List Text)) (w : Walk) (word : Text) → w.stopped ≡ o → Stops o → turn_fault top names w word ≡ [] → Stops (walked_from top.rules names o w word).stopped
+turn_stops (Some p) w word is g e = g
+turn_stops None w word is g e = step_stops word w _ _ (word_stops w.is_trailing w.waiting w.position word w.held (or_else_none _ _ (unless_stopped w.stopped _ is e)).0) (subst Stops (sym is) tt)
 
-walk_runs : (words : List Text) (w : Walk) → Runs w.stopped → walk_fault top names w words ≡ [] → Runs (fold (walked top.rules names) w words).stopped
+walk_stops : (words : List Text) (w : Walk) → Stops w.stopped → walk_fault top names w words ≡ [] → Stops (fold (walked top.rules names) w words).stopped
 unfolding walk_fault walked
-walk_runs [] w g e = g
-walk_runs (word ∷ words) w g e =
+walk_stops [] w g e = g
+walk_stops (word ∷ words) w g e =
     let a = or_else_none _ _ e in
-    walk_runs words (walked top.rules names w word) (turn_runs w.stopped w word refl g a.0) a.1
+    walk_stops words (walked top.rules names w word) (turn_stops w.stopped w word refl g a.0) a.1
 
 -- ---- the subcommand
 
@@ -156,34 +165,69 @@ both_given true true h = (refl, refl)
 both_given true false h = absurd cc
 both_given false b h = absurd cc
 
-both_some : (a b : Option Text) (s t : Text) → a ≡ Some s → b ≡ Some t → both a b ≡ Some (s, t)
-both_some a b s t e f = ap (λ x. both x b) e ∙ ap (both (Some s)) f
+both_some : (make : Text → Text → Request) (a b : Option Text) (s t : Text) → a ≡ Some s → b ≡ Some t → both make a b ≡ Some (make s t)
+both_some make a b s t e f = ap (λ x. both make x b) e ∙ ap (both make (Some s)) f
 
 checked : (b : Bool) → check_kinds false false b ≡ [] → b ≡ false
 checked true h = absurd cc
 checked false h = refl
 
-run_asks : (rows : List Row) → Full rows → check_kinds false false (not (is_given (codes "MANIFEST") rows) || (not (is_given (codes "SCRIPT") rows) || false)) ≡ [] → (p : Text × Text) × (run_in rows ≡ Some p)
-run_asks rows f e =
-    let g = both_given (is_given (codes "MANIFEST") rows) (is_given (codes "SCRIPT") rows) (checked _ e) in
-    let m = given_first (codes "MANIFEST") rows f g.0 in
-    let s = given_first (codes "SCRIPT") rows f g.1 in
-    ((m.0, s.0), both_some _ _ m.0 s.0 m.1 s.1)
+both_ask : (make : Text → Text → Request) (first second : Text) (rows : List Row) → Full rows → check_kinds false false (not (is_given first rows) || (not (is_given second rows) || false)) ≡ []
+    → (r : Request) × (both make (first_of first rows) (first_of second rows) ≡ Some r)
+both_ask make first second rows f e =
+    let g = both_given (is_given first rows) (is_given second rows) (checked _ e) in
+    let m = given_first first rows f g.0 in
+    let s = given_first second rows f g.1 in
+    (make m.0 s.0, both_some make _ _ m.0 s.0 m.1 s.1)
 
-asks_at : (o : Option (Text × List Text)) → Runs o → is_some (entered (built program_app) o) ≡ true → entered_fault (built program_app) o ≡ [] → (p : Text × Text) × (command_in (entered (built program_app) o) ≡ Some p)
+one_given : (a : Bool) → (not a || false) ≡ false → a ≡ true
+one_given true h = refl
+one_given false h = absurd cc
+
+one_asks : (make : Text → Request) (id : Text) (rows : List Row) → Full rows → check_kinds false false (not (is_given id rows) || false) ≡ []
+    → (r : Request) × (option_map make (first_of id rows) ≡ Some r)
+one_asks make id rows f e =
+    let m = given_first id rows f (one_given (is_given id rows) (checked _ e)) in
+    (make m.0, ap (option_map make) m.1)
+
+-- what is asked for where the walk stopped at this name, with these words behind
+abbrev Asks : Text → List Text → Type 0
+Asks name words = (r : Request) × (command_in (entered (built program_app) (Some (name, words))) ≡ Some r)
+
+run_asks : (words : List Text) → entered_fault (built program_app) (Some (codes "run", words)) ≡ [] → Asks (codes "run") words
+run_asks words f =
+    let c = level_none _ [] nothing_held words false [] f in
+    both_ask Run (codes "MANIFEST") (codes "SCRIPT") (rows_after (two_operands (codes "MANIFEST") (codes "SCRIPT")) [] words)
+    (full_rows (two_operands (codes "MANIFEST") (codes "SCRIPT")) (two_alone (codes "MANIFEST") (codes "SCRIPT")) [] words) c.2
+
+asm_asks : (words : List Text) → entered_fault (built program_app) (Some (codes "asm", words)) ≡ [] → Asks (codes "asm") words
+asm_asks words f =
+    let c = level_none _ [] nothing_held words false [] f in
+    both_ask Asm (codes "IN") (codes "OUT") (rows_after (two_operands (codes "IN") (codes "OUT")) [] words)
+    (full_rows (two_operands (codes "IN") (codes "OUT")) (two_alone (codes "IN") (codes "OUT")) [] words) c.2
+
+dis_asks : (words : List Text) → entered_fault (built program_app) (Some (codes "dis", words)) ≡ [] → Asks (codes "dis") words
+dis_asks words f =
+    let c = level_none _ [] nothing_held words false [] f in
+    one_asks Dis (codes "FILE") (rows_after (one_operand (codes "FILE")) [] words) (full_rows (one_operand (codes "FILE")) (one_alone (codes "FILE")) [] words) c.2
+
+-- the same for a name that is one of these
+renamed : (name known : Text) (words : List Text) → name ≡ known → (entered_fault (built program_app) (Some (known, words)) ≡ [] → Asks known words)
+    → entered_fault (built program_app) (Some (name, words)) ≡ [] → Asks name words
+renamed name known words e asks f = subst (λ (n : Text). entered_fault (built program_app) (Some (n, words)) ≡ [] → Asks n words) (sym e) asks f
+
+asks_at : (o : Option (Text × List Text)) → Stops o → is_some (entered (built program_app) o) ≡ true → entered_fault (built program_app) o ≡ [] → (r : Request) × (command_in (entered (built program_app) o) ≡ Some r)
 asks_at None r e f = absurd cc
-asks_at (Some q) r e f =
-    let f' = subst (λ (n : Text). entered_fault (built program_app) (Some (n, q.1)) ≡ []) r f in
-    let c = level_none _ [] nothing_held q.1 false [] f' in
-    let a = run_asks (rows_after run_rules [] q.1) (full_rows [] q.1) c.2 in
-    (a.0, ap (λ (n : Text). command_in (entered (built program_app) (Some (n, q.1)))) r ∙ a.1)
+asks_at (Some q) (inl run) e f = renamed q.0 (codes "run") q.1 run (run_asks q.1) f
+asks_at (Some q) (inr (inl asm)) e f = renamed q.0 (codes "asm") q.1 asm (asm_asks q.1) f
+asks_at (Some q) (inr (inr dis)) e f = renamed q.0 (codes "dis") q.1 dis (dis_asks q.1) f
 
 has_one : (b : Bool) (rows : List Row) → check_fault top rows b ≡ [] → b ≡ true
 has_one true rows h = refl
 has_one false rows h = absurd cc
 
-pub asks : (words : List Text) → fault_of program_app words ≡ [] → (p : Text × Text) × (command_of words ≡ Some p)
+pub asks : (words : List Text) → fault_of program_app words ≡ [] → (r : Request) × (command_of words ≡ Some r)
 asks words e =
     let ws = argument_words (built program_app) words in
     let c = level_none top names nothing_held ws _ _ e in
-    asks_at (walk top.rules names nothing_held ws).stopped (walk_runs ws (walk_from nothing_held) tt c.0) (has_one _ (finished top.rules (walk top.rules names nothing_held ws).held) c.2) c.1
+    asks_at (walk top.rules names nothing_held ws).stopped (walk_stops ws (walk_from nothing_held) tt c.0) (has_one _ (finished top.rules (walk top.rules names nothing_held ws).held) c.2) c.1

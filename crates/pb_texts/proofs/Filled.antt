@@ -1,5 +1,5 @@
 -- The rows of `run` each have a value, whatever the words.
-use Rattle.std.proofs.Common.{◌≡◌, ℕ, zero, suc, ◌<◌, Bool, true, false, cond, List, [], ◌∷◌, ◌++◌, length, drop, Option, Some, None, refl, sym, subst, arith, length-append, codes}
+use Rattle.std.proofs.Common.{◌≡◌, ℕ, zero, suc, ◌<◌, Bool, true, false, cond, List, [], ◌∷◌, ◌++◌, length, drop, Option, Some, None, refl, sym, subst, arith, length-append}
 use Rattle.std.specs.Prelude.{◌&&◌, fold, encode_utf8, slice_get}
 use Rattle.std.specs.Str.{bytes_eq, chars}
 use Rattle.clap.specs.Lexer.{long_of, short_of}
@@ -8,7 +8,7 @@ use Rattle.clap.specs.Walk.{next, trailing, subcommand, value}
 use Rattle.clap.specs.Walk.{at_row, more_values, with_values, without, used_as, used, used_by_id, settled_rows, settled, reacted, action_of, reading_by}
 use Rattle.clap.specs.Walk.{arg_by_id, arg_by_index, arg_by_long, arg_by_short, has_long, has_short, long_met, short_met, bundle_step, bundle_met, option_word, plain_word, after_flag, short_or_plain, long_or_other}
 use Rattle.clap.specs.Walk.{subcommand_met, subcommand_or_other, word_met, pushed, to_positional, after_step, walked_from, walked, walk_from, default_rows, with_default, nothing_held, rows_after, has_row, is_pending, takes_several}
-use Rattle.clap.specs.Simple.{filled, filled_from, with_index, help_rule}
+use Rattle.clap.specs.Simple.{filled, filled_from, help_rule}
 use Rattle.clap.specs.declared.builder.action.ArgAction.{ArgAction}
 use Rattle.clap.specs.declared.builder.action.ArgAction.TheVariants.{Set, Append, SetTrue, SetFalse, Count, Help, HelpShort, HelpLong, Version}
 use Rattle.clap.specs.declared.parser.matches.ValueSource.{ValueSource}
@@ -74,12 +74,8 @@ full_settled c (Some p) rows r g = full_by_id (arg_by_id c p.0) p.1 rows r g
 filled_settled : (c : List Rule) (h : Held) → IsFilled h → IsFilled (settled c h)
 filled_settled c h g = (full_settled c h.pending h.rows g.1 g.0, tt)
 
--- the rules of `run`, once built
-abbrev pub run_rules : List Rule
-run_rules = filled_from 1 (required_rule (codes "MANIFEST") ∷ required_rule (codes "SCRIPT") ∷ help_rule ∷ [])
-
 abbrev help : Rule
-help = with_index 3 (filled help_rule)
+help = filled help_rule
 
 abbrev OnlyHelp : Option Rule → Type 0
 OnlyHelp None = Unit {0}
@@ -89,110 +85,122 @@ only_if : (b : Bool) → OnlyHelp (cond b (Some help) None)
 only_if true = refl
 only_if false = tt
 
-by_long : (name : Text) → OnlyHelp (arg_by_long run_rules name)
-by_long name = only_if (has_long help name)
+-- the rules have no flag but that for help
+abbrev pub HelpAlone : List Rule → Type 0
+HelpAlone c = ((name : Text) → OnlyHelp (arg_by_long c name)) × ((x : ℕ) → OnlyHelp (arg_by_short c x))
 
-by_short : (x : ℕ) → OnlyHelp (arg_by_short run_rules x)
-by_short x = only_if (has_short help x)
+-- the rules of a subcommand with one operand or two, once built
+abbrev pub one_operand : Text → List Rule
+one_operand id = filled_from 1 (required_rule id ∷ help_rule ∷ [])
 
--- a use of the help flag changes no row
-filled_help : (h : Held) → IsFilled h → IsFilled (reacted run_rules help [] h)
-filled_help h g = (full_settled run_rules h.pending h.rows g.1 g.0, tt)
+abbrev pub two_operands : Text → Text → List Rule
+two_operands first second = filled_from 1 (required_rule first ∷ required_rule second ∷ help_rule ∷ [])
 
-filled_flag : (v : Option Text) (h : Held) → IsFilled h → IsFilled (long_met run_rules (Some help) v h).0
-filled_flag (Some v) h g = g
-filled_flag None h g = filled_help h g
+pub one_alone : (id : Text) → HelpAlone (one_operand id)
+one_alone id = (λ name. only_if (has_long help name), λ x. only_if (has_short help x))
 
-filled_long : (o : Option Rule) (v : Option Text) (h : Held) → OnlyHelp o → IsFilled h → IsFilled (long_met run_rules o v h).0
-filled_long None v h e g = g
-filled_long (Some a) v h e g = subst (λ (a : Rule). IsFilled (long_met run_rules (Some a) v h).0) (sym e) (filled_flag v h g)
+pub two_alone : (first second : Text) → HelpAlone (two_operands first second)
+two_alone first second = (λ name. only_if (has_long help name), λ x. only_if (has_short help x))
 
-filled_short : (o : Option Rule) (rest : Text) (h : Held) (more : Held → Held × Outcome) → ((k : Held) → IsFilled k → IsFilled (more k).0) → OnlyHelp o → IsFilled h → IsFilled (short_met run_rules o rest h more).0
-filled_short None rest h more f e g = g
-filled_short (Some a) rest h more f e g = subst (λ (a : Rule). IsFilled (short_met run_rules (Some a) rest h more).0) (sym e) (f (reacted run_rules help [] h) (filled_help h g))
+module _ (rules : List Rule) (alone : HelpAlone rules) where
+  -- a use of the help flag changes no row
+  filled_help : (h : Held) → IsFilled h → IsFilled (reacted rules help [] h)
+  filled_help h g = (full_settled rules h.pending h.rows g.1 g.0, tt)
 
-filled_step : (o : Option ℕ) (flags : Text) (skip : ℕ) (so_far : Outcome) (h : Held) (more : Text → ℕ → Outcome → Held → Held × Outcome) → ((t : Text) (s : ℕ) (q : Outcome) (k : Held) → IsFilled k → IsFilled (more t s q k).0) → IsFilled h → IsFilled (bundle_step run_rules o flags skip so_far h more).0
-filled_step None flags skip so_far h more f g = g
-filled_step (Some x) flags zero so_far h more f g = let rest = drop (length (encode_utf8 x)) flags in filled_short (arg_by_short run_rules x) rest h (more rest 0 done) (f rest 0 done) (by_short x) g
-filled_step (Some x) flags (suc skip) so_far h more f g = f (drop (length (encode_utf8 x)) flags) skip so_far h g
+  filled_flag : (v : Option Text) (h : Held) → IsFilled h → IsFilled (long_met rules (Some help) v h).0
+  filled_flag (Some v) h g = g
+  filled_flag None h g = filled_help h g
 
-filled_bundle : (n : ℕ) (flags : Text) (skip : ℕ) (so_far : Outcome) (h : Held) → IsFilled h → IsFilled (bundle_met run_rules n flags skip so_far h).0
-unfolding bundle_met
-filled_bundle zero flags skip so_far h g = g
-filled_bundle (suc n) flags skip so_far h g = filled_step (slice_get (chars flags) 0) flags skip so_far h (bundle_met run_rules n) (λ t s q k r. filled_bundle n t s q k r) g
+  filled_long : (o : Option Rule) (v : Option Text) (h : Held) → OnlyHelp o → IsFilled h → IsFilled (long_met rules o v h).0
+  filled_long None v h e g = g
+  filled_long (Some a) v h e g = subst (λ (a : Rule). IsFilled (long_met rules (Some a) v h).0) (sym e) (filled_flag v h g)
 
-filled_pushed : (id word : Text) (h : Held) → IsFilled h → IsFilled (pushed id word h)
-filled_pushed id word h g = (g.0, simp length-append (omega arith))
+  filled_short : (o : Option Rule) (rest : Text) (h : Held) (more : Held → Held × Outcome) → ((k : Held) → IsFilled k → IsFilled (more k).0) → OnlyHelp o → IsFilled h → IsFilled (short_met rules o rest h more).0
+  filled_short None rest h more f e g = g
+  filled_short (Some a) rest h more f e g = subst (λ (a : Rule). IsFilled (short_met rules (Some a) rest h more).0) (sym e) (f (reacted rules help [] h) (filled_help h g))
 
-filled_option : (o : Option Rule) (id word : Text) (h : Held) → IsFilled h → IsFilled (option_word o id word h).0
-filled_option None id word h g = g
-filled_option (Some a) id word h g = filled_pushed id word h g
+  filled_step : (o : Option ℕ) (flags : Text) (skip : ℕ) (so_far : Outcome) (h : Held) (more : Text → ℕ → Outcome → Held → Held × Outcome) → ((t : Text) (s : ℕ) (q : Outcome) (k : Held) → IsFilled k → IsFilled (more t s q k).0) → IsFilled h → IsFilled (bundle_step rules o flags skip so_far h more).0
+  filled_step None flags skip so_far h more f g = g
+  filled_step (Some x) flags zero so_far h more f g = let rest = drop (length (encode_utf8 x)) flags in filled_short (arg_by_short rules x) rest h (more rest 0 done) (f rest 0 done) (alone.1 x) g
+  filled_step (Some x) flags (suc skip) so_far h more f g = f (drop (length (encode_utf8 x)) flags) skip so_far h g
 
-filled_plain : (w : Waiting) (word : Text) (h : Held) → IsFilled h → IsFilled (plain_word run_rules w word h).0
-filled_plain idle word h g = g
-filled_plain (option id) word h g = filled_option (arg_by_id run_rules id) id word h g
-filled_plain positional word h g = g
+  filled_bundle : (n : ℕ) (flags : Text) (skip : ℕ) (so_far : Outcome) (h : Held) → IsFilled h → IsFilled (bundle_met rules n flags skip so_far h).0
+  unfolding bundle_met
+  filled_bundle zero flags skip so_far h g = g
+  filled_bundle (suc n) flags skip so_far h g = filled_step (slice_get (chars flags) 0) flags skip so_far h (bundle_met rules n) (λ t s q k r. filled_bundle n t s q k r) g
 
-filled_after : (w : Waiting) (word : Text) (h : Held) (q : Outcome) → IsFilled h → IsFilled (after_flag run_rules w word h q).0
-filled_after w word h done g = g
-filled_after w word h (waits id) g = g
-filled_after w word h plain g = filled_plain w word h g
-filled_after w word h refused g = filled_plain w word h g
+  filled_pushed : (id word : Text) (h : Held) → IsFilled h → IsFilled (pushed id word h)
+  filled_pushed id word h g = (g.0, simp length-append (omega arith))
 
-filled_if : (b : Bool) (x y : Held × Step) → IsFilled x.0 → IsFilled y.0 → IsFilled (cond b x y).0
-filled_if true x y f g = f
-filled_if false x y f g = g
+  filled_option : (o : Option Rule) (id word : Text) (h : Held) → IsFilled h → IsFilled (option_word o id word h).0
+  filled_option None id word h g = g
+  filled_option (Some a) id word h g = filled_pushed id word h g
 
-filled_choice : (b : Bool) (x y : Held) → IsFilled x → IsFilled y → IsFilled (cond b x y)
-filled_choice true x y f g = f
-filled_choice false x y f g = g
+  filled_plain : (w : Waiting) (word : Text) (h : Held) → IsFilled h → IsFilled (plain_word rules w word h).0
+  filled_plain idle word h g = g
+  filled_plain (option id) word h g = filled_option (arg_by_id rules id) id word h g
+  filled_plain positional word h g = g
 
-filled_short_word : (w : Waiting) (word : Text) (o : Option Text) (h : Held) → IsFilled h → IsFilled (short_or_plain run_rules w word o h).0
-filled_short_word w word None h g = filled_plain w word h g
-filled_short_word w word (Some flags) h g = filled_after w word _ _ (filled_bundle (length flags) flags h.skip plain (record h { skip = 0 }) g)
+  filled_after : (w : Waiting) (word : Text) (h : Held) (q : Outcome) → IsFilled h → IsFilled (after_flag rules w word h q).0
+  filled_after w word h done g = g
+  filled_after w word h (waits id) g = g
+  filled_after w word h plain g = filled_plain w word h g
+  filled_after w word h refused g = filled_plain w word h g
 
-filled_long_word : (w : Waiting) (word : Text) (o : Option (Text × Option Text)) (h : Held) → IsFilled h → IsFilled (long_or_other run_rules w word o h).0
-filled_long_word w word None h g = filled_short_word w word (short_of word) h g
-filled_long_word w word (Some p) h g = filled_after w word _ _ (filled_long (arg_by_long run_rules p.0) p.1 h (by_long p.0) g)
+  filled_if : (b : Bool) (x y : Held × Step) → IsFilled x.0 → IsFilled y.0 → IsFilled (cond b x y).0
+  filled_if true x y f g = f
+  filled_if false x y f g = g
 
-filled_other : (names : Names) (o : Option Text) (w : Waiting) (position : ℕ) (word : Text) (h : Held) → IsFilled h → IsFilled (subcommand_or_other run_rules o w position word h).0
-filled_other names (Some name) w position word h g = g
-filled_other names None w position word h g = filled_if (bytes_eq word (45 ∷ 45 ∷ [])) _ _ g (filled_long_word w word (long_of word) h g)
+  filled_choice : (b : Bool) (x y : Held) → IsFilled x → IsFilled y → IsFilled (cond b x y)
+  filled_choice true x y f g = f
+  filled_choice false x y f g = g
 
-filled_word : (names : Names) (b : Bool) (w : Waiting) (position : ℕ) (word : Text) (h : Held) → IsFilled h → IsFilled (word_met run_rules names b w position word h).0
-filled_word names b w position word h g = filled_if b _ _ g (filled_other names (subcommand_met names w word) w position word h g)
+  filled_short_word : (w : Waiting) (word : Text) (o : Option Text) (h : Held) → IsFilled h → IsFilled (short_or_plain rules w word o h).0
+  filled_short_word w word None h g = filled_plain w word h g
+  filled_short_word w word (Some flags) h g = filled_after w word _ _ (filled_bundle (length flags) flags h.skip plain (record h { skip = 0 }) g)
 
-filled_positional : (o : Option Rule) (word : Text) (w : Walk) (h : Held) → IsFilled h → IsFilled (to_positional run_rules o word w h).held
-filled_positional None word w h g = g
-filled_positional (Some a) word w h g = let b = is_pending a h.pending && takes_several a in filled_pushed a.id word (cond b h (settled run_rules h)) (filled_choice b h (settled run_rules h) g (filled_settled run_rules h g))
+  filled_long_word : (w : Waiting) (word : Text) (o : Option (Text × Option Text)) (h : Held) → IsFilled h → IsFilled (long_or_other rules w word o h).0
+  filled_long_word w word None h g = filled_short_word w word (short_of word) h g
+  filled_long_word w word (Some p) h g = filled_after w word _ _ (filled_long (arg_by_long rules p.0) p.1 h (alone.0 p.0) g)
 
-filled_after_step : (word : Text) (w : Walk) (h : Held) (s : Step) → IsFilled h → IsFilled (after_step run_rules word w h s).held
-filled_after_step word w h (next q) g = g
-filled_after_step word w h (trailing position) g = g
-filled_after_step word w h (subcommand name) g = g
-filled_after_step word w h value g = filled_positional (arg_by_index run_rules w.position) word w h g
+  filled_other : (names : Names) (o : Option Text) (w : Waiting) (position : ℕ) (word : Text) (h : Held) → IsFilled h → IsFilled (subcommand_or_other rules o w position word h).0
+  filled_other names (Some name) w position word h g = g
+  filled_other names None w position word h g = filled_if (bytes_eq word (45 ∷ 45 ∷ [])) _ _ g (filled_long_word w word (long_of word) h g)
 
-filled_from_stop : (names : Names) (o : Option (Text × List Text)) (w : Walk) (word : Text) → IsFilled w.held → IsFilled (walked_from run_rules names o w word).held
-filled_from_stop names (Some p) w word g = g
-filled_from_stop names None w word g = filled_after_step word w _ _ (filled_word names w.is_trailing w.waiting w.position word w.held g)
+  filled_word : (names : Names) (b : Bool) (w : Waiting) (position : ℕ) (word : Text) (h : Held) → IsFilled h → IsFilled (word_met rules names b w position word h).0
+  filled_word names b w position word h g = filled_if b _ _ g (filled_other names (subcommand_met names w word) w position word h g)
 
-filled_walked : (names : Names) (w : Walk) (word : Text) → IsFilled w.held → IsFilled (walked run_rules names w word).held
-unfolding walked
-filled_walked names w word g = filled_from_stop names w.stopped w word g
+  filled_positional : (o : Option Rule) (word : Text) (w : Walk) (h : Held) → IsFilled h → IsFilled (to_positional rules o word w h).held
+  filled_positional None word w h g = g
+  filled_positional (Some a) word w h g = let b = is_pending a h.pending && takes_several a in filled_pushed a.id word (cond b h (settled rules h)) (filled_choice b h (settled rules h) g (filled_settled rules h g))
 
-filled_walk : (names : Names) (words : List Text) (w : Walk) → IsFilled w.held → IsFilled (fold (walked run_rules names) w words).held
-filled_walk names [] w g = g
-filled_walk names (word ∷ words) w g = filled_walk names words (walked run_rules names w word) (filled_walked names w word g)
+  filled_after_step : (word : Text) (w : Walk) (h : Held) (s : Step) → IsFilled h → IsFilled (after_step rules word w h s).held
+  filled_after_step word w h (next q) g = g
+  filled_after_step word w h (trailing position) g = g
+  filled_after_step word w h (subcommand name) g = g
+  filled_after_step word w h value g = filled_positional (arg_by_index rules w.position) word w h g
 
-full_default : (id : Text) (how : Reading) (vs : List Text) (rows : List Row) → Full rows → Full (default_rows id how vs rows)
-full_default id how [] rows g = g
-full_default id how (v ∷ vs) rows g = full_with id how DefaultValue v vs rows g
+  filled_from_stop : (names : Names) (o : Option (Text × List Text)) (w : Walk) (word : Text) → IsFilled w.held → IsFilled (walked_from rules names o w word).held
+  filled_from_stop names (Some p) w word g = g
+  filled_from_stop names None w word g = filled_after_step word w _ _ (filled_word names w.is_trailing w.waiting w.position word w.held g)
 
-full_defaults : (c : List Rule) (rows : List Row) → Full rows → Full (fold with_default rows c)
-full_defaults [] rows g = g
-full_defaults (a ∷ c) rows g = full_defaults c (with_default rows a) (full_if (has_row a.id rows) rows _ g (full_default a.id (reading_by a) a.defaults rows g))
+  filled_walked : (names : Names) (w : Walk) (word : Text) → IsFilled w.held → IsFilled (walked rules names w word).held
+  unfolding walked
+  filled_walked names w word g = filled_from_stop names w.stopped w word g
 
-pub full_rows : (names : Names) (words : List Text) → Full (rows_after run_rules names words)
-full_rows names words =
-    let end = filled_walk names words (walk_from nothing_held) (tt, tt) in
-    full_defaults run_rules _ (full_settled run_rules _ _ end.1 end.0)
+  filled_walk : (names : Names) (words : List Text) (w : Walk) → IsFilled w.held → IsFilled (fold (walked rules names) w words).held
+  filled_walk names [] w g = g
+  filled_walk names (word ∷ words) w g = filled_walk names words (walked rules names w word) (filled_walked names w word g)
+
+  full_default : (id : Text) (how : Reading) (vs : List Text) (rows : List Row) → Full rows → Full (default_rows id how vs rows)
+  full_default id how [] rows g = g
+  full_default id how (v ∷ vs) rows g = full_with id how DefaultValue v vs rows g
+
+  full_defaults : (c : List Rule) (rows : List Row) → Full rows → Full (fold with_default rows c)
+  full_defaults [] rows g = g
+  full_defaults (a ∷ c) rows g = full_defaults c (with_default rows a) (full_if (has_row a.id rows) rows _ g (full_default a.id (reading_by a) a.defaults rows g))
+
+  pub full_rows : (names : Names) (words : List Text) → Full (rows_after rules names words)
+  full_rows names words =
+      let end = filled_walk names words (walk_from nothing_held) (tt, tt) in
+      full_defaults rules _ (full_settled rules _ _ end.1 end.0)

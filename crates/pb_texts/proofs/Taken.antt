@@ -1,12 +1,11 @@
--- The plain form of `run` is taken.
-use Rattle.std.proofs.Common.{◌≡◌, Bool, true, false, [], ◌∷◌, Some, None, refl}
+-- The plain forms of the subcommands are taken.
+use Rattle.std.proofs.Common.{◌≡◌, Bool, true, false, [], ◌∷◌, None, refl}
 use Rattle.std.specs.Prelude.{◌==◌, not}
 use Rattle.std.specs.Str.{bytes_eq}
 use Rattle.clap.specs.Lexer.{strip_byte}
 use Rattle.clap.specs.Walk.{Text}
-use Rattle.clap.specs.Faults.{fault_of}
 use Rattle.clap.proofs.OnLiterals.{clap_on_literals}
-use Rattle.pb_texts.specs.CommandLines.{program_app, command_of, is_plain_word, run_words, AskForRun}
+use Rattle.pb_texts.specs.CommandLines.{is_plain_word, run_words, asm_words, dis_words, Run, Asm, Dis, AskFor}
 
 not_true : (b : Bool) → not b ≡ true → b ≡ false
 not_true true h = absurd cc
@@ -20,14 +19,29 @@ no_hyphens : (w : Text) → is_plain_word w ≡ true → bytes_eq w (45 ∷ 45 �
 no_hyphens [] h = refl
 no_hyphens (x ∷ xs) h = rw (not_true (x == 45) h) refl
 
-fault_none : (program m s : Text) → strip_byte 45 m ≡ None → bytes_eq m (45 ∷ 45 ∷ []) ≡ false → strip_byte 45 s ≡ None → bytes_eq s (45 ∷ 45 ∷ []) ≡ false → fault_of program_app (run_words program m s) ≡ []
-unfolding clap_on_literals
-fault_none program m s a b c d = simp (a, b, c, d)
+abbrev NoHyphen : Text → Type 0
+NoHyphen w = (strip_byte 45 w ≡ None) × (bytes_eq w (45 ∷ 45 ∷ []) ≡ false)
 
-asks_for : (program m s : Text) → strip_byte 45 m ≡ None → bytes_eq m (45 ∷ 45 ∷ []) ≡ false → strip_byte 45 s ≡ None → bytes_eq s (45 ∷ 45 ∷ []) ≡ false → command_of (run_words program m s) ≡ Some (m, s)
-unfolding clap_on_literals
-asks_for program m s a b c d = simp (a, b, c, d)
+plain_word : (w : Text) → is_plain_word w ≡ true → NoHyphen w
+plain_word w h = (no_hyphen w h, no_hyphens w h)
 
-pub takes : (program m s : Text) → is_plain_word m ≡ true → is_plain_word s ≡ true → AskForRun (run_words program m s) m s
-takes program m s p q =
-    (fault_none program m s (no_hyphen m p) (no_hyphens m p) (no_hyphen s q) (no_hyphens s q), asks_for program m s (no_hyphen m p) (no_hyphens m p) (no_hyphen s q) (no_hyphens s q))
+run_by : (program m s : Text) → NoHyphen m → NoHyphen s → AskFor (run_words program m s) (Run m s)
+unfolding clap_on_literals
+run_by program m s a b = (simp (a.0, a.1, b.0, b.1), simp (a.0, a.1, b.0, b.1))
+
+asm_by : (program i o : Text) → NoHyphen i → NoHyphen o → AskFor (asm_words program i o) (Asm i o)
+unfolding clap_on_literals
+asm_by program i o a b = (simp (a.0, a.1, b.0, b.1), simp (a.0, a.1, b.0, b.1))
+
+dis_by : (program f : Text) → NoHyphen f → AskFor (dis_words program f) (Dis f)
+unfolding clap_on_literals
+dis_by program f a = (simp (a.0, a.1), simp (a.0, a.1))
+
+pub run_taken : (program m s : Text) → is_plain_word m ≡ true → is_plain_word s ≡ true → AskFor (run_words program m s) (Run m s)
+run_taken program m s p q = run_by program m s (plain_word m p) (plain_word s q)
+
+pub asm_taken : (program i o : Text) → is_plain_word i ≡ true → is_plain_word o ≡ true → AskFor (asm_words program i o) (Asm i o)
+asm_taken program i o p q = asm_by program i o (plain_word i p) (plain_word o q)
+
+pub dis_taken : (program f : Text) → is_plain_word f ≡ true → AskFor (dis_words program f) (Dis f)
+dis_taken program f p = dis_by program f (plain_word f p)

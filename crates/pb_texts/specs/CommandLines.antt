@@ -1,10 +1,10 @@
 -- What a command line asks for, as `clap` reads it.
-use Rattle.std.specs.Prelude.{◌≡◌, Bool, true, not, ◌==◌, if◌then◌else◌, List, [], ◌∷◌, codes, Option, Some, None}
+use Rattle.std.specs.Prelude.{◌≡◌, Bool, true, not, ◌==◌, if◌then◌else◌, List, [], ◌∷◌, codes, Option, Some, None, option_map}
 use Rattle.std.specs.Str.{bytes_eq}
 use Rattle.clap.specs.Words.{App, Row, Rule, Text, fault_of, first_of, new_app, new_rule, subcommand_of, with_rule, with_subcommand}
 use Rattle.clap.specs.Simple.{on_top}
 use Rattle.pb_texts.specs.declared.words.choice.Options.{Options}
-use Rattle.pb_texts.specs.declared.words.choice.Options.TheVariants.{Run}
+use Rattle.pb_texts.specs.declared.words.choice.Options.TheVariants as options
 
 abbrev pub required_rule : Text → Rule
 required_rule id = record (new_rule id) { required = true }
@@ -13,42 +13,74 @@ required_rule id = record (new_rule id) { required = true }
 abbrev pub run_app : App
 run_app = with_rule (with_rule (new_app (codes "run")) (required_rule (codes "MANIFEST"))) (required_rule (codes "SCRIPT"))
 
+-- `asm IN OUT`
+abbrev pub asm_app : App
+asm_app = with_rule (with_rule (new_app (codes "asm")) (required_rule (codes "IN"))) (required_rule (codes "OUT"))
+
+-- `dis FILE`
+abbrev pub dis_app : App
+dis_app = with_rule (new_app (codes "dis")) (required_rule (codes "FILE"))
+
 abbrev pub needs_subcommand : App → App
 needs_subcommand = on_top (λ s. record s { subcommand_required = true })
 
 -- the program, which needs a subcommand
 abbrev pub program_app : App
-program_app = with_subcommand (needs_subcommand (new_app (codes "percobpf"))) run_app.top
+program_app = with_subcommand (with_subcommand (with_subcommand (needs_subcommand (new_app (codes "percobpf"))) run_app.top) asm_app.top) dis_app.top
 
-abbrev pub both : Option Text → Option Text → Option (Text × Text)
-both None script = None
-both (Some manifest) None = None
-both (Some manifest) (Some script) = Some (manifest, script)
+-- what a command line can ask for: a manifest and a script to run, a text to read and a path for its bytes, a file to list
+pub data Request : Type 0 where
+  Run : Text → Text → Request
+  Asm : Text → Text → Request
+  Dis : Text → Request
 
--- the manifest and the script of the matches of `run`
-abbrev pub run_in : List Row → Option (Text × Text)
-run_in rows = both (first_of (codes "MANIFEST") rows) (first_of (codes "SCRIPT") rows)
+abbrev pub both : (Text → Text → Request) → Option Text → Option Text → Option Request
+both make None second = None
+both make (Some first) None = None
+both make (Some first) (Some second) = Some (make first second)
+
+-- what the matches of each subcommand ask for
+abbrev pub run_in : List Row → Option Request
+run_in rows = both Run (first_of (codes "MANIFEST") rows) (first_of (codes "SCRIPT") rows)
+
+abbrev pub asm_in : List Row → Option Request
+asm_in rows = both Asm (first_of (codes "IN") rows) (first_of (codes "OUT") rows)
+
+abbrev pub dis_in : List Row → Option Request
+dis_in rows = option_map Dis (first_of (codes "FILE") rows)
 
 -- what a subcommand with its matches asks for
-abbrev pub command_in : Option (Text × List Row) → Option (Text × Text)
+abbrev pub command_in : Option (Text × List Row) → Option Request
 command_in None = None
-command_in (Some p) = if bytes_eq p.0 (codes "run") then run_in p.1 else None
+command_in (Some p) =
+    if bytes_eq p.0 (codes "run") then run_in p.1
+    else if bytes_eq p.0 (codes "asm") then asm_in p.1
+    else if bytes_eq p.0 (codes "dis") then dis_in p.1
+    else None
 
-abbrev pub command_of : List Text → Option (Text × Text)
+abbrev pub command_of : List Text → Option Request
 command_of words = command_in (subcommand_of program_app words)
 
-abbrev pub texts_of : Options → Text × Text
-texts_of (Run manifest script) = (manifest.now, script.now)
+abbrev pub request_of : Options → Request
+request_of (options.Run manifest script) = Run manifest.now script.now
+request_of (options.Asm input output) = Asm input.now output.now
+request_of (options.Dis file) = Dis file.now
 
 -- the word doesn't begin with a hyphen
 abbrev pub is_plain_word : Text → Bool
 is_plain_word [] = true
 is_plain_word (x ∷ xs) = not (x == 45)
 
--- a line of four words: the program, `run`, a manifest and a script
+-- the program, a subcommand and its operands
 abbrev pub run_words : Text → Text → Text → List Text
 run_words program manifest script = program ∷ codes "run" ∷ manifest ∷ script ∷ []
 
--- the words are taken without fault, and ask for a run of these two
-abbrev pub AskForRun : List Text → Text → Text → Type 0
-AskForRun words manifest script = (fault_of program_app words ≡ []) × (command_of words ≡ Some (manifest, script))
+abbrev pub asm_words : Text → Text → Text → List Text
+asm_words program input output = program ∷ codes "asm" ∷ input ∷ output ∷ []
+
+abbrev pub dis_words : Text → Text → List Text
+dis_words program file = program ∷ codes "dis" ∷ file ∷ []
+
+-- the words are taken without fault, and ask for this
+abbrev pub AskFor : List Text → Request → Type 0
+AskFor words request = (fault_of program_app words ≡ []) × (command_of words ≡ Some request)

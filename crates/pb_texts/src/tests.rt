@@ -132,17 +132,43 @@ fn status(rt: &HostRuntime, words: &[&str]) -> i32 {
     }
 }
 
+// The subcommand that a command line asks for, and its operands.
+fn asked<'a>(
+    rt: &impl Abort,
+    alloc: Global,
+    words: &'a [&'a str],
+) -> (&'static str, &'a str, &'a str) {
+    match options(alloc, words).expect(rt, "options") {
+        Options::Run { manifest, script } => ("run", manifest, script),
+        Options::Asm { input, output } => ("asm", input, output),
+        Options::Dis { file } => ("dis", file, ""),
+    }
+}
+
+#[test]
+fn subcommands(rt: HostRuntime) {
+    let run = ["percobpf", "run", "m.json", "s.txt"];
+    assert!(rt; asked(&rt, rt.alloc(), &run) == ("run", "m.json", "s.txt"));
+    let asm = ["percobpf", "asm", "p.s", "p.bin"];
+    assert!(rt; asked(&rt, rt.alloc(), &asm) == ("asm", "p.s", "p.bin"));
+    let dis = ["percobpf", "dis", "p.bin"];
+    assert!(rt; asked(&rt, rt.alloc(), &dis) == ("dis", "p.bin", ""));
+}
+
 #[test]
 fn command_lines(rt: HostRuntime) {
-    let words = ["percobpf", "run", "m.json", "s.txt"];
-    let Options::Run { manifest, script } = options(rt.alloc(), &words).expect(&rt, "options");
-    assert!(rt; manifest == "m.json" && script == "s.txt");
     assert!(rt; status(&rt, &["percobpf"]) == 2);
     assert!(rt; status(&rt, &["percobpf", "walk"]) == 2);
     assert!(rt; status(&rt, &["percobpf", "run", "m.json"]) == 2);
     assert!(rt; status(&rt, &["percobpf", "run", "m.json", "s.txt", "x"]) == 2);
     assert!(rt; status(&rt, &["percobpf", "--help"]) == 0);
     assert!(rt; status(&rt, &["percobpf", "run", "--help"]) == 0);
+    assert!(rt; status(&rt, &["percobpf", "asm", "in"]) == 2);
+    assert!(rt; status(&rt, &["percobpf", "asm", "in", "out", "x"]) == 2);
+    assert!(rt; status(&rt, &["percobpf", "asm", "--help"]) == 0);
+    assert!(rt; status(&rt, &["percobpf", "dis"]) == 2);
+    assert!(rt; status(&rt, &["percobpf", "dis", "f", "x"]) == 2);
+    assert!(rt; status(&rt, &["percobpf", "help", "dis"]) == 0);
 }
 
 #[test]

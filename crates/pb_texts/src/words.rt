@@ -3,4 +3,4 @@ mod choice;
 mod parse;
 
 pub use choice::Options;
-pub use parse::{options, run_is_taken};
+pub use parse::{options, plain_words_are_taken};

@@ -5,4 +5,8 @@
 pub enum Options<'a> {
     /// Reads a manifest and a script, runs the transactions, and tells what is newest then.
     Run { manifest: &'a str, script: &'a str },
+    /// Reads a program's text, and writes its bytes.
+    Asm { input: &'a str, output: &'a str },
+    /// Reads a program's bytes, and lists it.
+    Dis { file: &'a str },
 }

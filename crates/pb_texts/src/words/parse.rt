@@ -2,7 +2,7 @@
 ghost use Rattle.std.specs.Prelude.{◌≡◌, ℕ, List, true, IfOk, Some, [], false, option_map};
 ghost use Rattle.clap.specs.Words.{FailsBy, app_of, fault_of, first_of, found_of, rows_of, subcommand_of, subcommand_rows_of};
 ghost use Rattle.pb_texts.specs.ScriptWords.{plain};
-ghost use Rattle.pb_texts.specs.CommandLines.{run_app, program_app, run_in, command_in, command_of, texts_of, is_plain_word, run_words, AskForRun};
+ghost use Rattle.pb_texts.specs.CommandLines.{run_app, asm_app, dis_app, program_app, run_in, asm_in, dis_in, command_in, command_of, request_of, is_plain_word, run_words, asm_words, dis_words, Run, Asm, Dis, AskFor};
 ghost use Rattle.clap.specs.declared.builder.command.Command.TheViews.{out-Command as fields_of};
 
 use crate::words::choice::Options;
@@ -18,13 +18,31 @@ fn run_command<'a>(alloc: Global) -> Result<Command<'a>, AllocError>
     Command::new(alloc, "run").arg(manifest)?.arg(script)
 }
 
+fn asm_command<'a>(alloc: Global) -> Result<Command<'a>, AllocError>
+    ensures app { IfOk result (λ c. app_of c ≡ asm_app) }
+    ensures local { IfOk result (λ c. (fields_of c).has_globals ≡ false) }
+{
+    let input = Arg::new(alloc, "IN").required(true);
+    let output = Arg::new(alloc, "OUT").required(true);
+    Command::new(alloc, "asm").arg(input)?.arg(output)
+}
+
+fn dis_command<'a>(alloc: Global) -> Result<Command<'a>, AllocError>
+    ensures app { IfOk result (λ c. app_of c ≡ dis_app) }
+    ensures local { IfOk result (λ c. (fields_of c).has_globals ≡ false) }
+{
+    let file = Arg::new(alloc, "FILE").required(true);
+    Command::new(alloc, "dis").arg(file)
+}
+
 fn program<'a>(alloc: Global) -> Result<Command<'a>, AllocError>
     ensures { IfOk result (λ c. app_of c ≡ program_app) }
 {
     let run = run_command(alloc)?;
-    Command::new(alloc, "percobpf")
-        .subcommand_required(true)
-        .subcommand(run)
+    let asm = asm_command(alloc)?;
+    let dis = dis_command(alloc)?;
+    let bare = Command::new(alloc, "percobpf").subcommand_required(true);
+    bare.subcommand(run)?.subcommand(asm)?.subcommand(dis)
 }
 
 fn matches_of<'a>(alloc: Global, words: &'a [&'a str]) -> Result<ArgMatches<'a>, Error>
@@ -43,7 +61,7 @@ fn value_in<'a>(run: &ArgMatches<'a>, id: &str) -> Option<&'a str>
 
 // What the matches of `run` name.
 fn run_in<'a>(run: &ArgMatches<'a>) -> Option<Options<'a>>
-    ensures { option_map texts_of result ≡ run_in (rows_of (found_of run.now)) }
+    ensures { option_map request_of result ≡ run_in (rows_of (found_of run.now)) }
 {
     match (value_in(run, "MANIFEST"), value_in(run, "SCRIPT")) {
         (Some(manifest), Some(script)) => Some(Options::Run { manifest, script }),
@@ -51,12 +69,34 @@ fn run_in<'a>(run: &ArgMatches<'a>) -> Option<Options<'a>>
     }
 }
 
+// What the matches of `asm` name.
+fn asm_in<'a>(asm: &ArgMatches<'a>) -> Option<Options<'a>>
+    ensures { option_map request_of result ≡ asm_in (rows_of (found_of asm.now)) }
+{
+    match (value_in(asm, "IN"), value_in(asm, "OUT")) {
+        (Some(input), Some(output)) => Some(Options::Asm { input, output }),
+        _ => None,
+    }
+}
+
+// What the matches of `dis` name.
+fn dis_in<'a>(dis: &ArgMatches<'a>) -> Option<Options<'a>>
+    ensures { option_map request_of result ≡ dis_in (rows_of (found_of dis.now)) }
+{
+    match value_in(dis, "FILE") {
+        Some(file) => Some(Options::Dis { file }),
+        None => None,
+    }
+}
+
 // What the matches of a command line name.
 fn command_in<'a>(matches: &ArgMatches<'a>) -> Option<Options<'a>>
-    ensures { option_map texts_of result ≡ command_in (subcommand_rows_of matches.now) }
+    ensures { option_map request_of result ≡ command_in (subcommand_rows_of matches.now) }
 {
     match matches.subcommand() {
         Some(("run", run)) => run_in(run),
+        Some(("asm", asm)) => asm_in(asm),
+        Some(("dis", dis)) => dis_in(dis),
         _ => None,
     }
 }
@@ -65,7 +105,7 @@ fn command_in<'a>(matches: &ArgMatches<'a>) -> Option<Options<'a>>
 /// and the status to end with; where help is asked for, the help with status 0.
 pub fn options<'a>(alloc: Global, words: &'a [&'a str]) -> Result<Options<'a>, Error>
     ensures kinds { FailsBy (fault_of program_app (plain words.now)) result }
-    ensures read { IfOk result (λ o. command_of (plain words.now) ≡ Some (texts_of o)) }
+    ensures read { IfOk result (λ o. command_of (plain words.now) ≡ Some (request_of o)) }
 {
     let matches = matches_of(alloc, words)?;
     match command_in(&matches) {
@@ -74,7 +114,9 @@ pub fn options<'a>(alloc: Global, words: &'a [&'a str]) -> Result<Options<'a>, E
     }
 }
 
-/// A line of four words is taken as a run, where the last two don't begin with a hyphen.
-pub fn run_is_taken()
-    ensures { (program manifest script : List ℕ) → is_plain_word manifest ≡ true → is_plain_word script ≡ true → AskForRun (run_words program manifest script) manifest script }
+/// A subcommand with as many words behind it as it has operands, none of which begins with a hyphen, is taken.
+pub fn plain_words_are_taken()
+    ensures run { (program manifest script : List ℕ) → is_plain_word manifest ≡ true → is_plain_word script ≡ true → AskFor (run_words program manifest script) (Run manifest script) }
+    ensures asm { (program input output : List ℕ) → is_plain_word input ≡ true → is_plain_word output ≡ true → AskFor (asm_words program input output) (Asm input output) }
+    ensures dis { (program file : List ℕ) → is_plain_word file ≡ true → AskFor (dis_words program file) (Dis file) }
 {}

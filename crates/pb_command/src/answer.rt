@@ -1,0 +1,15 @@
+//! What a command tells of what it was given.
+
+/// Whether what a command was given is accepted.
+#[derive(Clone, Copy, Debug, PartialEq, Eq, Drop)]
+pub enum Verdict {
+    Accepted,
+    Refused,
+}
+
+/// A verdict on a file's bytes, and the text that tells it.
+#[derive(Drop)]
+pub struct Answer {
+    pub verdict: Verdict,
+    pub text: String,
+}
