@@ -1,54 +1,82 @@
-//! Decodes and lists a program of as many slots as its one word says, 10,000 times, for bench/programs to time. It prints
-//! how many bytes the listings have together.
+//! Times what is done with programs, for the scripts of bench/: `list SLOTS` decodes and lists a program of so many slots
+//! 10,000 times, and `verify SLOTS` decodes and verifies one 1,000 times. It prints how many bytes the listings, or how
+//! many slots the accepted programs have together.
 #![tactic(auto)]
 
 use pb_asm::disassemble;
 use pb_base::NoMemory;
 use pb_decode::{decode, encode};
-use pb_isa::{AluOp, Insn, Operand, Program, Reg, Width};
+use pb_helpers::HelperTable;
+use pb_isa::{AluOp, Insn, Operand, Program, Reg, Size, Width};
+use pb_verify::verify;
 use std::alloc::Global;
 use std::env;
 use std::process::ExitCode;
 
-// A program of loads of zero and an exit.
-fn program_of(alloc: Global, slots: u16) -> Result<Option<Program>, NoMemory> {
-    let mut insns = Vec::new(alloc);
-    for _ in 1..slots {
-        insns.push(Insn::Alu(AluOp::Mov, Width::Bits64, Reg::R0, Operand::Imm(0)))?;
+// Straight code: arithmetic on register 0, and its way over the stack.
+fn insn_at(place: u16) -> Insn {
+    match place % 4 {
+        0 => Insn::Alu(AluOp::Mov, Width::Bits64, Reg::R0, Operand::Imm(0)),
+        1 => Insn::Alu(AluOp::Add, Width::Bits64, Reg::R0, Operand::Imm(1)),
+        2 => Insn::Store(Size::Dw, Reg::R10, -8, Reg::R0),
+        _ => Insn::Load(Size::Dw, Reg::R1, Reg::R10, -8),
     }
-    insns.push(Insn::Exit)?;
-    Ok(Program::new(alloc, insns).ok())
 }
 
-// How many bytes the listing of these bytes has; none where they are no program.
+// The bytes of a program of so many slots, the last an exit; none where there is no such program.
+fn bytes_of(alloc: Global, slots: u16) -> Result<Option<Vec<u8>>, NoMemory> {
+    let mut insns = Vec::new(alloc);
+    for place in 1..slots {
+        insns.push(insn_at(place - 1))?;
+    }
+    insns.push(Insn::Exit)?;
+    match Program::new(alloc, insns) {
+        Ok(program) => Ok(Some(encode(alloc, &program)?)),
+        Err(_) => Ok(None),
+    }
+}
+
+// How many bytes the listing of this program has; none where the bytes are no program's.
 fn listed(alloc: Global, bytes: &[u8]) -> Option<usize> {
     let program = decode(alloc, bytes).ok()?;
     let listing = disassemble(alloc, &program).ok()?;
     Some(listing.len())
 }
 
-// The bytes of 10,000 listings.
-fn total(alloc: Global, slots: u16) -> Option<u64> {
-    let program = program_of(alloc, slots).ok()??;
-    let bytes = encode(alloc, &program).ok()?;
+// How many slots this program has; none where the bytes are no accepted program's.
+fn verified(alloc: Global, bytes: &[u8]) -> Option<usize> {
+    let program = decode(alloc, bytes).ok()?;
+    let accepted = verify(alloc, program, HelperTable::all()).ok()?;
+    Some(accepted.slots())
+}
+
+fn total_listed(alloc: Global, bytes: &[u8]) -> Option<u64> {
     let mut total: u64 = 0;
     for _ in 0..10_000 {
-        total = total.checked_add(listed(alloc, &bytes)? as u64)?;
+        total = total.checked_add(listed(alloc, bytes)? as u64)?;
     }
     Some(total)
 }
 
-// The number that the word behind the program's own says.
-fn slots_asked(rt: &HostRuntime) -> Option<u16> {
-    let args = env::args(rt).ok()?;
-    let words: Vec<String> = args.collect(rt.alloc()).ok()?;
-    let word = words.get(1)?;
-    word.parse::<u16>().ok()
+fn total_verified(alloc: Global, bytes: &[u8]) -> Option<u64> {
+    let mut total: u64 = 0;
+    for _ in 0..1_000 {
+        total = total.checked_add(verified(alloc, bytes)? as u64)?;
+    }
+    Some(total)
 }
 
+// What the two words behind the program's own ask for.
 fn timed(rt: &HostRuntime) -> Option<u64> {
-    let slots = slots_asked(rt)?;
-    total(rt.alloc(), slots)
+    let args = env::args(rt).ok()?;
+    let words: Vec<String> = args.collect(rt.alloc()).ok()?;
+    let slots = words.get(2)?.parse::<u16>().ok()?;
+    let bytes = bytes_of(rt.alloc(), slots).ok()??;
+    match words.get(1)?.as_str() {
+        "list" => total_listed(rt.alloc(), &bytes),
+        "verify" => total_verified(rt.alloc(), &bytes),
+        _ => None,
+    }
 }
 
 fn main(rt: HostRuntime) -> ExitCode {

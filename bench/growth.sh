@@ -1,0 +1,31 @@
+# Sourced by the scripts that time `program_times`: how long it takes for programs of 64 and of 512 slots. Each time is the
+# median of RUNS runs (5, if not set), taken in turns, and is of the whole process.
+top=$(cd "$(dirname "${BASH_SOURCE[0]}")/.." && pwd)
+runs=${RUNS:-5}
+room=$(mktemp -d)
+trap 'rm -rf "$room"' EXIT
+
+# Prints how many microseconds it takes to do this with a program of so many slots.
+microseconds() {
+    local from=${EPOCHREALTIME/[.,]/} to
+    "$top/crates/program_times/out/program_times" "$1" "$2" >"$room/out"
+    to=${EPOCHREALTIME/[.,]/}
+    echo $((to - from))
+}
+
+median() { sort -n "$room/$1" | sed -n "$(((runs + 1) / 2))p"; }
+
+# Sets `small` and `large` to the microseconds for 64 and 512 slots.
+time_both() {
+    (cd "$top/crates/program_times" && rt run --jobs 1 -- "$1" 64) >"$room/built"
+    for ((run = 0; run < runs; run++)); do
+        microseconds "$1" 64 >>"$room/64"
+        microseconds "$1" 512 >>"$room/512"
+    done
+    small=$(median 64)
+    large=$(median 512)
+}
+
+show() { awk -v what="$1" -v time="$2" 'BEGIN { printf "%-30s %9.1f ms\n", what, time / 1000 }'; }
+
+show_growth() { awk -v a="$large" -v b="$small" 'BEGIN { printf "growth from 64 to 512 slots: %.1f times\n", a / b }'; }
