@@ -10,7 +10,7 @@ use Rattle.pb_command.specs.declared.answer.Verdict.TheVariants.{Accepted, Refus
 use Rattle.pb_command.specs.declared.fault.Fault.{Fault}
 use Rattle.pb_command.specs.declared.fault.Fault.TheVariants as faults
 use Rattle.pb_command.specs.Files.{Held, IsKnownAs}
-use Rattle.pb_command.specs.Programs.{AsmEnds, AnswerEnds, Lists}
+use Rattle.pb_command.specs.Programs.{AsmEnds, AnswerEnds, Lists, Checks}
 
 -- texts that the two paths hold ran so, from the clock 0
 pub record RanFrom (manifest script : Option (List ℕ)) (old now : Option (List ℕ)) (failed : Bool) (result : Result (Unit {0}) RunFault) : Type 0 where
@@ -44,3 +44,5 @@ Commands (options.Asm input output) before after old now failed status =
     (now ≡ old) × (failed ≡ false) × AsmEnds before after input.now output.now status
 Commands (options.Dis file) before after old now failed status =
     (after ≡ before) × AnswerEnds Lists (before file.now) old now failed status
+Commands (options.Check file) before after old now failed status =
+    (after ≡ before) × AnswerEnds Checks (before file.now) old now failed status

@@ -1,8 +1,13 @@
--- What is left where a program is assembled or listed.
+-- What is left where a program is assembled, listed or checked.
 use Rattle.std.specs.Prelude.{◌≡◌, ℕ, zero, suc, ◌⊎◌, Bool, true, false, List, ◌++◌, codes, Option, Result, Ok, Err}
 use Rattle.std.specs.Fmt.{decimal}
 use Rattle.std.specs.Io.KnownBytes.{Appends}
 use Rattle.pb_isa.specs.declared.insn.Insn.{Insn}
+use Rattle.pb_isa.specs.Slots.{slots}
+use Rattle.pb_helpers.specs.declared.code.Code.{Code}
+use Rattle.pb_helpers.specs.Codes.{code_number}
+use Rattle.pb_helpers.specs.Table.{all_helpers}
+use Rattle.pb_verify.specs.Arriving.{Accepts, Refuses}
 use Rattle.pb_decode.specs.Encoding.{Encodes}
 use Rattle.pb_decode.specs.Faults.{IsTold}
 use Rattle.pb_asm.specs.Listing.{listing}
@@ -64,6 +69,21 @@ Judges = List ℕ → Verdict → List ℕ → Type 0
 abbrev pub Lists : Judges
 Lists bytes Accepted text = (p : List Insn) × Encodes bytes p × (text ≡ listing p)
 Lists bytes Refused text = (slot code : ℕ) × IsTold bytes slot code × (text ≡ refusal_line slot code)
+
+-- the line that tells that a program is accepted
+abbrev pub acceptance_line : ℕ → List ℕ
+acceptance_line n = codes "accepted " ++ (decimal n ++ codes " slots\n")
+
+-- the first slot at fault, with its lowest code: of the bytes, or of the program that they encode, by the rules for a
+-- program that may call all helpers
+abbrev pub IsRefusedAt : List ℕ → ℕ → ℕ → Type 0
+IsRefusedAt bytes slot code =
+    IsTold bytes slot code ⊎ ((p : List Insn) × Encodes bytes p × ((c : Code) × (code ≡ code_number c) × Refuses p all_helpers slot c))
+
+-- whether the rules accept the program that the bytes encode
+abbrev pub Checks : Judges
+Checks bytes Accepted text = (p : List Insn) × Encodes bytes p × Accepts p all_helpers × (text ≡ acceptance_line (slots p))
+Checks bytes Refused text = (slot code : ℕ) × IsRefusedAt bytes slot code × (text ≡ refusal_line slot code)
 
 -- the bytes at a path were judged so, and the whole text was written
 pub record Answered (judges : Judges) (held : Option (List ℕ)) (old now : Option (List ℕ)) (failed : Bool) (verdict : Verdict) : Type 0 where

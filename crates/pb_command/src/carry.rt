@@ -8,7 +8,7 @@ ghost use Rattle.pb_command.specs.Programs.{IsNoOutput};
 use crate::answer::Verdict;
 use crate::fault::{Fault, tell};
 use crate::paths::Paths;
-use crate::programs::{assemble_file, list_file};
+use crate::programs::{assemble_file, check_file, list_file};
 use crate::reading::{bytes_at, text_of};
 use pb_alone::run_texts;
 use pb_base::{Sink, Ts};
@@ -91,6 +91,10 @@ pub fn command<T: Tablet, P: Paths, O: Sink, E: Sink>(
         Options::Dis { file } => {
             table.close();
             list_file(alloc, file, paths, out)
+        }
+        Options::Check { file } => {
+            table.close();
+            check_file(alloc, file, paths, out)
         }
     };
     match outcome {

@@ -1,7 +1,11 @@
-//! Programs assembled and listed.
-ghost use Rattle.std.specs.Prelude.{◌≡◌, false, IfOk, IfErr, string_bytes};
+//! Programs assembled, listed and checked.
+ghost use Rattle.std.specs.Io.KnownBytes.{Appends};
+ghost use Rattle.std.specs.Prelude.{◌≡◌, true, false, IfOk, IfErr, string_bytes};
+ghost use Rattle.pb_texts.specs.Sinks.{AppendsPart};
+ghost use Rattle.pb_command.specs.declared.fault.Fault.TheVariants as faults;
 ghost use Rattle.pb_command.specs.Programs.{IsNoOutput};
-ghost use Rattle.pb_command.specs.Programs.{Assembles, AsmLeaves, Lists, AnswerLeaves, refusal_line};
+ghost use Rattle.pb_command.specs.declared.answer.Verdict.TheVariants as verdicts;
+ghost use Rattle.pb_command.specs.Programs.{Assembles, AsmLeaves, Lists, Checks, AnswerLeaves, refusal_line, acceptance_line};
 
 use crate::answer::{Answer, Verdict};
 use crate::fault::Fault;
@@ -10,7 +14,9 @@ use crate::reading::{bytes_at, text_of};
 use pb_asm::{AsmFault, assemble, disassemble};
 use pb_base::{Refused, Sink};
 use pb_decode::{DecodeFault, decode, encode};
+use pb_helpers::HelperTable;
 use pb_texts::write_all;
+use pb_verify::{VerifyFault, verify};
 use std::alloc::{AllocError, Global};
 
 // The fault of a text.
@@ -66,6 +72,18 @@ fn refusal_line(alloc: Global, refused: Refused) -> Result<String, AllocError>
     format!(in alloc; "refused slot {slot} code {code}\n")
 }
 
+// A refusal, and the line that tells it.
+fn refusal_of<'a>(alloc: Global, refused: Refused) -> Result<Answer, Fault<'a>>
+    ensures told { IfOk result (λ a. (a.verdict ≡ verdicts.Refused) × (string_bytes a.text ≡ refusal_line refused.slot refused.code)) }
+    ensures fault { IfErr result IsNoOutput }
+{
+    let text = refusal_line(alloc, refused)?;
+    Ok(Answer {
+        verdict: Verdict::Refused,
+        text,
+    })
+}
+
 // The listing of bytes, or where they are refused.
 fn listing_of<'a>(alloc: Global, bytes: &[u8]) -> Result<Answer, Fault<'a>>
     ensures told { IfOk result (λ a. Lists bytes.now a.verdict (string_bytes a.text)) }
@@ -79,14 +97,49 @@ fn listing_of<'a>(alloc: Global, bytes: &[u8]) -> Result<Answer, Fault<'a>>
                 text,
             })
         }
-        Err(DecodeFault::Refused(refused)) => {
-            let text = refusal_line(alloc, refused)?;
-            Ok(Answer {
-                verdict: Verdict::Refused,
-                text,
-            })
-        }
+        Err(DecodeFault::Refused(refused)) => refusal_of(alloc, refused),
         Err(DecodeFault::NoMemory) => Err(Fault::NoMemory),
+    }
+}
+
+// That a program is accepted, and the line that tells it.
+fn acceptance_of<'a>(alloc: Global, slots: usize) -> Result<Answer, Fault<'a>>
+    ensures told { IfOk result (λ a. (a.verdict ≡ verdicts.Accepted) × (string_bytes a.text ≡ acceptance_line slots)) }
+    ensures fault { IfErr result IsNoOutput }
+{
+    let text = format!(in alloc; "accepted {slots} slots\n")?;
+    Ok(Answer {
+        verdict: Verdict::Accepted,
+        text,
+    })
+}
+
+// Whether the program of these bytes is accepted with all helpers, or where bytes or program are refused.
+fn verdict_of<'a>(alloc: Global, bytes: &[u8]) -> Result<Answer, Fault<'a>>
+    ensures told { IfOk result (λ a. Checks bytes.now a.verdict (string_bytes a.text)) }
+    ensures fault { IfErr result IsNoOutput }
+{
+    let program = match decode(alloc, bytes) {
+        Ok(program) => program,
+        Err(DecodeFault::Refused(refused)) => return refusal_of(alloc, refused),
+        Err(DecodeFault::NoMemory) => return Err(Fault::NoMemory),
+    };
+    match verify(alloc, program, HelperTable::all()) {
+        Ok(accepted) => acceptance_of(alloc, accepted.slots()),
+        Err(VerifyFault::Refused(refused)) => refusal_of(alloc, refused),
+        Err(VerifyFault::NoMemory) => Err(Fault::NoMemory),
+    }
+}
+
+// Writes an answer.
+fn written<'a, O: Sink>(answer: &Answer, out: &mut O) -> Result<Verdict, Fault<'a>>
+    requires unfailed { O.failed out.old ≡ false }
+    ensures ok { IfOk result (λ v. (v ≡ answer.now.verdict) × (O.failed out.new ≡ false) × Appends (O.taken out.old) (O.taken out.new) (string_bytes answer.now.text)) }
+    ensures err { IfErr result (λ f. (f ≡ faults.Output) × (O.failed out.new ≡ true) × AppendsPart (O.taken out.old) (O.taken out.new) (string_bytes answer.now.text)) }
+{
+    match write_all(out, answer.text.as_bytes()) {
+        Ok(()) => Ok(answer.verdict),
+        Err(_) => Err(Fault::Output),
     }
 }
 
@@ -103,8 +156,21 @@ pub fn list_file<'a, P: Paths, O: Sink>(
 {
     let bytes = bytes_at(paths, file)?;
     let answer = listing_of(alloc, &bytes)?;
-    match write_all(out, answer.text.as_bytes()) {
-        Ok(()) => Ok(answer.verdict),
-        Err(_) => Err(Fault::Output),
-    }
+    written(&answer, out)
+}
+
+/// Writes whether the program whose bytes a file is is accepted with all helpers, or where they are refused.
+pub fn check_file<'a, P: Paths, O: Sink>(
+    alloc: Global,
+    file: &'a str,
+    paths: &mut P,
+    out: &mut O,
+) -> Result<Verdict, Fault<'a>>
+    requires unfailed { O.failed out.old ≡ false }
+    ensures told { AnswerLeaves Checks (P.held paths.old file.now) (O.taken out.old) (O.taken out.new) (O.failed out.new) result }
+    ensures same { P.held paths.new ≡ P.held paths.old }
+{
+    let bytes = bytes_at(paths, file)?;
+    let answer = verdict_of(alloc, &bytes)?;
+    written(&answer, out)
 }

@@ -11,7 +11,7 @@ use Rattle.clap.specs.Simple.{Shape, built, argument_words, entered, names_of}
 use Rattle.clap.specs.Kinds.{Kinds, or_else, check_kinds}
 use Rattle.clap.specs.Takes.{is_given}
 use Rattle.clap.specs.Faults.{fault_of, level_fault, entered_fault, check_fault, walk_fault, turn_fault, word_fault, other_fault}
-use Rattle.pb_texts.specs.CommandLines.{program_app, Request, Run, Asm, Dis, both, command_in, command_of}
+use Rattle.pb_texts.specs.CommandLines.{program_app, Request, Run, Asm, Dis, Check, both, command_in, command_of}
 use Rattle.pb_texts.proofs.Filled.{Full, one_operand, two_operands, one_alone, two_alone, full_rows}
 
 chosen : {A : Type 0} (b : Bool) (x y z : A) → cond b x y ≡ z → ((b ≡ true) × (x ≡ z)) ⊎ ((b ≡ false) × (y ≡ z))
@@ -66,7 +66,7 @@ abbrev names : Names
 names = names_of (built program_app)
 
 abbrev IsName : Text → Type 0
-IsName name = (name ≡ codes "run") ⊎ ((name ≡ codes "asm") ⊎ (name ≡ codes "dis"))
+IsName name = (name ≡ codes "run") ⊎ ((name ≡ codes "asm") ⊎ ((name ≡ codes "dis") ⊎ (name ≡ codes "check")))
 
 -- a walk that stopped did so at one of the subcommands
 abbrev Stops : Option (Text × List Text) → Type 0
@@ -86,15 +86,16 @@ Named (Some name) = IsName name ⊎ (name ≡ codes "help")
 abbrev name_if : Bool → Text → Option (Text × List Text) → Option (Text × List Text)
 name_if b name others = cond b (Some (name, [])) others
 
-named_by : (a b c d : Bool) → Named (option_map (λ (s : Text × List Text). s.0) (name_if a (codes "run") (name_if b (codes "asm") (name_if c (codes "dis") (name_if d (codes "help") None)))))
-named_by true b c d = inl (inl refl)
-named_by false true c d = inl (inr (inl refl))
-named_by false false true d = inl (inr (inr refl))
-named_by false false false true = inr refl
-named_by false false false false = tt
+named_by : (a b c d e : Bool) → Named (option_map (λ (s : Text × List Text). s.0) (name_if a (codes "run") (name_if b (codes "asm") (name_if c (codes "dis") (name_if d (codes "check") (name_if e (codes "help") None))))))
+named_by true b c d e = inl (inl refl)
+named_by false true c d e = inl (inr (inl refl))
+named_by false false true d e = inl (inr (inr (inl refl)))
+named_by false false false true e = inl (inr (inr (inr refl)))
+named_by false false false false true = inr refl
+named_by false false false false false = tt
 
 named : (w : Waiting) (word : Text) → Named (subcommand_met names w word)
-named idle word = named_by (answers_to word (codes "run", [])) (answers_to word (codes "asm", [])) (answers_to word (codes "dis", [])) (answers_to word (codes "help", []))
+named idle word = named_by (answers_to word (codes "run", [])) (answers_to word (codes "asm", [])) (answers_to word (codes "dis", [])) (answers_to word (codes "check", [])) (answers_to word (codes "help", []))
 named (option id) word = tt
 named positional word = tt
 
@@ -211,6 +212,11 @@ dis_asks words f =
     let c = level_none _ [] nothing_held words false [] f in
     one_asks Dis (codes "FILE") (rows_after (one_operand (codes "FILE")) [] words) (full_rows (one_operand (codes "FILE")) (one_alone (codes "FILE")) [] words) c.2
 
+check_asks : (words : List Text) → entered_fault (built program_app) (Some (codes "check", words)) ≡ [] → Asks (codes "check") words
+check_asks words f =
+    let c = level_none _ [] nothing_held words false [] f in
+    one_asks Check (codes "FILE") (rows_after (one_operand (codes "FILE")) [] words) (full_rows (one_operand (codes "FILE")) (one_alone (codes "FILE")) [] words) c.2
+
 -- the same for a name that is one of these
 renamed : (name known : Text) (words : List Text) → name ≡ known → (entered_fault (built program_app) (Some (known, words)) ≡ [] → Asks known words)
     → entered_fault (built program_app) (Some (name, words)) ≡ [] → Asks name words
@@ -220,7 +226,8 @@ asks_at : (o : Option (Text × List Text)) → Stops o → is_some (entered (bui
 asks_at None r e f = absurd cc
 asks_at (Some q) (inl run) e f = renamed q.0 (codes "run") q.1 run (run_asks q.1) f
 asks_at (Some q) (inr (inl asm)) e f = renamed q.0 (codes "asm") q.1 asm (asm_asks q.1) f
-asks_at (Some q) (inr (inr dis)) e f = renamed q.0 (codes "dis") q.1 dis (dis_asks q.1) f
+asks_at (Some q) (inr (inr (inl dis))) e f = renamed q.0 (codes "dis") q.1 dis (dis_asks q.1) f
+asks_at (Some q) (inr (inr (inr check))) e f = renamed q.0 (codes "check") q.1 check (check_asks q.1) f
 
 has_one : (b : Bool) (rows : List Row) → check_fault top rows b ≡ [] → b ≡ true
 has_one true rows h = refl

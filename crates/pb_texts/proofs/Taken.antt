@@ -5,7 +5,7 @@ use Rattle.std.specs.Str.{bytes_eq}
 use Rattle.clap.specs.Lexer.{strip_byte}
 use Rattle.clap.specs.Walk.{Text}
 use Rattle.clap.proofs.OnLiterals.{clap_on_literals}
-use Rattle.pb_texts.specs.CommandLines.{is_plain_word, run_words, asm_words, dis_words, Run, Asm, Dis, AskFor}
+use Rattle.pb_texts.specs.CommandLines.{is_plain_word, run_words, asm_words, dis_words, check_words, Run, Asm, Dis, Check, AskFor}
 
 not_true : (b : Bool) → not b ≡ true → b ≡ false
 not_true true h = absurd cc
@@ -37,6 +37,10 @@ dis_by : (program f : Text) → NoHyphen f → AskFor (dis_words program f) (Dis
 unfolding clap_on_literals
 dis_by program f a = (simp (a.0, a.1), simp (a.0, a.1))
 
+check_by : (program f : Text) → NoHyphen f → AskFor (check_words program f) (Check f)
+unfolding clap_on_literals
+check_by program f a = (simp (a.0, a.1), simp (a.0, a.1))
+
 pub run_taken : (program m s : Text) → is_plain_word m ≡ true → is_plain_word s ≡ true → AskFor (run_words program m s) (Run m s)
 run_taken program m s p q = run_by program m s (plain_word m p) (plain_word s q)
 
@@ -45,3 +49,6 @@ asm_taken program i o p q = asm_by program i o (plain_word i p) (plain_word o q)
 
 pub dis_taken : (program f : Text) → is_plain_word f ≡ true → AskFor (dis_words program f) (Dis f)
 dis_taken program f p = dis_by program f (plain_word f p)
+
+pub check_taken : (program f : Text) → is_plain_word f ≡ true → AskFor (check_words program f) (Check f)
+check_taken program f p = check_by program f (plain_word f p)

@@ -21,18 +21,28 @@ asm_app = with_rule (with_rule (new_app (codes "asm")) (required_rule (codes "IN
 abbrev pub dis_app : App
 dis_app = with_rule (new_app (codes "dis")) (required_rule (codes "FILE"))
 
+-- `check FILE`
+abbrev pub check_app : App
+check_app = with_rule (new_app (codes "check")) (required_rule (codes "FILE"))
+
 abbrev pub needs_subcommand : App → App
 needs_subcommand = on_top (λ s. record s { subcommand_required = true })
 
--- the program, which needs a subcommand
+-- the program, which needs a subcommand, with those that read texts
+abbrev pub texts_app : App
+texts_app = with_subcommand (with_subcommand (needs_subcommand (new_app (codes "percobpf"))) run_app.top) asm_app.top
+
+-- the program
 abbrev pub program_app : App
-program_app = with_subcommand (with_subcommand (with_subcommand (needs_subcommand (new_app (codes "percobpf"))) run_app.top) asm_app.top) dis_app.top
+program_app = with_subcommand (with_subcommand texts_app dis_app.top) check_app.top
 
 -- what a command line can ask for: a manifest and a script to run, a text to read and a path for its bytes, a file to list
+-- or to check
 pub data Request : Type 0 where
   Run : Text → Text → Request
   Asm : Text → Text → Request
   Dis : Text → Request
+  Check : Text → Request
 
 abbrev pub both : (Text → Text → Request) → Option Text → Option Text → Option Request
 both make None second = None
@@ -49,6 +59,9 @@ asm_in rows = both Asm (first_of (codes "IN") rows) (first_of (codes "OUT") rows
 abbrev pub dis_in : List Row → Option Request
 dis_in rows = option_map Dis (first_of (codes "FILE") rows)
 
+abbrev pub check_in : List Row → Option Request
+check_in rows = option_map Check (first_of (codes "FILE") rows)
+
 -- what a subcommand with its matches asks for
 abbrev pub command_in : Option (Text × List Row) → Option Request
 command_in None = None
@@ -56,6 +69,7 @@ command_in (Some p) =
     if bytes_eq p.0 (codes "run") then run_in p.1
     else if bytes_eq p.0 (codes "asm") then asm_in p.1
     else if bytes_eq p.0 (codes "dis") then dis_in p.1
+    else if bytes_eq p.0 (codes "check") then check_in p.1
     else None
 
 abbrev pub command_of : List Text → Option Request
@@ -65,6 +79,7 @@ abbrev pub request_of : Options → Request
 request_of (options.Run manifest script) = Run manifest.now script.now
 request_of (options.Asm input output) = Asm input.now output.now
 request_of (options.Dis file) = Dis file.now
+request_of (options.Check file) = Check file.now
 
 -- the word doesn't begin with a hyphen
 abbrev pub is_plain_word : Text → Bool
@@ -80,6 +95,9 @@ asm_words program input output = program ∷ codes "asm" ∷ input ∷ output �
 
 abbrev pub dis_words : Text → Text → List Text
 dis_words program file = program ∷ codes "dis" ∷ file ∷ []
+
+abbrev pub check_words : Text → Text → List Text
+check_words program file = program ∷ codes "check" ∷ file ∷ []
 
 -- the words are taken without fault, and ask for this
 abbrev pub AskFor : List Text → Request → Type 0

@@ -142,6 +142,7 @@ fn asked<'a>(
         Options::Run { manifest, script } => ("run", manifest, script),
         Options::Asm { input, output } => ("asm", input, output),
         Options::Dis { file } => ("dis", file, ""),
+        Options::Check { file } => ("check", file, ""),
     }
 }
 
@@ -153,6 +154,8 @@ fn subcommands(rt: HostRuntime) {
     assert!(rt; asked(&rt, rt.alloc(), &asm) == ("asm", "p.s", "p.bin"));
     let dis = ["percobpf", "dis", "p.bin"];
     assert!(rt; asked(&rt, rt.alloc(), &dis) == ("dis", "p.bin", ""));
+    let check = ["percobpf", "check", "p.bin"];
+    assert!(rt; asked(&rt, rt.alloc(), &check) == ("check", "p.bin", ""));
 }
 
 #[test]
@@ -169,6 +172,9 @@ fn command_lines(rt: HostRuntime) {
     assert!(rt; status(&rt, &["percobpf", "dis"]) == 2);
     assert!(rt; status(&rt, &["percobpf", "dis", "f", "x"]) == 2);
     assert!(rt; status(&rt, &["percobpf", "help", "dis"]) == 0);
+    assert!(rt; status(&rt, &["percobpf", "check"]) == 2);
+    assert!(rt; status(&rt, &["percobpf", "check", "f", "x"]) == 2);
+    assert!(rt; status(&rt, &["percobpf", "check", "--help"]) == 0);
 }
 
 #[test]

@@ -9,4 +9,6 @@ pub enum Options<'a> {
     Asm { input: &'a str, output: &'a str },
     /// Reads a program's bytes, and lists it.
     Dis { file: &'a str },
+    /// Reads a program's bytes, and tells whether it is accepted.
+    Check { file: &'a str },
 }

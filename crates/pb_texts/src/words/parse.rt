@@ -2,7 +2,7 @@
 ghost use Rattle.std.specs.Prelude.{◌≡◌, ℕ, List, true, IfOk, Some, [], false, option_map};
 ghost use Rattle.clap.specs.Words.{FailsBy, app_of, fault_of, first_of, found_of, rows_of, subcommand_of, subcommand_rows_of};
 ghost use Rattle.pb_texts.specs.ScriptWords.{plain};
-ghost use Rattle.pb_texts.specs.CommandLines.{run_app, asm_app, dis_app, program_app, run_in, asm_in, dis_in, command_in, command_of, request_of, is_plain_word, run_words, asm_words, dis_words, Run, Asm, Dis, AskFor};
+ghost use Rattle.pb_texts.specs.CommandLines.{run_app, asm_app, dis_app, check_app, texts_app, program_app, run_in, asm_in, dis_in, check_in, command_in, command_of, request_of, is_plain_word, run_words, asm_words, dis_words, check_words, Run, Asm, Dis, Check, AskFor};
 ghost use Rattle.clap.specs.declared.builder.command.Command.TheViews.{out-Command as fields_of};
 
 use crate::words::choice::Options;
@@ -35,14 +35,30 @@ fn dis_command<'a>(alloc: Global) -> Result<Command<'a>, AllocError>
     Command::new(alloc, "dis").arg(file)
 }
 
-fn program<'a>(alloc: Global) -> Result<Command<'a>, AllocError>
-    ensures { IfOk result (λ c. app_of c ≡ program_app) }
+fn check_command<'a>(alloc: Global) -> Result<Command<'a>, AllocError>
+    ensures app { IfOk result (λ c. app_of c ≡ check_app) }
+    ensures local { IfOk result (λ c. (fields_of c).has_globals ≡ false) }
+{
+    let bytes = Arg::new(alloc, "FILE").required(true);
+    Command::new(alloc, "check").arg(bytes)
+}
+
+// The program with the subcommands that read texts.
+fn texts_program<'a>(alloc: Global) -> Result<Command<'a>, AllocError>
+    ensures { IfOk result (λ c. app_of c ≡ texts_app) }
 {
     let run = run_command(alloc)?;
     let asm = asm_command(alloc)?;
-    let dis = dis_command(alloc)?;
     let bare = Command::new(alloc, "percobpf").subcommand_required(true);
-    bare.subcommand(run)?.subcommand(asm)?.subcommand(dis)
+    bare.subcommand(run)?.subcommand(asm)
+}
+
+fn program<'a>(alloc: Global) -> Result<Command<'a>, AllocError>
+    ensures { IfOk result (λ c. app_of c ≡ program_app) }
+{
+    let dis = dis_command(alloc)?;
+    let check = check_command(alloc)?;
+    texts_program(alloc)?.subcommand(dis)?.subcommand(check)
 }
 
 fn matches_of<'a>(alloc: Global, words: &'a [&'a str]) -> Result<ArgMatches<'a>, Error>
@@ -89,6 +105,16 @@ fn dis_in<'a>(dis: &ArgMatches<'a>) -> Option<Options<'a>>
     }
 }
 
+// What the matches of `check` name.
+fn check_in<'a>(check: &ArgMatches<'a>) -> Option<Options<'a>>
+    ensures { option_map request_of result ≡ check_in (rows_of (found_of check.now)) }
+{
+    match value_in(check, "FILE") {
+        Some(file) => Some(Options::Check { file }),
+        None => None,
+    }
+}
+
 // What the matches of a command line name.
 fn command_in<'a>(matches: &ArgMatches<'a>) -> Option<Options<'a>>
     ensures { option_map request_of result ≡ command_in (subcommand_rows_of matches.now) }
@@ -97,6 +123,7 @@ fn command_in<'a>(matches: &ArgMatches<'a>) -> Option<Options<'a>>
         Some(("run", run)) => run_in(run),
         Some(("asm", asm)) => asm_in(asm),
         Some(("dis", dis)) => dis_in(dis),
+        Some(("check", check)) => check_in(check),
         _ => None,
     }
 }
@@ -119,4 +146,5 @@ pub fn plain_words_are_taken()
     ensures run { (program manifest script : List ℕ) → is_plain_word manifest ≡ true → is_plain_word script ≡ true → AskFor (run_words program manifest script) (Run manifest script) }
     ensures asm { (program input output : List ℕ) → is_plain_word input ≡ true → is_plain_word output ≡ true → AskFor (asm_words program input output) (Asm input output) }
     ensures dis { (program file : List ℕ) → is_plain_word file ≡ true → AskFor (dis_words program file) (Dis file) }
+    ensures check { (program file : List ℕ) → is_plain_word file ≡ true → AskFor (check_words program file) (Check file) }
 {}

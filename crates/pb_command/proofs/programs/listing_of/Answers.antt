@@ -1,8 +1,13 @@
-use Rattle.std.proofs.Common.{subst}
+use Rattle.std.proofs.Common.{subst, sym, string_bytes}
+use Rattle.std.proofs.lemmas.Result.{IfOk-weaker}
 use Rattle.pb_decode.specs.Faults.{IsRefusal}
+use Rattle.pb_command.specs.Programs.{Lists}
+use Rattle.pb_command.specs.declared.answer.Verdict.{Verdict}
 use Rattle.pb_command.proofs.programs.listing_of.Goals as goal
 
-pub returns-in_ok-text-in-Err-Refused-clause-told : goal.returns-in_ok-text-in-Err-Refused-clause-told
-returns-in_ok-text-in-Err-Refused-clause-told c =
+pub returns-in-Err-Refused-clause-told : goal.returns-in-Err-Refused-clause-told
+returns-in-Err-Refused-clause-told c =
     let told = subst (IsRefusal c.args.bytes.now) c.in-Err-Refused.field-0-is c.in-Err-Refused.ensures.err in
-    (c.in-Err-Refused.refused.slot, c.in-Err-Refused.refused.code, told, c.in_ok-text-in-Err-Refused.ensures)
+    IfOk-weaker c.refusal_of.result _ _
+    (λ a h. subst (λ (v : Verdict). Lists c.args.bytes.now v (string_bytes a.text)) (sym h.0) (c.in-Err-Refused.refused.slot, c.in-Err-Refused.refused.code, told, h.1))
+    c.refusal_of.ensures.told
