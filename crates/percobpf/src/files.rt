@@ -28,6 +28,15 @@ impl<'a> Files<'a> {
     }
 }
 
+// Why a file wasn't read or written.
+fn fault_of(error: &io::Error) -> PathFault {
+    if error.kind() == ErrorKind::OutOfMemory {
+        PathFault::NoMemory
+    } else {
+        PathFault::Failed
+    }
+}
+
 impl<'a> Paths for Files<'a> {
     ghost held = { λ _ _. None };
 
@@ -35,8 +44,14 @@ impl<'a> Paths for Files<'a> {
         match self.bytes(path) {
             Ok(bytes) if bytes.len() as u64 > LIMIT => Err(PathFault::TooLarge),
             Ok(bytes) => Ok(bytes),
-            Err(error) if error.kind() == ErrorKind::OutOfMemory => Err(PathFault::NoMemory),
-            Err(_) => Err(PathFault::Failed),
+            Err(error) => Err(fault_of(&error)),
+        }
+    }
+
+    fn write(&mut self, path: &str, bytes: &[u8]) -> Result<(), PathFault> {
+        match fs::write(self.rt, path, bytes) {
+            Ok(()) => Ok(()),
+            Err(error) => Err(fault_of(&error)),
         }
     }
 }

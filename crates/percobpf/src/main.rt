@@ -1,4 +1,5 @@
-//! `percobpf run MANIFEST SCRIPT`: runs a script's changes, and prints the committed cells and the work that is left.
+//! The program: `run MANIFEST SCRIPT` runs a script's changes, and prints the committed cells and the work that is left;
+//! `asm IN OUT` writes the bytes of a program's text, and `dis FILE` lists a program's bytes.
 #![tactic(auto)]
 
 mod files;

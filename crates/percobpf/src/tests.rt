@@ -14,6 +14,8 @@ use std::process::Abort;
 use std::rt::HostRuntime;
 use std::sync::Arc;
 
+mod programs;
+
 type Boxed = Box<dyn Tablet + Send + Drop>;
 
 const MANIFEST: &[u8] = b"{\"profile\":1,\"observers\":[]}";
@@ -43,6 +45,10 @@ impl<'a> Paths for Held<'a> {
             Ok(()) => Ok(bytes),
             Err(_) => Err(PathFault::NoMemory),
         }
+    }
+
+    fn write(&mut self, _path: &str, _bytes: &[u8]) -> Result<(), PathFault> {
+        Err(PathFault::Failed)
     }
 }
 
@@ -77,7 +83,7 @@ impl Sink for Sheet {
     }
 }
 
-// What a run printed, and its status.
+// What a command printed, and its status.
 #[derive(Drop)]
 struct Outcome {
     status: u8,
@@ -85,20 +91,17 @@ struct Outcome {
     err: Vec<u8>,
 }
 
-fn run_on<T: Tablet>(
+// Carries out a command over these paths on a table of these tablets.
+fn carry_on<T: Tablet, P: Paths>(
     rt: &HostRuntime,
     parts: Vec<(Row, T)>,
-    files: Held,
+    options: &Options,
+    paths: &mut P,
     left: usize,
     fails: bool,
 ) -> Result<Outcome, NoMemory> {
-    let mut files = files;
     match Table::new(parts) {
         Ok(table) => {
-            let options = Options::Run {
-                manifest: "m",
-                script: "s",
-            };
             let mut out = Sheet {
                 bytes: Vec::new(rt.alloc()),
                 left,
@@ -111,7 +114,7 @@ fn run_on<T: Tablet>(
                 fails,
                 failed: false,
             };
-            let status = command(rt.alloc(), &options, &mut files, table, &mut out, &mut err);
+            let status = command(rt.alloc(), options, paths, table, &mut out, &mut err);
             Ok(Outcome {
                 status,
                 out: out.bytes,
@@ -125,14 +128,30 @@ fn run_on<T: Tablet>(
     }
 }
 
-fn run(rt: &HostRuntime, files: Held, left: usize, fails: bool) -> Result<Outcome, NoMemory> {
+// Carries out a command over these paths, with an output that takes so many bytes.
+fn carry<P: Paths>(
+    rt: &HostRuntime,
+    options: &Options,
+    paths: &mut P,
+    left: usize,
+    fails: bool,
+) -> Result<Outcome, NoMemory> {
     let mut parts: Vec<(Row, Boxed)> = Vec::new(rt.alloc());
     parts.push((Row(0), Box::new(rt.alloc(), ListTablet::new(rt.alloc()))?))?;
     parts.push((
         Row(1000),
         Box::new(rt.alloc(), ListTablet::new(rt.alloc()))?,
     ))?;
-    run_on(rt, parts, files, left, fails)
+    carry_on(rt, parts, options, paths, left, fails)
+}
+
+fn run(rt: &HostRuntime, files: Held, left: usize, fails: bool) -> Result<Outcome, NoMemory> {
+    let mut files = files;
+    let options = Options::Run {
+        manifest: "m",
+        script: "s",
+    };
+    carry(rt, &options, &mut files, left, fails)
 }
 
 // Whether a run of the files ends so.

@@ -7,6 +7,7 @@
 mod calls;
 mod observers;
 mod page;
+mod programs;
 mod runs;
 
 use std::process::ExitCode;
@@ -24,7 +25,12 @@ fn all(rt: &HostRuntime) -> Result<bool, pb_base::NoMemory> {
         && observers::manifests_are_read(alloc)?
         && observers::machines_start(alloc)?
         && observers::runs_are_declared(alloc)?;
-    Ok(copies && table && shared && runs && observers)
+    let programs = programs::programs_are_made(alloc)?
+        && programs::bytes_are_decoded(alloc)?
+        && programs::programs_are_encoded(alloc)?
+        && programs::texts_are_assembled(alloc)?
+        && programs::programs_are_listed(alloc)?;
+    Ok(copies && table && shared && runs && observers && programs)
 }
 
 fn main(rt: HostRuntime) -> ExitCode {
