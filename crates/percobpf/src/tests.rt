@@ -14,6 +14,7 @@ use std::process::Abort;
 use std::rt::HostRuntime;
 use std::sync::Arc;
 
+mod checks;
 mod programs;
 
 type Boxed = Box<dyn Tablet + Send + Drop>;

@@ -10,9 +10,9 @@ use std::rt::HostRuntime;
 
 // A file to be read at the path `i`, and what was written to the path `o`.
 #[derive(Drop)]
-struct Folder<'a> {
+pub(crate) struct Folder<'a> {
     alloc: Global,
-    input: Result<&'a [u8], PathFault>,
+    pub(crate) input: Result<&'a [u8], PathFault>,
     // What each write is refused with.
     refuses: Option<PathFault>,
     output: Option<Vec<u8>>,
@@ -48,7 +48,7 @@ fn copied(alloc: Global, bytes: &[u8]) -> Result<Vec<u8>, PathFault> {
     }
 }
 
-fn holding(alloc: Global, input: &[u8]) -> Folder {
+pub(crate) fn holding(alloc: Global, input: &[u8]) -> Folder {
     Folder {
         alloc,
         input: Ok(input),
@@ -58,7 +58,7 @@ fn holding(alloc: Global, input: &[u8]) -> Folder {
 }
 
 // Whether a command ended so.
-fn ended(outcome: Result<Outcome, NoMemory>, status: u8, out: &[u8], err: &str) -> bool {
+pub(crate) fn ended(outcome: Result<Outcome, NoMemory>, status: u8, out: &[u8], err: &str) -> bool {
     match outcome {
         Ok(outcome) => {
             outcome.status == status
