@@ -12,3 +12,6 @@ mod verifier;
 pub use accepted::Accepted;
 pub use rules::codes_rise;
 pub use verifier::{VerifyFault, verify};
+
+#[cfg(test)]
+mod tests;
