@@ -2,3 +2,4 @@ pub mod Lowest
 pub mod Rising
 pub mod Near
 pub mod Outs
+pub mod MeetOfWays

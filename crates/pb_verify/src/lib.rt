@@ -10,6 +10,7 @@ mod rules;
 mod verifier;
 
 pub use accepted::Accepted;
+pub use arriving::frames_are_meets;
 pub use rules::codes_rise;
 pub use verifier::{VerifyFault, verify};
 
