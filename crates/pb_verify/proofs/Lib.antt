@@ -3,3 +3,4 @@ pub mod Rising
 pub mod Near
 pub mod Outs
 pub mod MeetOfWays
+pub mod OneVerdict
