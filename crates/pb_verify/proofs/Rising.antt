@@ -1,5 +1,5 @@
-use Rattle.std.proofs.Common.{ℕ, ◌+◌, ◌≤◌, Bool, true, false, not, List, [], ◌∷◌, ◌++◌, arith}
-use Rattle.std.specs.Prelude.{if◌then◌else◌, Option, Some, None, ℤ, pos, negsuc, nat_eq, nat_le, is_none}
+use Rattle.std.proofs.Common.{ℕ, ◌+◌, ◌≤◌, Bool, true, false, List, [], ◌∷◌, ◌++◌, arith}
+use Rattle.std.specs.Prelude.{if◌then◌else◌, ℤ, pos, negsuc, nat_eq, nat_le, is_none}
 use Rattle.pb_isa.specs.declared.insn.Insn.{Insn}
 use Rattle.pb_isa.specs.declared.insn.Insn.TheVariants.{Alu, Neg, LoadImm, Load, StoreImm, Store, Jump, JumpIf, Call, Exit}
 use Rattle.pb_isa.specs.declared.insn.AluOp.{AluOp}
@@ -11,16 +11,16 @@ use Rattle.pb_isa.specs.declared.insn.Operand.TheVariants as operands
 use Rattle.pb_isa.specs.declared.insn.Reg.{Reg}
 use Rattle.pb_isa.specs.Registers.{number}
 use Rattle.pb_isa.specs.Slots.{slots, insn_at}
-use Rattle.pb_isa.specs.Helpers.{Helper, Read, Write, Delete, Start, HelperSet, called}
+use Rattle.pb_isa.specs.Helpers.{HelperSet, called}
 use Rattle.pb_kinds.specs.declared.frame.Kind.{Kind}
 use Rattle.pb_kinds.specs.declared.frame.Kind.TheVariants.{Unset, Number, Stack, Record}
 use Rattle.pb_kinds.specs.declared.frame.Frame.{Frame}
 use Rattle.pb_kinds.specs.Frames.{kind_of, is_unset, is_pointer}
-use Rattle.pb_kinds.specs.Ranges.{in_stack, are_written}
 use Rattle.pb_helpers.specs.declared.code.Code.{Code}
-use Rattle.pb_helpers.specs.declared.code.Code.TheVariants.{ReadsUnset, WritesR10, PointerArithmetic, PointerStored, OutsideStack, UnwrittenByte, OutsideRecord, WrongArgument, JumpOutside, JumpIntoPair, FallsOff, ExitsWithPointer, PointerCompared}
+use Rattle.pb_helpers.specs.declared.code.Code.TheVariants.{ReadsUnset, WritesR10, PointerArithmetic, PointerStored, OutsideStack, UnwrittenByte, OutsideRecord, JumpOutside, JumpIntoPair, FallsOff, ExitsWithPointer, PointerCompared}
 use Rattle.pb_helpers.specs.Codes.{code_number, when, AreRising}
-use Rattle.pb_helpers.specs.Arguments.{unset, filled_bytes, taken_bytes, is_cell, call_rules}
+use Rattle.pb_helpers.specs.Arguments.{unset, call_rules}
+use Rattle.pb_helpers.proofs.Rising as calls
 use Rattle.pb_verify.specs.Rules.{at, reads, sets, reads_operand, on_pointer, bytes_of, falls, numeric, mov, add, alu, loads, stores, load, store_imm, store, jumps, jump_if, broken}
 
 -- ---- lists of codes that rise
@@ -45,40 +45,10 @@ one_of_two : (a b : ℕ) (t u : Bool) (c d : Code) → a ≤ code_number c → c
 one_of_two a b true u c d l m k n = one a b u c l m
 one_of_two a b false u c d l m k n = (k, n)
 
--- ---- arguments of calls
+-- ---- parts of rules
 
 set : (f : Frame) (r : ℕ) → AreRising 21 21 (unset f r)
 set f r = one 21 21 (is_unset (kind_of f r)) ReadsUnset (omega arith) (omega arith)
-
-filled : (k : Kind) → AreRising 21 26 (filled_bytes k)
-filled Unset = omega arith
-filled Number = omega arith
-filled (Stack k) = one 21 26 (not (in_stack k 32)) OutsideStack (omega arith) (omega arith)
-filled (Record k) = omega arith
-
-taken : (f : Frame) (k : Kind) → AreRising 21 26 (taken_bytes f k)
-taken f Unset = omega arith
-taken f Number = omega arith
-taken f (Stack k) = one_of_two 21 26 (in_stack k 32) (not (are_written f k 32)) UnwrittenByte OutsideStack (omega arith) (omega arith) (omega arith) (omega arith)
-taken f (Record k) = omega arith
-
-with_place : (f : Frame) (cs : List Code) (t : Bool) → AreRising 21 26 cs → AreRising 21 31 (unset f 1 ++ unset f 2 ++ unset f 3 ++ cs ++ when t WrongArgument)
-with_place f cs t h =
-    joined 21 26 31 (unset f 1 ++ unset f 2 ++ unset f 3 ++ cs) (when t WrongArgument)
-    (joined 21 21 26 (unset f 1 ++ unset f 2 ++ unset f 3) cs
-    (joined 21 21 21 (unset f 1 ++ unset f 2) (unset f 3) (joined 21 21 21 (unset f 1) (unset f 2) (set f 1) (set f 2)) (set f 3)) h)
-    (one 26 31 t WrongArgument (omega arith) (omega arith))
-
-call_rise : (f : Frame) (h : Option Helper) → AreRising 21 31 (call_rules f h)
-call_rise f None = (omega arith, omega arith)
-call_rise f (Some Read) = with_place f (filled_bytes (kind_of f 3)) _ (filled (kind_of f 3))
-call_rise f (Some Write) = with_place f (taken_bytes f (kind_of f 3)) _ (taken f (kind_of f 3))
-call_rise f (Some Delete) =
-    joined 21 21 31 (unset f 1 ++ unset f 2) (when (not (is_cell f)) WrongArgument) (joined 21 21 21 (unset f 1) (unset f 2) (set f 1) (set f 2))
-    (one 21 31 (not (is_cell f)) WrongArgument (omega arith) (omega arith))
-call_rise f (Some Start) = omega arith
-
--- ---- parts of rules
 
 reads_rise : (f : Frame) (r : Reg) → AreRising 21 21 (reads f r)
 reads_rise f r = set f (number r)
@@ -179,7 +149,7 @@ codes_rise p h n f (Store z d o r) =
     (stores_rise (at f d) o (bytes_of z)))
 codes_rise p h n f (Jump o) = to_higher 21 34 38 (jumps p n o) (omega arith) (jumps_rise p n o)
 codes_rise p h n f (JumpIf c w d x o) = compared p n f d x o
-codes_rise p h n f (Call k) = with_falls p (n + 1) (call_rules f (called h k)) (to_higher 21 31 34 (call_rules f (called h k)) (omega arith) (call_rise f (called h k)))
+codes_rise p h n f (Call k) = with_falls p (n + 1) (call_rules f (called h k)) (to_higher 21 31 34 (call_rules f (called h k)) (omega arith) (calls.codes_rise f (called h k)))
 codes_rise p h n f Exit =
     joined 21 21 38 (unset f 0) (when (is_pointer (kind_of f 0)) ExitsWithPointer) (set f 0)
     (one 21 38 (is_pointer (kind_of f 0)) ExitsWithPointer (omega arith) (omega arith))

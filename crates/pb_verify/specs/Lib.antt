@@ -4,3 +4,4 @@ pub mod Arriving
 pub mod Accepted
 pub mod Verdict
 pub mod Within
+pub mod Ways

@@ -1,5 +1,5 @@
 -- What the verifier answers.
-use Rattle.std.specs.Prelude.{◌≡◌, List}
+use Rattle.std.specs.Prelude.{◌≡◌, ◌⊎◌, ℕ, List}
 use Rattle.pb_isa.specs.declared.insn.Insn.{Insn}
 use Rattle.pb_isa.specs.Helpers.{HelperSet}
 use Rattle.pb_helpers.specs.declared.code.Code.{Code}
@@ -19,3 +19,12 @@ pub record IsAccepted (p : List Insn) (h : HelperSet) (a : AcceptedOf) : Type 0 
 abbrev pub IsFault : List Insn → HelperSet → VerifyFault → Type 0
 IsFault p h NoMemory = Unit {0}
 IsFault p h (Refused r) = (c : Code) × (r.code ≡ code_number c) × Refuses p h r.slot c
+
+-- the rules accept a program with a table, or refuse it at one slot with one code, and not both
+pub record HasOneVerdict (p : List Insn) (h : HelperSet) : Type 0 where
+  pub either : Accepts p h ⊎ ((n : ℕ) × (c : Code) × Refuses p h n c)
+  pub not_both : (n : ℕ) (c : Code) → Accepts p h → ¬ (Refuses p h n c)
+  pub one : (n m : ℕ) (c d : Code) → Refuses p h n c → Refuses p h m d → (n ≡ m) × (c ≡ d)
+
+abbrev pub EachHasOneVerdict : Type 0
+EachHasOneVerdict = (p : List Insn) (h : HelperSet) → HasOneVerdict p h

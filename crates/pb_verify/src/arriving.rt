@@ -2,6 +2,7 @@
 ghost use Rattle.std.specs.Prelude.{◌≡◌, ◌<◌, length};
 ghost use Rattle.pb_isa.specs.Slots.{slots};
 ghost use Rattle.pb_verify.specs.Arriving.{merge, sent, arriving};
+ghost use Rattle.pb_verify.specs.Ways.{FramesAreMeets};
 
 use crate::following::leads_to;
 use pb_isa::{Insn, Program};
@@ -46,3 +47,9 @@ pub fn arriving(program: &Program, slot: usize, outs: &[Option<Frame>]) -> Optio
     }
     known
 }
+
+/// The frame before a slot says exactly what is known on every way to it: a kind is known, and a byte is written, where it
+/// is so after each earlier instruction that leads there. To the first slot entry alone leads.
+pub fn frames_are_meets()
+    ensures { FramesAreMeets }
+{}

@@ -10,5 +10,9 @@ mod rules;
 mod verifier;
 
 pub use accepted::Accepted;
+pub use arriving::frames_are_meets;
 pub use rules::codes_rise;
-pub use verifier::{VerifyFault, verify};
+pub use verifier::{VerifyFault, either_accepted_or_refused, verify};
+
+#[cfg(test)]
+mod tests;

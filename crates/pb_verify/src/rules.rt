@@ -87,9 +87,12 @@ fn mov(frame: &Frame, width: Width, to: Reg, operand: Operand) -> Option<Code>
         Operand::Imm(_) => sets(to),
         Operand::Reg(from) => match width {
             Width::Bits64 => reads(frame, from).or(sets(to)),
-            Width::Bits32 => reads(frame, from).or(sets(to)).or(Code::PointerArithmetic.when(kind(
-                frame, from,
-            ).is_pointer())),
+            Width::Bits32 => {
+                let is_pointer = kind(frame, from).is_pointer();
+                reads(frame, from)
+                    .or(sets(to))
+                    .or(Code::PointerArithmetic.when(is_pointer))
+            }
         },
     }
 }

@@ -3,7 +3,7 @@ ghost use Rattle.std.specs.Prelude.{◌≡◌, ◌<◌, ◌+◌, ◌^◌, ℕ, [
 ghost use Rattle.pb_isa.specs.Slots.{slots, insn_at};
 ghost use Rattle.pb_helpers.specs.Codes.{lowest};
 ghost use Rattle.pb_verify.specs.Arriving.{codes_at, leaving};
-ghost use Rattle.pb_verify.specs.Verdict.{IsAccepted, IsFault};
+ghost use Rattle.pb_verify.specs.Verdict.{IsAccepted, IsFault, EachHasOneVerdict};
 ghost use Rattle.pb_verify.specs.Within.{IsWithinIf};
 
 use crate::accepted::Accepted;
@@ -80,3 +80,8 @@ pub fn verify(
     }
     Ok(Accepted::new(program, helpers))
 }
+
+/// The rules accept a program with a table, or they refuse it at one slot with one code, and not both.
+pub fn either_accepted_or_refused()
+    ensures { EachHasOneVerdict }
+{}
