@@ -1,6 +1,6 @@
 //! `check`, over paths and sinks in memory.
 use super::carry;
-use super::programs::{ended, holding};
+use super::programs::{ended, holding, is_cut};
 use pb_base::NoMemory;
 use pb_command::PathFault;
 use pb_texts::Options;
@@ -130,20 +130,17 @@ fn unread_files_are_told(rt: HostRuntime) {
 }
 
 #[test]
-fn a_verdict_may_fail_at_any_call(rt: HostRuntime) -> Result<(), NoMemory> {
-    let text = b"accepted 2 slots\n";
+fn a_verdict_may_fail_at_any_call(rt: HostRuntime) {
+    let bytes = b"\xb7\0\0\0\0\0\0\0\x95\0\0\0\0\0\0\0" as &[u8];
+    let text = b"accepted 2 slots\n" as &[u8];
     for j in 0..text.len() {
-        for fails in [true, false] {
-            let mut folder = holding(rt.alloc(), b"\xb7\0\0\0\0\0\0\0\x95\0\0\0\0\0\0\0");
-            let outcome = carry(&rt, &CHECK, &mut folder, j, fails)?;
-            assert!(rt; outcome.status == 1, "status at {j}");
-            assert!(rt; text.starts_with(outcome.out.as_slice()), "output at {j}");
-            assert!(rt; outcome.out.len() == j, "length at {j}");
-            assert!(rt;
-                outcome.err.as_slice() == b"cannot write the output\n".as_slice(),
-                "fault at {j}"
-            );
-        }
+        assert!(rt;
+            is_cut(&rt, &CHECK, bytes, (j, true), text),
+            "failed at {j}"
+        );
+        assert!(rt;
+            is_cut(&rt, &CHECK, bytes, (j, false), text),
+            "took none at {j}"
+        );
     }
-    Ok(())
 }

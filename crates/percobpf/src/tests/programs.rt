@@ -8,6 +8,8 @@ use pb_texts::Options;
 use std::alloc::Global;
 use std::rt::HostRuntime;
 
+const LISTING: Options = Options::Dis { file: "i" };
+
 // A file to be read at the path `i`, and what was written to the path `o`.
 #[derive(Drop)]
 pub(crate) struct Folder<'a> {
@@ -78,7 +80,7 @@ fn asm(rt: &HostRuntime, folder: &mut Folder) -> Result<Outcome, NoMemory> {
 }
 
 fn dis(rt: &HostRuntime, folder: &mut Folder) -> Result<Outcome, NoMemory> {
-    carry(rt, &Options::Dis { file: "i" }, folder, usize::MAX, true)
+    carry(rt, &LISTING, folder, usize::MAX, true)
 }
 
 // Whether `asm` writes these bytes for the text, and prints nothing.
@@ -216,10 +218,16 @@ fn files_are_refused(rt: HostRuntime) {
     }
 }
 
-// Whether a listing whose output ends at the j-th call prints a beginning of the text, and tells it.
-fn is_cut(rt: &HostRuntime, bytes: &[u8], j: usize, fails: bool, text: &[u8]) -> bool {
+// Whether a command whose output ends at the j-th call prints a beginning of the text, and tells it.
+pub(crate) fn is_cut(
+    rt: &HostRuntime,
+    options: &Options,
+    bytes: &[u8],
+    (j, fails): (usize, bool),
+    text: &[u8],
+) -> bool {
     let mut folder = holding(rt.alloc(), bytes);
-    match carry(rt, &Options::Dis { file: "i" }, &mut folder, j, fails) {
+    match carry(rt, options, &mut folder, j, fails) {
         Ok(outcome) => {
             outcome.status == 1
                 && outcome.out.len() == j
@@ -241,8 +249,14 @@ fn a_listing_may_fail_at_any_call(rt: HostRuntime) {
     ];
     for (bytes, text) in table {
         for j in 0..text.len() {
-            assert!(rt; is_cut(&rt, bytes, j, true, text), "failed at {j}");
-            assert!(rt; is_cut(&rt, bytes, j, false, text), "took none at {j}");
+            assert!(rt;
+                is_cut(&rt, &LISTING, bytes, (j, true), text),
+                "failed at {j}"
+            );
+            assert!(rt;
+                is_cut(&rt, &LISTING, bytes, (j, false), text),
+                "took none at {j}"
+            );
         }
     }
 }

@@ -1,0 +1,50 @@
+/* What an observer sees: the change that it runs on, and the helpers that it may call.
+ *
+ * An observer is one function, compiled for BPF (RFC 9669) by
+ *
+ *     clang -target bpfel -mcpu=v3 -O2 -c NAME.c -o NAME.o
+ *     llvm-objcopy -O binary --only-section=observer NAME.o NAME.bin
+ *
+ * It gets the address of the change, runs to its end without loops, and returns 0. With another result its writes are
+ * dropped. Its stack has 512 bytes; a pointer may not be stored there, compared, or moved by a number that isn't known
+ * when it is compiled. `percobpf check NAME.bin` tells whether a program is accepted, and where it isn't. */
+#ifndef PERCOBPF_H
+#define PERCOBPF_H
+
+typedef unsigned char u8;
+typedef unsigned int u32;
+typedef unsigned long long u64;
+
+/* 80 bytes, which may be read and not written. */
+struct change {
+    u64 row;
+    u64 column;
+    u64 start;        /* of the transaction that made the change */
+    u64 commit;       /* of that transaction */
+    u64 present;      /* 1: the cell has a value; 0: it was deleted */
+    u64 acknowledged; /* the start of this observer's last run on the cell, or 0 */
+    u64 value[4];     /* 32 bytes as four little-endian words; zero where the cell was deleted */
+};
+
+/* The content of a cell: 32 bytes. */
+struct value {
+    u64 word[4];
+};
+
+/* Reads a cell as of this run's start: 0 and its value; 1 and zeros where it is absent or deleted; 2 and zeros where
+ * the column is over 15. The run's own writes aren't seen. */
+static u64 (*const read_cell)(u64 row, u64 column, struct value *value) = (void *)1;
+
+/* Writes a cell when this run commits: 0; 2 where the column is over 15; 3 where it would be the 17th cell. */
+static u64 (*const write_cell)(u64 row, u64 column, const struct value *value) = (void *)2;
+
+/* Deletes a cell when this run commits; answers as write_cell does. */
+static u64 (*const delete_cell)(u64 row, u64 column) = (void *)3;
+
+/* This run's start timestamp. */
+static u64 (*const run_start)(void) = (void *)4;
+
+/* Before the observer's function. */
+#define OBSERVER __attribute__((section("observer"), used))
+
+#endif
