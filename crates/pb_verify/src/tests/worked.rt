@@ -2,6 +2,8 @@
 use crate::tests::{add, alu, copy, jump_if_zero, load_byte, mov, store_byte, told, told_with};
 use pb_helpers::HelperTable;
 use pb_isa::{AluOp, Cmp, Insn, Operand, Reg, Size, Width};
+use std::alloc::Global;
+use std::process::Abort;
 use std::rt::HostRuntime;
 use std::test::*;
 
@@ -81,6 +83,47 @@ fn jumps(rt: HostRuntime) {
         Insn::Exit,
     ];
     assert!(rt; told(&rt, alloc, &ways) == (3, 26));
+}
+
+// Where a program is refused, or its slots and 0, that has the jump in slot 1, a pair in slots 2 and 3, and its exit in
+// slot 4.
+fn told_of(rt: &impl Abort, alloc: Global, jump: Insn) -> (u16, u8) {
+    let insns = [mov(Reg::R0, 0), jump, Insn::LoadImm(Reg::R2, 5), Insn::Exit];
+    told(rt, alloc, &insns)
+}
+
+#[test]
+fn jumps_of_every_class(rt: HostRuntime) {
+    let alloc = rt.alloc();
+    // Onto the first slot, the first of the pair, its second, the last slot, and past the end.
+    let table = [
+        (-2, (1, 32)),
+        (0, (5, 0)),
+        (1, (1, 34)),
+        (2, (5, 0)),
+        (3, (1, 33)),
+    ];
+    for (offset, wanted) in table {
+        for operand in [Operand::Imm(0), Operand::Reg(Reg::R0)] {
+            let narrow = Insn::JumpIf(Cmp::Eq, Width::Bits32, Reg::R0, operand, offset);
+            assert!(rt; told_of(&rt, alloc, narrow) == wanted, "{narrow:?}");
+            let wide = Insn::JumpIf(Cmp::Eq, Width::Bits64, Reg::R0, operand, offset);
+            assert!(rt; told_of(&rt, alloc, wide) == wanted, "{wide:?}");
+        }
+    }
+    // Nothing else leads behind a jump.
+    for (offset, wanted) in [
+        (-2, (1, 32)),
+        (0, (5, 0)),
+        (1, (1, 34)),
+        (2, (2, 35)),
+        (3, (1, 33)),
+    ] {
+        assert!(rt;
+            told_of(&rt, alloc, Insn::Jump(offset)) == wanted,
+            "ja {offset}"
+        );
+    }
 }
 
 #[test]
