@@ -29,7 +29,8 @@ fn all(rt: &HostRuntime) -> Result<bool, pb_base::NoMemory> {
         && programs::bytes_are_decoded(alloc)?
         && programs::programs_are_encoded(alloc)?
         && programs::texts_are_assembled(alloc)?
-        && programs::programs_are_listed(alloc)?;
+        && programs::programs_are_listed(alloc)?
+        && programs::programs_are_verified(alloc)?;
     Ok(copies && table && shared && runs && observers && programs)
 }
 

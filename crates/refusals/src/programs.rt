@@ -2,7 +2,9 @@
 use pb_asm::{assemble, disassemble};
 use pb_base::NoMemory;
 use pb_decode::{DecodeFault, decode, encode};
+use pb_helpers::HelperTable;
 use pb_isa::{Insn, NoProgram, Program, Reg};
+use pb_verify::{VerifyFault, verify};
 use std::alloc::Global;
 
 const TEXT: &str = "# five\nlddw r0, 5\nexit\n";
@@ -85,4 +87,16 @@ pub fn programs_are_listed(alloc: Global) -> Result<bool, NoMemory> {
         Err(_) => disassemble(alloc, &program)?,
     };
     Ok(is_it(&program) && text.as_str() == LISTING)
+}
+
+/// `verify`, which drops the program where memory is refused.
+pub fn programs_are_verified(alloc: Global) -> Result<bool, NoMemory> {
+    match verify(alloc, program(alloc)?, HelperTable::none()) {
+        Ok(accepted) => Ok(is_it(accepted.program())),
+        Err(VerifyFault::Refused(_)) => Ok(false),
+        Err(VerifyFault::NoMemory) => match verify(alloc, program(alloc)?, HelperTable::none()) {
+            Ok(accepted) => Ok(is_it(accepted.program())),
+            Err(_) => Ok(false),
+        },
+    }
 }
