@@ -17,7 +17,7 @@ median() { sort -n "$room/$1" | sed -n "$(((runs + 1) / 2))p"; }
 
 # Sets `small` and `large` to the microseconds for 64 and 512 slots.
 time_both() {
-    (cd "$top/crates/program_times" && rt run --jobs 1 -- "$1" 64) >"$room/built"
+    "$top/checks/build" program_times "$1" 64
     for ((run = 0; run < runs; run++)); do
         microseconds "$1" 64 >>"$room/64"
         microseconds "$1" 512 >>"$room/512"
