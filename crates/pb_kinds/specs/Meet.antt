@@ -3,7 +3,7 @@ use Rattle.std.specs.Prelude.{◌≡◌, ◌≢◌, ◌↔◌, ℕ, IsTrue}
 use Rattle.pb_kinds.specs.declared.frame.Kind.{Kind}
 use Rattle.pb_kinds.specs.declared.frame.Kind.TheVariants.{Unset}
 use Rattle.pb_kinds.specs.declared.frame.Frame.{Frame}
-use Rattle.pb_kinds.specs.Frames.{kind_of, is_written}
+use Rattle.pb_kinds.specs.Frames.{kind_of, is_written, join}
 
 -- the register is known to be of this kind, which is one that says something
 pub record IsKnown (f : Frame) (r : ℕ) (k : Kind) : Type 0 where
@@ -13,3 +13,6 @@ pub record IsKnown (f : Frame) (r : ℕ) (k : Kind) : Type 0 where
 pub record IsMeet (a b f : Frame) : Type 0 where
   pub kinds : (r : ℕ) (k : Kind) → IsKnown f r k ↔ (IsKnown a r k × IsKnown b r k)
   pub bytes : (i : ℕ) → IsTrue (is_written f i) ↔ (IsTrue (is_written a i) × IsTrue (is_written b i))
+
+abbrev pub JoinsAreMeets : Type 0
+JoinsAreMeets = (a b : Frame) → IsMeet a b (join a b)

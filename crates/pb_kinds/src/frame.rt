@@ -1,7 +1,7 @@
 //! Kinds, frames, and what two frames both say.
 ghost use Rattle.std.specs.Prelude.{◌≡◌};
 ghost use Rattle.pb_kinds.specs.Frames.{join, meet, meet_kinds, meet_bytes, entry, is_unset, is_number, is_pointer};
-ghost use Rattle.pb_kinds.specs.Meet.{IsMeet};
+ghost use Rattle.pb_kinds.specs.Meet.{IsMeet, JoinsAreMeets};
 
 /// What is known of a register.
 #[derive(Clone, Copy, Debug, PartialEq, Eq)]
@@ -100,3 +100,8 @@ pub fn join(a: &Frame, b: &Frame) -> Frame
         written: meet_bytes(&a.written, &b.written),
     }
 }
+
+/// The join of any two frames is their meet.
+pub fn joins_are_meets()
+    ensures { JoinsAreMeets }
+{}

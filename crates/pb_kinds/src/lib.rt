@@ -6,7 +6,7 @@
 mod frame;
 mod ranges;
 
-pub use frame::{Frame, Kind, entry, join};
+pub use frame::{Frame, Kind, entry, join, joins_are_meets};
 pub use ranges::{in_record, in_stack};
 
 #[cfg(test)]

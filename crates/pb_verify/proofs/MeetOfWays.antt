@@ -9,10 +9,10 @@ use Rattle.pb_isa.specs.declared.insn.Insn.{Insn}
 use Rattle.pb_isa.specs.Slots.{insn_at}
 use Rattle.pb_kinds.specs.declared.frame.Frame.{Frame}
 use Rattle.pb_kinds.specs.Frames.{join, entry}
+use Rattle.pb_kinds.specs.Meet.{JoinsAreMeets}
 use Rattle.pb_verify.specs.Following.{leads}
 use Rattle.pb_verify.specs.Arriving.{merge, sent, gathered, arriving, leaving, is_among, outs, in_at}
 use Rattle.pb_verify.specs.Ways.{out_at, IsWay, Fact, HasKind, HasByte, Says, IsMeetOfWays}
-use Rattle.pb_kinds.proofs.MeetOf.{join_is_meet}
 use Rattle.pb_verify.proofs.Outs.{length-outs}
 
 -- a property of the frame, where there is one
@@ -98,15 +98,15 @@ from_ways P p n k j =
       | inr t ↦ (let past : get_or (outs p n) j None ≡ None = get_or_past (outs p n) j None (let l = length-outs p n in omega (arith, t.1)) in rw past (none_sent P (insn_at p (0 + j)) (0 + j) n))
     ]
 
-says_meets : (x : Fact) → Meets (λ f. Says f x)
-says_meets (HasKind r k) a b = (join_is_meet a b).kinds r k
-says_meets (HasByte i) a b = (join_is_meet a b).bytes i
+says_meets : JoinsAreMeets → (x : Fact) → Meets (λ f. Says f x)
+says_meets joins (HasKind r k) a b = (joins a b).kinds r k
+says_meets joins (HasByte i) a b = (joins a b).bytes i
 
-later : (p : List Insn) (n : ℕ) (o : Option Frame) → o ≡ gathered p n 0 None (outs p n) → IfSome o (λ f. (x : Fact) → Says f x ↔ ((m : ℕ) (g : Frame) → IsWay p n m g → Says g x))
-later p n None e = tt
-later p n (Some f) e = λ x.
+later : JoinsAreMeets → (p : List Insn) (n : ℕ) (o : Option Frame) → o ≡ gathered p n 0 None (outs p n) → IfSome o (λ f. (x : Fact) → Says f x ↔ ((m : ℕ) (g : Frame) → IsWay p n m g → Says g x))
+later joins p n None e = tt
+later joins p n (Some f) e = λ x.
     let P : Frame → Type 0 = λ g. Says g x in
-    let all = of_gathered P (says_meets x) p n 0 None (outs p n) in (
+    let all = of_gathered P (says_meets joins x) p n 0 None (outs p n) in (
       (λ h. let o : Of P (gathered p n 0 None (outs p n)) = rw (← e) h in to_ways P p n (all.0 o).1),
       (λ k. let o : Of P (gathered p n 0 None (outs p n)) = all.1 (tt, from_ways P p n k) in subst (λ t. Of P t) (sym e) o),
     )
@@ -122,9 +122,9 @@ entry_first : (p : List Insn) → in_at p 0 ≡ Some entry
 unfolding in_at
 entry_first p = refl
 
-pub frames_are_meets : (p : List Insn) → IsMeetOfWays p
-frames_are_meets p = record {
+pub frames_are_meets : JoinsAreMeets → (p : List Insn) → IsMeetOfWays p
+frames_are_meets joins p = record {
   first = entry_first p;
-  later = λ n h. later p n (in_at p n) (in_later p n h);
+  later = λ n h. later joins p n (in_at p n) (in_later p n h);
   none = no_way p;
 }

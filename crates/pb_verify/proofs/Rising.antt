@@ -19,8 +19,7 @@ use Rattle.pb_kinds.specs.Frames.{kind_of, is_unset, is_pointer}
 use Rattle.pb_helpers.specs.declared.code.Code.{Code}
 use Rattle.pb_helpers.specs.declared.code.Code.TheVariants.{ReadsUnset, WritesR10, PointerArithmetic, PointerStored, OutsideStack, UnwrittenByte, OutsideRecord, JumpOutside, JumpIntoPair, FallsOff, ExitsWithPointer, PointerCompared}
 use Rattle.pb_helpers.specs.Codes.{code_number, when, AreRising}
-use Rattle.pb_helpers.specs.Arguments.{unset, call_rules}
-use Rattle.pb_helpers.proofs.Rising as calls
+use Rattle.pb_helpers.specs.Arguments.{unset, call_rules, ArgumentCodesRise}
 use Rattle.pb_verify.specs.Rules.{at, reads, sets, reads_operand, on_pointer, bytes_of, falls, numeric, mov, add, alu, loads, stores, load, store_imm, store, jumps, jump_if, broken}
 
 -- ---- lists of codes that rise
@@ -132,24 +131,24 @@ compared p n f d x o =
 
 -- ---- the rules
 
-pub codes_rise : (p : List Insn) (h : HelperSet) (n : ℕ) (f : Frame) (i : Insn) → AreRising 21 38 (broken p h n f i)
-codes_rise p h n f (Alu op w d x) = with_falls p (n + 1) (alu f op w d x) (alu_rises f op w d x)
-codes_rise p h n f (Neg w d) = with_falls p (n + 1) (numeric f d (operands.Imm (pos 0))) (numeric_rises f d (operands.Imm (pos 0)))
-codes_rise p h n f (LoadImm d v) = with_falls p (n + 2) (sets d) (to_higher 21 22 34 (sets d) (omega arith) (sets_rise d))
-codes_rise p h n f (Load z d r o) =
+pub codes_rise : ArgumentCodesRise → (p : List Insn) (h : HelperSet) (n : ℕ) (f : Frame) (i : Insn) → AreRising 21 38 (broken p h n f i)
+codes_rise calls p h n f (Alu op w d x) = with_falls p (n + 1) (alu f op w d x) (alu_rises f op w d x)
+codes_rise calls p h n f (Neg w d) = with_falls p (n + 1) (numeric f d (operands.Imm (pos 0))) (numeric_rises f d (operands.Imm (pos 0)))
+codes_rise calls p h n f (LoadImm d v) = with_falls p (n + 2) (sets d) (to_higher 21 22 34 (sets d) (omega arith) (sets_rise d))
+codes_rise calls p h n f (Load z d r o) =
     with_falls p (n + 1) (load f z d r o) (joined 21 22 34 (reads f r ++ sets d) (loads f (at f r) o (bytes_of z)) (read_and_set f r d) (loads_rise f (at f r) o (bytes_of z)))
-codes_rise p h n f (StoreImm z d o k) =
+codes_rise calls p h n f (StoreImm z d o k) =
     with_falls p (n + 1) (store_imm f z d o)
     (joined 21 21 34 (reads f d) (stores (at f d) o (bytes_of z)) (reads_rise f d) (from_lower 21 24 34 (stores (at f d) o (bytes_of z)) (omega arith) (stores_rise (at f d) o (bytes_of z))))
-codes_rise p h n f (Store z d o r) =
+codes_rise calls p h n f (Store z d o r) =
     with_falls p (n + 1) (store f z d o r)
     (joined 21 24 34 (reads f d ++ reads f r ++ when (is_pointer (at f r)) PointerStored) (stores (at f d) o (bytes_of z))
     (joined 21 21 24 (reads f d ++ reads f r) (when (is_pointer (at f r)) PointerStored) (joined 21 21 21 (reads f d) (reads f r) (reads_rise f d) (reads_rise f r))
     (one 21 24 (is_pointer (at f r)) PointerStored (omega arith) (omega arith)))
     (stores_rise (at f d) o (bytes_of z)))
-codes_rise p h n f (Jump o) = to_higher 21 34 38 (jumps p n o) (omega arith) (jumps_rise p n o)
-codes_rise p h n f (JumpIf c w d x o) = compared p n f d x o
-codes_rise p h n f (Call k) = with_falls p (n + 1) (call_rules f (called h k)) (to_higher 21 31 34 (call_rules f (called h k)) (omega arith) (calls.codes_rise f (called h k)))
-codes_rise p h n f Exit =
+codes_rise calls p h n f (Jump o) = to_higher 21 34 38 (jumps p n o) (omega arith) (jumps_rise p n o)
+codes_rise calls p h n f (JumpIf c w d x o) = compared p n f d x o
+codes_rise calls p h n f (Call k) = with_falls p (n + 1) (call_rules f (called h k)) (to_higher 21 31 34 (call_rules f (called h k)) (omega arith) (calls f (called h k)))
+codes_rise calls p h n f Exit =
     joined 21 21 38 (unset f 0) (when (is_pointer (kind_of f 0)) ExitsWithPointer) (set f 0)
     (one 21 38 (is_pointer (kind_of f 0)) ExitsWithPointer (omega arith) (omega arith))

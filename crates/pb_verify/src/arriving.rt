@@ -6,7 +6,7 @@ ghost use Rattle.pb_verify.specs.Ways.{FramesAreMeets};
 
 use crate::following::leads_to;
 use pb_isa::{Insn, Program};
-use pb_kinds::{Frame, entry, join};
+use pb_kinds::{Frame, entry, join, joins_are_meets};
 
 fn merge(known: Option<Frame>, more: Option<Frame>) -> Option<Frame>
     ensures { result ≡ merge known more }
@@ -52,4 +52,6 @@ pub fn arriving(program: &Program, slot: usize, outs: &[Option<Frame>]) -> Optio
 /// is so after each earlier instruction that leads there. To the first slot entry alone leads.
 pub fn frames_are_meets()
     ensures { FramesAreMeets }
-{}
+{
+    joins_are_meets();
+}

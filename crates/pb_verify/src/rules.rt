@@ -5,7 +5,10 @@ ghost use Rattle.pb_helpers.specs.Codes.{lowest};
 ghost use Rattle.pb_verify.specs.Rules.{at, reads, sets, reads_operand, points, on_pointer, bytes_of, falls, numeric, mov, add, alu, loads, stores, load, store_imm, store, jumps, jump_if, exit, broken, CodesRise};
 ghost use Rattle.pb_verify.specs.Within.{IsNear, IsWithin};
 
-use pb_helpers::{Code, HelperTable, argument_code, stack_read_code, stack_write_code, unset_code};
+use pb_helpers::{
+    Code, HelperTable, argument_code, argument_codes_rise, stack_read_code, stack_write_code,
+    unset_code,
+};
 use pb_isa::{AluOp, Insn, Operand, Program, Reg, Size, Width};
 use pb_kinds::{Frame, Kind, in_record};
 
@@ -258,4 +261,6 @@ pub fn broken(
 /// The codes of the rules that an instruction breaks are listed lowest first, all from 21 to 38.
 pub fn codes_rise()
     ensures { CodesRise }
-{}
+{
+    argument_codes_rise();
+}

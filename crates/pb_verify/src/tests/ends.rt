@@ -27,6 +27,12 @@ fn stored(rt: &impl Abort, alloc: Global, size: Size, offset: i16) -> u8 {
     told(rt, alloc, &insns).1
 }
 
+// The code of a load where nothing is stored.
+fn loaded(rt: &impl Abort, alloc: Global, size: Size, offset: i16) -> u8 {
+    let insns = [Insn::Load(size, Reg::R0, Reg::R10, offset), Insn::Exit];
+    told(rt, alloc, &insns).1
+}
+
 fn on_record(rt: &impl Abort, alloc: Global, size: Size, offset: i16) -> u8 {
     let insns = [Insn::Load(size, Reg::R0, Reg::R1, offset), Insn::Exit];
     told(rt, alloc, &insns).1
@@ -43,6 +49,12 @@ fn both_ends_of_the_stack(rt: HostRuntime) {
             );
             assert!(rt;
                 stored(&rt, rt.alloc(), size, offset) == code,
+                "{size:?} {offset}"
+            );
+        }
+        for (offset, code) in [(-512, 26), (-513, 25), (0 - bytes, 26), (1 - bytes, 25)] {
+            assert!(rt;
+                loaded(&rt, rt.alloc(), size, offset) == code,
                 "{size:?} {offset}"
             );
         }

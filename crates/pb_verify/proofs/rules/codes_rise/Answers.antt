@@ -2,4 +2,4 @@ use Rattle.pb_verify.proofs.Rising.{codes_rise}
 use Rattle.pb_verify.proofs.rules.codes_rise.Goals as goal
 
 pub returns : goal.returns
-returns c = codes_rise
+returns c = codes_rise c.argument_codes_rise.ensures
