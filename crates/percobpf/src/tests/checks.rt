@@ -25,7 +25,7 @@ fn tells_of(rt: &HostRuntime, digits: &str, line: &str) -> bool {
 }
 
 #[test]
-fn programs_are_judged(rt: HostRuntime) {
+fn each_rule_is_told(rt: HostRuntime) {
     let table = [
         (
             "b70a0000000000009500000000000000",
@@ -67,6 +67,15 @@ fn programs_are_judged(rt: HostRuntime) {
             "bf100000000000009500000000000000",
             "refused slot 1 code 37\n",
         ),
+    ];
+    for (digits, line) in table {
+        assert!(rt; tells_of(&rt, digits, line), "{digits}");
+    }
+}
+
+#[test]
+fn programs_are_judged(rt: HostRuntime) {
+    let table = [
         ("b7000000000000009500000000000000", "accepted 2 slots\n"),
         (
             "bf160000000000009500000000000000",

@@ -139,6 +139,8 @@ fn remarks_are_left_out(rt: HostRuntime) {
 fn bytes_are_refused(rt: HostRuntime) -> Result<(), NoMemory> {
     let table = [
         (b"" as &[u8], 10),
+        (b"\x95\0\0\0\0\0\0", 10),
+        (b"\x95\0\0\0\0\0\0\0\x95", 10),
         (b"\x8f\x01\0\0\0\0\0\0", 12),
         (b"\xb7\x0b\0\0\0\0\0\0", 13),
         (b"\xb7\xb0\0\0\0\0\0\0", 13),
@@ -167,12 +169,27 @@ fn texts_are_refused(rt: HostRuntime) -> Result<(), NoMemory> {
         ("foo r1", "line 1 code 80\n"),
         ("mov64 r0, -0", "line 1 code 81\n"),
         ("mov64 r0, 2147483648", "line 1 code 82\n"),
+        ("exit\n exit", "line 2 code 80\n"),
+        ("mov64  r0, 7", "line 1 code 81\n"),
+        ("mov64\tr0, 7", "line 1 code 80\n"),
+        ("mov64 r0, 07", "line 1 code 81\n"),
+        ("exit\r\n", "line 1 code 80\n"),
+        ("exit\n\u{e9}", "line 2 code 80\n"),
         ("# one\n\n# two\n", "line 0 code 84\n"),
     ];
     for (text, fault) in table {
         let mut folder = holding(rt.alloc(), text.as_bytes());
         assert!(rt; tells(&rt, &mut folder, fault), "{text}");
     }
+    // What OUT held stands where IN is refused.
+    let mut folder = holding(rt.alloc(), b"exit\r");
+    folder.output = Some(copied(rt.alloc(), b"kept").map_err(|_| NoMemory)?);
+    assert!(rt; ended(asm(&rt, &mut folder), 1, b"", "line 1 code 80\n"));
+    assert!(rt;
+        folder
+            .output
+            .is_some_and(|kept| kept.as_slice() == b"kept".as_slice())
+    );
     let mut long = String::new(rt.alloc());
     for _ in 0..511u32 {
         long.push_str("exit\n")?;
