@@ -22,7 +22,7 @@ struct change {
     u64 start;        /* of the transaction that made the change */
     u64 commit;       /* of that transaction */
     u64 present;      /* 1: the cell has a value; 0: it was deleted */
-    u64 acknowledged; /* the start of this observer's last run on the cell, or 0 */
+    u64 acknowledged; /* the start of this observer's last committed run on the cell, or 0 */
     u64 value[4];     /* 32 bytes as four little-endian words; zero where the cell was deleted */
 };
 
