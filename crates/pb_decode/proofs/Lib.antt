@@ -1,4 +1,5 @@
 mod Bytes
 mod Table
 mod First
+mod Lowest
 mod Whole

@@ -1,5 +1,5 @@
 -- The table of opcodes read backwards, and the registers' numbers.
-use Rattle.std.proofs.Common.{◌≡◌, ℕ, zero, suc, ◌<◌, Bool, true, false, cond, List, [], ◌∷◌, Some, refl, sym, ap, subst, arith}
+use Rattle.std.proofs.Common.{◌≡◌, ℕ, zero, suc, ◌<◌, Bool, true, false, cond, List, [], ◌∷◌, Some, None, refl, sym, ap, subst, arith}
 use Rattle.std.specs.Prelude.{◌==◌}
 use Rattle.std.proofs.lemmas.Bool.{eqb-true}
 use Rattle.pb_isa.specs.declared.insn.Reg.{Reg}
@@ -122,3 +122,18 @@ number_below R7 = omega arith
 number_below R8 = omega arith
 number_below R9 = omega arith
 number_below R10 = omega arith
+
+-- a number that is no register's is over 10
+pub reg_none : (n : ℕ) → reg_of n ≡ None → 10 < n
+reg_none zero h = absurd cc
+reg_none (suc zero) h = absurd cc
+reg_none (suc (suc zero)) h = absurd cc
+reg_none (suc (suc (suc zero))) h = absurd cc
+reg_none (suc (suc (suc (suc zero)))) h = absurd cc
+reg_none (suc (suc (suc (suc (suc zero))))) h = absurd cc
+reg_none (suc (suc (suc (suc (suc (suc zero)))))) h = absurd cc
+reg_none (suc (suc (suc (suc (suc (suc (suc zero))))))) h = absurd cc
+reg_none (suc (suc (suc (suc (suc (suc (suc (suc zero)))))))) h = absurd cc
+reg_none (suc (suc (suc (suc (suc (suc (suc (suc (suc zero))))))))) h = absurd cc
+reg_none (suc (suc (suc (suc (suc (suc (suc (suc (suc (suc zero)))))))))) h = absurd cc
+reg_none (suc (suc (suc (suc (suc (suc (suc (suc (suc (suc (suc n))))))))))) h = omega arith

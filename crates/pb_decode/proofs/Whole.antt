@@ -19,6 +19,7 @@ use Rattle.pb_decode.specs.Reading.{first_of}
 use Rattle.pb_decode.specs.Faults.{code_number, whole_fault, IsFaultAt, IsFault, IsTold, AreBytes, HasProgram, HasFault, AreSpelt, IsRefusal, IsNoMemory, IsNoMemoryOr}
 use Rattle.pb_decode.proofs.Bytes.{rest_bytes}
 use Rattle.pb_decode.proofs.First.{first_takes, first_again, one_insn}
+use Rattle.pb_decode.proofs.Lowest.{lowest, lowest_read}
 
 -- ---- lengths
 
@@ -156,14 +157,14 @@ some_same o x y p q = cc
 
 pub not_both : (bytes : List ℕ) (p : List Insn) (slot : ℕ) (code : Code) → Encodes bytes p → IsFault bytes slot code → ⊥
 not_both bytes p slot code h (inl w) = no_some (whole_fault bytes) code (none_whole bytes (program_whole bytes p h)) w.0
-not_both bytes p slot code h (inr a) = none_inside p a.1.front a.1.rest code h.fits a.1.fits (sym h.spelt ∙ a.1.parts) a.1.some a.1.fault
+not_both bytes p slot code h (inr a) = none_inside p a.1.front a.1.rest code h.fits a.1.fits (sym h.spelt ∙ a.1.parts) a.1.some (lowest_read a.1.rest code a.1.fault)
 
 pub one_fault : (bytes : List ℕ) (s t : ℕ) (c d : Code) → IsFault bytes s c → IsFault bytes t d → (s ≡ t) × (c ≡ d)
 one_fault bytes s t c d (inl a) (inl b) = (a.1 ∙ sym b.1, some_same (whole_fault bytes) c d a.0 b.0)
 one_fault bytes s t c d (inl a) (inr b) = absurd (no_some (whole_fault bytes) c b.0 a.0)
 one_fault bytes s t c d (inr a) (inl b) = absurd (no_some (whole_fault bytes) d a.0 b.0)
 one_fault bytes s t c d (inr a) (inr b) =
-    let e = same_front a.1.front b.1.front a.1.rest b.1.rest c d a.1.fits b.1.fits (sym a.1.parts ∙ b.1.parts) a.1.fault b.1.fault in
+    let e = same_front a.1.front b.1.front a.1.rest b.1.rest c d a.1.fits b.1.fits (sym a.1.parts ∙ b.1.parts) (lowest_read a.1.rest c a.1.fault) (lowest_read b.1.rest d b.1.fault) in
     (a.1.place ∙ e.0 ∙ sym b.1.place, e.1)
 
 -- ---- one of the two
@@ -192,7 +193,7 @@ even_rest i bytes after e even =
 
 from : (n : ℕ) (bytes : List ℕ) → length bytes ≤ suc n → 0 < length bytes → length bytes % 8 ≡ 0 → AreBytes bytes → (r : Result (Insn × List ℕ) Code) → first_of bytes ≡ r
     → ((after : List ℕ) → length after ≤ n → length after % 8 ≡ 0 → AreBytes after → Rest after) → Rest bytes
-from n bytes le some even fits (Err code) is others = inr (0, code, record { front = []; rest = bytes; some = some; fits = tt; parts = refl; place = refl; fault = is })
+from n bytes le some even fits (Err code) is others = inr (0, code, record { front = []; rest = bytes; some = some; fits = tt; parts = refl; place = refl; fault = lowest bytes code is })
 from n bytes le some even fits (Ok x) is others =
     let t = first_takes bytes x fits (omega (arith, some, even)) is in
     let e = even_rest x.0 bytes x.1 t.0 even in
@@ -249,4 +250,4 @@ pub fault_at : (bytes rest : List ℕ) (p : List Insn) (code : Code) (slot : ℕ
 fault_at bytes rest p code slot parts all some is at =
     let l : length bytes ≡ length (encoding p) + length rest = ap length parts ∙ length-append (encoding p) rest in
     let k = bytes_len p in
-    record { front = p; rest = rest; some = some; fits = all; parts = parts; place = omega (arith, l, k, at); fault = is }
+    record { front = p; rest = rest; some = some; fits = all; parts = parts; place = omega (arith, l, k, at); fault = lowest rest code is }

@@ -1,5 +1,5 @@
 -- The fault of a list of bytes that is no program's.
-use Rattle.std.specs.Prelude.{◌≡◌, ◌<◌, ◌⊎◌, ℕ, ◌*◌, ◌%◌, ◌==◌, nat_lt, not, ◌||◌, if◌then◌else◌, List, ◌++◌, length, get_or, Option, Some, None, Err}
+use Rattle.std.specs.Prelude.{◌≡◌, ◌≢◌, ◌<◌, ◌≤◌, ◌⊎◌, ℕ, ◌*◌, ◌%◌, ◌==◌, false, nat_lt, not, ◌||◌, if◌then◌else◌, List, ◌++◌, length, drop, get_or, Option, Some, None}
 use Rattle.std.specs.List.{AllByRecursion}
 use Rattle.pb_isa.specs.declared.insn.Insn.{Insn}
 use Rattle.pb_isa.specs.Bounds.{Fits}
@@ -8,8 +8,12 @@ use Rattle.pb_decode.specs.declared.fault.Code.{Code}
 use Rattle.pb_decode.specs.declared.fault.Code.TheVariants.{Length, TooLong, Opcode, Register, Unused, CutOff, SecondSlot}
 use Rattle.pb_decode.specs.declared.fault.DecodeFault.{DecodeFault}
 use Rattle.pb_decode.specs.declared.fault.DecodeFault.TheVariants.{NoMemory, Refused}
+use Rattle.pb_decode.specs.declared.forms.Form.{Form}
+use Rattle.pb_decode.specs.declared.forms.Form.TheVariants.{LoadImm}
+use Rattle.pb_decode.specs.Opcodes.{opcode}
+use Rattle.pb_decode.specs.Fields.{slot_at}
 use Rattle.pb_decode.specs.Encoding.{encoding, Encodes}
-use Rattle.pb_decode.specs.Reading.{first_of}
+use Rattle.pb_decode.specs.Reading.{is_clean, is_second}
 
 -- the numbers by which the faults are told
 abbrev pub code_number : Code → ℕ
@@ -20,6 +24,23 @@ code_number Register = 13
 code_number Unused = 14
 code_number CutOff = 15
 code_number SecondSlot = 16
+
+-- When a code applies to the bytes at the front, told by their first slot and the bytes behind it: no form has the opcode;
+-- a register is over 10, in either half; the form doesn't use a field that is not zero; the opcode is the pair's, and no
+-- slot stands behind, or one with more than an immediate. The codes of the whole apply to no slot.
+abbrev pub Applies : List ℕ → Code → Type 0
+Applies bytes Length = ⊥
+Applies bytes TooLong = ⊥
+Applies bytes Opcode = (f : Form) → opcode f ≢ (slot_at bytes).opcode
+Applies bytes Register = (10 < (slot_at bytes).dst) ⊎ (10 < (slot_at bytes).src)
+Applies bytes Unused = (f : Form) × (opcode f ≡ (slot_at bytes).opcode) × (is_clean f (slot_at bytes) ≡ false)
+Applies bytes CutOff = (opcode LoadImm ≡ (slot_at bytes).opcode) × (length (drop 8 bytes) < 8)
+Applies bytes SecondSlot = (opcode LoadImm ≡ (slot_at bytes).opcode) × (8 ≤ length (drop 8 bytes)) × (is_second (slot_at (drop 8 bytes)) ≡ false)
+
+-- the lowest code that applies
+pub record IsLowest (bytes : List ℕ) (code : Code) : Type 0 where
+  pub applies : Applies bytes code
+  pub least : (other : Code) → Applies bytes other → code_number code ≤ code_number other
 
 -- a fault, told
 abbrev pub told_as : ℕ → Code → DecodeFault
@@ -32,8 +53,8 @@ whole_fault bytes =
     else if nat_lt (8 * 512) (length bytes) then Some TooLong
     else None
 
--- The instructions in front are spelt as they have to be, and what stands behind them is at fault. Where it is a pair, its
--- first slot is told.
+-- The instructions in front are spelt as they have to be, and a code applies to what stands behind them. Where it is a
+-- pair, its first slot is told.
 pub record IsFaultAt (bytes : List ℕ) (slot : ℕ) (code : Code) : Type 0 where
   pub front : List Insn
   pub rest : List ℕ
@@ -41,7 +62,7 @@ pub record IsFaultAt (bytes : List ℕ) (slot : ℕ) (code : Code) : Type 0 wher
   pub fits : AllByRecursion Fits front
   pub parts : bytes ≡ encoding front ++ rest
   pub place : slot ≡ slots front
-  pub fault : first_of rest ≡ Err code
+  pub fault : IsLowest rest code
 
 -- the first slot at fault, with its lowest code
 abbrev pub IsFault : List ℕ → ℕ → Code → Type 0

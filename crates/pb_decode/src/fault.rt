@@ -4,7 +4,7 @@ ghost use Rattle.pb_decode.specs.Faults.{code_number};
 ghost use Rattle.pb_decode.specs.declared.fault.DecodeFault.TheVariants.{NoMemory};
 
 use pb_base::Refused;
-use std::alloc::{AllocError, AllocFailed};
+use std::alloc::AllocFailed;
 use thiserror::Error;
 
 /// What is wrong with the bytes.
@@ -53,14 +53,6 @@ pub enum DecodeFault {
     NoMemory,
     #[error("{0}")]
     Refused(Refused),
-}
-
-impl From<AllocError> for DecodeFault {
-    ghost from_gives = { λ _ e. e ≡ NoMemory };
-
-    fn from(_e: AllocError) -> DecodeFault {
-        DecodeFault::NoMemory
-    }
 }
 
 impl<T: Drop> From<AllocFailed<T>> for DecodeFault {

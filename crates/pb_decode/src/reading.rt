@@ -1,13 +1,14 @@
 //! Bytes to programs.
-ghost use Rattle.std.specs.Prelude.{◌≡◌, ◌≤◌, ◌*◌, ◌%◌, ◌⊎◌, ℕ, List, length, IfOk, IfErr};
+ghost use Rattle.std.specs.Prelude.{◌≡◌, ◌≤◌, ◌*◌, ◌%◌, ◌⊎◌, ◌++◌, ℕ, List, length, IfOk, IfErr};
 ghost use Rattle.pb_isa.specs.declared.insn.Insn.{Insn};
+ghost use Rattle.pb_isa.specs.Bounds.{Fits};
 ghost use Rattle.pb_isa.specs.Registers.{reg_of};
 ghost use Rattle.pb_decode.specs.declared.fault.Code.{Code};
 ghost use Rattle.pb_decode.specs.declared.fault.Code.TheVariants.{Register};
 ghost use Rattle.pb_decode.specs.Fields.{slot_at};
-ghost use Rattle.pb_decode.specs.Encoding.{encoding, Encodes};
+ghost use Rattle.pb_decode.specs.Encoding.{insn_bytes, encoding, Encodes};
 ghost use Rattle.pb_decode.specs.Reading.{Gives, or_code, is_second, pair_of, insn_of, first_of};
-ghost use Rattle.pb_decode.specs.Faults.{whole_fault, told_as, IsFault, IsTold, IsRefusal, IsRefusalInside, IsNoMemory, IsNoMemoryOr, AreSpelt, AreBytes, HasProgram, HasFault};
+ghost use Rattle.pb_decode.specs.Faults.{Applies, whole_fault, told_as, IsFault, IsTold, IsRefusal, IsRefusalInside, IsNoMemory, IsNoMemoryOr, AreSpelt, AreBytes, HasProgram, HasFault};
 
 use crate::fault::{Code, DecodeFault};
 use crate::fields::Slot;
@@ -162,10 +163,11 @@ pub fn decode(alloc: Global, bytes: &[u8]) -> Result<Program, DecodeFault>
     program_of(alloc, bytes)
 }
 
-/// A list of bytes is one program's, or has one fault, and not both.
+/// A list of bytes is one program's, or has one fault, and not both. No code applies where an instruction stands.
 pub fn either_program_or_fault()
     ensures either { (bytes : List ℕ) → AreBytes bytes → HasProgram bytes ⊎ HasFault bytes }
     ensures not_both { (bytes : List ℕ) (p : List Insn) (slot : ℕ) (code : Code) → Encodes bytes p → IsFault bytes slot code → ⊥ }
     ensures one_program { (bytes : List ℕ) (p q : List Insn) → Encodes bytes p → Encodes bytes q → p ≡ q }
     ensures one_fault { (bytes : List ℕ) (s t : ℕ) (c d : Code) → IsFault bytes s c → IsFault bytes t d → (s ≡ t) × (c ≡ d) }
+    ensures no_code { (i : Insn) (rest : List ℕ) (code : Code) → Fits i → Applies (insn_bytes i ++ rest) code → ⊥ }
 {}

@@ -32,18 +32,6 @@ fn is_pair(rt: &impl Abort, alloc: Global, insn: Insn, bytes: &[u8]) -> bool {
 }
 
 #[test]
-fn wide_immediate_of_llvm(rt: HostRuntime) {
-    // r1 = 4294967303 ll
-    let pair = bytes_of(
-        &rt,
-        rt.alloc(),
-        &[0x1801_0000_0700_0000, 0x0000_0000_0100_0000],
-    );
-    let insn = Insn::LoadImm(Reg::R1, 0x1_0000_0007);
-    assert!(rt; is_pair(&rt, rt.alloc(), insn, &pair));
-}
-
-#[test]
 fn encodings(rt: HostRuntime) {
     let table = [
         (
@@ -168,4 +156,13 @@ fn faults_of_two_slots(rt: HostRuntime) {
         let bytes = bytes_of(&rt, rt.alloc(), &slots);
         assert!(rt; told(rt.alloc(), &bytes) == wanted, "{slots:?}");
     }
+}
+
+#[test]
+fn faults_are_told_as_text(rt: HostRuntime) {
+    let memory = format!(in rt.alloc(); "{}", DecodeFault::NoMemory).expect(&rt, "memory");
+    assert!(rt; memory.as_str() == "no memory");
+    let fault = DecodeFault::Refused(Refused { slot: 3, code: 12 });
+    let text = format!(in rt.alloc(); "{fault}").expect(&rt, "memory");
+    assert!(rt; text.as_str() == "refused slot 3 code 12");
 }

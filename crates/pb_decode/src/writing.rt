@@ -2,7 +2,7 @@
 ghost use Rattle.std.specs.Prelude.{◌≡◌, ◌++◌, IfOk, OnOk, ◌<◌};
 ghost use Rattle.pb_isa.specs.declared.insn.Insn.TheVariants as insn;
 ghost use Rattle.pb_isa.specs.Registers.{number};
-ghost use Rattle.pb_decode.specs.Encoding.{slot, first_slot, second_bytes, insn_bytes, encoding};
+ghost use Rattle.pb_decode.specs.Encoding.{slot, first_slot, second_bytes, insn_bytes, encoding, Encodes};
 
 use crate::fields::Slot;
 use crate::forms::{Form, Source};
@@ -122,7 +122,8 @@ fn put(out: &mut Vec<u8>, insn: Insn) -> Result<(), AllocError>
 
 /// The one byte list that decodes to this program.
 pub fn encode(alloc: Global, program: &Program) -> Result<Vec<u8>, NoMemory>
-    ensures { IfOk result (λ v. v.items ≡ encoding program.now) }
+    ensures bytes { IfOk result (λ v. v.items ≡ encoding program.now) }
+    ensures one { IfOk result (λ v. Encodes v.items program.now) }
 {
     let mut bytes = Vec::new(alloc);
     for insn in program.insns() {

@@ -5,6 +5,7 @@ ghost use mir.Syntax.{w32, w64};
 
 use crate::insn::{AluOp, Cmp, Width};
 
+#[tactic(auto, using(crate::proofs::Shift::arsh_64))]
 fn alu_64(op: AluOp, a: u64, b: u64) -> u64
     ensures { result ≡ word_alu w64 op a b }
 {
@@ -24,6 +25,7 @@ fn alu_64(op: AluOp, a: u64, b: u64) -> u64
     }
 }
 
+#[tactic(auto, using(crate::proofs::Shift::arsh_32))]
 fn alu_32(op: AluOp, a: u32, b: u32) -> u32
     ensures { result ≡ word_alu w32 op a b }
 {

@@ -1,6 +1,7 @@
 //! Lists of instructions that take 1 to 512 slots together.
-ghost use Rattle.std.specs.Prelude.{◌≡◌, ◌≢◌, ◌<◌, ◌≤◌, ◌⊎◌, IfOk, IfErr, Ok};
-ghost use Rattle.pb_isa.specs.Slots.{layout, insn_at, slots};
+ghost use Rattle.std.specs.Prelude.{◌≡◌, ◌≢◌, ◌<◌, ◌≤◌, ◌⊎◌, if◌then◌else◌, IfOk, IfErr, Ok, [], ◌∷◌, Some, None};
+ghost use Rattle.pb_isa.specs.Bounds.{Fits};
+ghost use Rattle.pb_isa.specs.Slots.{layout, places_of, insn_at, slots};
 
 use crate::insn::Insn;
 use pb_base::NoMemory;
@@ -20,11 +21,13 @@ impl Model for Program {
 
     ghost Value = { List Insn };
 
+    ghost use Rattle.std.specs.List.{AllByRecursion};
+    ghost use Rattle.pb_isa.specs.Bounds.{Fits};
     ghost use Rattle.pb_isa.specs.Slots.{layout};
 
     ghost view = { λ p. p.insns.items };
 
-    ghost invariant = { λ p. (p.places.items ≡ layout p.insns.items) × (0 < length p.places.items) × (length p.places.items ≤ 512) };
+    ghost invariant = { λ p. (p.places.items ≡ layout p.insns.items) × (0 < length p.places.items) × (length p.places.items ≤ 512) × AllByRecursion Fits p.insns.items };
 }
 
 /// Why a list of instructions is no program.
@@ -35,12 +38,25 @@ pub enum NoProgram {
     NotInRange(Vec<Insn>),
 }
 
+// Whether an instruction takes two slots. Its numbers fit by their types.
+fn is_pair(insn: Insn) -> bool
+    ensures places { places_of insn ≡ Some insn ∷ (if result then None ∷ [] else []) }
+    ensures fits { Fits insn }
+{
+    match insn {
+        Insn::LoadImm(_, _) => true,
+        _ => false,
+    }
+}
+
 impl Program {
+    ghost use Rattle.std.specs.List.{AllByRecursion};
     ghost use Rattle.pb_isa.specs.Slots.{IsProgram, IsRefused};
 
     /// The program of these instructions, where they take 1 to 512 slots; else they are handed back.
     pub fn new(alloc: Global, insns: Vec<Insn>) -> Result<Program, NoProgram>
         ensures ok { IfOk result (λ p. (p ≡ insns.items) × IsProgram p) }
+        ensures fits { IfOk result (AllByRecursion Fits) }
         ensures err { IfErr result (IsRefused insns.items) }
     {
         let mut places: Vec<Option<Insn>> = Vec::new(alloc);
@@ -48,7 +64,7 @@ impl Program {
             if places.push(Some(*insn)).is_err() {
                 return Err(NoProgram::NoMemory);
             }
-            if let Insn::LoadImm(_, _) = *insn {
+            if is_pair(*insn) {
                 if places.push(None).is_err() {
                     return Err(NoProgram::NoMemory);
                 }
@@ -78,7 +94,9 @@ impl Program {
 
     /// Its instructions, in order.
     pub fn insns(&self) -> &[Insn]
-        ensures { result.now ≡ self.now }
+        ensures insns { result.now ≡ self.now }
+        ensures program { IsProgram self.now }
+        ensures fits { AllByRecursion Fits self.now }
     {
         &self.insns
     }

@@ -2,9 +2,9 @@
 //!
 //! Made with llvm-mc of LLVM 19.1 (Debian's package `llvm-19`), as
 //! `llvm-mc -triple bpfel -mcpu=v3 -show-encoding in.s`, where `in.s` has the words beside each row, one a line; the eight
-//! bytes that it prints for a line are the row's number, the first byte highest. One table would be too large to prove its
-//! test, so that there is one for each kind of instruction.
-use crate::tests::is_pair;
+//! bytes that it prints for a line are the row's number, the first byte highest, and the sixteen for the 64-bit immediate
+//! are two such numbers. One table would be too large to prove its test, so that there is one for each kind of instruction.
+use crate::tests::{bytes_of, is_pair};
 use pb_isa::Operand::{Imm, Reg};
 use pb_isa::Reg::{R1, R2, R3, R9, R10};
 use pb_isa::Width::{Bits32, Bits64};
@@ -624,4 +624,16 @@ fn jumps_32_with_registers(rt: HostRuntime) {
             "{insn:?}"
         );
     }
+}
+
+#[test]
+fn wide_immediate(rt: HostRuntime) {
+    // r1 = 4294967303 ll
+    let pair = bytes_of(
+        &rt,
+        rt.alloc(),
+        &[0x1801_0000_0700_0000, 0x0000_0000_0100_0000],
+    );
+    let insn = Insn::LoadImm(R1, 0x1_0000_0007);
+    assert!(rt; is_pair(&rt, rt.alloc(), insn, &pair));
 }

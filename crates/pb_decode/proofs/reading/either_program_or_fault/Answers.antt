@@ -1,3 +1,4 @@
+use Rattle.pb_decode.proofs.Lowest.{insn_clean}
 use Rattle.pb_decode.proofs.Whole.{either, not_both, one_program, one_fault}
 use Rattle.pb_decode.proofs.reading.either_program_or_fault.Goals as goal
 
@@ -12,3 +13,6 @@ returns-clause-one_program c = one_program
 
 pub returns-clause-one_fault : goal.returns-clause-one_fault
 returns-clause-one_fault c = one_fault
+
+pub returns-clause-no_code : goal.returns-clause-no_code
+returns-clause-no_code c = insn_clean

@@ -1,0 +1,45 @@
+-- A shift that copies the sign divides the signed value, rounded down.
+use Rattle.std.proofs.Common.{◌≡◌, ℕ, suc, ◌+◌, ◌-◌, ◌*◌, ◌/◌, ◌%◌, ◌^◌, ◌<◌, ◌≤◌, pos, negsuc, Bool, true, false, cond, refl, sym, ap, subst, ◌∙◌, arith}
+use Rattle.std.specs.Prelude.{nat_lt}
+use Rattle.std.specs.Int.{cast_unsigned, cast_signed, int_shr}
+use Rattle.std.proofs.lemmas.Nat.{div-mul-add, pow-add, pow_pos}
+use Rattle.std.proofs.Math.Nat.{mod-add-div', mod-lt, add-mul, one-mul, div-lt_iff_lt-mul, pow-le-pow_right}
+use mir.Syntax.{Width, w32, w64}
+use mir.Val.{bits, sel}
+use Rattle.pb_isa.specs.Alu.{arsh}
+
+-- what is left of e * d after a, divided by d
+rest_div : (a d e q r t : ℕ) → r + q * d ≡ a → r < d → e ≡ 1 + q + t → (e * d - suc a) / d ≡ t
+rest_div a d e q r t is lt more =
+    let p : e * d ≡ 1 * d + q * d + t * d = ap (λ (n : ℕ). n * d) more ∙ add-mul (1 + q) t d ∙ ap (λ (n : ℕ). n + t * d) (add-mul 1 q d) in
+    let o : 1 * d ≡ d = one-mul d in
+    let s : e * d - suc a ≡ t * d + (d - suc r) = omega (arith, p, o, is, lt) in
+    ap (λ (n : ℕ). n / d) s ∙ div-mul-add t d (d - suc r) (omega (arith, lt))
+
+below_div : (a d e : ℕ) → 0 < d → a < e * d → (a / d < e) × ((e * d - suc a) / d ≡ e - suc (a / d))
+below_div a d e some lt =
+    let q = a / d in
+    let below : q < e = (div-lt_iff_lt-mul {k = d} {x = a} {y = e} some).1 lt in
+    (below, rest_div a d e q (a % d) (e - suc q) (mod-add-div' a d) (mod-lt a some) (omega (arith, below)))
+
+-- by the sign of a word
+shifted : (w : Width) (a k : ℕ) → a < 2 ^ bits w → k ≤ bits w → (low : Bool)
+    → cast_unsigned w (int_shr (sel low (pos a) (negsuc (2 ^ bits w - suc a))) k) ≡ cond low (a / 2 ^ k) (a / 2 ^ k + (2 ^ bits w - 2 ^ (bits w - k)))
+shifted w a k lt le true = refl
+shifted w a k lt le false =
+    let n = 2 ^ bits w in
+    let d = 2 ^ k in
+    let e = 2 ^ (bits w - k) in
+    let whole : bits w - k + k ≡ bits w = omega (arith, le) in
+    let is : e * d ≡ n = sym (pow-add 2 (bits w - k) k) ∙ ap (λ (i : ℕ). 2 ^ i) whole in
+    let s = below_div a d e (pow_pos k) (subst (λ (m : ℕ). a < m) (sym is) lt) in
+    let below = s.0 in
+    let most : e ≤ n = pow-le-pow_right {n = 2} (omega arith) (omega arith) in
+    let t : (n - suc a) / d ≡ e - suc (a / d) = subst (λ (m : ℕ). (m - suc a) / d ≡ e - suc (a / d)) is s.1 in
+    ap (λ (m : ℕ). n - suc m) t ∙ omega (arith, below, most)
+
+pub arsh_64 : (a b : ℕ) → a < 2 ^ 64 → cast_unsigned w64 (int_shr (cast_signed w64 a) (b % 64)) ≡ arsh w64 a (b % 64)
+arsh_64 a b lt = shifted w64 a (b % 64) lt (omega arith) (nat_lt a (2 ^ 63))
+
+pub arsh_32 : (a b : ℕ) → a < 2 ^ 32 → cast_unsigned w32 (int_shr (cast_signed w32 a) (b % 32)) ≡ arsh w32 a (b % 32)
+arsh_32 a b lt = shifted w32 a (b % 32) lt (omega arith) (nat_lt a (2 ^ 31))
