@@ -210,7 +210,7 @@ last_read : {A : Type 0} (read : List ℕ → Result A Code) (x : List ℕ) (a :
 unfolding last
 last_read read x a h = rw h refl
 
-line_back : (i : Insn) → Fits i → line_of (insn_text i) ≡ Ok i
+pub line_back : (i : Insn) → Fits i → line_of (insn_text i) ≡ Ok i
 unfolding alu wide load store_imm store jump_if
 line_back (insn.Alu op w d a) fits =
     ap insn_of (two_words (word.Alu op w) (reg_name d) (operand_text a) (reg_line d) (operand_line a fits)) ∙ first_read (word.Alu op w) _
@@ -304,13 +304,13 @@ lines_cut (i ∷ p) fits =
 
 -- ---- and of a text
 
-slots_append : (p q : List Insn) → slots (p ++ q) ≡ slots p + slots q
+pub slots_append : (p q : List Insn) → slots (p ++ q) ≡ slots p + slots q
 slots_append [] q = omega arith
 slots_append (i ∷ p) q =
     let a = length-append (places_of i) (layout (p ++ q)) in let b = length-append (places_of i) (layout p) in let h = slots_append p q in
     omega (arith, a, b, h)
 
-added : (before : List Insn) (i : Insn) → Fits i → slots (before ++ i ∷ []) ≤ 512 → with_line before (insn_text i) ≡ Ok (before ++ i ∷ [])
+pub added : (before : List Insn) (i : Insn) → Fits i → slots (before ++ i ∷ []) ≤ 512 → with_line before (insn_text i) ≡ Ok (before ++ i ∷ [])
 unfolding with_line
 added before i fits most = rw (insn_shown i, line_back i fits, le-ltb 512 (slots (before ++ i ∷ [])) most) refl
 
@@ -325,7 +325,7 @@ read_on n before (i ∷ p) fits most =
     ap (λ (r : Result (List Insn) Code). and_then (numbered n r) (λ q. lines_read (n + 1) q (map insn_text p ++ [] ∷ []))) (added before i fits.0 one_more)
     ∙ read_on (n + 1) (before ++ i ∷ []) p fits.1 whole ∙ ap Ok grouped
 
-some_there : (p : List Insn) → 0 < slots p → some_of p ≡ Ok p
+pub some_there : (p : List Insn) → 0 < slots p → some_of p ≡ Ok p
 some_there [] some = let no : ⊥ = omega (arith, some) in absurd no
 some_there (i ∷ p) some = refl
 

@@ -38,7 +38,7 @@ before_there c front =
     ap (λ (n : ℕ). cond (n == c) (Some (take (length (front ++ c ∷ []) - 1) (front ++ c ∷ []))) None) at ∙ ap (λ (b : Bool). cond b (Some (take (length (front ++ c ∷ []) - 1) (front ++ c ∷ []))) None) e ∙ ap Some cut
 
 -- a list that ends with c, where c isn't the default
-split_end : (c : ℕ) (bs : List ℕ) → 0 < c → slice_index bs (length bs - 1) ≡ c → bs ≡ take (length bs - 1) bs ++ c ∷ []
+pub split_end : (c : ℕ) (bs : List ℕ) → 0 < c → slice_index bs (length bs - 1) ≡ c → bs ≡ take (length bs - 1) bs ++ c ∷ []
 split_end c [] some e = let no : ⊥ = omega (arith, some, e) in absurd no
 split_end c (b ∷ []) some e = ap (λ (x : ℕ). x ∷ []) e
 split_end c (b ∷ d ∷ bs) some e =

@@ -4,3 +4,5 @@ mod Cutting
 mod Shapes
 mod Back
 mod First
+mod Spelling
+mod Readings

@@ -18,15 +18,16 @@ not_zero : (n : ℕ) → (n == 0) ≡ false → 0 < n
 not_zero n h = let k = eqb-false n 0 h in grind arith
 
 -- two tests that both have to fail
-both_fail : (a b x : Bool) → cond a false (cond b false x) ≡ true → (a ≡ false) × (x ≡ true)
+both_fail : (a b x : Bool) → cond a false (cond b false x) ≡ true → (a ≡ false) × (b ≡ false) × (x ≡ true)
 both_fail true b x h = absurd cc
 both_fail false true x h = absurd cc
-both_fail false false x h = (refl, h)
+both_fail false false x h = (refl, refl, h)
 
-digits_in : (w : List ℕ) → is_number w ≡ true → (list_all is_ascii_digit w ≡ true) × (0 < length w)
+-- digits, no zero before another, and some
+pub digits_in : (w : List ℕ) → is_number w ≡ true → (list_all is_ascii_digit w ≡ true) × (((slice_index w 0 == 48) && nat_lt 1 (length w)) ≡ false) × (0 < length w)
 digits_in w h =
     let a = both_fail (length w == 0) ((slice_index w 0 == 48) && nat_lt 1 (length w)) (list_all is_ascii_digit w) h in
-    (a.1, not_zero (length w) a.0)
+    (a.2, a.1, not_zero (length w) a.0)
 
 pub value_is : (E : Type 0) (w : List ℕ) (x : ℕ) → is_number w ≡ true → ParsesUnsigned {E = E} 64 10 w (Ok x) → digits_value 10 w ≡ x
 value_is E w x h p = sym (parse_digits own {E = E} 64 w (Ok x) p (digits_in w h).0).1
@@ -36,6 +37,6 @@ none_fits E greatest w e lt h p =
     let d = digits_in w h in
     let no = parse_digits own {E = E} 64 w (Err e) p d.0 in
     elim (cases_lt (digits_value 10 w) (2 ^ 64)) [
-      | inl small ↦ absurd (no (d.1, small))
+      | inl small ↦ absurd (no (d.2, small))
       | inr big ↦ rw (h, lt-leb (digits_value 10 w) greatest (omega arith)) refl
     ]

@@ -13,7 +13,7 @@ slots_push (j ∷ p) i =
     let a = length-append (places_of j) (layout (p ++ i ∷ [])) in let b = length-append (places_of j) (layout p) in let h = slots_push p i in
     omega (arith, a, b, h)
 
-some_place : (i : Insn) → 0 < length (places_of i)
+pub some_place : (i : Insn) → 0 < length (places_of i)
 some_place (Alu op w d a) = omega arith
 some_place (Neg w d) = omega arith
 some_place (LoadImm d v) = omega arith

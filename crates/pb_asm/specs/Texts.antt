@@ -1,6 +1,6 @@
 -- A text of lines, each an instruction.
-use Rattle.std.specs.Prelude.{◌≡◌, ◌⊎◌, ℕ, ◌+◌, Bool, ◌||◌, ◌==◌, nat_lt, if◌then◌else◌, List, [], ◌∷◌, ◌++◌, length, slice_index, Result, Ok, Err}
-use Rattle.std.specs.List.{slice_split}
+use Rattle.std.specs.Prelude.{◌≡◌, ◌⊎◌, ℕ, ◌+◌, Bool, not, ◌||◌, ◌==◌, nat_lt, if◌then◌else◌, List, [], ◌∷◌, ◌++◌, length, slice_index, Result, Ok, Err}
+use Rattle.std.specs.List.{slice_split, filter}
 use Rattle.pb_isa.specs.declared.insn.Insn.{Insn}
 use Rattle.pb_isa.specs.Slots.{slots}
 use Rattle.pb_asm.specs.declared.fault.Code.{Code}
@@ -22,6 +22,10 @@ code_number Nothing = 84
 -- empty, or a remark
 abbrev pub is_skipped : List ℕ → Bool
 is_skipped line = (length line == 0) || (slice_index line 0 == 35)
+
+-- the lines that are not skipped
+abbrev pub instruction_lines : List ℕ → List (List ℕ)
+instruction_lines text = filter (λ line. not (is_skipped line)) (slice_split (λ b. b == 10) text)
 
 -- The instructions so far, with the one of one more line. That it ends past slot 512 is told last of its line's faults.
 unfoldable pub with_line : List Insn → List ℕ → Result (List Insn) Code

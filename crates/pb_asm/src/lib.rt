@@ -12,7 +12,9 @@ mod text;
 
 pub use fault::AsmFault;
 pub use listing::disassemble;
-pub use text::{assemble, fault_is_first, listings_read_back};
+pub use text::{
+    assemble, fault_is_first, listings_read_back, one_spelling, only_listings_are_read,
+};
 
 #[cfg(test)]
 mod tests;

@@ -13,6 +13,15 @@ fn told(alloc: Global, text: &str) -> (usize, usize) {
     }
 }
 
+// So many of one character.
+fn repeated(rt: &impl Abort, alloc: Global, c: char, count: usize) -> String {
+    let mut text = String::new(alloc);
+    for _ in 0..count {
+        text.push(c).expect(rt, "memory");
+    }
+    text
+}
+
 // The text is read as this instruction, which is listed as the text and a newline.
 fn is_pair(rt: &impl Abort, alloc: Global, text: &str, insn: Insn) -> bool {
     let program = assemble(alloc, text).ok().expect(rt, "a program");
@@ -151,6 +160,127 @@ fn faults_of_a_line(rt: HostRuntime) {
 }
 
 #[test]
+fn faults_of_a_number(rt: HostRuntime) {
+    let table = [
+        ("mov64 r0, -07", 81),
+        ("mov64 r0, -00", 81),
+        ("mov64 r0, -", 81),
+        ("mov64 r0, --5", 81),
+        ("mov64 r0, 0x10", 81),
+        ("mov64 r0, 1_000", 81),
+        ("mov64 r0, 5-", 81),
+        ("lddw r0, 00", 81),
+        ("lddw r0, 07", 81),
+        ("lddw r0, +7", 81),
+        ("lddw r0, 0x7", 81),
+        ("lddw r0, r1", 81),
+        ("ja +00", 81),
+        ("ja +07", 81),
+        ("ja -07", 81),
+        ("ja +", 81),
+        ("ja -", 81),
+        ("ja ++7", 81),
+        ("ja +-7", 81),
+        ("ja -32769", 82),
+        ("call 01", 81),
+        ("call -0", 81),
+        ("call +1", 81),
+        ("call -2147483649", 82),
+        ("jeq64 r1, 05, +2", 81),
+        ("jeq64 r1, 5, 2", 81),
+        ("jeq64 r1, 5, -0", 81),
+        ("jeq64 r1, 5, +02", 81),
+        ("jeq64 r1, 5, +32768", 82),
+        ("stw [r10-8], 05", 81),
+        ("stw [r10-8], -0", 81),
+        ("stw [r10-8], 2147483648", 82),
+    ];
+    for (text, code) in table {
+        assert!(rt; told(rt.alloc(), text) == (1, code), "{text}");
+    }
+}
+
+#[test]
+fn faults_of_a_place(rt: HostRuntime) {
+    let table = [
+        ("ldxdw r0, [r1+00]", 81),
+        ("ldxdw r0, [r1+08]", 81),
+        ("ldxdw r0, [r1-08]", 81),
+        ("ldxdw r0, [r1-]", 81),
+        ("ldxdw r0, [r1++8]", 81),
+        ("ldxdw r0, [r1--8]", 81),
+        ("ldxdw r0, [r1+-8]", 81),
+        ("ldxdw r0, [r1-+8]", 81),
+        ("ldxdw r0, [r1 +8]", 81),
+        ("ldxdw r0, [r1+ 8]", 81),
+        ("ldxdw r0, [ r1+8]", 81),
+        ("ldxdw r0, [r1+8", 81),
+        ("ldxdw r0, r1+8]", 81),
+        ("ldxdw r0, [r1+8]]", 81),
+        ("ldxdw r0, [[r1+8]", 81),
+        ("ldxdw r0, [r01+8]", 81),
+        ("ldxdw r0, [+8]", 81),
+        ("ldxdw r0, [8+r1]", 81),
+        ("ldxdw r0, []", 81),
+        ("ldxdw r0, [", 81),
+        ("ldxdw [r1+8], r0", 81),
+        ("stxdw [r10-8] r2", 81),
+        ("stxdw [r10-8],, r2", 81),
+        ("stxdw [r10-32769], r11", 82),
+        ("stxdw [r11-32769], r2", 81),
+        ("stxdw [r10+32768] r2", 81),
+    ];
+    for (text, code) in table {
+        assert!(rt; told(rt.alloc(), text) == (1, code), "{text}");
+    }
+}
+
+#[test]
+fn other_characters(rt: HostRuntime) {
+    let table = [
+        ("\r", 80),
+        ("\t", 80),
+        (" ", 80),
+        ("\texit", 80),
+        ("exit\t", 80),
+        ("exit\0", 80),
+        ("exit;", 80),
+        ("Exit", 80),
+        ("exit#", 80),
+        ("exit # done", 81),
+        ("exit exit", 81),
+        ("mov64 r0, 5 # five", 81),
+        ("mov64 r0, 5\t", 81),
+        ("mov64 r0, 5\0", 81),
+        ("mov64 r0 , 5", 81),
+        ("mov64 r0,, 5", 81),
+        ("mov64 r0, 5,", 81),
+        ("mov64 R0, 5", 81),
+        ("mov64 r0, R1", 81),
+        ("mov64 r, 5", 81),
+        ("mov64 r-1, 5", 81),
+        ("neg64 r1,", 81),
+        ("neg64 r1, 5", 81),
+        ("neg64 5", 81),
+        ("jeq64 r1, 5,+2", 81),
+        ("jeq64 r1, 5  +2", 81),
+        ("jeq64 r1, 2147483648 +2", 81),
+        ("\u{feff}exit", 80),
+        ("exit\u{a0}", 80),
+        ("exit\u{85}exit", 80),
+        ("exit\u{2028}exit", 80),
+        ("mov64\u{a0}r0, 5", 80),
+        ("mov64 r\u{660}, 5", 81),
+        ("mov64 r0, \u{661}", 81),
+        ("mov64 r0, \u{2212}5", 81),
+        ("ldxdw r0, [r1\u{ff0b}8]", 81),
+    ];
+    for (text, code) in table {
+        assert!(rt; told(rt.alloc(), text) == (1, code), "{text}");
+    }
+}
+
+#[test]
 fn texts(rt: HostRuntime) {
     let table = [
         ("", (0, 84)),
@@ -163,6 +293,19 @@ fn texts(rt: HostRuntime) {
         ("exit\nja -0\nfoo", (2, 81)),
         ("exit\r\nexit\r\n", (1, 80)),
         (" # not a remark", (1, 80)),
+        ("\r\nexit", (1, 80)),
+        ("exit\n\r", (2, 80)),
+        ("exit\n\r\n", (2, 80)),
+        ("exit\n \n", (2, 80)),
+        ("exit\n\t", (2, 80)),
+        ("exit\rexit", (1, 80)),
+        ("# one\r\nexit\r", (2, 80)),
+        ("\n\nexit\n\n", (0, 1)),
+        ("lddw r0, 1", (0, 2)),
+        ("exit\n# the last", (0, 1)),
+        ("#\t\u{e9}\u{661}\r\nexit", (0, 1)),
+        ("#", (0, 84)),
+        ("\n", (0, 84)),
     ];
     for (text, wanted) in table {
         assert!(rt; told(rt.alloc(), text) == wanted, "{text}");
@@ -170,12 +313,30 @@ fn texts(rt: HostRuntime) {
 }
 
 #[test]
-fn a_number_of_a_thousand_digits(rt: HostRuntime) {
-    let mut text = String::from_str(rt.alloc(), "mov64 r0, ").expect(&rt, "memory");
-    for _ in 0..1000 {
-        text.push('9').expect(&rt, "memory");
+fn numbers_of_a_thousand_digits(rt: HostRuntime) {
+    let table = [
+        ("mov64 r0, ", ""),
+        ("mov64 r0, -", ""),
+        ("lddw r0, ", ""),
+        ("ldxdw r0, [r1+", "]"),
+        ("ldxdw r0, [r1-", "]"),
+        ("stw [r10-8], -", ""),
+        ("ja +", ""),
+        ("ja -", ""),
+        ("jeq64 r1, ", ", +2"),
+        ("jeq64 r1, 5, +", ""),
+        ("call ", ""),
+    ];
+    let nines = repeated(&rt, rt.alloc(), '9', 1000);
+    let zeros = repeated(&rt, rt.alloc(), '0', 1000);
+    for (front, end) in table {
+        for (digits, code) in [(nines.as_str(), 82), (zeros.as_str(), 81)] {
+            let text = format!(in rt.alloc(); "{front}{digits}{end}").expect(&rt, "memory");
+            assert!(rt; told(rt.alloc(), &text) == (1, code), "{front}{code}{end}");
+        }
+        let text = format!(in rt.alloc(); "{front}0{nines}{end}").expect(&rt, "memory");
+        assert!(rt; told(rt.alloc(), &text) == (1, 81), "{front}0{end}");
     }
-    assert!(rt; told(rt.alloc(), &text) == (1, 82));
 }
 
 #[test]

@@ -1,12 +1,13 @@
 //! Texts to programs.
-ghost use Rattle.std.specs.Prelude.{◌≡◌, ◌⊎◌, ℕ, ◌==◌, ◌<◌, ◌≤◌, IfOk, Ok, Err, List, [], ◌∷◌};
+ghost use Rattle.std.specs.Prelude.{◌≡◌, ◌⊎◌, ◌↔◌, ℕ, ◌==◌, ◌<◌, ◌≤◌, IfOk, Ok, Err, List, [], ◌∷◌, map};
 ghost use Rattle.std.specs.List.{slice_split, AllByRecursion};
 ghost use Rattle.pb_isa.specs.Bounds.{Fits};
 ghost use Rattle.pb_isa.specs.declared.insn.Insn.{Insn};
 ghost use Rattle.pb_isa.specs.Slots.{slots, IsProgram};
 ghost use Rattle.pb_asm.specs.Reading.{Gives, plain};
-ghost use Rattle.pb_asm.specs.Listing.{listing};
-ghost use Rattle.pb_asm.specs.Texts.{is_skipped, with_line, lines_read, program_of, Reads, ReadsLines, StopsAt, HasNone};
+ghost use Rattle.pb_asm.specs.Listing.{insn_text, listing};
+ghost use Rattle.pb_asm.specs.Operands.{line_of};
+ghost use Rattle.pb_asm.specs.Texts.{is_skipped, instruction_lines, with_line, lines_read, program_of, Reads, ReadsLines, StopsAt, HasNone};
 
 use crate::fault::{AsmFault, Code};
 use crate::line::line_of;
@@ -105,6 +106,18 @@ pub fn assemble(alloc: Global, text: &str) -> Result<Program, AsmFault>
 /// Each listing is a text with one reading, its program.
 pub fn listings_read_back()
     ensures { (p : List Insn) → IsProgram p → AllByRecursion Fits p → program_of (listing p) ≡ Ok p }
+{}
+
+/// A line is read as an instruction exactly where it is the instruction's line of a listing, character for character,
+/// and the instruction's numbers fit their fields.
+pub fn one_spelling()
+    ensures { (line : List ℕ) (i : Insn) → (line_of line ≡ Ok i) ↔ ((line ≡ insn_text i) × Fits i) }
+{}
+
+/// A text is read as a program exactly where its lines that are neither empty nor remarks are the program's listing line
+/// by line.
+pub fn only_listings_are_read()
+    ensures { (text : List ℕ) (p : List Insn) → (program_of text ≡ Ok p) ↔ ((instruction_lines text ≡ map insn_text p) × IsProgram p × AllByRecursion Fits p) }
 {}
 
 /// The fault that is told is that of the first line at fault, after lines that are read; or no line has an instruction.
