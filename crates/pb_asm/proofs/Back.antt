@@ -259,7 +259,7 @@ shown (x ∷ xs) ys some h = shown_cases x xs ys (nat_le 48 x) refl h
 name_shown : (w : Word) (ys : List ℕ) → is_skipped (name w ++ ys) ≡ false
 name_shown w ys = shown (name w) ys (name_nil w (name w) refl) (name_above w)
 
-insn_shown : (i : Insn) → is_skipped (insn_text i) ≡ false
+pub insn_shown : (i : Insn) → is_skipped (insn_text i) ≡ false
 insn_shown (insn.Alu op w d a) = name_shown (word.Alu op w) (codes " " ++ (reg_name d ++ (codes ", " ++ operand_text a)))
 insn_shown (insn.Neg w d) = name_shown (word.Neg w) (codes " " ++ reg_name d)
 insn_shown (insn.LoadImm d v) = name_shown word.LoadImm (codes " " ++ (reg_name d ++ (codes ", " ++ decimal v)))

@@ -6,3 +6,4 @@ mod Back
 mod First
 mod Spelling
 mod Readings
+mod Codes

@@ -52,12 +52,12 @@ take_line before q l is h =
     let a = then_ok (line_of l) _ q k in
     short_line before q l a.0 a.1 a.2
 
-record Reading (before q : List Insn) (ls : List (List ℕ)) : Type 0 where
-  rest : List Insn
-  whole : q ≡ before ++ rest
-  lines : kept ls ≡ map insn_text rest
-  fits : AllByRecursion Fits rest
-  most : slots q ≤ 512
+pub record Reading (before q : List Insn) (ls : List (List ℕ)) : Type 0 where
+  pub rest : List Insn
+  pub whole : q ≡ before ++ rest
+  pub lines : kept ls ≡ map insn_text rest
+  pub fits : AllByRecursion Fits rest
+  pub most : slots q ≤ 512
 
 one_more : (before p q : List Insn) (l : List ℕ) (ls : List (List ℕ)) (b : Bool) → is_skipped l ≡ b → with_line before l ≡ Ok p → slots before ≤ 512 → (slots p ≤ 512 → Reading p q ls) → Reading before q (l ∷ ls)
 one_more before p q l ls true is h most others =
@@ -74,7 +74,7 @@ step : (n : ℕ) (before q : List Insn) (l : List ℕ) (ls : List (List ℕ)) (r
 step n before q l ls (Err e) is h most others = absurd cc
 step n before q l ls (Ok p) is h most others = one_more before p q l ls (is_skipped l) refl is most (others p h)
 
-read : (n : ℕ) (before q : List Insn) (ls : List (List ℕ)) → lines_read n before ls ≡ Ok q → slots before ≤ 512 → Reading before q ls
+pub read : (n : ℕ) (before q : List Insn) (ls : List (List ℕ)) → lines_read n before ls ≡ Ok q → slots before ≤ 512 → Reading before q ls
 read n before q [] h most =
     let same : before ≡ q = lines_same before q h in
     record { rest = []; whole = sym same ∙ sym (append-nil before); lines = refl; fits = tt; most = subst (λ (x : List Insn). slots x ≤ 512) same most }
@@ -121,7 +121,7 @@ back_line n before (i ∷ p) l ls false is lines fits most others =
     go_on n before (before ++ i ∷ []) (before ++ i ∷ p) l ls (ap (with_line before) h.0 ∙ added before i fits.0 (omega (arith, a, whole)))
     (others (before ++ i ∷ []) p h.1 fits.1 whole ∙ ap Ok grouped)
 
-back : (n : ℕ) (ls : List (List ℕ)) → ReadOn n ls
+pub back : (n : ℕ) (ls : List (List ℕ)) → ReadOn n ls
 back n [] before [] lines fits most = ap Ok (sym (append-nil before))
 back n [] before (i ∷ p) lines fits most = absurd cc
 back n (l ∷ ls) before p lines fits most = back_line n before p l ls (is_skipped l) refl lines fits most (back (n + 1) ls)

@@ -184,12 +184,12 @@ reg_among text (s ∷ rs) r h = found text reg_name s r (reg_in text rs) (bytes_
 reg_is : (text : List ℕ) (r : Reg) → reg_of text ≡ Ok r → text ≡ reg_name r
 reg_is text r h = reg_among text registers r (there_ok (reg_named text) code.Form r h)
 
-word_among : (text : List ℕ) (ws : List Word) (w : Word) → word_in text ws ≡ Some w → text ≡ name w
+pub word_among : (text : List ℕ) (ws : List Word) (w : Word) → word_in text ws ≡ Some w → text ≡ name w
 word_among text [] w h = absurd cc
 word_among text (v ∷ ws) w h = found text name v w (word_in text ws) (bytes_eq text (name v)) refl h (word_among text ws w)
 
-word_is : (text : List ℕ) (w : Word) → or_code code.Word (word_named text) ≡ Ok w → text ≡ name w
-word_is text w h = word_among text words w (there_ok (word_named text) code.Word w h)
+word_is : (text : List ℕ) (c : Code) (w : Word) → or_code c (word_named text) ≡ Ok w → text ≡ name w
+word_is text c w h = word_among text words w (there_ok (word_named text) c w h)
 
 -- ---- operands and places
 
@@ -394,9 +394,9 @@ words_are : (texts : List (List ℕ)) (i : Insn) → insn_of texts ≡ Ok i → 
 unfolding insn_of
 words_are [] i h = absurd cc
 words_are (text ∷ texts) i h =
-    let a = then_ok (or_code code.Word (word_named text)) _ i h in
+    let a = then_ok (or_code _ (word_named text)) _ i h in
     let b = operands_are a.0 texts i a.2 in
-    (ap (λ (t : List ℕ). join_with_byte 32 (t ∷ texts)) (word_is text a.0 a.1) ∙ b.0, b.1)
+    (ap (λ (t : List ℕ). join_with_byte 32 (t ∷ texts)) (word_is text _ a.0 a.1) ∙ b.0, b.1)
 
 pub line_spelled : (line : List ℕ) (i : Insn) → line_of line ≡ Ok i → (line ≡ insn_text i) × Fits i
 line_spelled line i h =

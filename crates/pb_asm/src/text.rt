@@ -1,9 +1,12 @@
 //! Texts to programs.
-ghost use Rattle.std.specs.Prelude.{◌≡◌, ◌⊎◌, ◌↔◌, ℕ, ◌==◌, ◌<◌, ◌≤◌, IfOk, Ok, Err, List, [], ◌∷◌, map};
-ghost use Rattle.std.specs.List.{slice_split, AllByRecursion};
+ghost use Rattle.std.specs.Prelude.{◌≡◌, ◌≢◌, ◌⊎◌, ◌↔◌, ℕ, ◌==◌, ◌<◌, ◌≤◌, IfOk, Ok, Err, List, [], ◌∷◌, ◌++◌, map};
+ghost use Rattle.std.specs.List.{slice_split, before_first, AllByRecursion};
 ghost use Rattle.pb_isa.specs.Bounds.{Fits};
 ghost use Rattle.pb_isa.specs.declared.insn.Insn.{Insn};
 ghost use Rattle.pb_isa.specs.Slots.{slots, IsProgram};
+ghost use Rattle.pb_asm.specs.declared.fault.Code.TheVariants as code;
+ghost use Rattle.pb_asm.specs.declared.names.Word.{Word};
+ghost use Rattle.pb_asm.specs.Names.{name};
 ghost use Rattle.pb_asm.specs.Reading.{Gives, plain};
 ghost use Rattle.pb_asm.specs.Listing.{insn_text, listing};
 ghost use Rattle.pb_asm.specs.Operands.{line_of};
@@ -123,4 +126,13 @@ pub fn only_listings_are_read()
 /// The fault that is told is that of the first line at fault, after lines that are read; or no line has an instruction.
 pub fn fault_is_first()
     ensures { (text : List ℕ) (line told : ℕ) → program_of text ≡ Err (line, told) → StopsAt text line told ⊎ HasNone text line told }
+{}
+
+/// An unknown first word is told exactly where what stands before the first blank, or the whole line where there is none,
+/// is no instruction's name. That slot 512 is past is told exactly where the line is a listing's and its instruction takes
+/// the slots beyond 512. That there is nothing is told exactly where each line is empty or a remark.
+pub fn where_80_83_and_84_are_told()
+    ensures word { (line : List ℕ) → (line_of line ≡ Err code.Word) ↔ ((w : Word) → before_first (λ b. b == 32) line ≢ name w) }
+    ensures too_long { (before : List Insn) (line : List ℕ) → (with_line before line ≡ Err code.TooLong) ↔ ((i : Insn) × (line ≡ insn_text i) × Fits i × (512 < slots (before ++ i ∷ []))) }
+    ensures nothing { (text : List ℕ) → (program_of text ≡ Err (0, 84)) ↔ (instruction_lines text ≡ []) }
 {}

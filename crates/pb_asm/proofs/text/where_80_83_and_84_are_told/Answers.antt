@@ -1,0 +1,11 @@
+use Rattle.pb_asm.proofs.Codes.{word_told, too_long_told, nothing_told}
+use Rattle.pb_asm.proofs.text.where_80_83_and_84_are_told.Goals as goal
+
+pub returns-clause-word : goal.returns-clause-word
+returns-clause-word c = word_told
+
+pub returns-clause-too_long : goal.returns-clause-too_long
+returns-clause-too_long c = too_long_told
+
+pub returns-clause-nothing : goal.returns-clause-nothing
+returns-clause-nothing c = nothing_told
