@@ -13,8 +13,8 @@ mod text;
 pub use fault::AsmFault;
 pub use listing::disassemble;
 pub use text::{
-    assemble, fault_is_first, listings_read_back, one_spelling, only_listings_are_read,
-    where_80_83_and_84_are_told,
+    assemble, fault_is_first, faults_are_told_where_they_are, listings_read_back, one_spelling,
+    only_listings_are_read,
 };
 
 #[cfg(test)]

@@ -1,5 +1,5 @@
 use Rattle.pb_asm.proofs.Codes.{word_told, too_long_told, nothing_told}
-use Rattle.pb_asm.proofs.text.where_80_83_and_84_are_told.Goals as goal
+use Rattle.pb_asm.proofs.text.faults_are_told_where_they_are.Goals as goal
 
 pub returns-clause-word : goal.returns-clause-word
 returns-clause-word c = word_told
