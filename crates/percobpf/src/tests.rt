@@ -33,7 +33,12 @@ struct Held<'a> {
 }
 
 impl<'a> Paths for Held<'a> {
-    ghost held = { λ _ _. None };
+    ghost use Rattle.std.specs.Prelude.{[], ◌∷◌, if◌then◌else◌};
+    ghost use Rattle.std.specs.Option.{option_map};
+    ghost use Rattle.std.specs.Result.{result_ok};
+    ghost use Rattle.std.specs.Str.{bytes_eq};
+
+    ghost held = { λ h path. option_map (λ r. r.now) (result_ok (if bytes_eq path (109 ∷ []) then h.manifest else h.script)) };
 
     fn read(&mut self, path: &str) -> Result<Vec<u8>, PathFault> {
         let held = if path == "m" {

@@ -1,5 +1,5 @@
 //! `asm` and `dis`, over paths and sinks in memory.
-ghost use Rattle.std.specs.Prelude.{None};
+ghost use Rattle.std.specs.Prelude.{◌≡◌, IfOk};
 
 use super::{Outcome, carry};
 use pb_base::NoMemory;
@@ -21,7 +21,12 @@ pub(crate) struct Folder<'a> {
 }
 
 impl<'a> Paths for Folder<'a> {
-    ghost held = { λ _ _. None };
+    ghost use Rattle.std.specs.Prelude.{None, [], ◌∷◌, if◌then◌else◌};
+    ghost use Rattle.std.specs.Option.{option_map};
+    ghost use Rattle.std.specs.Result.{result_ok};
+    ghost use Rattle.std.specs.Str.{bytes_eq};
+
+    ghost held = { λ f path. if bytes_eq path (105 ∷ []) then option_map (λ r. r.now) (result_ok f.input) else if bytes_eq path (111 ∷ []) then option_map (λ v. v.items) f.output else None };
 
     fn read(&mut self, path: &str) -> Result<Vec<u8>, PathFault> {
         if path != "i" {
@@ -42,7 +47,9 @@ impl<'a> Paths for Folder<'a> {
     }
 }
 
-fn copied(alloc: Global, bytes: &[u8]) -> Result<Vec<u8>, PathFault> {
+fn copied(alloc: Global, bytes: &[u8]) -> Result<Vec<u8>, PathFault>
+    ensures { IfOk result (λ v. v.items ≡ bytes.now) }
+{
     let mut copy = Vec::new(alloc);
     match copy.extend_from_slice(bytes) {
         Ok(()) => Ok(copy),
