@@ -128,9 +128,9 @@ pub fn fault_is_first()
     ensures { (text : List ℕ) (line told : ℕ) → program_of text ≡ Err (line, told) → StopsAt text line told ⊎ HasNone text line told }
 {}
 
-/// An unknown first word is told exactly where what stands before the first blank, or the whole line where there is none,
-/// is no instruction's name. That slot 512 is past is told exactly where the line is a listing's and its instruction takes
-/// the slots beyond 512. That there is nothing is told exactly where each line is empty or a remark.
+/// An unknown word is told exactly where what stands before the first blank, or the whole line where there is none, is no
+/// instruction's name; too many slots exactly where the line is a listing's and its instruction ends past slot 512; and
+/// no instruction at all exactly where each line is empty or a remark.
 pub fn faults_are_told_where_they_are()
     ensures word { (line : List ℕ) → (line_of line ≡ Err code.Word) ↔ ((w : Word) → before_first (λ b. b == 32) line ≢ name w) }
     ensures too_long { (before : List Insn) (line : List ℕ) → (with_line before line ≡ Err code.TooLong) ↔ ((i : Insn) × (line ≡ insn_text i) × Fits i × (512 < slots (before ++ i ∷ []))) }
