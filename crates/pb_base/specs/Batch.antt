@@ -7,6 +7,7 @@ use Rattle.pb_base.specs.declared.cell.Cell.{Cell}
 use Rattle.pb_base.specs.declared.cell.Cell.TheVariants.{Data}
 use Rattle.pb_base.specs.declared.content.Content.{Content}
 use Rattle.pb_base.specs.declared.content.Content.TheVariants.{Value, Deleted, Stamp}
+use Rattle.pb_base.specs.declared.limits.TheConstants.{MAX_CELLS}
 use Rattle.pb_base.specs.Cell.{cell_cmp}
 
 -- cells with what is written to them
@@ -40,4 +41,4 @@ are_distinct (w ∷ ws) = is_none (content_in ws w.0) && are_distinct ws
 
 -- 1 to 16 distinct cells, none with a stamp
 abbrev pub is_batch : Writes → Bool
-is_batch ws = nat_lt 0 (length ws) && nat_le (length ws) 16 && list_all (λ w. is_plain w.1) ws && are_distinct ws
+is_batch ws = nat_lt 0 (length ws) && nat_le (length ws) MAX_CELLS && list_all (λ w. is_plain w.1) ws && are_distinct ws

@@ -5,6 +5,7 @@ ghost use Rattle.pb_base.specs.Batch.{writes_of, content_in, is_plain, are_disti
 
 use crate::cell::Cell;
 use crate::content::Content;
+use crate::limits::MAX_CELLS;
 use crate::names::{Column, Row};
 use crate::refusal::NoMemory;
 use std::marker::Model;
@@ -86,7 +87,7 @@ impl Batch {
         ensures handed_back { IfErr result (λ ws. ws ≡ writes) }
     {
         let is_batch = !writes.is_empty()
-            && writes.len() <= 16
+            && writes.len() <= MAX_CELLS
             && are_plain(&writes)
             && are_distinct(&writes);
         if is_batch {
@@ -100,7 +101,7 @@ impl Batch {
     pub fn len(&self) -> usize
         ensures count { result ≡ length self.now }
         ensures some { 0 < result }
-        ensures few { result ≤ 16 }
+        ensures few { result ≤ MAX_CELLS }
         ensures batch { is_batch self.now ≡ true }
     {
         self.writes.len()

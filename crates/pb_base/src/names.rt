@@ -1,6 +1,7 @@
 //! Rows, columns, observers and timestamps.
 ghost use Rattle.std.specs.Prelude.{◌≡◌, ◌<◌, ◌≤◌, IfSome, IfNone};
 
+use crate::limits::{COLUMNS, MAX_OBSERVERS};
 use std::marker::Model;
 
 /// The name of a row.
@@ -25,7 +26,9 @@ impl Model for Column {
 
     ghost view = { λ c. c.number };
 
-    ghost invariant = { λ c. c.number < 16 };
+    ghost use Rattle.pb_base.specs.declared.limits.TheConstants.{COLUMNS};
+
+    ghost invariant = { λ c. c.number < COLUMNS };
 
     ghost inverse = { λ n. record { number = n } };
 }
@@ -34,9 +37,9 @@ impl Column {
     /// The column of this number; none from 16 on.
     pub fn new(number: u8) -> Option<Column>
         ensures some { IfSome result (λ c. c ≡ number) }
-        ensures none { IfNone result (16 ≤ number) }
+        ensures none { IfNone result (COLUMNS ≤ number) }
     {
-        if number < 16 {
+        if number < COLUMNS {
             Some(Column { number })
         } else {
             None
@@ -46,7 +49,7 @@ impl Column {
     /// Its number.
     pub fn number(self) -> u8
         ensures value { result ≡ self }
-        ensures in_range { result < 16 }
+        ensures in_range { result < COLUMNS }
     {
         self.number
     }
@@ -65,7 +68,9 @@ impl Model for ObserverNo {
 
     ghost view = { λ o. o.number };
 
-    ghost invariant = { λ o. o.number < 32 };
+    ghost use Rattle.pb_base.specs.declared.limits.TheConstants.{MAX_OBSERVERS};
+
+    ghost invariant = { λ o. o.number < MAX_OBSERVERS };
 
     ghost inverse = { λ n. record { number = n } };
 }
@@ -74,9 +79,9 @@ impl ObserverNo {
     /// The observer of this number; none from 32 on.
     pub fn new(number: u8) -> Option<ObserverNo>
         ensures some { IfSome result (λ o. o ≡ number) }
-        ensures none { IfNone result (32 ≤ number) }
+        ensures none { IfNone result (MAX_OBSERVERS ≤ number) }
     {
-        if number < 32 {
+        if usize::from(number) < MAX_OBSERVERS {
             Some(ObserverNo { number })
         } else {
             None
@@ -86,7 +91,7 @@ impl ObserverNo {
     /// Its number.
     pub fn number(self) -> u8
         ensures value { result ≡ self }
-        ensures in_range { result < 32 }
+        ensures in_range { result < MAX_OBSERVERS }
     {
         self.number
     }

@@ -1,4 +1,7 @@
 //! Refusals by number.
+ghost use Rattle.std.specs.Prelude.{◌≡◌};
+ghost use Rattle.pb_base.specs.Reasons.{reason_code, refusal_by};
+
 use std::alloc::{AllocError, AllocFailed};
 use thiserror::Error;
 
@@ -16,6 +19,64 @@ impl From<AllocError> for NoMemory {
 impl<T: Drop> From<AllocFailed<T>> for NoMemory {
     fn from(_e: AllocFailed<T>) -> NoMemory {
         NoMemory
+    }
+}
+
+/// Why a call of the table, or of its tablets, is refused.
+#[derive(Clone, Copy, Debug, PartialEq, Eq, Drop)]
+pub enum Reason {
+    /// A growth was refused.
+    NoMemory,
+    /// There is no tablet.
+    NoTablet,
+    /// The first rows of the tablets don't rise from 0.
+    RowsDontRise,
+    /// A table or a tablet isn't empty.
+    NotEmpty,
+    /// The clock is at its greatest.
+    OutOfTimestamps,
+    /// The table has no such seat, or the seat no such transaction.
+    NotOfSeat,
+    /// The transaction isn't in the phase of this step, or a cell comes before its primary.
+    WrongPhase,
+    /// What is declared isn't of this transaction.
+    NotItsDeclaration,
+    /// The journal is at its limit.
+    JournalFull,
+    /// The transaction didn't declare the cell.
+    NotDeclared,
+    /// The transaction has prewritten the cell.
+    AlreadyPrewritten,
+    /// The table has no such observer.
+    NoSuchObserver,
+}
+
+impl Reason {
+    /// The number that it is told by.
+    pub fn code(self) -> u8
+        ensures { result ≡ reason_code self }
+    {
+        match self {
+            Reason::NoMemory => 1,
+            Reason::NoTablet => 2,
+            Reason::RowsDontRise => 3,
+            Reason::NotEmpty => 4,
+            Reason::OutOfTimestamps => 40,
+            Reason::NotOfSeat => 41,
+            Reason::WrongPhase => 42,
+            Reason::NotItsDeclaration => 43,
+            Reason::JournalFull => 44,
+            Reason::NotDeclared => 45,
+            Reason::AlreadyPrewritten => 46,
+            Reason::NoSuchObserver => 47,
+        }
+    }
+
+    /// The refusal that tells it.
+    pub fn refusal(self) -> Refusal
+        ensures { result ≡ refusal_by self }
+    {
+        Refusal(self.code())
     }
 }
 

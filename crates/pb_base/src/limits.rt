@@ -1,0 +1,19 @@
+//! Limits, each by its one name.
+
+/// How many cells a batch may write.
+pub const MAX_CELLS: usize = 16;
+
+/// How many columns there are.
+pub const COLUMNS: u8 = 16;
+
+/// How many observers a table may have.
+pub const MAX_OBSERVERS: usize = 32;
+
+/// How many seats a table may have.
+pub const MAX_SEATS: u32 = 64;
+
+/// How many entries a journal may have.
+pub const MAX_ENTRIES: usize = 1_000_000;
+
+/// How many changes a script may have.
+pub const MAX_CHANGES: usize = 10_000;
