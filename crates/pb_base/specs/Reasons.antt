@@ -1,5 +1,5 @@
 -- The numbers by which refusals are told.
-use Rattle.std.specs.Prelude.{ℕ}
+use Rattle.std.specs.Prelude.{◌≡◌, ℕ, Option, Some, None}
 use Rattle.pb_base.specs.declared.refusal.Reason.{Reason}
 use Rattle.pb_base.specs.declared.refusal.Reason.TheVariants.{NoMemory, NoTablet, RowsDontRise, NotEmpty, OutOfTimestamps, NotOfSeat, WrongPhase, NotItsDeclaration, JournalFull, NotDeclared, AlreadyPrewritten, NoSuchObserver}
 use Rattle.pb_base.specs.declared.refusal.Refusal.{Refusal}
@@ -20,3 +20,8 @@ reason_code NoSuchObserver = 47
 
 abbrev pub refusal_by : Reason → Refusal
 refusal_by r = record { 0 = reason_code r }
+
+-- this refusal tells that reason, which there is
+abbrev pub IsRefusal : Option Reason → Refusal → Type 0
+IsRefusal None r = ⊥
+IsRefusal (Some why) r = r ≡ refusal_by why

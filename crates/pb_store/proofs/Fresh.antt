@@ -6,7 +6,8 @@ use Rattle.std.specs.FinMap as map
 use Rattle.pb_base.specs.Cell.{cell_cmp}
 use Rattle.pb_store.specs.Slot.{slot_cmp}
 use Rattle.pb_store.specs.Contents.{Contents, nothing, is_nothing}
-use Rattle.pb_store.specs.Tiles.{Tile, IsTile, AreTiled, IsTiling, IsBelow, all_entries, all_marks, joined, rise, rise_from_zero, all_nothing, refusal_of}
+use Rattle.pb_base.specs.declared.refusal.Reason.TheVariants.{NotEmpty, RowsDontRise}
+use Rattle.pb_store.specs.Tiles.{Tile, IsTile, AreTiled, IsTiling, IsBelow, all_entries, all_marks, joined, rise, rise_from_zero, all_nothing, table_reason}
 use Rattle.pb_store.proofs.Joined.{joined-entries, joined-marks}
 
 left_true : (a b : Bool) → (a && b) ≡ true → a ≡ true
@@ -86,9 +87,9 @@ tiling_of_nothing (tile ∷ tiles) r e = record {
   tiled = (tile_of_nothing tile tiles (right_true _ _ r) (left_true _ _ e), tiled_nothing tile.0 tiles (right_true _ _ r) (right_true _ _ e));
 }
 
-pub refused_unrisen : (tiles : List Tile) → 0 < length tiles → rise_from_zero tiles ≡ false → refusal_of tiles ≡ Some 3
+pub refused_unrisen : (tiles : List Tile) → 0 < length tiles → rise_from_zero tiles ≡ false → table_reason tiles ≡ Some RowsDontRise
 refused_unrisen [] lt e = absurd (omega arith)
-refused_unrisen (tile ∷ tiles) lt e = ap (λ b. cond b (cond (all_nothing (tile ∷ tiles)) None (Some 4)) (Some 3)) e
+refused_unrisen (tile ∷ tiles) lt e = ap (λ b. cond b (cond (all_nothing (tile ∷ tiles)) None (Some NotEmpty)) (Some RowsDontRise)) e
 
 pub positive : (n : ℕ) → (n == 0) ≡ false → 0 < n
 positive n e = grind (arith, nat_tests)

@@ -2,6 +2,7 @@
 use Rattle.std.proofs.Common.{◌≡◌, ℕ, ◌+◌, ◌<◌, ◌≤◌, List, [], ◌∷◌, refl, sym, ap, ◌∙◌, arith, zero, suc, length, get_or, set, below_more}
 use Rattle.pb_base.specs.declared.names.Row.{Row}
 use Rattle.pb_store.specs.Contents.{Contents, nothing}
+use Rattle.pb_store.specs.TableOf.{firsts_of}
 use Rattle.pb_store.specs.Tiles.{Tile, IsBelow, IsPlace, IsTiling, tiles_of}
 
 -- what tile i contains
@@ -84,3 +85,9 @@ none_between tiles row i k a b = absurd (omega arith)
 
 pub one_more_above : (tiles : List Tile) (row from i : ℕ) → FirstsAbove tiles row from i → row < first_at tiles i → FirstsAbove tiles row from (i + 1)
 one_more_above tiles row from i above here k a b = below_more (λ n. from < n → row < first_at tiles n) i (λ n lt gt. above n gt lt) (λ _. here) k b a
+
+-- a tablet changed in place keeps its first row
+pub firsts_kept : {T : Type 0} (parts : List (Row × T)) (i : ℕ) (p : Row × T) (t : T) → i < length parts → p ≡ get_or parts i p → firsts_of (set parts i (p.0, t)) ≡ firsts_of parts
+firsts_kept [] i p t lt e = absurd (omega arith)
+firsts_kept (q ∷ parts) zero p t lt e = ap (λ r. r.0.0 ∷ firsts_of parts) e
+firsts_kept (q ∷ parts) (suc i) p t lt e = ap (λ ns. q.0.0 ∷ ns) (firsts_kept parts i p t (omega arith) e)

@@ -1,4 +1,4 @@
 pub mod Slot
 pub mod Contents
 pub mod Tiles
-pub mod Held
+pub mod TableOf

@@ -4,6 +4,8 @@ use Rattle.std.proofs.Common.{zero, suc}
 use Rattle.std.specs.FinMap as map
 use Rattle.pb_base.specs.declared.cell.Cell.{Cell}
 use Rattle.pb_base.specs.declared.names.Row.{Row}
+use Rattle.pb_base.specs.declared.refusal.Reason.{Reason}
+use Rattle.pb_base.specs.declared.refusal.Reason.TheVariants.{NoTablet, RowsDontRise, NotEmpty}
 use Rattle.pb_base.specs.Cell.{row_of}
 use Rattle.pb_store.specs.declared.slot.Slot.{Slot}
 use Rattle.pb_store.specs.declared.slot.Item.{Item}
@@ -86,8 +88,8 @@ abbrev pub all_nothing : List Tile → Bool
 all_nothing [] = true
 all_nothing (tile ∷ tiles) = is_nothing tile.1 && all_nothing tiles
 
--- why tablets make no table, if they make none: 2 there is none, 3 the first rows don't rise from 0, 4 one isn't empty
-abbrev pub refusal_of : List Tile → Option ℕ
-refusal_of [] = Some 2
-refusal_of (tile ∷ tiles) =
-    if rise_from_zero (tile ∷ tiles) then (if all_nothing (tile ∷ tiles) then None else Some 4) else Some 3
+-- why tablets make no table, if they make none
+abbrev pub table_reason : List Tile → Option Reason
+table_reason [] = Some NoTablet
+table_reason (tile ∷ tiles) =
+    if rise_from_zero (tile ∷ tiles) then (if all_nothing (tile ∷ tiles) then None else Some NotEmpty) else Some RowsDontRise

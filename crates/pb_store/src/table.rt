@@ -2,12 +2,13 @@
 ghost use Rattle.std.specs.Prelude.{◌≡◌, ◌<◌, IfOk, IfErr, OnOk, OnErr, IfSome, None, Some, length, slice_get};
 ghost use Rattle.std.specs.FinMap as map;
 ghost use Rattle.pb_store.specs.Contents.{nothing, is_nothing, after_edits, AreEdits, IsOfSort, IsNewest, IsNextMark};
-ghost use Rattle.pb_store.specs.Held.{Held};
-ghost use Rattle.pb_store.specs.Tiles.{tiles_of, IsPlace, IsStart, IsTiling, rise_from_zero, all_nothing, refusal_of, all_entries, joined};
+ghost use Rattle.pb_store.specs.TableOf.{TableOf, firsts_of};
+ghost use Rattle.pb_store.specs.Tiles.{tiles_of, IsPlace, IsStart, IsTiling, rise_from_zero, all_nothing, table_reason, all_entries, joined};
+ghost use Rattle.pb_base.specs.Reasons.{IsRefusal};
 
 use crate::slot::{Edit, Item, Slot, Sort};
 use crate::tablet::Tablet;
-use pb_base::{Cell, NoMemory, Refusal, Row, Ts};
+use pb_base::{Cell, NoMemory, Reason, Refusal, Row, Ts};
 use std::marker::Model;
 
 /// Tablets side by side: each has the rows from its first up to the next one's first, the last all the rest.
@@ -18,16 +19,15 @@ pub struct Table<T: Tablet> {
 }
 
 impl<T: Tablet> Model for Table<T> {
-    ghost use Rattle.std.specs.Prelude.{vec_len};
-    ghost use Rattle.pb_store.specs.Held.{Held, coded_held};
+    ghost use Rattle.pb_store.specs.TableOf.{TableOf, table_code, firsts_of};
 
-    ghost Value = { Held };
+    ghost Value = { TableOf };
 
-    ghost coded = { coded_held };
+    ghost coded = { table_code };
 
     ghost use Rattle.pb_store.specs.Tiles.{tiles_of, joined, IsTiling};
 
-    ghost view = { λ t. record { contents = joined (tiles_of T.contents t.parts.items); places = vec_len t.parts } };
+    ghost view = { λ t. record { contents = joined (tiles_of T.contents t.parts.items); firsts = firsts_of t.parts.items } };
 
     ghost invariant = { λ t. IsTiling (tiles_of T.contents t.parts.items) };
 }
@@ -126,19 +126,19 @@ impl<T: Tablet> Table<T> {
     /// rise from 0, 4 where a tablet isn't empty.
     pub fn new(parts: Vec<(Row, T)>) -> Result<Table<T>, (Vec<(Row, T)>, Refusal)>
         ensures contents { IfOk result (λ table. table.contents ≡ nothing) }
-        ensures places { IfOk result (λ table. table.places ≡ length parts.items) }
-        ensures accepted { OnOk result (refusal_of (tiles_of T.contents parts.items) ≡ None) }
+        ensures firsts { IfOk result (λ table. table.firsts ≡ firsts_of parts.items) }
+        ensures accepted { OnOk result (table_reason (tiles_of T.contents parts.items) ≡ None) }
         ensures handed_back { IfErr result (λ e. e.0 ≡ parts) }
-        ensures refused { IfErr result (λ e. refusal_of (tiles_of T.contents parts.items) ≡ Some e.1.0) }
+        ensures refused { IfErr result (λ e. IsRefusal (table_reason (tiles_of T.contents parts.items)) e.1) }
     {
         if parts.is_empty() {
-            return Err((parts, Refusal(2)));
+            return Err((parts, Reason::NoTablet.refusal()));
         }
         if !rises(&parts) {
-            return Err((parts, Refusal(3)));
+            return Err((parts, Reason::RowsDontRise.refusal()));
         }
         if !are_empty(&parts) {
-            return Err((parts, Refusal(4)));
+            return Err((parts, Reason::NotEmpty.refusal()));
         }
         Ok(Table { parts })
     }
@@ -176,7 +176,7 @@ impl<T: Tablet> Table<T> {
 
     /// How many tablets it has.
     pub fn places(&self) -> usize
-        ensures { result ≡ self.now.places }
+        ensures { result ≡ length self.now.firsts }
     {
         self.parts.len()
     }
@@ -193,7 +193,7 @@ impl<T: Tablet> Table<T> {
         requires { AreEdits edits.now }
         ensures ok { OnOk result (self.new.contents ≡ after_edits edits.now self.old.contents) }
         ensures err { OnErr result (self.new.contents ≡ self.old.contents) }
-        ensures places { self.new.places ≡ self.old.places }
+        ensures firsts { self.new.firsts ≡ self.old.firsts }
     {
         if edits.is_empty() {
             return Ok(());

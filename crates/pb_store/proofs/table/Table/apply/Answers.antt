@@ -1,9 +1,9 @@
 use Rattle.std.proofs.Common.{◌≡◌, ◌<◌, length, sym, ap, ◌∙◌, subst}
 use Rattle.pb_store.specs.Contents.{after_edits, AreOfRow, edit_row}
-use Rattle.pb_store.specs.Held.{Held}
+use Rattle.pb_store.specs.TableOf.{TableOf}
 use Rattle.pb_store.specs.Tiles.{tiles_of, joined, IsTiling, IsPlace}
 use Rattle.pb_store.proofs.Fresh.{positive}
-use Rattle.pb_store.proofs.Routing.{tiles_kept}
+use Rattle.pb_store.proofs.Routing.{tiles_kept, firsts_kept}
 use Rattle.pb_store.proofs.Applying.{result_cases, ok_then, err_then, all_of_first, tiling_after, joined_after}
 use Rattle.pb_store.proofs.table.Table.apply.Given.{Over}
 use Rattle.pb_store.proofs.table.Table.apply.Goals as goal
@@ -23,7 +23,7 @@ module _ (g : Over) (c : After-apply g) where
   place = subst (λ ps. IsPlace (tiles_of g.T.Tablet.contents ps) c.place_in-i.result c.row.result.0) c.deref.ensures.value c.place_in-i.ensures.place
 
   held : joined (tiles_of g.T.Tablet.contents c.self.inside.parts.items) ≡ c.args.self.now.contents
-  held = ap (λ (h : Held). h.contents) c.self.view_is
+  held = ap (λ (h : TableOf). h.contents) c.self.view_is
 
 pub invariant_of-self : goal.invariant_of-self
 invariant_of-self g c =
@@ -50,3 +50,9 @@ returns-clause-err g c =
     (λ same. ap joined (tiles_kept g.T.Tablet.contents c.self.inside.parts.items c.place_in-i.result c.index_mut-part.result.now c.apply.new.self
     (within g at) c.index_mut-part.ensures.value same) ∙ held g at)
     c.apply.ensures.err
+
+pub returns-clause-firsts : goal.returns-clause-firsts
+returns-clause-firsts g c =
+    let at = (goal.at.returns-clause-firsts g c).After-apply in
+    firsts_kept c.self.inside.parts.items c.place_in-i.result c.index_mut-part.result.now c.apply.new.self (within g at) c.index_mut-part.ensures.value
+    ∙ ap (λ (h : TableOf). h.firsts) c.self.view_is
