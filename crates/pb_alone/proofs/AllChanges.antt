@@ -2,7 +2,7 @@
 use Rattle.std.proofs.Common.{◌≡◌, ℕ, ◌+◌, ◌*◌, List, [], ◌∷◌, ◌++◌, length, length-append, map, suc, sym, ap, ◌∙◌, arith}
 use Rattle.std.specs.List.{flat_map}
 use Rattle.pb_base.specs.Batch.{Writes}
-use Rattle.pb_core.specs.declared.entry.Received.{Received}
+use Rattle.pb_history.specs.declared.entry.Received.{Received}
 use Rattle.pb_core.specs.Calls.{SharedOf, SeatOf}
 use Rattle.pb_alone.specs.Alone.{Goes, Changes, IsClean, entry, change_at, changes_from, change_entries}
 use Rattle.pb_alone.proofs.Going.{append_assoc, append_nil, map_append}

@@ -5,15 +5,16 @@ use Rattle.pb_base.specs.declared.cell.Cell.{Cell}
 use Rattle.pb_base.specs.declared.content.Content.{Content}
 use Rattle.pb_base.specs.declared.names.Ts.{Ts}
 use Rattle.pb_base.specs.Batch.{Writes}
-use Rattle.pb_state.specs.declared.step.Declared.{Declared}
-use Rattle.pb_state.specs.declared.step.Declared.TheVariants as declared
-use Rattle.pb_state.specs.declared.step.Step.{Step}
-use Rattle.pb_state.specs.declared.step.Step.TheVariants.{Begin, Declare, Prewrite, Stamp, CommitPrimary}
-use Rattle.pb_state.specs.declared.step.Answer.{Answer}
-use Rattle.pb_state.specs.declared.step.Answer.TheVariants.{At, Done, Committed}
-use Rattle.pb_state.specs.State.{ObserverOf, cells_of}
-use Rattle.pb_core.specs.declared.entry.Entry.{Entry}
-use Rattle.pb_core.specs.History.{Has, Member, InHistory, RiseFrom, IsHistory}
+use Rattle.pb_steps.specs.declared.step.Declared.{Declared}
+use Rattle.pb_steps.specs.declared.step.Declared.TheVariants as declared
+use Rattle.pb_steps.specs.declared.step.Step.{Step}
+use Rattle.pb_steps.specs.declared.step.Step.TheVariants.{Begin, Declare, Prewrite, Stamp, CommitPrimary}
+use Rattle.pb_steps.specs.declared.step.Answer.{Answer}
+use Rattle.pb_steps.specs.declared.step.Answer.TheVariants.{At, Done, Committed}
+use Rattle.pb_steps.specs.Observers.{ObserverOf}
+use Rattle.pb_steps.specs.State.{cells_of}
+use Rattle.pb_history.specs.declared.entry.Entry.{Entry}
+use Rattle.pb_history.specs.History.{Has, Member, InHistory, RiseFrom, IsHistory}
 use Rattle.pb_alone.specs.Alone.{ts, entry, change_entries, changes_from}
 
 -- ---- lists of lists

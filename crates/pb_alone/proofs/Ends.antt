@@ -6,19 +6,24 @@ use Rattle.pb_base.specs.declared.cell.Cell.{Cell}
 use Rattle.pb_base.specs.declared.content.Content.{Content}
 use Rattle.pb_base.specs.declared.names.Ts.{Ts}
 use Rattle.pb_base.specs.Batch.{content_in, primary_in}
-use Rattle.pb_state.specs.declared.step.Step.TheVariants.{Prewrite, Stamp, CommitPrimary}
-use Rattle.pb_state.specs.declared.step.Answer.{Answer}
-use Rattle.pb_state.specs.declared.step.Answer.TheVariants.{At, Done, Conflict, Committed, Lost}
-use Rattle.pb_state.specs.declared.transaction.Phase.TheVariants as phases
-use Rattle.pb_state.specs.State.{StateOf, TransactionOf, lock_at, write_at}
-use Rattle.pb_state.specs.Refusal.{own, is_out, refusal, first_reason, prewrite_reasons, stamp_reasons, commit_reasons}
-use Rattle.pb_state.specs.Machine.{Case, put_lock, commit_lock}
+use Rattle.pb_base.specs.declared.refusal.Reason.TheVariants.{OutOfTimestamps, WrongPhase, NotDeclared, AlreadyPrewritten}
+use Rattle.pb_steps.specs.declared.step.Step.TheVariants.{Prewrite, Stamp, CommitPrimary}
+use Rattle.pb_steps.specs.declared.step.Answer.{Answer}
+use Rattle.pb_steps.specs.declared.step.Answer.TheVariants.{At, Done, Conflict, Committed, Lost}
+use Rattle.pb_steps.specs.declared.phase.Phase.TheVariants as phases
+use Rattle.pb_steps.specs.State.{StateOf, TransactionOf}
+use Rattle.pb_steps.specs.Readings.{lock_at, write_at}
+use Rattle.pb_steps.specs.Reasons.{IsOwn, is_out, first_reason}
+use Rattle.pb_steps.specs.Steps.{step_reason, StepCase}
+use Rattle.pb_steps.specs.Prewrite.{prewrite_reasons, put_lock}
+use Rattle.pb_steps.specs.Stamp.{unstamped_reasons}
+use Rattle.pb_steps.specs.CommitPrimary.{commit_reasons, commit_lock}
 use Rattle.pb_alone.specs.Alone.{IsClean, ts}
 use Rattle.pb_alone.proofs.OneChange.{no_lock_after, write_after, lock_there}
-use Rattle.pb_alone.proofs.Stages.{cell_itself, own_put, same_some, allowed_own, some_not_none}
+use Rattle.pb_alone.proofs.Stages.{cell_itself, own_put, same_own, same_some, allowed_own, some_not_none}
 
 -- s2 has a transaction of this seat, begun when the clock came to a, that declared x alone
-module _ (s2 : StateOf) (seat a : ℕ) (x : Cell) (k : Content) (t2 : TransactionOf) (own2 : own s2 seat a ≡ Some t2) (mine : t2.seat ≡ seat)
+module _ (s2 : StateOf) (seat a : ℕ) (x : Cell) (k : Content) (t2 : TransactionOf) (own2 : IsOwn s2 seat a t2) (mine : t2.seat ≡ seat)
     (phase : t2.phase ≡ phases.Declared) (declared : t2.declared ≡ (x, k) ∷ []) (blank : t2.prewritten ≡ []) (clock : s2.clock ≡ a) where
   abbrev pub t3 : TransactionOf
   t3 = record t2 { prewritten = t2.prewritten ++ x ∷ [] }
@@ -38,10 +43,10 @@ module _ (s2 : StateOf) (seat a : ℕ) (x : Cell) (k : Content) (t2 : Transactio
   abbrev pub s5 : StateOf
   s5 = record s4 { entries = commit_lock s3.entries x a (a + 1); transactions = map.insert s4.transactions a t5 }
 
-  own3 : own s3 seat a ≡ Some t3
+  own3 : IsOwn s3 seat a t3
   own3 = own_put s3 s2.transactions seat a t3 refl mine
 
-  own4 : own s4 seat a ≡ Some t4
+  own4 : IsOwn s4 seat a t4
   own4 = own_put s4 s3.transactions seat a t4 refl mine
 
   first_of : primary_in t2.declared ≡ Some x
@@ -51,7 +56,7 @@ module _ (s2 : StateOf) (seat a : ℕ) (x : Cell) (k : Content) (t2 : Transactio
   content_of = ap (λ ws. content_in ws x) declared ∙ ap (λ b. cond b (Some k) None) (cell_itself x)
 
   module _ (unlocked : (y : Cell) (u : ℕ) → lock_at s2.entries y u ≡ None) (past : (y : Cell) (c s : ℕ) → write_at s2.entries y c ≡ Some s → c < a) where
-    no_conflict : (new : StateOf) → Case s2 seat (Prewrite (ts a) x) Conflict new → ⊥
+    no_conflict : (new : StateOf) → StepCase s2 seat (Prewrite (ts a) x) Conflict new → ⊥
     no_conflict new m = elim m.why [
       | inl l ↦ some_not_none (lock_at s2.entries x l.0) (unlocked x l.0) l.2
       | inr w ↦ written w.0 w.1 (write_at s2.entries x w.0) refl w.3
@@ -61,9 +66,9 @@ module _ (s2 : StateOf) (seat a : ℕ) (x : Cell) (k : Content) (t2 : Transactio
         written c le None e h = cc
         written c le (Some w) e h = let p = past x c w e in omega (arith, le, p)
 
-    pub prewrites : (answer : Answer) (new : StateOf) → Case s2 seat (Prewrite (ts a) x) answer new → (answer ≡ Done) × (new ≡ s3)
+    pub prewrites : (answer : Answer) (new : StateOf) → StepCase s2 seat (Prewrite (ts a) x) answer new → (answer ≡ Done) × (new ≡ s3)
     prewrites Done new m =
-        let t-is : m.t ≡ t2 = same_some _ t2 m.t own2 m.of in
+        let t-is : m.t ≡ t2 = same_own _ _ _ t2 m.t own2 m.own in
         let first : primary_in m.t.declared ≡ Some x = ap (λ (t : TransactionOf). primary_in t.declared) t-is ∙ first_of in
         let content : content_in m.t.declared x ≡ Some k = ap (λ (t : TransactionOf). content_in t.declared x) t-is ∙ content_of in
         let p-is : m.primary ≡ x = same_some _ x m.primary first m.primary_is in
@@ -81,16 +86,16 @@ module _ (s2 : StateOf) (seat a : ℕ) (x : Cell) (k : Content) (t2 : Transactio
       ];
     }
 
-  pub stamps : (answer : Answer) (new : StateOf) → Case s3 seat (Stamp (ts a)) answer new → (answer ≡ At (ts (a + 1))) × (new ≡ s4)
+  pub stamps : (answer : Answer) (new : StateOf) → StepCase s3 seat (Stamp (ts a)) answer new → (answer ≡ At (ts (a + 1))) × (new ≡ s4)
   stamps (At c) new m =
       let e = m.fresh ∙ ap (λ n. n + 1) clock in
-      let t-is = same_some _ t3 m.t own3 m.of in
+      let t-is = same_own _ _ _ t3 m.t own3 m.own in
       (ap (λ n. At (ts n)) e, m.new_is ∙ (λ i. record s3 { clock = e i; transactions = map.insert s3.transactions a (record (t-is i) { phase = phases.Stamped (ts (e i)) }) }))
   stamps _ new m = absurd m
 
-  pub commits : (answer : Answer) (new : StateOf) → Case s4 seat (CommitPrimary (ts a)) answer new → (answer ≡ Committed) × (new ≡ s5)
+  pub commits : (answer : Answer) (new : StateOf) → StepCase s4 seat (CommitPrimary (ts a)) answer new → (answer ≡ Committed) × (new ≡ s5)
   commits Committed new m =
-      let t-is : m.t ≡ t4 = same_some _ t4 m.t own4 m.of in
+      let t-is : m.t ≡ t4 = same_own _ _ _ t4 m.t own4 m.own in
       let first : primary_in m.t.declared ≡ Some x = ap (λ (t : TransactionOf). primary_in t.declared) t-is ∙ first_of in
       let p-is : m.primary ≡ x = same_some _ x m.primary first m.primary_is in
       let stands : m.t.phase ≡ phases.Stamped (ts (a + 1)) = ap (λ (t : TransactionOf). t.phase) t-is in
@@ -99,7 +104,7 @@ module _ (s2 : StateOf) (seat a : ℕ) (x : Cell) (k : Content) (t2 : Transactio
       let c-is : m.c ≡ a + 1 = ap (λ (t : Ts). t.0) both in
       (refl, m.new_is ∙ (λ i. record s4 { entries = commit_lock s3.entries (p-is i) a (c-is i); transactions = map.insert s4.transactions a (record (t-is i) { phase = phases.Committed (ts (c-is i)) }) }))
   commits Lost new m =
-      let t-is : m.t ≡ t4 = same_some _ t4 m.t own4 m.of in
+      let t-is : m.t ≡ t4 = same_own _ _ _ t4 m.t own4 m.own in
       let first : primary_in m.t.declared ≡ Some x = ap (λ (t : TransactionOf). primary_in t.declared) t-is ∙ first_of in
       let p-is : m.primary ≡ x = same_some _ x m.primary first m.primary_is in
       let there : is_some (lock_at s3.entries m.primary a) ≡ true = ap (λ p. is_some (lock_at s3.entries p a)) p-is ∙ ap is_some (lock_there s2.entries x x k a (a + 1)) in
@@ -108,17 +113,17 @@ module _ (s2 : StateOf) (seat a : ℕ) (x : Cell) (k : Content) (t2 : Transactio
   commits _ new m = absurd m
 
   module _ (seated : seat < s2.seats) where
-    pub prewrite_refused : refusal s2 seat (Prewrite (ts a) x) ≡ None
+    pub prewrite_refused : step_reason s2 seat (Prewrite (ts a) x) ≡ None
     prewrite_refused =
-        allowed_own s2 seat a t2 (λ t. prewrite_reasons t x) seated own2
-        ∙ (λ i. first_reason (prewrite_reasons (record t2 { phase = phase i; declared = declared i; prewritten = blank i }) x))
-        ∙ (λ i. first_reason ((42, false || (not (cell_itself x i) && not false)) ∷ (45, is_none (cond (cell_itself x i) (Some k) None)) ∷ (46, false) ∷ []))
+        allowed_own s2 seat a t2 (prewrite_reasons x) seated own2
+        ∙ (λ i. first_reason (prewrite_reasons x (record t2 { phase = phase i; declared = declared i; prewritten = blank i })))
+        ∙ (λ i. first_reason ((WrongPhase, false || (not (cell_itself x i) && not false)) ∷ (NotDeclared, is_none (cond (cell_itself x i) (Some k) None)) ∷ (AlreadyPrewritten, false) ∷ []))
 
-    pub stamp_refused : refusal s3 seat (Stamp (ts a)) ≡ first_reason ((40, is_out s3) ∷ [])
+    pub stamp_refused : step_reason s3 seat (Stamp (ts a)) ≡ first_reason ((OutOfTimestamps, is_out s3) ∷ [])
     stamp_refused =
-        ap (cond (is_out s3) (Some (record { 0 = 40 }))) (allowed_own s3 seat a t3 stamp_reasons seated own3
-        ∙ (λ i. first_reason (stamp_reasons (record t3 { phase = phase i; declared = declared i; prewritten = blank i ++ x ∷ [] })))
-        ∙ (λ i. first_reason ((42, false || not ((cell_itself x i || false) && true)) ∷ [])))
+        ap (cond (is_out s3) (Some OutOfTimestamps)) (allowed_own s3 seat a t3 unstamped_reasons seated own3
+        ∙ (λ i. first_reason (unstamped_reasons (record t3 { phase = phase i; declared = declared i; prewritten = blank i ++ x ∷ [] })))
+        ∙ (λ i. first_reason ((WrongPhase, false || not ((cell_itself x i || false) && true)) ∷ [])))
 
-    pub commit_refused : refusal s4 seat (CommitPrimary (ts a)) ≡ None
+    pub commit_refused : step_reason s4 seat (CommitPrimary (ts a)) ≡ None
     commit_refused = allowed_own s4 seat a t4 commit_reasons seated own4

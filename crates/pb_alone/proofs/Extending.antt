@@ -4,10 +4,10 @@ use Rattle.std.specs.FinMap as map
 use Rattle.std.specs.Ordering.{nat_cmp, eq_by_cmp}
 use Rattle.std.specs.Cmp.{unsigned_tied, nat_cmp_total}
 use Rattle.std.proofs.lemmas.Bool.{eqb-true, eq-eqb}
-use Rattle.pb_state.specs.declared.transaction.Phase.TheVariants as phases
-use Rattle.pb_state.specs.State.{StateOf, TransactionOf, Transactions}
-use Rattle.pb_core.specs.declared.entry.Entry.{Entry}
-use Rattle.pb_core.specs.History.{Member, InHistory, IsCommitted, TellsHistory}
+use Rattle.pb_steps.specs.declared.phase.Phase.TheVariants as phases
+use Rattle.pb_steps.specs.State.{StateOf, TransactionOf, Transactions}
+use Rattle.pb_history.specs.declared.entry.Entry.{Entry}
+use Rattle.pb_history.specs.History.{Member, InHistory, IsCommitted, TellsHistory}
 use Rattle.pb_alone.specs.Alone.{ts}
 use Rattle.pb_alone.specs.Visits.{Extends}
 

@@ -10,24 +10,25 @@ use Rattle.pb_base.specs.declared.cell.Cell.{Cell}
 use Rattle.pb_base.specs.declared.content.Content.{Content}
 use Rattle.pb_base.specs.Cell.{cell_cmp, cell_cmp_total, cell_cmp-IsAntisymmetric}
 use Rattle.pb_base.specs.Batch.{Writes, content_in, are_distinct}
-use Rattle.pb_state.specs.declared.step.Declared.{Declared}
-use Rattle.pb_state.specs.declared.step.Step.{Step}
-use Rattle.pb_state.specs.declared.step.Step.TheVariants as steps
-use Rattle.pb_state.specs.declared.step.Answer.{Answer}
-use Rattle.pb_state.specs.declared.step.Answer.TheVariants as answers
-use Rattle.pb_state.specs.declared.transaction.Phase.{Phase}
-use Rattle.pb_state.specs.declared.transaction.Phase.TheVariants as phases
-use Rattle.pb_state.specs.State.{StateOf, TransactionOf, ObserverOf, phase_in, cells_of, batch_in, acknowledgment}
+use Rattle.pb_steps.specs.declared.step.Declared.{Declared}
+use Rattle.pb_steps.specs.declared.step.Step.{Step}
+use Rattle.pb_steps.specs.declared.step.Step.TheVariants as steps
+use Rattle.pb_steps.specs.declared.step.Answer.{Answer}
+use Rattle.pb_steps.specs.declared.step.Answer.TheVariants as answers
+use Rattle.pb_steps.specs.declared.phase.Phase.{Phase}
+use Rattle.pb_steps.specs.declared.phase.Phase.TheVariants as phases
+use Rattle.pb_steps.specs.State.{StateOf, TransactionOf, phase_in, cells_of, batch_in}
+use Rattle.pb_steps.specs.Observers.{ObserverOf, acknowledgment}
 use Rattle.pb_base.specs.declared.names.Row.{Row}
 use Rattle.pb_base.specs.declared.cell.Cell.TheVariants.{Data, Ack}
 use Rattle.pb_vm.specs.Finished.{Meant, is_plain, is_empty}
-use Rattle.pb_state.specs.declared.step.Work.{Work}
-use Rattle.pb_state.specs.declared.step.Work.TheVariants as works
-use Rattle.pb_state.specs.declared.step.Declared.TheVariants as declared
-use Rattle.pb_state.specs.Known.{IsKnown, IsKnownIn}
-use Rattle.pb_core.specs.Legal.{AreKnown}
-use Rattle.pb_core.specs.declared.entry.Entry.{Entry}
-use Rattle.pb_core.specs.History.{Has, Member, TellsHistory}
+use Rattle.pb_steps.specs.declared.step.Work.{Work}
+use Rattle.pb_steps.specs.declared.step.Work.TheVariants as works
+use Rattle.pb_steps.specs.declared.step.Declared.TheVariants as declared
+use Rattle.pb_steps.specs.Declarations.{IsKnown}
+use Rattle.pb_steps.specs.Declarations.{IsKnown}
+use Rattle.pb_history.specs.declared.entry.Entry.{Entry}
+use Rattle.pb_history.specs.History.{Has, Member, TellsHistory}
 use Rattle.pb_texts.specs.declared.report.newest.Put.{Put}
 use Rattle.pb_alone.specs.Committed.{IsWrite, Gathers}
 use Rattle.pb_alone.specs.Puts.{put_by, if_committed, writes_by, puts_by, IfCommitted, AreTold, all_puts, AllTold}
@@ -129,11 +130,6 @@ distinct_content (v ∷ ws) d w (inr h) =
 phase_there : (state : StateOf) (start : ℕ) (t : TransactionOf) (c : Ts) → finmap.get state.transactions start ≡ Some t → phase_in state start ≡ Some (phases.Committed c) → t.phase ≡ phases.Committed c
 phase_there state start t c there p = let q : Some t.phase ≡ Some (phases.Committed c) = ap (option_map (λ (u : TransactionOf). u.phase)) (sym there) ∙ p in cc
 
-known_of : (journal : List Entry) (e : Entry) → AreKnown journal → Has journal e → IsKnownIn e.step
-known_of [] e k h = absurd h
-known_of (d ∷ es) e k (inl q) = subst (λ (z : Entry). IsKnownIn z.step) q k.0
-known_of (d ∷ es) e k (inr h) = known_of es e k.1 h
-
 no_writes : (f : Meant) → is_plain f ≡ true → f.writes ≡ []
 no_writes f e = none_of f.writes (both (is_empty f.talk) (is_empty f.writes) e).1
   where
@@ -153,7 +149,7 @@ in_batch observers (works.Run p r) s (declared.Run o f) row column k known (inl 
     apart p r n row column e = cc
 in_batch observers (works.Run p r) s (declared.Run o f) row column k known (inr h) = absurd (subst (λ ws. Has ws (Data row column, k)) (no_writes f known.1) h)
 
-module _ (journal : List Entry) (state : StateOf) (known : AreKnown journal) (tells : TellsHistory journal state) where
+module _ (journal : List Entry) (state : StateOf) (tells : TellsHistory journal state) where
   write_of : (seat : ℕ) (start : Ts) (what : Declared) (c : Ts) (w : Cell × Content) → Has journal (record { seat = seat; step = steps.Declare start what; answer = answers.Done }) → phase_in state start.0 ≡ Some (phases.Committed c)
       → are_distinct (batch_in what) ≡ true → Has (batch_in what) w → IsWrite state.observers journal w.0 c.0 w.1
   write_of seat start (declared.Run o f) c w entry phase distinct has = absurd has
@@ -196,7 +192,7 @@ module _ (journal : List Entry) (state : StateOf) (known : AreKnown journal) (te
       let i = h.in_history in
       let phase : phase_in state h.m.start ≡ Some (phases.Committed (record { 0 = commit })) = ap (option_map (λ (u : TransactionOf). u.phase)) c.there ∙ ap Some c.phase ∙ ap (λ n. Some (phases.Committed (record { 0 = n }))) h.commit_is in
       let all : Has (cells_of state.observers h.m.work h.m.start i.what) (x, content) = subst (λ ws. Has ws (x, content)) i.writes_are (content_has h.m.writes x content h.writes) in
-      let has : Has (batch_in i.what) (x, content) = in_batch state.observers h.m.work h.m.start i.what row column content (known_of journal _ known i.declared) all in
+      let has : Has (batch_in i.what) (x, content) = in_batch state.observers h.m.work h.m.start i.what row column content (tells.declared h.m.seat h.m.start i.what i.declared).known all in
       in_block (puts_by state) journal (record { seat = h.m.seat; step = steps.Declare (record { 0 = h.m.start }) i.what; answer = answers.Done }) _ i.declared
       (subst (λ o. Has (if_committed o (batch_in i.what)) (record { cell = x; commit = record { 0 = commit }; content = content })) (sym phase) (has_map (put_by (record { 0 = commit })) (batch_in i.what) (x, content) has))
 

@@ -2,14 +2,16 @@
 use Rattle.std.proofs.Common.{◌≡◌, ℕ, ◌⊎◌, inl, inr, Bool, true, false, List, [], ◌∷◌, ◌++◌, length, map, Some, None, refl, sym, ap, subst, ◌∙◌}
 use Rattle.std.specs.Prelude.{◌==◌}
 use Rattle.std.proofs.lemmas.Bool.{eqb-true}
-use Rattle.pb_base.specs.declared.refusal.Refusal.{Refusal}
-use Rattle.pb_state.specs.declared.step.Step.{Step}
-use Rattle.pb_state.specs.declared.step.Answer.{Answer}
-use Rattle.pb_state.specs.State.{StateOf}
-use Rattle.pb_state.specs.Refusal.{is_out, refusal, first_reason}
-use Rattle.pb_state.specs.Machine.{Case}
-use Rattle.pb_core.specs.declared.entry.Received.{Received}
-use Rattle.pb_core.specs.Calls.{SharedOf, SeatOf, Calls, lowest, refusal_in}
+use Rattle.pb_base.specs.declared.refusal.Reason.{Reason}
+use Rattle.pb_base.specs.declared.refusal.Reason.TheVariants.{OutOfTimestamps, JournalFull}
+use Rattle.pb_base.specs.Reasons.{reason_code}
+use Rattle.pb_steps.specs.declared.step.Step.{Step}
+use Rattle.pb_steps.specs.declared.step.Answer.{Answer}
+use Rattle.pb_steps.specs.State.{StateOf}
+use Rattle.pb_steps.specs.Reasons.{is_out, first_reason}
+use Rattle.pb_steps.specs.Steps.{step_reason, StepCase}
+use Rattle.pb_history.specs.declared.entry.Received.{Received}
+use Rattle.pb_core.specs.Calls.{SharedOf, SeatOf, Calls, or_full, call_reason}
 use Rattle.pb_alone.specs.declared.fault.RunFault.{RunFault}
 use Rattle.pb_alone.specs.declared.fault.RunFault.TheVariants as faults
 use Rattle.pb_alone.specs.Alone.{Goes, entry}
@@ -55,9 +57,9 @@ module _ (s0 : SharedOf) (q0 : SeatOf) (s : SharedOf) (q : SeatOf) (state : Stat
   }
 
   pub next : (step : Step) (answer : Answer) (s' : SharedOf) (q' : SeatOf) (a : Answer) (state' : StateOf) → Calls s q step answer s' q'
-      → (Case state q0.number step answer s'.state → (answer ≡ a) × (s'.state ≡ state')) → AtStage s0 q0 s' q' state' (more ++ record { step = step; answer = a } ∷ [])
+      → (StepCase state q0.number step answer s'.state → (answer ≡ a) × (s'.state ≡ state')) → AtStage s0 q0 s' q' state' (more ++ record { step = step; answer = a } ∷ [])
   next step answer s' q' a state' c only =
-      let taken : Case state q0.number step answer s'.state = subst (λ n. Case state n step answer s'.state) at.number (subst (λ z. Case z q.number step answer s'.state) at.state_is c.machine.taken) in
+      let taken : StepCase state q0.number step answer s'.state = subst (λ n. StepCase state n step answer s'.state) at.number (subst (λ z. StepCase z q.number step answer s'.state) at.state_is c.machine.taken) in
       let o = only taken in
       record {
         state_is = o.1;
@@ -74,32 +76,32 @@ module _ (s0 : SharedOf) (q0 : SeatOf) (s : SharedOf) (q : SeatOf) (state : Stat
 
   -- ---- why a call was refused
 
-  refused_here : (step : Step) (n : ℕ) → refusal_in s q.number step ≡ Some (record { 0 = n }) → lowest (refusal state q0.number step) (length s.journal == s.limit) ≡ Some (record { 0 = n })
-  refused_here step n e = subst (λ k. lowest (refusal state k step) (length s.journal == s.limit) ≡ Some (record { 0 = n })) at.number (subst (λ z. lowest (refusal z q.number step) (length s.journal == s.limit) ≡ Some (record { 0 = n })) at.state_is e)
+  refused_here : (step : Step) (why : Reason) → call_reason s q.number step ≡ Some why → or_full (step_reason state q0.number step) (length s.journal == s.limit) ≡ Some why
+  refused_here step why e = subst (λ k. or_full (step_reason state k step) (length s.journal == s.limit) ≡ Some why) at.number (subst (λ z. or_full (step_reason z q.number step) (length s.journal == s.limit) ≡ Some why) at.state_is e)
 
-  full_is : (full : Bool) (n : ℕ) → lowest None full ≡ Some (record { 0 = n }) → (n ≡ 44) × (full ≡ true)
-  full_is true n e = let r : record { 0 = 44 } ≡ record { 0 = n } = cc in (sym (ap (λ (z : Refusal). z.0) r), refl)
-  full_is false n e = cc
+  full_is : (full : Bool) (why : Reason) → or_full None full ≡ Some why → (why ≡ JournalFull) × (full ≡ true)
+  full_is true why e = (cc, refl)
+  full_is false why e = cc
 
-  out_or_full : (out full : Bool) (n : ℕ) → lowest (first_reason ((40, out) ∷ [])) full ≡ Some (record { 0 = n }) → ((n ≡ 40) × (out ≡ true)) ⊎ ((n ≡ 44) × (full ≡ true))
-  out_or_full true true n e = let r : record { 0 = 40 } ≡ record { 0 = n } = cc in inl (sym (ap (λ (z : Refusal). z.0) r), refl)
-  out_or_full true false n e = let r : record { 0 = 40 } ≡ record { 0 = n } = cc in inl (sym (ap (λ (z : Refusal). z.0) r), refl)
-  out_or_full false full n e = inr (full_is full n e)
+  out_or_full : (out full : Bool) (why : Reason) → or_full (first_reason ((OutOfTimestamps, out) ∷ [])) full ≡ Some why → ((why ≡ OutOfTimestamps) × (out ≡ true)) ⊎ ((why ≡ JournalFull) × (full ≡ true))
+  out_or_full true true why e = inl (cc, refl)
+  out_or_full true false why e = inl (cc, refl)
+  out_or_full false full why e = inr (full_is full why e)
 
-  pub end_if_none : (step : Step) (f : RunFault) → refusal state q0.number step ≡ None → IsRefusedBy s q.number step f → IsEnd s f
+  pub end_if_none : (step : Step) (f : RunFault) → step_reason state q0.number step ≡ None → IsRefusedBy s q.number step f → IsEnd s f
   end_if_none step (faults.Refused n) none e =
-      let p = full_is (length s.journal == s.limit) n (ap (λ r. lowest r (length s.journal == s.limit)) (sym none) ∙ refused_here step n e) in
-      inr (p.0, eqb-true _ _ p.1)
+      let p = full_is (length s.journal == s.limit) e.0 (ap (λ r. or_full r (length s.journal == s.limit)) (sym none) ∙ refused_here step e.0 e.1) in
+      inr (e.2 ∙ ap reason_code p.0, eqb-true _ _ p.1)
   end_if_none step faults.NoMemory none e = tt
   end_if_none step (faults.Manifest m) none e = e
   end_if_none step (faults.Script m) none e = e
   end_if_none step faults.Output none e = e
 
-  pub end_if_out : (step : Step) (f : RunFault) → refusal state q0.number step ≡ first_reason ((40, is_out state) ∷ []) → IsRefusedBy s q.number step f → IsEnd s f
+  pub end_if_out : (step : Step) (f : RunFault) → step_reason state q0.number step ≡ first_reason ((OutOfTimestamps, is_out state) ∷ []) → IsRefusedBy s q.number step f → IsEnd s f
   end_if_out step (faults.Refused n) why e =
-      elim (out_or_full (is_out state) (length s.journal == s.limit) n (ap (λ r. lowest r (length s.journal == s.limit)) (sym why) ∙ refused_here step n e)) [
-        | inl p ↦ inl (p.0, ap (λ (z : StateOf). z.clock) at.state_is ∙ eqb-true _ _ p.1)
-        | inr p ↦ inr (p.0, eqb-true _ _ p.1)
+      elim (out_or_full (is_out state) (length s.journal == s.limit) e.0 (ap (λ r. or_full r (length s.journal == s.limit)) (sym why) ∙ refused_here step e.0 e.1)) [
+        | inl p ↦ inl (e.2 ∙ ap reason_code p.0, ap (λ (z : StateOf). z.clock) at.state_is ∙ eqb-true _ _ p.1)
+        | inr p ↦ inr (e.2 ∙ ap reason_code p.0, eqb-true _ _ p.1)
       ]
   end_if_out step faults.NoMemory why e = tt
   end_if_out step (faults.Manifest m) why e = e

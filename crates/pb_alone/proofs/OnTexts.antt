@@ -1,6 +1,6 @@
 -- A run on a fresh table is one of the texts.
 use Rattle.std.proofs.Common.{◌≡◌, ℕ, Bool, List, Option, Result, Ok, Err, subst}
-use Rattle.pb_state.specs.State.{ObserverOf}
+use Rattle.pb_steps.specs.Observers.{ObserverOf}
 use Rattle.pb_core.specs.Calls.{SharedOf}
 use Rattle.pb_alone.specs.declared.fault.RunFault.{RunFault}
 use Rattle.pb_alone.specs.declared.fault.RunFault.TheVariants as faults

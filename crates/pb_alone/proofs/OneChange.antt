@@ -12,8 +12,9 @@ use Rattle.pb_store.specs.declared.slot.Sort.{Sort}
 use Rattle.pb_store.specs.declared.slot.Sort.TheVariants as sorts
 use Rattle.pb_store.specs.Slot.{slot_cmp, slot_cmp_total, slot_cmp-IsAntisymmetric}
 use Rattle.pb_store.specs.Contents.{Entries, slot_at}
-use Rattle.pb_state.specs.State.{lock_at, write_at, primary_of, start_of}
-use Rattle.pb_state.specs.Machine.{put_lock, commit_lock}
+use Rattle.pb_steps.specs.Readings.{lock_at, write_at, primary_of, start_of}
+use Rattle.pb_steps.specs.Prewrite.{put_lock}
+use Rattle.pb_steps.specs.CommitPrimary.{commit_lock}
 
 -- ---- slots
 

@@ -4,12 +4,12 @@ use Rattle.std.specs.List.{flat_map}
 use Rattle.pb_base.specs.declared.names.Row.{Row}
 use Rattle.pb_base.specs.declared.cell.Cell.{Cell}
 use Rattle.pb_base.specs.Cell.{row_of, column_of}
-use Rattle.pb_state.specs.declared.step.Work.TheVariants as works
-use Rattle.pb_state.specs.State.{ObserverOf}
-use Rattle.pb_core.specs.declared.entry.Entry.{Entry}
-use Rattle.pb_core.specs.declared.entry.Received.{Received}
+use Rattle.pb_steps.specs.declared.step.Work.TheVariants as works
+use Rattle.pb_steps.specs.Observers.{ObserverOf}
+use Rattle.pb_history.specs.declared.entry.Entry.{Entry}
+use Rattle.pb_history.specs.declared.entry.Received.{Received}
 use Rattle.pb_core.specs.Calls.{SharedOf, SeatOf}
-use Rattle.pb_core.specs.History.{Has, Member, RiseFrom}
+use Rattle.pb_history.specs.History.{Has, Member, RiseFrom}
 use Rattle.pb_alone.specs.Alone.{IsClean, Goes, entry}
 use Rattle.pb_alone.specs.Visits.{Extends, IsCleanAt, Visits}
 use Rattle.pb_alone.specs.Rounds.{AreDone, RiseBetween, Rounds, AllBelow}

@@ -7,18 +7,21 @@ use Rattle.pb_base.specs.declared.content.Content.TheVariants as contents
 use Rattle.pb_base.specs.declared.content.Version.{Version}
 use Rattle.pb_vm.specs.Finished.{Meant}
 use Rattle.pb_vm.specs.Record.{record_of}
-use Rattle.pb_state.specs.declared.step.Work.TheVariants as works
-use Rattle.pb_state.specs.declared.step.Declared.TheVariants as declared
-use Rattle.pb_state.specs.declared.step.Step.{Step}
-use Rattle.pb_state.specs.declared.step.Step.TheVariants.{Begin, Read, Declare, Prewrite, Stamp, CommitPrimary}
-use Rattle.pb_state.specs.declared.step.Answer.{Answer}
-use Rattle.pb_state.specs.declared.step.Answer.TheVariants.{At, Found, Done, Committed}
-use Rattle.pb_state.specs.declared.transaction.Phase.TheVariants as phases
-use Rattle.pb_state.specs.State.{StateOf, TransactionOf, ObserverOf, observed, acknowledgment, write_at}
-use Rattle.pb_state.specs.Refusal.{own, refusal}
-use Rattle.pb_state.specs.Declarations.{acknowledged_in, plain_run}
-use Rattle.pb_state.specs.Machine.{Case}
-use Rattle.pb_core.specs.declared.entry.Received.{Received}
+use Rattle.pb_steps.specs.declared.step.Work.TheVariants as works
+use Rattle.pb_steps.specs.declared.step.Declared.TheVariants as declared
+use Rattle.pb_steps.specs.declared.step.Step.{Step}
+use Rattle.pb_steps.specs.declared.step.Step.TheVariants.{Begin, Read, Declare, Prewrite, Stamp, CommitPrimary}
+use Rattle.pb_steps.specs.declared.step.Answer.{Answer}
+use Rattle.pb_steps.specs.declared.step.Answer.TheVariants.{At, Found, Done, Committed}
+use Rattle.pb_steps.specs.declared.phase.Phase.TheVariants as phases
+use Rattle.pb_steps.specs.State.{StateOf, TransactionOf}
+use Rattle.pb_steps.specs.Observers.{ObserverOf, observed_cell, acknowledgment}
+use Rattle.pb_steps.specs.Readings.{write_at}
+use Rattle.pb_steps.specs.Reasons.{IsOwn}
+use Rattle.pb_steps.specs.Steps.{step_reason, StepCase}
+use Rattle.pb_steps.specs.Reads.{found_answer, acknowledged_in}
+use Rattle.pb_steps.specs.Declarations.{plain_run}
+use Rattle.pb_history.specs.declared.entry.Received.{Received}
 use Rattle.pb_core.specs.Calls.{SharedOf, SeatOf, Calls}
 use Rattle.pb_alone.specs.declared.fault.RunFault.{RunFault}
 use Rattle.pb_alone.specs.Alone.{IsClean, Goes, ts}
@@ -32,7 +35,7 @@ abbrev pub told : Step → Answer → Received
 told step answer = record { step = step; answer = answer }
 
 module _ (s0 : SharedOf) (q0 : SeatOf) (o : ℕ) (row : Row) (ob : ObserverOf) (there : slice_get s0.state.observers o ≡ Some ob)
-    (x ack : Cell) (x_is : x ≡ observed s0.state.observers o row) (ack_is : ack ≡ acknowledgment s0.state.observers o row) (clean : IsClean s0.state) (seated : q0.number < s0.state.seats) where
+    (x ack : Cell) (x_is : x ≡ observed_cell s0.state.observers o row) (ack_is : ack ≡ acknowledgment s0.state.observers o row) (clean : IsClean s0.state) (seated : q0.number < s0.state.seats) where
   abbrev pub seat : ℕ
   seat = q0.number
 
@@ -91,8 +94,8 @@ module _ (s0 : SharedOf) (q0 : SeatOf) (o : ℕ) (row : Row) (ob : ObserverOf) (
         at2 = next s0 q0 s1 q1 z1 e1 at1 (Read (ts a) x) b1 s2 q2 b1 z2 calls2
             (λ m. (refl, (stages.reads z1 seat a (stages.t1 z seat o row ob there x ack x_is ack_is) x (stages.own1 z seat o row ob there x ack x_is ack_is) clean.unlocked b1 s2.state m).1))
 
-        case2 : Case z1 seat (Read (ts a) x) b1 s2.state
-        case2 = subst (λ n. Case z1 n (Read (ts a) x) b1 s2.state) at1.number (subst (λ y. Case y q1.number (Read (ts a) x) b1 s2.state) at1.state_is calls2.machine.taken)
+        case2 : StepCase z1 seat (Read (ts a) x) b1 s2.state
+        case2 = subst (λ n. StepCase z1 n (Read (ts a) x) b1 s2.state) at1.number (subst (λ y. StepCase y q1.number (Read (ts a) x) b1 s2.state) at1.state_is calls2.machine.taken)
 
         pub seen1 : IsSeen b1
         seen1 = (stages.reads z1 seat a (stages.t1 z seat o row ob there x ack x_is ack_is) x (stages.own1 z seat o row ob there x ack x_is ack_is) clean.unlocked b1 s2.state case2).0
@@ -117,7 +120,7 @@ module _ (s0 : SharedOf) (q0 : SeatOf) (o : ℕ) (row : Row) (ob : ObserverOf) (
           pub goes3 : Goes s0 q0 s3 q3
           goes3 = goes s0 q0 s3 q3 z3 e3 at3 refl
 
-          module _ (v : Version) (saw : b1 ≡ Found v) (newer : (acknowledged_in b2).0 < v.commit.0) (f : Meant) (run : f ≡ plain_run ob.program (record_of x v (acknowledged_in b2).0) start.0 f.result) where
+          module _ (v : Version) (saw : b1 ≡ found_answer v) (newer : (acknowledged_in b2).0 < v.commit.0) (f : Meant) (run : f ≡ plain_run ob.program (record_of x v (acknowledged_in b2).0) start.0 f.result) where
             abbrev pub t7-is : TransactionOf
             t7-is = record (stages.t4 z seat o row ob there x ack x_is ack_is b1 b2 f) { prewritten = [] ++ ack ∷ []; phase = phases.Committed (ts (a + 1)) }
 
@@ -127,11 +130,11 @@ module _ (s0 : SharedOf) (q0 : SeatOf) (o : ℕ) (row : Row) (ob : ObserverOf) (
             abbrev pub declare : Step
             declare = Declare (ts a) (declared.Run o f)
 
-            not_refused : refusal (stages.s3 z seat o row ob there x ack x_is ack_is (Found v) b2) seat declare ≡ None
+            not_refused : step_reason (stages.s3 z seat o row ob there x ack x_is ack_is (found_answer v) b2) seat declare ≡ None
             not_refused = stages.declare_refused z seat o row ob there x ack x_is ack_is seated v b2 f newer run_is
 
             pub end3 : (g : RunFault) → IsRefusedBy s3 q3.number (Declare start (declared.Run o f)) g → IsEnd s3 g
-            end3 g h = end_if_none s0 q0 s3 q3 z3 e3 at3 declare g (subst (λ b. refusal (stages.s3 z seat o row ob there x ack x_is ack_is b b2) seat declare ≡ None) (sym saw) not_refused) (subst (λ n. IsRefusedBy s3 q3.number (Declare n (declared.Run o f)) g) start_is h)
+            end3 g h = end_if_none s0 q0 s3 q3 z3 e3 at3 declare g (subst (λ b. step_reason (stages.s3 z seat o row ob there x ack x_is ack_is b b2) seat declare ≡ None) (sym saw) not_refused) (subst (λ n. IsRefusedBy s3 q3.number (Declare n (declared.Run o f)) g) start_is h)
 
             module _ (ans4 : Answer) (s4 : SharedOf) (q4 : SeatOf) (c4 : Calls s3 q3 (Declare start (declared.Run o f)) ans4 s4 q4) where
               abbrev pub z4 : StateOf
@@ -149,7 +152,7 @@ module _ (s0 : SharedOf) (q0 : SeatOf) (o : ℕ) (row : Row) (ob : ObserverOf) (
               pub goes4 : Goes s0 q0 s4 q4
               goes4 = goes s0 q0 s4 q4 z4 e4 at4 refl
 
-              pub own4 : own z4 seat a ≡ Some t4
+              pub own4 : IsOwn z4 seat a t4
               own4 = stages.own4 z seat o row ob there x ack x_is ack_is b1 b2 f
 
               pub alone : t4.declared ≡ (ack, contents.Stamp (ts a)) ∷ []

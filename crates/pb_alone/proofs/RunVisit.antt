@@ -9,18 +9,20 @@ use Rattle.pb_base.specs.declared.content.Version.{Version}
 use Rattle.pb_vm.specs.Accepted.{AcceptedOf}
 use Rattle.pb_vm.specs.Finished.{Meant}
 use Rattle.pb_vm.specs.Record.{record_of}
-use Rattle.pb_state.specs.declared.step.Work.TheVariants as works
-use Rattle.pb_state.specs.declared.step.Declared.{Declared}
-use Rattle.pb_state.specs.declared.step.Declared.TheVariants as declared
-use Rattle.pb_state.specs.declared.step.Step.{Step}
-use Rattle.pb_state.specs.declared.step.Step.TheVariants.{Begin, Read, Declare, Prewrite, Stamp, CommitPrimary}
-use Rattle.pb_state.specs.declared.step.Answer.{Answer}
-use Rattle.pb_state.specs.declared.step.Answer.TheVariants.{At, Locked, Found, Absent, Done, Conflict, Committed, Lost}
-use Rattle.pb_state.specs.State.{StateOf, observed, acknowledgment, column_in, column_of}
-use Rattle.pb_state.specs.Declarations.{acknowledged_in, plain_run}
-use Rattle.pb_core.specs.declared.entry.Received.{Received}
+use Rattle.pb_steps.specs.declared.step.Work.TheVariants as works
+use Rattle.pb_steps.specs.declared.step.Declared.{Declared}
+use Rattle.pb_steps.specs.declared.step.Declared.TheVariants as declared
+use Rattle.pb_steps.specs.declared.step.Step.{Step}
+use Rattle.pb_steps.specs.declared.step.Step.TheVariants.{Begin, Read, Declare, Prewrite, Stamp, CommitPrimary}
+use Rattle.pb_steps.specs.declared.step.Answer.{Answer}
+use Rattle.pb_steps.specs.declared.step.Answer.TheVariants.{At, Locked, Found, Absent, Done, Conflict, Committed, Lost}
+use Rattle.pb_steps.specs.State.{StateOf}
+use Rattle.pb_steps.specs.Observers.{observed_cell, acknowledgment, column_or_zero, observed_column}
+use Rattle.pb_steps.specs.Reads.{found_answer, acknowledged_in}
+use Rattle.pb_steps.specs.Declarations.{plain_run}
+use Rattle.pb_history.specs.declared.entry.Received.{Received}
 use Rattle.pb_core.specs.Calls.{SharedOf, SeatOf, Calls}
-use Rattle.pb_core.specs.History.{Has, IsEntry, TellsHistory}
+use Rattle.pb_history.specs.History.{Has, IsEntry, TellsHistory}
 use Rattle.pb_alone.specs.declared.fault.RunFault.{RunFault}
 use Rattle.pb_alone.specs.Alone.{IsClean, Goes, ts, entry}
 use Rattle.pb_alone.specs.Faults.{IsRefusedBy, IsEnd}
@@ -42,10 +44,10 @@ module _ (s0 : SharedOf) (q0 : SeatOf) (o : ℕ) (row : Row) (program : Accepted
   abbrev pub k : Cell
   k = Ack o row column
 
-  pub column-is : column ≡ column_of s0.state.observers o
-  column-is = sym io.column_is ∙ ap column_in (sym io.there)
+  pub column-is : column ≡ observed_column s0.state.observers o
+  column-is = sym io.column_is ∙ ap column_or_zero (sym io.there)
 
-  pub x_is : x ≡ observed s0.state.observers o row
+  pub x_is : x ≡ observed_cell s0.state.observers o row
   x_is i = Data row (column-is i)
 
   pub k_is : k ≡ acknowledgment s0.state.observers o row
@@ -72,8 +74,8 @@ module _ (s0 : SharedOf) (q0 : SeatOf) (o : ℕ) (row : Row) (program : Accepted
       at2 : AtStage s0 q0 s2 q2 (upto.z2 s0 q0 o row io.observer io.there x k x_is k_is clean seated ans1 s1 q1 c1 start is b1 s2 q2 c2) (upto.e2 s0 q0 o row io.observer io.there x k x_is k_is clean seated ans1 s1 q1 c1 start is b1 s2 q2 c2)
       at2 = upto.at2 s0 q0 o row io.observer io.there x k x_is k_is clean seated ans1 s1 q1 c1 start is b1 s2 q2 c2
 
-      not_found : (b : Answer) → IsSeen b → ((v : Version) → b ≡ Found v → ⊥) → b ≡ Absent
-      not_found (Found v) s h = absurd (h v refl)
+      not_found : (b : Answer) → IsSeen b → ((v : Version) → b ≡ found_answer v → ⊥) → b ≡ Absent
+      not_found (Found u c k) s h = absurd (h (record { start = u; commit = c; content = k }) refl)
       not_found Absent s h = refl
       not_found (At t) s h = absurd s
       not_found (Locked t p) s h = absurd s
@@ -83,7 +85,7 @@ module _ (s0 : SharedOf) (q0 : SeatOf) (o : ℕ) (row : Row) (program : Accepted
       not_found Lost s h = absurd s
 
       -- the cell was absent
-      pub absent : ((v : Version) → b1 ≡ Found v → ⊥) → TellsHistory s0.journal s0.state → TellsHistory s2.journal s2.state → Visits s0 q0.number o row s2
+      pub absent : ((v : Version) → b1 ≡ found_answer v → ⊥) → TellsHistory s0.journal s0.state → TellsHistory s2.journal s2.state → Visits s0 q0.number o row s2
       absent none was now =
           let z = at2.state_is in
           let ts0 = s0.state.transactions in
@@ -96,7 +98,7 @@ module _ (s0 : SharedOf) (q0 : SeatOf) (o : ℕ) (row : Row) (program : Accepted
               at = record {
                 start = a;
                 seen = b1;
-                read = subst (λ os. IsEntry s2.journal q0.number (Read (ts a) (observed os o row)) b1) (sym (ap (λ (w : StateOf). w.observers) z)) (subst (λ y. IsEntry s2.journal q0.number (Read (ts a) y) b1) x_is (entry_of s2 q2 _ _ at2 (Read (ts a) x) b1 (inr (inl refl))));
+                read = subst (λ os. IsEntry s2.journal q0.number (Read (ts a) (observed_cell os o row)) b1) (sym (ap (λ (w : StateOf). w.observers) z)) (subst (λ y. IsEntry s2.journal q0.number (Read (ts a) y) b1) x_is (entry_of s2 q2 _ _ at2 (Read (ts a) x) b1 (inr (inl refl))));
                 why = inl (not_found b1 (upto.seen1 s0 q0 o row io.observer io.there x k x_is k_is clean seated ans1 s1 q1 c1 start is b1 s2 q2 c2) none);
               };
               history = extends_none s0.state s2.state s0.journal s2.journal was now (ap (λ (w : StateOf). w.observers) z) a (omega arith) u
@@ -114,7 +116,7 @@ module _ (s0 : SharedOf) (q0 : SeatOf) (o : ℕ) (row : Row) (program : Accepted
         at3 = upto.at3 s0 q0 o row io.observer io.there x k x_is k_is clean seated ans1 s1 q1 c1 start is b1 s2 q2 c2 b2 s3 q3 c3
 
         -- the cell is no newer than its acknowledgment
-        pub older : (v : Version) → b1 ≡ Found v → v.commit.0 ≤ (acknowledged_in b2).0 → TellsHistory s0.journal s0.state → TellsHistory s3.journal s3.state → Visits s0 q0.number o row s3
+        pub older : (v : Version) → b1 ≡ found_answer v → v.commit.0 ≤ (acknowledged_in b2).0 → TellsHistory s0.journal s0.state → TellsHistory s3.journal s3.state → Visits s0 q0.number o row s3
         older v saw old was now =
             let z = at3.state_is in
             let ts0 = s0.state.transactions in
@@ -128,7 +130,7 @@ module _ (s0 : SharedOf) (q0 : SeatOf) (o : ℕ) (row : Row) (program : Accepted
                 at = record {
                   start = a;
                   seen = b1;
-                  read = subst (λ os. IsEntry s3.journal q0.number (Read (ts a) (observed os o row)) b1) (sym os-is) (subst (λ y. IsEntry s3.journal q0.number (Read (ts a) y) b1) x_is (entry_of s3 q3 _ _ at3 (Read (ts a) x) b1 (inr (inl refl))));
+                  read = subst (λ os. IsEntry s3.journal q0.number (Read (ts a) (observed_cell os o row)) b1) (sym os-is) (subst (λ y. IsEntry s3.journal q0.number (Read (ts a) y) b1) x_is (entry_of s3 q3 _ _ at3 (Read (ts a) x) b1 (inr (inl refl))));
                   why = inr (v, b2, saw, subst (λ os. IsEntry s3.journal q0.number (Read (ts a) (acknowledgment os o row)) b2) (sym os-is) (subst (λ y. IsEntry s3.journal q0.number (Read (ts a) y) b2) k_is (entry_of s3 q3 _ _ at3 (Read (ts a) k) b2 (inr (inr (inl refl))))), old);
                 };
                 history = extends_none s0.state s3.state s0.journal s3.journal was now os-is a (omega arith) u
@@ -138,7 +140,7 @@ module _ (s0 : SharedOf) (q0 : SeatOf) (o : ℕ) (row : Row) (program : Accepted
               });
             }
 
-        module _ (v : Version) (saw : b1 ≡ Found v) (newer : (acknowledged_in b2).0 < v.commit.0) (f : Meant) (made : f ≡ plain_run program (record_of x v (acknowledged_in b2).0) start.0 f.result) where
+        module _ (v : Version) (saw : b1 ≡ found_answer v) (newer : (acknowledged_in b2).0 < v.commit.0) (f : Meant) (made : f ≡ plain_run program (record_of x v (acknowledged_in b2).0) start.0 f.result) where
           run : f ≡ plain_run io.observer.program (record_of x v (acknowledged_in b2).0) start.0 f.result
           run = made ∙ ap (λ p. plain_run p (record_of x v (acknowledged_in b2).0) start.0 f.result) (sym io.program_is)
 

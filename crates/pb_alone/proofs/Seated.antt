@@ -1,9 +1,9 @@
 -- All seats of a table are still all its seats after one of them made steps.
 use Rattle.std.proofs.Common.{◌≡◌, ◌≢◌, ℕ, ◌+◌, ◌<◌, List, [], ◌∷◌, ◌++◌, length, map, slice_set, refl, sym, ap, subst, ◌∙◌, arith, eq-eqb, ne_eqb}
 use Rattle.std.specs.Prelude.{slice_index_or}
-use Rattle.pb_core.specs.declared.entry.Entry.{Entry}
-use Rattle.pb_core.specs.declared.entry.Received.{Received}
-use Rattle.pb_core.specs.Places.{entries_of}
+use Rattle.pb_history.specs.declared.entry.Entry.{Entry}
+use Rattle.pb_history.specs.declared.entry.Received.{Received}
+use Rattle.pb_history.specs.Places.{entries_of}
 use Rattle.pb_core.specs.Calls.{SharedOf, SeatOf, AreSeatsFrom, AreSeats}
 use Rattle.pb_alone.specs.Alone.{entry, Goes}
 use Rattle.pb_alone.specs.Runs.{KeepsSeats}

@@ -11,15 +11,21 @@ use Rattle.pb_base.specs.declared.content.Content.{Content}
 use Rattle.pb_base.specs.declared.names.Ts.{Ts}
 use Rattle.pb_base.specs.Cell.{cell_cmp, cell_cmp_total}
 use Rattle.pb_base.specs.Batch.{Writes, content_in, primary_in}
-use Rattle.pb_state.specs.declared.step.Work.TheVariants as works
-use Rattle.pb_state.specs.declared.step.Declared.TheVariants as declared
-use Rattle.pb_state.specs.declared.step.Step.TheVariants.{Begin, Declare, Prewrite, Stamp, CommitPrimary}
-use Rattle.pb_state.specs.declared.step.Answer.{Answer}
-use Rattle.pb_state.specs.declared.step.Answer.TheVariants.{At, Done, Conflict, Committed, Lost}
-use Rattle.pb_state.specs.declared.transaction.Phase.TheVariants as phases
-use Rattle.pb_state.specs.State.{StateOf, Transactions, TransactionOf, begun, lock_at, write_at}
-use Rattle.pb_state.specs.Refusal.{own, of_seat, is_out, is_foreign, refusal, first_reason, reasons_of_own, declare_reasons, prewrite_reasons, stamp_reasons, commit_reasons}
-use Rattle.pb_state.specs.Machine.{Case, with_transaction, put_lock, commit_lock}
+use Rattle.pb_base.specs.declared.refusal.Reason.TheVariants.{OutOfTimestamps, NotOfSeat, WrongPhase, NotDeclared, AlreadyPrewritten}
+use Rattle.pb_steps.specs.declared.step.Work.TheVariants as works
+use Rattle.pb_steps.specs.declared.step.Declared.TheVariants as declared
+use Rattle.pb_steps.specs.declared.step.Step.TheVariants.{Begin, Declare, Prewrite, Stamp, CommitPrimary}
+use Rattle.pb_steps.specs.declared.step.Answer.{Answer}
+use Rattle.pb_steps.specs.declared.step.Answer.TheVariants.{At, Done, Conflict, Committed, Lost}
+use Rattle.pb_steps.specs.declared.phase.Phase.TheVariants as phases
+use Rattle.pb_steps.specs.State.{StateOf, Transactions, TransactionOf, new_transaction, with_transaction}
+use Rattle.pb_steps.specs.Readings.{lock_at, write_at}
+use Rattle.pb_steps.specs.Reasons.{Reasons, IsOwn, if_of_seat, is_out, first_reason, reasons_of, own_reasons}
+use Rattle.pb_steps.specs.Steps.{step_reason, StepCase}
+use Rattle.pb_steps.specs.Declare.{declare_reasons}
+use Rattle.pb_steps.specs.Prewrite.{prewrite_reasons, put_lock}
+use Rattle.pb_steps.specs.Stamp.{unstamped_reasons}
+use Rattle.pb_steps.specs.CommitPrimary.{commit_reasons, commit_lock}
 use Rattle.pb_alone.specs.Alone.{IsClean, ts}
 use Rattle.pb_alone.proofs.OneChange.{no_lock_after, write_after, lock_there}
 
@@ -29,17 +35,20 @@ cell_itself x = ap is_eq (tied_itself cell_cmp_total x)
 pub got_here : (m : Transactions) (a : ℕ) (t : TransactionOf) → map.get (map.insert m a t) a ≡ Some t
 got_here m a t = map.get-insert nat_cmp_total m a t a ∙ ap (λ b. cond b (Some t) (map.get m a)) (unsigned_tied a a ∙ eq-eqb a a refl)
 
-pub own_put : (z : StateOf) (m : Transactions) (seat a : ℕ) (t : TransactionOf) → z.transactions ≡ map.insert m a t → t.seat ≡ seat → own z seat a ≡ Some t
-own_put z m seat a t is mine = ap (of_seat seat) (ap (λ n. map.get n a) is ∙ got_here m a t) ∙ ap (λ b. cond b (Some t) None) (eq-eqb t.seat seat mine)
+pub own_put : (z : StateOf) (m : Transactions) (seat a : ℕ) (t : TransactionOf) → z.transactions ≡ map.insert m a t → t.seat ≡ seat → IsOwn z seat a t
+own_put z m seat a t is mine = record { there = ap (λ n. map.get n a) is ∙ got_here m a t; mine = mine }
 
 pub same_some : {A : Type 0} (o : Option A) (t u : A) → o ≡ Some t → o ≡ Some u → u ≡ t
 same_some o t u p q = cc
 
+pub same_own : (z : StateOf) (seat a : ℕ) (t u : TransactionOf) → IsOwn z seat a t → IsOwn z seat a u → u ≡ t
+same_own z seat a t u own other = same_some _ t u own.there other.there
+
 -- a step of an own transaction is refused for that transaction's reasons alone
-pub allowed_own : (z : StateOf) (seat a : ℕ) (t : TransactionOf) (why : TransactionOf → List (ℕ × Bool)) → seat < z.seats → own z seat a ≡ Some t
-    → first_reason ((41, is_foreign z seat a) ∷ reasons_of_own (own z seat a) why) ≡ first_reason (why t)
-allowed_own z seat a t why lt is =
-    (λ i. first_reason ((41, not (lt-ltb seat z.seats lt i) || is_none (is i)) ∷ reasons_of_own (is i) why))
+pub allowed_own : (z : StateOf) (seat a : ℕ) (t : TransactionOf) (why : TransactionOf → Reasons) → seat < z.seats → IsOwn z seat a t → first_reason (own_reasons z seat a why) ≡ first_reason (why t)
+allowed_own z seat a t why lt own =
+    ap (λ o. first_reason (reasons_of o why))
+    ((λ i. cond (not (lt-ltb seat z.seats lt i)) None (if_of_seat seat (own.there i))) ∙ ap (λ b. cond b (Some t) None) (eq-eqb t.seat seat own.mine))
 
 pub some_not_none : (o : Option Cell) → o ≡ None → is_some o ≡ true → ⊥
 some_not_none o n s = cc
@@ -52,7 +61,7 @@ module _ (s : StateOf) (seat : ℕ) (x : Cell) (k : Content) where
   batch = (x, k) ∷ []
 
   abbrev pub t1 : TransactionOf
-  t1 = begun seat works.Script
+  t1 = new_transaction seat works.Script
 
   abbrev pub s1 : StateOf
   s1 = record s { clock = a; transactions = map.insert s.transactions a t1 }
@@ -78,30 +87,30 @@ module _ (s : StateOf) (seat : ℕ) (x : Cell) (k : Content) where
   abbrev pub s5 : StateOf
   s5 = record s4 { entries = commit_lock s3.entries x a (a + 1); transactions = map.insert s4.transactions a (record t4 { phase = phases.Committed (ts (a + 1)) }) }
 
-  own1 : own s1 seat a ≡ Some t1
+  own1 : IsOwn s1 seat a t1
   own1 = own_put s1 s.transactions seat a t1 refl refl
 
-  own2 : own s2 seat a ≡ Some t2
+  own2 : IsOwn s2 seat a t2
   own2 = own_put s2 s1.transactions seat a t2 refl refl
 
-  own3 : own s3 seat a ≡ Some t3
+  own3 : IsOwn s3 seat a t3
   own3 = own_put s3 s2.transactions seat a t3 refl refl
 
-  own4 : own s4 seat a ≡ Some t4
+  own4 : IsOwn s4 seat a t4
   own4 = own_put s4 s3.transactions seat a t4 refl refl
 
   -- ---- each step has one answer
 
-  pub begins : (answer : Answer) (new : StateOf) → Case s seat (Begin works.Script) answer new → (answer ≡ At (ts a)) × (new ≡ s1)
+  pub begins : (answer : Answer) (new : StateOf) → StepCase s seat (Begin works.Script) answer new → (answer ≡ At (ts a)) × (new ≡ s1)
   begins (At b) new m = let e = m.fresh in (ap (λ n. At (ts n)) e, m.new_is ∙ ap (λ n. record s { clock = n; transactions = map.insert s.transactions n t1 }) e)
   begins _ new m = absurd m
 
-  pub declares : (answer : Answer) (new : StateOf) → Case s1 seat (Declare (ts a) (declared.Script batch)) answer new → (answer ≡ Done) × (new ≡ s2)
-  declares Done new m = (refl, m.new_is ∙ ap (λ (t : TransactionOf). with_transaction s1 a (record t { phase = phases.Declared; declared = batch })) (same_some _ t1 m.t own1 m.of))
+  pub declares : (answer : Answer) (new : StateOf) → StepCase s1 seat (Declare (ts a) (declared.Script batch)) answer new → (answer ≡ Done) × (new ≡ s2)
+  declares Done new m = (refl, m.new_is ∙ ap (λ (t : TransactionOf). with_transaction s1 a (record t { phase = phases.Declared; declared = batch })) (same_own _ _ _ t1 m.t own1 m.own))
   declares _ new m = absurd m
 
   module _ (clean : IsClean s) where
-    no_conflict : (new : StateOf) → Case s2 seat (Prewrite (ts a) x) Conflict new → ⊥
+    no_conflict : (new : StateOf) → StepCase s2 seat (Prewrite (ts a) x) Conflict new → ⊥
     no_conflict new m = elim m.why [
       | inl l ↦ some_not_none (lock_at s.entries x l.0) (clean.unlocked x l.0) l.2
       | inr w ↦ written w.0 w.1 (write_at s.entries x w.0) refl w.3
@@ -111,9 +120,9 @@ module _ (s : StateOf) (seat : ℕ) (x : Cell) (k : Content) where
         written c le None e h = cc
         written c le (Some w) e h = let p = clean.past x c w e in omega arith
 
-    pub prewrites : (answer : Answer) (new : StateOf) → Case s2 seat (Prewrite (ts a) x) answer new → (answer ≡ Done) × (new ≡ s3)
+    pub prewrites : (answer : Answer) (new : StateOf) → StepCase s2 seat (Prewrite (ts a) x) answer new → (answer ≡ Done) × (new ≡ s3)
     prewrites Done new m =
-        let t-is : m.t ≡ t2 = same_some _ t2 m.t own2 m.of in
+        let t-is : m.t ≡ t2 = same_own _ _ _ t2 m.t own2 m.own in
         let first : primary_in m.t.declared ≡ Some x = ap (λ (t : TransactionOf). primary_in t.declared) t-is in
         let content : content_in m.t.declared x ≡ Some k = ap (λ (t : TransactionOf). content_in t.declared x) t-is ∙ ap (λ b. cond b (Some k) None) (cell_itself x) in
         let p-is : m.primary ≡ x = same_some _ x m.primary first m.primary_is in
@@ -122,16 +131,16 @@ module _ (s : StateOf) (seat : ℕ) (x : Cell) (k : Content) where
     prewrites Conflict new m = absurd (no_conflict new m)
     prewrites _ new m = absurd m
 
-  pub stamps : (answer : Answer) (new : StateOf) → Case s3 seat (Stamp (ts a)) answer new → (answer ≡ At (ts (a + 1))) × (new ≡ s4)
+  pub stamps : (answer : Answer) (new : StateOf) → StepCase s3 seat (Stamp (ts a)) answer new → (answer ≡ At (ts (a + 1))) × (new ≡ s4)
   stamps (At c) new m =
       let e = m.fresh in
-      let t-is = same_some _ t3 m.t own3 m.of in
+      let t-is = same_own _ _ _ t3 m.t own3 m.own in
       (ap (λ n. At (ts n)) e, m.new_is ∙ (λ i. record s3 { clock = e i; transactions = map.insert s3.transactions a (record (t-is i) { phase = phases.Stamped (ts (e i)) }) }))
   stamps _ new m = absurd m
 
-  pub commits : (answer : Answer) (new : StateOf) → Case s4 seat (CommitPrimary (ts a)) answer new → (answer ≡ Committed) × (new ≡ s5)
+  pub commits : (answer : Answer) (new : StateOf) → StepCase s4 seat (CommitPrimary (ts a)) answer new → (answer ≡ Committed) × (new ≡ s5)
   commits Committed new m =
-      let t-is : m.t ≡ t4 = same_some _ t4 m.t own4 m.of in
+      let t-is : m.t ≡ t4 = same_own _ _ _ t4 m.t own4 m.own in
       let first : primary_in m.t.declared ≡ Some x = ap (λ (t : TransactionOf). primary_in t.declared) t-is in
       let p-is : m.primary ≡ x = same_some _ x m.primary first m.primary_is in
       let phase : m.t.phase ≡ phases.Stamped (ts (a + 1)) = ap (λ (t : TransactionOf). t.phase) t-is in
@@ -140,7 +149,7 @@ module _ (s : StateOf) (seat : ℕ) (x : Cell) (k : Content) where
       let c-is : m.c ≡ a + 1 = ap (λ (t : Ts). t.0) both in
       (refl, m.new_is ∙ (λ i. record s4 { entries = commit_lock s3.entries (p-is i) a (c-is i); transactions = map.insert s4.transactions a (record (t-is i) { phase = phases.Committed (ts (c-is i)) }) }))
   commits Lost new m =
-      let t-is : m.t ≡ t4 = same_some _ t4 m.t own4 m.of in
+      let t-is : m.t ≡ t4 = same_own _ _ _ t4 m.t own4 m.own in
       let first : primary_in m.t.declared ≡ Some x = ap (λ (t : TransactionOf). primary_in t.declared) t-is in
       let p-is : m.primary ≡ x = same_some _ x m.primary first m.primary_is in
       let there : is_some (lock_at s3.entries m.primary a) ≡ true = ap (λ p. is_some (lock_at s3.entries p a)) p-is ∙ ap is_some (lock_there s.entries x x k a (a + 1)) in
@@ -151,23 +160,23 @@ module _ (s : StateOf) (seat : ℕ) (x : Cell) (k : Content) where
   -- ---- what each step may be refused with
 
   module _ (seated : seat < s.seats) where
-    pub begin_refused : refusal s seat (Begin works.Script) ≡ first_reason ((40, is_out s) ∷ [])
-    begin_refused = ap (λ b. first_reason ((40, is_out s) ∷ (41, not b) ∷ [])) (lt-ltb seat s.seats seated)
+    pub begin_refused : step_reason s seat (Begin works.Script) ≡ first_reason ((OutOfTimestamps, is_out s) ∷ [])
+    begin_refused = ap (λ b. first_reason ((OutOfTimestamps, is_out s) ∷ (NotOfSeat, not b) ∷ [])) (lt-ltb seat s.seats seated)
 
-    pub declare_refused : refusal s1 seat (Declare (ts a) (declared.Script batch)) ≡ None
+    pub declare_refused : step_reason s1 seat (Declare (ts a) (declared.Script batch)) ≡ None
     declare_refused = allowed_own s1 seat a t1 (declare_reasons s.observers a (declared.Script batch)) seated own1
 
-    pub prewrite_refused : refusal s2 seat (Prewrite (ts a) x) ≡ None
+    pub prewrite_refused : step_reason s2 seat (Prewrite (ts a) x) ≡ None
     prewrite_refused =
-        allowed_own s2 seat a t2 (λ t. prewrite_reasons t x) seated own2
-        ∙ (λ i. first_reason ((42, false || (not (cell_itself x i) && not false)) ∷ (45, is_none (cond (cell_itself x i) (Some k) None)) ∷ (46, false) ∷ []))
+        allowed_own s2 seat a t2 (prewrite_reasons x) seated own2
+        ∙ (λ i. first_reason ((WrongPhase, false || (not (cell_itself x i) && not false)) ∷ (NotDeclared, is_none (cond (cell_itself x i) (Some k) None)) ∷ (AlreadyPrewritten, false) ∷ []))
 
-    pub stamp_refused : refusal s3 seat (Stamp (ts a)) ≡ first_reason ((40, is_out s3) ∷ [])
+    pub stamp_refused : step_reason s3 seat (Stamp (ts a)) ≡ first_reason ((OutOfTimestamps, is_out s3) ∷ [])
     stamp_refused =
-        ap (cond (is_out s3) (Some (record { 0 = 40 }))) (allowed_own s3 seat a t3 stamp_reasons seated own3
-        ∙ (λ i. first_reason ((42, false || not ((cell_itself x i || false) && true)) ∷ [])))
+        ap (cond (is_out s3) (Some OutOfTimestamps)) (allowed_own s3 seat a t3 unstamped_reasons seated own3
+        ∙ (λ i. first_reason ((WrongPhase, false || not ((cell_itself x i || false) && true)) ∷ [])))
 
-    pub commit_refused : refusal s4 seat (CommitPrimary (ts a)) ≡ None
+    pub commit_refused : step_reason s4 seat (CommitPrimary (ts a)) ≡ None
     commit_refused = allowed_own s4 seat a t4 commit_reasons seated own4
 
   pub clean_after : IsClean s → IsClean s5

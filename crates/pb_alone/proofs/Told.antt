@@ -2,11 +2,11 @@
 use Rattle.std.proofs.Common.{ℕ, List, Option, None, Some, refl}
 use Rattle.pb_base.specs.declared.cell.Cell.{Cell}
 use Rattle.pb_base.specs.declared.cell.Cell.TheVariants.{Data, Ack}
-use Rattle.pb_core.specs.declared.entry.Entry.{Entry}
+use Rattle.pb_history.specs.declared.entry.Entry.{Entry}
 use Rattle.pb_texts.specs.declared.report.lines.Newest.{Newest}
 use Rattle.pb_texts.specs.declared.report.newest.Put.{Put}
 use Rattle.pb_base.specs.declared.names.Row.{Row}
-use Rattle.pb_state.specs.State.{ObserverOf}
+use Rattle.pb_steps.specs.Observers.{ObserverOf}
 use Rattle.pb_texts.specs.ReportLines.{Runs}
 use Rattle.pb_texts.specs.Reports.{IsNewest, IsTold, IsReport, IsReportOf}
 use Rattle.pb_alone.specs.Committed.{IsNewestIn, Gathers}

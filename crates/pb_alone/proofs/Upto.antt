@@ -5,15 +5,15 @@ use Rattle.pb_base.specs.declared.cell.Cell.{Cell}
 use Rattle.pb_base.specs.declared.content.Content.{Content}
 use Rattle.pb_base.specs.declared.names.Ts.{Ts}
 use Rattle.pb_base.specs.Batch.{Writes, primary_in}
-use Rattle.pb_state.specs.declared.step.Work.TheVariants as works
-use Rattle.pb_state.specs.declared.step.Declared.{Declared}
-use Rattle.pb_state.specs.declared.step.Declared.TheVariants as declared
-use Rattle.pb_state.specs.declared.step.Step.{Step}
-use Rattle.pb_state.specs.declared.step.Step.TheVariants.{Begin, Declare, Prewrite, Stamp, CommitPrimary}
-use Rattle.pb_state.specs.declared.step.Answer.{Answer}
-use Rattle.pb_state.specs.declared.step.Answer.TheVariants.{At, Done, Committed}
-use Rattle.pb_state.specs.State.{StateOf}
-use Rattle.pb_core.specs.declared.entry.Received.{Received}
+use Rattle.pb_steps.specs.declared.step.Work.TheVariants as works
+use Rattle.pb_steps.specs.declared.step.Declared.{Declared}
+use Rattle.pb_steps.specs.declared.step.Declared.TheVariants as declared
+use Rattle.pb_steps.specs.declared.step.Step.{Step}
+use Rattle.pb_steps.specs.declared.step.Step.TheVariants.{Begin, Declare, Prewrite, Stamp, CommitPrimary}
+use Rattle.pb_steps.specs.declared.step.Answer.{Answer}
+use Rattle.pb_steps.specs.declared.step.Answer.TheVariants.{At, Done, Committed}
+use Rattle.pb_steps.specs.State.{StateOf}
+use Rattle.pb_history.specs.declared.entry.Received.{Received}
 use Rattle.pb_core.specs.Calls.{SharedOf, SeatOf, Calls}
 use Rattle.pb_alone.specs.declared.fault.RunFault.{RunFault}
 use Rattle.pb_alone.specs.Alone.{IsClean, Goes, Changes, IsSmall, ts, entry, changes_from, change_entries}

@@ -7,12 +7,14 @@ use Rattle.pb_store.specs.declared.slot.Slot.{Slot}
 use Rattle.pb_store.specs.Slot.{slot_cmp}
 use Rattle.pb_store.specs.Contents.{slot_at}
 use Rattle.pb_store.specs.declared.slot.Sort.TheVariants as sorts
-use Rattle.pb_state.specs.State.{StateOf, ObserverOf, opened, primary_of, start_of}
-use Rattle.pb_core.specs.declared.entry.Entry.{Entry}
+use Rattle.pb_steps.specs.State.{StateOf, opening}
+use Rattle.pb_steps.specs.Observers.{ObserverOf}
+use Rattle.pb_steps.specs.Readings.{primary_of, start_of}
+use Rattle.pb_history.specs.declared.entry.Entry.{Entry}
 use Rattle.pb_core.specs.Calls.{SharedOf}
-use Rattle.pb_core.specs.Legal.{IsLegal}
-use Rattle.pb_state.specs.declared.step.Work.TheVariants as works
-use Rattle.pb_core.specs.History.{Member, IsHistory, RiseFrom}
+use Rattle.pb_history.specs.Journals.{IsLegal}
+use Rattle.pb_steps.specs.declared.step.Work.TheVariants as works
+use Rattle.pb_history.specs.History.{Member, IsHistory, RiseFrom}
 use Rattle.pb_alone.specs.Due.{due}
 use Rattle.pb_alone.specs.Rounds.{AreDone, RiseBetween, Works}
 use Rattle.pb_alone.specs.Visits.{Extends}
@@ -26,16 +28,16 @@ use Rattle.pb_alone.specs.Faults.{of_report}
 use Rattle.pb_alone.specs.Runs.{Made, Reports, Runs}
 use Rattle.pb_alone.proofs.Blocks.{history, writes_are}
 
-nothing_in : (x : Slot) → finite.get (opened [] 0 0).entries x ≡ None
+nothing_in : (x : Slot) → finite.get (opening [] 0 0).entries x ≡ None
 nothing_in x = finite.get-empty slot_cmp x
 
 apart : (s : ℕ) → None ≡ Some s → ⊥
 apart s e = cc
 
-clean_opened : (observers : List ObserverOf) (seats clock : ℕ) → IsClean (opened observers seats clock)
+clean_opened : (observers : List ObserverOf) (seats clock : ℕ) → IsClean (opening observers seats clock)
 clean_opened observers seats clock = record {
   unlocked = λ x u. ap primary_of (nothing_in (slot_at x sorts.Lock u));
-  past = λ x c s is. let none : start_of (finite.get (opened [] 0 0).entries (slot_at x sorts.Write c)) ≡ None = ap start_of (nothing_in (slot_at x sorts.Write c)) in absurd (apart s (sym none ∙ is));
+  past = λ x c s is. let none : start_of (finite.get (opening [] 0 0).entries (slot_at x sorts.Write c)) ≡ None = ap start_of (nothing_in (slot_at x sorts.Write c)) in absurd (apart s (sym none ∙ is));
 }
 
 -- a table of an empty journal

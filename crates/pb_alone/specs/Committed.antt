@@ -4,9 +4,9 @@ use Rattle.pb_base.specs.declared.names.Row.{Row}
 use Rattle.pb_base.specs.declared.cell.Cell.{Cell}
 use Rattle.pb_base.specs.declared.cell.Cell.TheVariants.{Data}
 use Rattle.pb_base.specs.declared.content.Content.{Content}
-use Rattle.pb_state.specs.State.{ObserverOf}
-use Rattle.pb_core.specs.declared.entry.Entry.{Entry}
-use Rattle.pb_core.specs.History.{Member, InHistory, WritesTo}
+use Rattle.pb_steps.specs.Observers.{ObserverOf}
+use Rattle.pb_history.specs.declared.entry.Entry.{Entry}
+use Rattle.pb_history.specs.History.{Member, InHistory, WritesTo}
 use Rattle.pb_texts.specs.declared.report.lines.Newest.{Newest}
 use Rattle.pb_texts.specs.declared.report.newest.Put.{Put}
 

@@ -6,7 +6,7 @@ use Rattle.pb_base.specs.declared.cell.Cell.{Cell}
 use Rattle.pb_base.specs.declared.names.Row.{Row}
 use Rattle.pb_base.specs.Cell.{cell_cmp, row_of, column_of}
 use Rattle.pb_base.specs.Batch.{Writes}
-use Rattle.pb_state.specs.State.{ObserverOf}
+use Rattle.pb_steps.specs.Observers.{ObserverOf}
 
 -- the cells, in order, with those of a batch at their places, each once
 abbrev pub with_cells : List Cell → Writes → List Cell

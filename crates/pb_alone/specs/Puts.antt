@@ -5,14 +5,14 @@ use Rattle.pb_base.specs.Batch.{are_distinct}
 use Rattle.pb_base.specs.declared.names.Ts.{Ts}
 use Rattle.pb_base.specs.declared.cell.Cell.{Cell}
 use Rattle.pb_base.specs.declared.content.Content.{Content}
-use Rattle.pb_state.specs.declared.step.Step.{Step}
-use Rattle.pb_state.specs.declared.step.Step.TheVariants as steps
-use Rattle.pb_state.specs.declared.step.Answer.{Answer}
-use Rattle.pb_state.specs.declared.step.Answer.TheVariants as answers
-use Rattle.pb_state.specs.declared.transaction.Phase.{Phase}
-use Rattle.pb_state.specs.declared.transaction.Phase.TheVariants as phases
-use Rattle.pb_state.specs.State.{StateOf, phase_in, batch_in}
-use Rattle.pb_core.specs.declared.entry.Entry.{Entry}
+use Rattle.pb_steps.specs.declared.step.Step.{Step}
+use Rattle.pb_steps.specs.declared.step.Step.TheVariants as steps
+use Rattle.pb_steps.specs.declared.step.Answer.{Answer}
+use Rattle.pb_steps.specs.declared.step.Answer.TheVariants as answers
+use Rattle.pb_steps.specs.declared.phase.Phase.{Phase}
+use Rattle.pb_steps.specs.declared.phase.Phase.TheVariants as phases
+use Rattle.pb_steps.specs.State.{StateOf, phase_in, batch_in}
+use Rattle.pb_history.specs.declared.entry.Entry.{Entry}
 use Rattle.pb_texts.specs.declared.report.newest.Put.{Put}
 
 abbrev pub put_by : Ts → Cell × Content → Put

@@ -1,11 +1,11 @@
 -- Visits of observers one after another.
 use Rattle.std.specs.Prelude.{◌≡◌, ℕ, ◌<◌, ◌≤◌, ◌⊎◌, List, [], ◌∷◌}
 use Rattle.pb_base.specs.declared.names.Row.{Row}
-use Rattle.pb_state.specs.declared.step.Work.TheVariants as works
-use Rattle.pb_state.specs.State.{ObserverOf}
-use Rattle.pb_core.specs.declared.entry.Entry.{Entry}
+use Rattle.pb_steps.specs.declared.step.Work.TheVariants as works
+use Rattle.pb_steps.specs.Observers.{ObserverOf}
+use Rattle.pb_history.specs.declared.entry.Entry.{Entry}
 use Rattle.pb_core.specs.Calls.{SharedOf}
-use Rattle.pb_core.specs.History.{Member}
+use Rattle.pb_history.specs.History.{Member}
 use Rattle.pb_base.specs.Batch.{Writes}
 use Rattle.pb_alone.specs.Alone.{IsClean, Changes}
 use Rattle.pb_alone.specs.Due.{due}

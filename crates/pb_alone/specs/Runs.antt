@@ -3,9 +3,9 @@ use Rattle.std.specs.Prelude.{◌++◌, ◌≡◌, ℕ, Bool, true, false, List,
 use Rattle.std.specs.FinMap as finite
 use Rattle.std.specs.Io.KnownBytes.{Appends}
 use Rattle.pb_base.specs.Batch.{Writes}
-use Rattle.pb_state.specs.State.{lock_count}
+use Rattle.pb_steps.specs.Readings.{lock_count}
 use Rattle.pb_core.specs.Calls.{SharedOf, SeatOf, AreSeats}
-use Rattle.pb_core.specs.History.{Member, IsHistory}
+use Rattle.pb_history.specs.History.{Member, IsHistory}
 use Rattle.pb_texts.specs.ScriptLines.{script_of}
 use Rattle.pb_texts.specs.Reports.{IsReportOf}
 use Rattle.pb_texts.specs.Sinks.{AppendsPart}
@@ -15,7 +15,7 @@ use Rattle.pb_alone.specs.declared.fault.ReportFault.{ReportFault}
 use Rattle.pb_alone.specs.declared.fault.ReportFault.TheVariants as ends
 use Rattle.pb_alone.specs.Committed.{IsNewestIn}
 use Rattle.pb_alone.specs.Tallies.{runs_in}
-use Rattle.pb_state.specs.declared.step.Work.TheVariants as works
+use Rattle.pb_steps.specs.declared.step.Work.TheVariants as works
 use Rattle.pb_alone.specs.Faults.{IsEnd}
 use Rattle.pb_alone.specs.Due.{due}
 use Rattle.pb_alone.specs.Rounds.{AreDone}

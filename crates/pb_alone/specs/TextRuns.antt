@@ -1,6 +1,8 @@
 -- A run of a manifest's and a script's texts.
 use Rattle.std.specs.Prelude.{◌≡◌, ℕ, Bool, false, List, [], map, Option, Result, Ok, Err}
-use Rattle.pb_state.specs.State.{ObserverOf, opened}
+use Rattle.pb_steps.specs.Observers.{ObserverOf}
+use Rattle.pb_steps.specs.State.{opening}
+use Rattle.pb_base.specs.declared.limits.TheConstants.{MAX_ENTRIES}
 use Rattle.pb_core.specs.Calls.{SharedOf}
 use Rattle.pb_registry.specs.declared.code.Code.{Code}
 use Rattle.pb_registry.specs.declared.manifest.RegistryFault.{RegistryFault}
@@ -24,9 +26,9 @@ pub record IsRead (manifest : List ℕ) (observers : List ObserverOf) : Type 0 w
   pub judged : manifest_of manifest ≡ Ok uploaded
   pub taken : observers ≡ observers_of uploaded
 
--- a table with these observers, one seat and room for a million entries, as opened
+-- a table with these observers, one seat and room for the most entries, as opened
 abbrev pub fresh : List ObserverOf → ℕ → SharedOf
-fresh observers last = record { journal = []; state = opened observers 1 last; opened = last; limit = 1000000 }
+fresh observers last = record { journal = []; state = opening observers 1 last; opened = last; limit = MAX_ENTRIES }
 
 -- the manifest was read as observers, and the script ran so on a fresh table with exactly them
 pub record RanOn (manifest script : List ℕ) (last : ℕ) (old now : Option (List ℕ)) (failed : Bool) (result : Result (Unit {0}) RunFault) : Type 0 where

@@ -3,15 +3,15 @@ use Rattle.std.specs.Prelude.{◌≡◌, ℕ, ◌<◌, ◌≤◌, ◌⊎◌, Lis
 use Rattle.pb_base.specs.declared.names.Row.{Row}
 use Rattle.pb_base.specs.declared.content.Version.{Version}
 use Rattle.pb_vm.specs.Accepted.{AcceptedOf}
-use Rattle.pb_state.specs.declared.step.Work.TheVariants as works
-use Rattle.pb_state.specs.declared.step.Step.TheVariants.{Read}
-use Rattle.pb_state.specs.declared.step.Answer.{Answer}
-use Rattle.pb_state.specs.declared.step.Answer.TheVariants.{Found, Absent}
-use Rattle.pb_state.specs.State.{ObserverOf, observed, acknowledgment}
-use Rattle.pb_state.specs.Declarations.{acknowledged_in}
-use Rattle.pb_core.specs.declared.entry.Entry.{Entry}
+use Rattle.pb_steps.specs.declared.step.Work.TheVariants as works
+use Rattle.pb_steps.specs.declared.step.Step.TheVariants.{Read}
+use Rattle.pb_steps.specs.declared.step.Answer.{Answer}
+use Rattle.pb_steps.specs.declared.step.Answer.TheVariants.{Absent}
+use Rattle.pb_steps.specs.Observers.{ObserverOf, observed_cell, acknowledgment}
+use Rattle.pb_steps.specs.Reads.{found_answer, acknowledged_in}
+use Rattle.pb_history.specs.declared.entry.Entry.{Entry}
 use Rattle.pb_core.specs.Calls.{SharedOf}
-use Rattle.pb_core.specs.History.{Has, IsEntry, Member, InHistory}
+use Rattle.pb_history.specs.History.{Has, IsEntry, Member, InHistory}
 use Rattle.pb_alone.specs.Alone.{IsClean, ts}
 
 -- the observer of this number has this program and column
@@ -39,8 +39,8 @@ pub record Ran (old : SharedOf) (o : ℕ) (row : Row) (new : SharedOf) : Type 0 
 pub record IsCleanAt (observers : List ObserverOf) (journal : List Entry) (seat o : ℕ) (row : Row) : Type 0 where
   pub start : ℕ
   pub seen : Answer
-  pub read : IsEntry journal seat (Read (ts start) (observed observers o row)) seen
-  pub why : (seen ≡ Absent) ⊎ ((v : Version) × (b : Answer) × (seen ≡ Found v) × IsEntry journal seat (Read (ts start) (acknowledgment observers o row)) b × (v.commit.0 ≤ (acknowledged_in b).0))
+  pub read : IsEntry journal seat (Read (ts start) (observed_cell observers o row)) seen
+  pub why : (seen ≡ Absent) ⊎ ((v : Version) × (b : Answer) × (seen ≡ found_answer v) × IsEntry journal seat (Read (ts start) (acknowledgment observers o row)) b × (v.commit.0 ≤ (acknowledged_in b).0))
 
 -- there was nothing to run for
 pub record WasClean (old : SharedOf) (seat o : ℕ) (row : Row) (new : SharedOf) : Type 0 where

@@ -6,7 +6,7 @@ ghost use Rattle.pb_alone.specs.Alone.{IsClean, Goes, Changes, IsSmall};
 ghost use Rattle.pb_alone.specs.Faults.{IsRefusedBy, IsEnd};
 
 use crate::fault::RunFault;
-use pb_base::{Batch, Refusal};
+use pb_base::{Batch, Reason};
 use pb_core::{Answer, Declaration, Declared, Seat, Shared, Step, Work};
 use pb_store::Tablet;
 use std::alloc::Global;
@@ -25,7 +25,7 @@ pub(crate) fn take<T: Tablet>(
     match shared.call(seat, &step) {
         Ok(answer) => Ok(answer),
         Err(refusal) => {
-            if refusal.0 == 1 {
+            if refusal.0 == Reason::NoMemory.code() {
                 Err(RunFault::NoMemory)
             } else {
                 Err(RunFault::Refused(refusal.0))

@@ -4,7 +4,7 @@ ghost use Rattle.pb_alone.specs.Alone.{IsClean, Goes};
 ghost use Rattle.pb_alone.specs.Faults.{IsEnd};
 ghost use Rattle.pb_alone.specs.Visits.{IsObserver, Visits};
 ghost use Rattle.pb_alone.specs.Rounds.{AllBelow, Rounds};
-ghost use Rattle.pb_state.specs.Declarations.{plain_run};
+ghost use Rattle.pb_steps.specs.Declarations.{plain_run};
 
 use crate::change::take;
 use crate::fault::RunFault;
@@ -102,9 +102,19 @@ pub fn visit<T: Tablet>(
     let Answer::At(start) = take(shared, seat, Step::Begin(Work::Run(number, row)))? else {
         unreachable!()
     };
-    let Answer::Found(version) = take(shared, seat, Step::Read(start, cell))? else {
+    let Answer::Found {
+        start: of,
+        commit,
+        content,
+    } = take(shared, seat, Step::Read(start, cell))?
+    else {
         let _ = shared.journal();
         return Ok(());
+    };
+    let version = Version {
+        start: of,
+        commit,
+        content,
     };
     let acknowledged = acknowledged_in(take(shared, seat, Step::Read(start, acknowledgment))?);
     if !is_newer(&version, acknowledged) {

@@ -7,15 +7,12 @@ ghost use Rattle.pb_alone.specs.TextRuns.{RunsTexts, IsBadManifest, IsRead};
 use crate::fault::RunFault;
 use crate::observers::observers_of;
 use crate::run::run_alone;
-use pb_base::{Sink, Ts};
+use pb_base::{MAX_ENTRIES, Sink, Ts};
 use pb_core::{OpenRefused, Shared};
 use pb_registry::Registry;
 use pb_state::Observer;
 use pb_store::{Table, Tablet};
 use std::alloc::Global;
-
-/// How many entries the journal of a run may have.
-const JOURNAL_LIMIT: usize = 1_000_000;
 
 // The manifest's observers, its fault as one of the run.
 fn read(alloc: Global, manifest: &str) -> Result<Registry, RunFault>
@@ -67,7 +64,7 @@ pub fn run_texts<T: Tablet, S: Sink>(
             return Err(fault);
         }
     };
-    match Shared::open(alloc, table, observers, 1, last, JOURNAL_LIMIT) {
+    match Shared::open(alloc, table, observers, 1, last, MAX_ENTRIES) {
         Ok((shared, seats)) => {
             let (shared, _seats, outcome) = run_alone(alloc, script, shared, seats, sink);
             shared.close();

@@ -1,6 +1,6 @@
 -- Seats with empty lists are those of an empty journal.
 use Rattle.std.proofs.Common.{◌≡◌, ℕ, ◌+◌, ◌<◌, List, [], ◌∷◌, length, get_or, suc, sym, ap, subst, ◌∙◌, arith}
-use Rattle.pb_core.specs.declared.entry.Entry.{Entry}
+use Rattle.pb_history.specs.declared.entry.Entry.{Entry}
 use Rattle.pb_core.specs.Calls.{SeatOf, SharedOf, IsFresh, AreSeatsFrom, AreSeats}
 
 fresh_from : (from : ℕ) (seats : List SeatOf) → ((k : ℕ) (d : SeatOf) → k < length seats → get_or seats k d ≡ record { number = from + k; received = [] }) → AreSeatsFrom from [] seats

@@ -6,14 +6,15 @@ use Rattle.pb_store.specs.declared.slot.Item.{Item}
 use Rattle.pb_store.specs.Slot.{slot_cmp, slot_cmp_total}
 use Rattle.pb_base.specs.Cell.{cell_cmp}
 use Rattle.pb_store.specs.Contents.{Entries}
-use Rattle.pb_state.specs.declared.step.Step.{Step}
-use Rattle.pb_state.specs.declared.step.Step.TheVariants as steps
-use Rattle.pb_state.specs.declared.step.Answer.{Answer}
-use Rattle.pb_state.specs.declared.step.Answer.TheVariants as answers
-use Rattle.pb_state.specs.State.{StateOf, opened}
-use Rattle.pb_state.specs.Machine.{Case}
-use Rattle.pb_core.specs.declared.entry.Entry.{Entry}
-use Rattle.pb_core.specs.Legal.{Run, IsKept}
+use Rattle.pb_steps.specs.declared.step.Step.{Step}
+use Rattle.pb_steps.specs.declared.step.Step.TheVariants as steps
+use Rattle.pb_steps.specs.declared.step.Answer.{Answer}
+use Rattle.pb_steps.specs.declared.step.Answer.TheVariants as answers
+use Rattle.pb_steps.specs.State.{StateOf, opening}
+use Rattle.pb_steps.specs.Steps.{StepCase}
+use Rattle.pb_history.specs.declared.entry.Entry.{Entry}
+use Rattle.pb_history.specs.Journals.{JournalLeads}
+use Rattle.pb_core.specs.Keeping.{SharedKeeps}
 
 at_most : (b : Bool) (n k : ℕ) → k ≡ cond b n (n + 1) → k ≤ n + 1
 at_most true n k is = omega arith
@@ -38,10 +39,10 @@ len_replaced m k l w = let a = len_erased m k in let b = len_put (map.remove m k
 same_len : (m n : Entries) → n ≡ m → map.len n ≤ map.len m + 2
 same_len m n is = rw is (omega arith)
 
-case_entries : (s : StateOf) (seat : ℕ) (step : Step) (a : Answer) (t : StateOf) → Case s seat step a t → map.len t.entries ≤ map.len s.entries + 2
+case_entries : (s : StateOf) (seat : ℕ) (step : Step) (a : Answer) (t : StateOf) → StepCase s seat step a t → map.len t.entries ≤ map.len s.entries + 2
 case_entries s seat (steps.Begin work) (answers.At n) t c = same_len _ _ (ap (λ (x : StateOf). x.entries) c.new_is)
 case_entries s seat (steps.Read n x) (answers.Locked u p) t c = same_len _ _ (ap (λ (x : StateOf). x.entries) c.new_is)
-case_entries s seat (steps.Read n x) (answers.Found v) t c = same_len _ _ (ap (λ (x : StateOf). x.entries) c.new_is)
+case_entries s seat (steps.Read n x) (answers.Found u k d) t c = same_len _ _ (ap (λ (x : StateOf). x.entries) c.new_is)
 case_entries s seat (steps.Read n x) answers.Absent t c = same_len _ _ (ap (λ (x : StateOf). x.entries) c.new_is)
 case_entries s seat (steps.Declare n what) answers.Done t c = same_len _ _ (ap (λ (x : StateOf). x.entries) c.new_is)
 case_entries s seat (steps.Prewrite n x) answers.Done t c = subst (λ (e : Entries). map.len e ≤ map.len s.entries + 2) (sym (ap (λ (x : StateOf). x.entries) c.new_is)) (len_put_two s.entries _ _ _ _)
@@ -51,10 +52,10 @@ case_entries s seat (steps.CommitPrimary n) answers.Committed t c = subst (λ (e
 case_entries s seat (steps.CommitPrimary n) answers.Lost t c = same_len _ _ (ap (λ (x : StateOf). x.entries) c.new_is)
 case_entries s seat _ _ t c = absurd c
 
-case_marks : (s : StateOf) (seat : ℕ) (step : Step) (a : Answer) (t : StateOf) → Case s seat step a t → t.marks ≡ s.marks
+case_marks : (s : StateOf) (seat : ℕ) (step : Step) (a : Answer) (t : StateOf) → StepCase s seat step a t → t.marks ≡ s.marks
 case_marks s seat (steps.Begin work) (answers.At n) t c = ap (λ (x : StateOf). x.marks) c.new_is
 case_marks s seat (steps.Read n x) (answers.Locked u p) t c = ap (λ (x : StateOf). x.marks) c.new_is
-case_marks s seat (steps.Read n x) (answers.Found v) t c = ap (λ (x : StateOf). x.marks) c.new_is
+case_marks s seat (steps.Read n x) (answers.Found u k d) t c = ap (λ (x : StateOf). x.marks) c.new_is
 case_marks s seat (steps.Read n x) answers.Absent t c = ap (λ (x : StateOf). x.marks) c.new_is
 case_marks s seat (steps.Declare n what) answers.Done t c = ap (λ (x : StateOf). x.marks) c.new_is
 case_marks s seat (steps.Prewrite n x) answers.Done t c = ap (λ (x : StateOf). x.marks) c.new_is
@@ -64,25 +65,25 @@ case_marks s seat (steps.CommitPrimary n) answers.Committed t c = ap (λ (x : St
 case_marks s seat (steps.CommitPrimary n) answers.Lost t c = ap (λ (x : StateOf). x.marks) c.new_is
 case_marks s seat _ _ t c = absurd c
 
-run_entries : (s : StateOf) (es : List Entry) (t : StateOf) → Run s es t → map.len t.entries ≤ map.len s.entries + 2 * length es
+run_entries : (s : StateOf) (es : List Entry) (t : StateOf) → JournalLeads s es t → map.len t.entries ≤ map.len s.entries + 2 * length es
 run_entries s [] t r = subst (λ (x : StateOf). map.len x.entries ≤ map.len s.entries + 0) (sym r) (omega arith)
 run_entries s (e ∷ es) t r =
     let one = case_entries s e.seat e.step e.answer r.0 r.1.taken in
     let more = run_entries r.0 es t r.2 in
     omega arith
 
-run_marks : (s : StateOf) (es : List Entry) (t : StateOf) → Run s es t → t.marks ≡ s.marks
+run_marks : (s : StateOf) (es : List Entry) (t : StateOf) → JournalLeads s es t → t.marks ≡ s.marks
 run_marks s [] t r = ap (λ (x : StateOf). x.marks) r
 run_marks s (e ∷ es) t r = run_marks r.0 es t r.2 ∙ case_marks s e.seat e.step e.answer r.0 r.1.taken
 
 -- the entries of a table can be counted, and so can its marks
-pub few_entries : (j : List Entry) (bs : List (List ℕ)) (s : StateOf) (o l : ℕ) → IsKept j bs s o l → map.len s.entries < 2 ^ 64
+pub few_entries : (j : List Entry) (bs : List (List ℕ)) (s : StateOf) (o l : ℕ) → SharedKeeps j bs s o l → map.len s.entries < 2 ^ 64
 few_entries j bs s o l k =
-    let grown = run_entries (opened s.observers s.seats o) j s k.legal.run in
-    let none : map.len (opened s.observers s.seats o).entries ≡ 0 = map.len-empty slot_cmp _ in
+    let grown = run_entries (opening s.observers s.seats o) j s k.legal.run in
+    let none : map.len (opening s.observers s.seats o).entries ≡ 0 = map.len-empty slot_cmp _ in
     omega (arith, grown, none, k.room, k.bounded)
 
-pub few_marks : (j : List Entry) (bs : List (List ℕ)) (s : StateOf) (o l : ℕ) → IsKept j bs s o l → map.len s.marks < 2 ^ 64
+pub few_marks : (j : List Entry) (bs : List (List ℕ)) (s : StateOf) (o l : ℕ) → SharedKeeps j bs s o l → map.len s.marks < 2 ^ 64
 few_marks j bs s o l k =
-    let none : map.len s.marks ≡ 0 = ap map.len (run_marks (opened s.observers s.seats o) j s k.legal.run) ∙ map.len-empty cell_cmp _ in
+    let none : map.len s.marks ≡ 0 = ap map.len (run_marks (opening s.observers s.seats o) j s k.legal.run) ∙ map.len-empty cell_cmp _ in
     omega (arith, none)

@@ -1,29 +1,31 @@
 -- A table keeps its invariant over one more entry.
 use Rattle.std.proofs.Common.{◌≡◌, ◌≢◌, ℕ, ◌+◌, ◌<◌, ◌≤◌, Bool, true, false, eqb, cond, List, [], ◌∷◌, ◌++◌, length, length-append, length-set, get_or-set_same, get_or-set_other, slice_set, slice_index_or, Option, Some, None, refl, sym, ◌∙◌, ap, subst, arith, eq-eqb, ne_eqb, suc, nat_lt, add-zero}
 use Rattle.std.proofs.lemmas.Bool.{eqb-false, eqb-true}
-use Rattle.pb_state.specs.declared.step.Step.{Step}
-use Rattle.pb_state.specs.declared.step.Step.TheVariants as steps
-use Rattle.pb_state.specs.declared.step.Answer.{Answer}
-use Rattle.pb_state.specs.declared.step.Answer.TheVariants as answers
-use Rattle.pb_state.specs.State.{StateOf, opened}
-use Rattle.pb_state.specs.Known.{IsKnownIn}
-use Rattle.pb_state.specs.Machine.{Machine, Case}
-use Rattle.pb_base.specs.declared.refusal.Refusal.{Refusal}
-use Rattle.pb_core.specs.declared.entry.Entry.{Entry}
-use Rattle.pb_core.specs.Places.{places_from}
-use Rattle.pb_core.specs.Calls.{lowest}
-use Rattle.pb_core.specs.Legal.{Run, AreKnown, IsKept}
+use Rattle.pb_steps.specs.declared.step.Step.{Step}
+use Rattle.pb_steps.specs.declared.step.Step.TheVariants as steps
+use Rattle.pb_steps.specs.declared.step.Answer.{Answer}
+use Rattle.pb_steps.specs.declared.step.Answer.TheVariants as answers
+use Rattle.pb_steps.specs.State.{StateOf, opening}
+use Rattle.pb_steps.specs.Steps.{TableStep, StepCase}
+use Rattle.pb_base.specs.declared.refusal.Reason.{Reason}
+use Rattle.pb_base.specs.declared.refusal.Reason.TheVariants.{JournalFull}
+use Rattle.pb_base.specs.Reasons.{reason_code}
+use Rattle.pb_history.specs.declared.entry.Entry.{Entry}
+use Rattle.pb_history.specs.Places.{places_from}
+use Rattle.pb_core.specs.Calls.{or_full}
+use Rattle.pb_history.specs.Journals.{JournalLeads}
+use Rattle.pb_core.specs.Keeping.{SharedKeeps}
 
 -- a run goes on
-pub run_more : (s : StateOf) (es : List Entry) (t : StateOf) (e : Entry) (u : StateOf) → Run s es t → Machine t e.seat e.step e.answer u → Run s (es ++ e ∷ []) u
-run_more s [] t e u r m = (u, subst (λ x. Machine x e.seat e.step e.answer u) r m, refl)
+pub run_more : (s : StateOf) (es : List Entry) (t : StateOf) (e : Entry) (u : StateOf) → JournalLeads s es t → TableStep t e.seat e.step e.answer u → JournalLeads s (es ++ e ∷ []) u
+run_more s [] t e u r m = (u, subst (λ x. TableStep x e.seat e.step e.answer u) r m, refl)
 run_more s (d ∷ es) t e u r m = (r.0, r.1, run_more r.0 es t e u r.2 m)
 
 -- no step changes the number of seats
-case_seats : (s : StateOf) (seat : ℕ) (step : Step) (a : Answer) (t : StateOf) → Case s seat step a t → t.seats ≡ s.seats
+case_seats : (s : StateOf) (seat : ℕ) (step : Step) (a : Answer) (t : StateOf) → StepCase s seat step a t → t.seats ≡ s.seats
 case_seats s seat (steps.Begin work) (answers.At n) t c = ap (λ (x : StateOf). x.seats) c.new_is
 case_seats s seat (steps.Read n x) (answers.Locked u p) t c = ap (λ (x : StateOf). x.seats) c.new_is
-case_seats s seat (steps.Read n x) (answers.Found v) t c = ap (λ (x : StateOf). x.seats) c.new_is
+case_seats s seat (steps.Read n x) (answers.Found u k d) t c = ap (λ (x : StateOf). x.seats) c.new_is
 case_seats s seat (steps.Read n x) answers.Absent t c = ap (λ (x : StateOf). x.seats) c.new_is
 case_seats s seat (steps.Declare n what) answers.Done t c = ap (λ (x : StateOf). x.seats) c.new_is
 case_seats s seat (steps.Prewrite n x) answers.Done t c = ap (λ (x : StateOf). x.seats) c.new_is
@@ -34,10 +36,10 @@ case_seats s seat (steps.CommitPrimary n) answers.Lost t c = ap (λ (x : StateOf
 case_seats s seat _ _ t c = absurd c
 
 -- no step changes the observers
-case_observers : (s : StateOf) (seat : ℕ) (step : Step) (a : Answer) (t : StateOf) → Case s seat step a t → t.observers ≡ s.observers
+case_observers : (s : StateOf) (seat : ℕ) (step : Step) (a : Answer) (t : StateOf) → StepCase s seat step a t → t.observers ≡ s.observers
 case_observers s seat (steps.Begin work) (answers.At n) t c = ap (λ (x : StateOf). x.observers) c.new_is
 case_observers s seat (steps.Read n x) (answers.Locked u p) t c = ap (λ (x : StateOf). x.observers) c.new_is
-case_observers s seat (steps.Read n x) (answers.Found v) t c = ap (λ (x : StateOf). x.observers) c.new_is
+case_observers s seat (steps.Read n x) (answers.Found u k d) t c = ap (λ (x : StateOf). x.observers) c.new_is
 case_observers s seat (steps.Read n x) answers.Absent t c = ap (λ (x : StateOf). x.observers) c.new_is
 case_observers s seat (steps.Declare n what) answers.Done t c = ap (λ (x : StateOf). x.observers) c.new_is
 case_observers s seat (steps.Prewrite n x) answers.Done t c = ap (λ (x : StateOf). x.observers) c.new_is
@@ -47,22 +49,18 @@ case_observers s seat (steps.CommitPrimary n) answers.Committed t c = ap (λ (x 
 case_observers s seat (steps.CommitPrimary n) answers.Lost t c = ap (λ (x : StateOf). x.observers) c.new_is
 case_observers s seat _ _ t c = absurd c
 
-pub machine_seats : (s : StateOf) (seat : ℕ) (step : Step) (a : Answer) (t : StateOf) → Machine s seat step a t → t.seats ≡ s.seats
+pub machine_seats : (s : StateOf) (seat : ℕ) (step : Step) (a : Answer) (t : StateOf) → TableStep s seat step a t → t.seats ≡ s.seats
 machine_seats s seat step a t m = case_seats s seat step a t m.taken
 
-pub machine_observers : (s : StateOf) (seat : ℕ) (step : Step) (a : Answer) (t : StateOf) → Machine s seat step a t → t.observers ≡ s.observers
+pub machine_observers : (s : StateOf) (seat : ℕ) (step : Step) (a : Answer) (t : StateOf) → TableStep s seat step a t → t.observers ≡ s.observers
 machine_observers s seat step a t m = case_observers s seat step a t m.taken
 
-known_more : (es : List Entry) (e : Entry) → AreKnown es → IsKnownIn e.step → AreKnown (es ++ e ∷ [])
-known_more [] e k h = (h, tt)
-known_more (d ∷ es) e k h = (k.0, known_more es e k.1 h)
-
 -- no reason is left where the lowest is none
-pub none_by_state : (r : Option Refusal) (full : Bool) → lowest r full ≡ None → r ≡ None
+pub none_by_state : (r : Option Reason) (full : Bool) → or_full r full ≡ None → r ≡ None
 none_by_state None full e = refl
-none_by_state (Some r) true e = kept_by (nat_lt 44 r.0) e
+none_by_state (Some r) true e = kept_by (nat_lt (reason_code JournalFull) (reason_code r)) e
   where
-    kept_by : (b : Bool) → cond b (Some (record { 0 = 44 })) (Some r) ≡ None → Some r ≡ None
+    kept_by : (b : Bool) → cond b (Some JournalFull) (Some r) ≡ None → Some r ≡ None
     kept_by true h = cc
     kept_by false h = h
 none_by_state (Some r) false e = e
@@ -103,25 +101,21 @@ placed_more j bs seat e b' own in' placed b-is i lt false is =
 
 -- the invariant after one more entry
 pub kept_more : (j : List Entry) (bs : List (List ℕ)) (s : StateOf) (o l : ℕ) (seat : ℕ) (step : Step) (a : Answer) (t : StateOf) (j' : List Entry) (b' : List ℕ)
-    → IsKept j bs s o l → IsKnownIn step → Machine s seat step a t → seat < length bs → length j < l
+    → SharedKeeps j bs s o l → TableStep s seat step a t → seat < length bs → length j < l
     → j' ≡ j ++ record { seat = seat; step = step; answer = a } ∷ []
     → b' ≡ slice_index_or bs seat [] ++ length j ∷ []
-    → IsKept j' (slice_set bs seat b') t o l
-kept_more j bs s o l seat step a t j' b' k known m in' room j-is b-is =
+    → SharedKeeps j' (slice_set bs seat b') t o l
+kept_more j bs s o l seat step a t j' b' k m in' room j-is b-is =
     let seats : t.seats ≡ s.seats = machine_seats s seat step a t m in
     let obs : t.observers ≡ s.observers = machine_observers s seat step a t m in
     let e : Entry = record { seat = seat; step = step; answer = a } in
     record {
       legal = record {
         fits = k.legal.fits;
-        run = subst (λ os. Run (opened os t.seats o) j' t) (sym obs) (subst (λ n. Run (opened s.observers n o) j' t) (sym seats) (subst (λ es. Run (opened s.observers s.seats o) es t) (sym j-is) (run_more (opened s.observers s.seats o) j s e t k.legal.run m)));
+        run = subst (λ os. JournalLeads (opening os t.seats o) j' t) (sym obs) (subst (λ n. JournalLeads (opening s.observers n o) j' t) (sym seats) (subst (λ es. JournalLeads (opening s.observers s.seats o) es t) (sym j-is) (run_more (opening s.observers s.seats o) j s e t k.legal.run m)));
       };
-      known = subst AreKnown (sym j-is) (known_more j e k.known known);
       placed = λ i lt. subst (λ es. slice_index_or (slice_set bs seat b') i [] ≡ places_from 0 i es) (sym j-is) (placed_more j bs seat e b' refl in' k.placed b-is i (rw length-set at lt) (eqb i seat) refl);
       counted = seats ∙ (k.counted ∙ sym (length-set bs seat b'));
       room = rw j-is (omega (arith, length-append j (e ∷ [])));
       bounded = k.bounded;
-      some = omega (arith, seats, k.some);
-      few = omega (arith, seats, k.few);
-      numbered = subst (λ os. length os ≤ 32) (sym obs) k.numbered;
     }

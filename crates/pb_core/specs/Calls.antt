@@ -1,14 +1,15 @@
 -- What a call does.
 use Rattle.std.specs.Prelude.{◌≡◌, ℕ, ◌+◌, ◌<◌, Bool, ◌==◌, nat_lt, if◌then◌else◌, List, [], ◌∷◌, ◌++◌, length, Option, Some, None, slice_index_or}
-use Rattle.pb_base.specs.declared.refusal.Refusal.{Refusal}
-use Rattle.pb_state.specs.declared.step.Step.{Step}
-use Rattle.pb_state.specs.declared.step.Answer.{Answer}
-use Rattle.pb_state.specs.State.{StateOf}
-use Rattle.pb_state.specs.Refusal.{refusal}
-use Rattle.pb_state.specs.Machine.{Machine}
-use Rattle.pb_core.specs.declared.entry.Entry.{Entry}
-use Rattle.pb_core.specs.declared.entry.Received.{Received}
-use Rattle.pb_core.specs.Places.{entries_of}
+use Rattle.pb_base.specs.declared.refusal.Reason.{Reason}
+use Rattle.pb_base.specs.declared.refusal.Reason.TheVariants.{JournalFull}
+use Rattle.pb_base.specs.Reasons.{reason_code}
+use Rattle.pb_steps.specs.declared.step.Step.{Step}
+use Rattle.pb_steps.specs.declared.step.Answer.{Answer}
+use Rattle.pb_steps.specs.State.{StateOf}
+use Rattle.pb_steps.specs.Steps.{step_reason, TableStep}
+use Rattle.pb_history.specs.declared.entry.Entry.{Entry}
+use Rattle.pb_history.specs.declared.entry.Received.{Received}
+use Rattle.pb_history.specs.Places.{entries_of}
 
 -- the table, as its callers see it: `opened` is the clock as opened
 pub record SharedOf : Type 0 where
@@ -22,24 +23,18 @@ pub record SeatOf : Type 0 where
   pub number : ℕ
   pub received : List Received
 
-abbrev pub no_memory : Refusal
-no_memory = record { 0 = 1 }
-
-abbrev pub journal_full : Refusal
-journal_full = record { 0 = 44 }
-
 -- 44 where the journal is full, unless a lower number applies
-abbrev pub lowest : Option Refusal → Bool → Option Refusal
-lowest None full = if full then Some journal_full else None
-lowest (Some r) full = if full then (if nat_lt 44 r.0 then Some journal_full else Some r) else Some r
+abbrev pub or_full : Option Reason → Bool → Option Reason
+or_full None full = if full then Some JournalFull else None
+or_full (Some r) full = if full then (if nat_lt (reason_code JournalFull) (reason_code r) then Some JournalFull else Some r) else Some r
 
--- the lowest refusal of a call
-abbrev pub refusal_in : SharedOf → ℕ → Step → Option Refusal
-refusal_in s seat step = lowest (refusal s.state seat step) (length s.journal == s.limit)
+-- why a call is refused, if it is: the reason with the lowest number
+abbrev pub call_reason : SharedOf → ℕ → Step → Option Reason
+call_reason s seat step = or_full (step_reason s.state seat step) (length s.journal == s.limit)
 
 -- one step was taken, and is kept in the journal and in the seat's list
 pub record Calls (old : SharedOf) (seat : SeatOf) (step : Step) (answer : Answer) (new : SharedOf) (told : SeatOf) : Type 0 where
-  pub machine : Machine old.state seat.number step answer new.state
+  pub machine : TableStep old.state seat.number step answer new.state
   pub journal : new.journal ≡ old.journal ++ record { seat = seat.number; step = step; answer = answer } ∷ []
   pub opened : new.opened ≡ old.opened
   pub limit : new.limit ≡ old.limit

@@ -1,9 +1,9 @@
 -- How a model keeps the table.
 use Rattle.std.specs.Prelude.{ℕ, List, refl}
 use Rattle.std.specs.Coded.{Coded, code_by, coded×, coded_ℕ, coded_list}
-use Rattle.pb_state.specs.State.{StateOf, state_code}
-use Rattle.pb_core.specs.declared.entry.Entry.{Entry}
-use Rattle.pb_core.specs.contracts.entry.Entry as entry
+use Rattle.pb_steps.specs.State.{StateOf, state_code}
+use Rattle.pb_history.specs.declared.entry.Entry.{Entry}
+use Rattle.pb_history.specs.contracts.entry.Entry as entry
 use Rattle.pb_core.specs.Calls.{SharedOf}
 
 abbrev pub shared_code : Coded SharedOf

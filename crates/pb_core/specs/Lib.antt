@@ -1,7 +1,3 @@
-pub mod Places
-pub mod Legal
 pub mod Calls
 pub mod Codes
-pub mod History
-pub mod Reads
-pub mod Runs
+pub mod Keeping

@@ -1,12 +1,13 @@
 //! The shared table with its journal, its books and its seats.
 #![tactic(auto)]
 
-mod entry;
+mod seat;
 mod shared;
 
-pub use entry::{Entry, Received, Seat};
+pub use pb_history::{Entry, Received};
 pub use pb_state::{
-    Accepted, Answer, Declaration, Declared, Finished, Moved, Observer, Phase, Record, Seen, Step,
-    Vm, Work, acknowledged_in,
+    Accepted, Answer, Declaration, Declared, Finished, Moved, Observer, Phase, Record,
+    RecordedRead, Seen, Step, Vm, Work, acknowledged_in, version_in,
 };
+pub use seat::Seat;
 pub use shared::{OpenRefused, Shared};

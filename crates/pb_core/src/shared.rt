@@ -2,9 +2,11 @@
 ghost use Rattle.std.specs.Prelude.{◌≡◌, ◌<◌, ◌++◌, ◌∷◌, [], OnOk, IfOk, vec_len, vec_capacity};
 ghost use Rattle.pb_core.specs.Calls.{IsFresh, IsBlank};
 
-use crate::entry::{Book, Entry, Received, Seat};
-use pb_base::{NoMemory, Refusal, Ts};
-use pb_state::{Answer, Observer, Phase, State, Step};
+use crate::seat::{Book, Seat};
+use pb_base::{MAX_ENTRIES, MAX_OBSERVERS, MAX_SEATS, NoMemory, Reason, Refusal, Ts};
+use pb_history::{Entry, Received, histories_are_told, reads_are_told, runs_are_told};
+use pb_state::State;
+use pb_steps::{Answer, Observer, Phase, Step};
 use pb_store::{Table, Tablet};
 use std::alloc::Global;
 use std::marker::Model;
@@ -28,11 +30,11 @@ impl<T: Tablet> Model for Shared<T> {
 
     ghost coded = { shared_code };
 
-    ghost use Rattle.pb_core.specs.Legal.{IsKept};
+    ghost use Rattle.pb_core.specs.Keeping.{SharedKeeps};
 
     ghost view = { λ s. record { journal = s.journal.items; state = s.state; opened = s.opened; limit = s.limit } };
 
-    ghost invariant = { λ s. IsKept s.journal.items s.books.items s.state s.opened s.limit };
+    ghost invariant = { λ s. SharedKeeps s.journal.items s.books.items s.state s.opened s.limit };
 }
 
 /// A table that couldn't be opened, handed back with its observers: code 4 where it isn't empty, 1 where there was no
@@ -58,10 +60,39 @@ fn append<X: Drop>(list: &mut Vec<X>, item: X)
     list.push(item).unwrap();
 }
 
-fn same(answer: &Answer) -> Answer
-    ensures { result ≡ answer.now }
+// Room for one item more in each list, or none of them changed.
+fn make_rooms(
+    journal: &mut Vec<Entry>,
+    places: &mut Vec<u64>,
+    received: &mut Vec<Received>,
+) -> Result<(), NoMemory>
+    ensures journal { journal.new.items ≡ journal.old.items }
+    ensures places { places.new.items ≡ places.old.items }
+    ensures received { received.new.items ≡ received.old.items }
+    ensures journal_room { OnOk result (vec_len journal.new < vec_capacity journal.new) }
+    ensures places_room { OnOk result (vec_len places.new < vec_capacity places.new) }
+    ensures received_room { OnOk result (vec_len received.new < vec_capacity received.new) }
 {
-    *answer
+    make_room(journal)?;
+    make_room(places)?;
+    make_room(received)?;
+    Ok(())
+}
+
+// The journal's entry of a step.
+fn entry_of(seat: u32, step: Step, answer: &Answer) -> Entry
+    ensures { result ≡ record { seat = seat; step = step; answer = answer.now } }
+{
+    let answer = *answer;
+    Entry { seat, step, answer }
+}
+
+// A step as its seat received it.
+fn received_of(step: Step, answer: &Answer) -> Received
+    ensures { result ≡ record { step = step; answer = answer.now } }
+{
+    let answer = *answer;
+    Received { step, answer }
 }
 
 // Empty books, one a seat.
@@ -96,12 +127,16 @@ impl<T: Tablet> Shared<T> {
     ghost use Rattle.std.specs.Prelude.{◌≡◌, ◌≤◌, ◌<◌, ◌↔◌, IfOk, IfErr, OnOk, OnErr, [], length, ℕ, Err, Some, None, true, false};
     ghost use Rattle.pb_store.specs.Contents.{nothing, is_nothing};
     ghost use Rattle.std.specs.FinMap as map;
-    ghost use Rattle.pb_state.specs.State.{opened, phase_in, lock_count};
-    ghost use Rattle.pb_core.specs.Calls.{AreSeats, Calls, refusal_in, no_memory};
-    ghost use Rattle.pb_core.specs.Legal.{IsLegal, AreKnown};
-    ghost use Rattle.pb_core.specs.History.{TellsHistory};
-    ghost use Rattle.pb_core.specs.Reads.{TellsReads};
-    ghost use Rattle.pb_core.specs.Runs.{TellsRuns};
+    ghost use Rattle.pb_base.specs.Reasons.{refusal_by};
+    ghost use Rattle.pb_base.specs.declared.refusal.Reason.TheVariants as reasons;
+    ghost use Rattle.pb_steps.specs.State.{opening, phase_in};
+    ghost use Rattle.pb_steps.specs.Readings.{lock_count};
+    ghost use Rattle.pb_core.specs.Calls.{AreSeats, Calls, call_reason};
+    ghost use Rattle.pb_history.specs.Journals.{IsLegal};
+    ghost use Rattle.pb_history.specs.History.{TellsHistory};
+    ghost use Rattle.pb_history.specs.ReadsTold.{TellsReads};
+    ghost use Rattle.pb_history.specs.RunsTold.{TellsRuns};
+    ghost use Rattle.pb_base.specs.Reasons.{reason_code};
 
     /// Opens a table for these observers and as many seats, with `last` the last timestamp given out so far and room for
     /// `limit` entries.
@@ -116,36 +151,36 @@ impl<T: Tablet> Shared<T> {
         limit: usize,
     ) -> Result<(Shared<T>, Vec<Seat>), OpenRefused<T>>
         requires some { 1 ≤ seats }
-        requires few { seats ≤ 64 }
-        requires bounded { limit ≤ 1000000 }
-        requires numbered { length observers.items ≤ 32 }
-        ensures shared { IfOk result (λ s. s.0 ≡ record { journal = []; state = opened observers.items seats last.0; opened = last.0; limit = limit }) }
+        requires few { seats ≤ MAX_SEATS }
+        requires bounded { limit ≤ MAX_ENTRIES }
+        requires numbered { length observers.items ≤ MAX_OBSERVERS }
+        ensures shared { IfOk result (λ s. s.0 ≡ record { journal = []; state = opening observers.items seats last.0; opened = last.0; limit = limit }) }
         ensures seats { IfOk result (λ s. AreSeats s.0 s.1.items) }
         ensures empty { OnOk result (is_nothing table.contents ≡ true) }
         ensures handed_back { IfErr result (λ e. e.table ≡ table) }
         ensures observers { IfErr result (λ e. e.observers ≡ observers) }
-        ensures full { is_nothing table.contents ≡ false → IfErr result (λ e. e.code ≡ 4) }
-        ensures memory { is_nothing table.contents ≡ true → IfErr result (λ e. e.code ≡ 1) }
+        ensures full { is_nothing table.contents ≡ false → IfErr result (λ e. e.code ≡ reason_code reasons.NotEmpty) }
+        ensures memory { is_nothing table.contents ≡ true → IfErr result (λ e. e.code ≡ reason_code reasons.NoMemory) }
     {
         if !table.is_empty() {
             return Err(OpenRefused {
                 table,
                 observers,
-                code: 4,
+                code: Reason::NotEmpty.code(),
             });
         }
         let Ok(books) = empty_books(alloc, seats) else {
             return Err(OpenRefused {
                 table,
                 observers,
-                code: 1,
+                code: Reason::NoMemory.code(),
             });
         };
         let Ok(all) = empty_seats(alloc, seats) else {
             return Err(OpenRefused {
                 table,
                 observers,
-                code: 1,
+                code: Reason::NoMemory.code(),
             });
         };
         let state = State::new(alloc, table, observers, seats, last);
@@ -175,11 +210,13 @@ impl<T: Tablet> Shared<T> {
     pub fn journal(&self) -> &[Entry]
         ensures entries { result.now ≡ self.now.journal }
         ensures legal { IsLegal self.now.state.observers self.now.state.seats self.now.opened self.now.journal self.now.state }
-        ensures known { AreKnown self.now.journal }
         ensures history { TellsHistory self.now.journal self.now.state }
         ensures reads { TellsReads self.now.state.observers self.now.state.seats self.now.opened self.now.journal }
         ensures runs { TellsRuns self.now.journal self.now.state }
     {
+        histories_are_told();
+        reads_are_told();
+        runs_are_told();
         &self.journal
     }
 
@@ -193,7 +230,7 @@ impl<T: Tablet> Shared<T> {
     /// How many entries the journal may have.
     pub fn limit(&self) -> usize
         ensures limit { result ≡ self.now.limit }
-        ensures bounded { result ≤ 1000000 }
+        ensures bounded { result ≤ MAX_ENTRIES }
     {
         self.limit
     }
@@ -208,7 +245,7 @@ impl<T: Tablet> Shared<T> {
     /// The observers, by their numbers.
     pub fn observers(&self) -> &[Observer]
         ensures observers { result.now ≡ self.now.state.observers }
-        ensures few { length result.now ≤ 32 }
+        ensures few { length result.now ≤ MAX_OBSERVERS }
     {
         self.state.observers()
     }
@@ -217,7 +254,7 @@ impl<T: Tablet> Shared<T> {
     pub fn seats(&self) -> u32
         ensures seats { result ≡ self.now.state.seats }
         ensures some { 1 ≤ result }
-        ensures few { result ≤ 64 }
+        ensures few { result ≤ MAX_SEATS }
     {
         self.state.seats()
     }
@@ -251,19 +288,25 @@ impl<T: Tablet> Shared<T> {
         self.state.marks()
     }
 
-    // The lowest number that a call is refused with, if one applies.
-    fn refused(&self, seat: u32, step: &Step) -> Option<Refusal>
-        ensures { result ≡ refusal_in self.now seat step.now }
+    // Why a call is refused, if it is: of the reasons that apply, the one with the lowest number.
+    fn reason(&self, seat: u32, step: &Step) -> Option<Reason>
+        ensures { result ≡ call_reason self.now seat step.now }
     {
-        let by_state = self.state.refused(seat, step);
+        let by_state = self.state.reason(seat, step);
         let is_full = self.journal.len() == self.limit;
         match by_state {
-            None => { if is_full { Some(Refusal(44)) } else { None } }
-            Some(refusal) => {
-                if is_full && 44 < refusal.0 {
-                    Some(Refusal(44))
+            None => {
+                if is_full {
+                    Some(Reason::JournalFull)
                 } else {
-                    Some(refusal)
+                    None
+                }
+            }
+            Some(reason) => {
+                if is_full && Reason::JournalFull.code() < reason.code() {
+                    Some(Reason::JournalFull)
+                } else {
+                    Some(reason)
                 }
             }
         }
@@ -274,49 +317,38 @@ impl<T: Tablet> Shared<T> {
     /// The numbers 40 to 47 come before any growth; 1 comes only where a growth was refused. Refused, it leaves the
     /// table and the seat as they were.
     pub fn call(&mut self, seat: &mut Seat, step: &Step) -> Result<Answer, Refusal>
-        ensures refused { (r : _) → refusal_in self.old seat.old.number step.now ≡ Some r → result ≡ Err r }
-        ensures allowed { refusal_in self.old seat.old.number step.now ≡ None → IfErr result (λ r. r ≡ no_memory) }
+        ensures refused { (r : _) → call_reason self.old seat.old.number step.now ≡ Some r → result ≡ Err (refusal_by r) }
+        ensures allowed { call_reason self.old seat.old.number step.now ≡ None → IfErr result (λ r. r ≡ refusal_by reasons.NoMemory) }
         ensures taken { IfOk result (λ a. Calls self.old seat.old step.now a self.new seat.new) }
         ensures table { OnErr result (self.new ≡ self.old) }
         ensures seat { OnErr result (seat.new ≡ seat.old) }
     {
-        if let Some(refusal) = self.refused(seat.number, step) {
-            return Err(refusal);
+        if let Some(reason) = self.reason(seat.number, step) {
+            return Err(reason.refusal());
         }
         match self.keep(seat, step) {
             Ok(answer) => Ok(answer),
-            Err(_) => Err(Refusal(1)),
+            Err(_) => Err(Reason::NoMemory.refusal()),
         }
     }
 
     // All growths come before the first change.
     fn keep(&mut self, seat: &mut Seat, step: &Step) -> Result<Answer, NoMemory>
-        requires { refusal_in self.old seat.old.number step.now ≡ None }
+        requires { call_reason self.old seat.old.number step.now ≡ None }
         ensures taken { IfOk result (λ a. Calls self.old seat.old step.now a self.new seat.new) }
         ensures table { OnErr result (self.new ≡ self.old) }
         ensures seat { OnErr result (seat.new ≡ seat.old) }
     {
-        step.known();
         let kept = step.copy()?;
         let told = step.copy()?;
-        make_room(&mut self.journal)?;
-        make_room(&mut seat.received)?;
+        let number = seat.number;
         let place = self.journal.len() as u64;
-        let book = &mut self.books[seat.number as usize];
-        make_room(&mut book.places)?;
-        let answer = self.state.take(seat.number, step)?;
+        let book = &mut self.books[number as usize];
+        make_rooms(&mut self.journal, &mut book.places, &mut seat.received)?;
+        let answer = self.state.take(number, step)?;
         append(&mut book.places, place);
-        let entry = Entry {
-            seat: seat.number,
-            step: kept,
-            answer: same(&answer),
-        };
-        append(&mut self.journal, entry);
-        let received = Received {
-            step: told,
-            answer: same(&answer),
-        };
-        append(&mut seat.received, received);
+        append(&mut self.journal, entry_of(number, kept, &answer));
+        append(&mut seat.received, received_of(told, &answer));
         Ok(answer)
     }
 }

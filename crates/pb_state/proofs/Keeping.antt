@@ -4,9 +4,9 @@ use Rattle.std.specs.Ordering.{nat_cmp, eq_by_cmp}
 use Rattle.std.specs.Cmp.{unsigned_tied, nat_cmp_total}
 use Rattle.std.specs.FinMap as map
 use Rattle.std.proofs.lemmas.Bool.{eqb-true}
-use Rattle.pb_state.specs.State.{TransactionOf, Transactions}
+use Rattle.pb_steps.specs.State.{TransactionOf, Transactions}
 use Rattle.pb_store.specs.Contents.{Entries}
-use Rattle.pb_state.specs.Kept.{IsKept, IsWhole}
+use Rattle.pb_state.specs.Keeping.{StateKeeps, HasData}
 
 branches : {A : Type 0} (b : Bool) (x y : Option A) (w : A) → cond b x y ≡ Some w → (b ≡ true) ⊎ (y ≡ Some w)
 branches true x y w e = inl refl
@@ -20,7 +20,7 @@ inserted_or ts k u s v e =
       | inr old ↦ inr old
     ]
 
-pub kept_put : (e f : Entries) (clock later k : ℕ) (ts new : Transactions) (u : TransactionOf) → IsKept e clock ts → clock ≤ later → k ≤ later → new ≡ map.insert ts k u → IsWhole f → IsKept f later new
+pub kept_put : (e f : Entries) (clock later k : ℕ) (ts new : Transactions) (u : TransactionOf) → StateKeeps e clock ts → clock ≤ later → k ≤ later → new ≡ map.insert ts k u → HasData f → StateKeeps f later new
 kept_put e f clock later k ts new u kept le low is whole = record {
   begun = λ s v e.
       elim (inserted_or ts k u s v (ap (λ m. map.get m s) (sym is) ∙ e)) [
@@ -31,5 +31,5 @@ kept_put e f clock later k ts new u kept le low is whole = record {
 }
 
 -- a change of a transaction that is there
-pub kept_change : (e f : Entries) (clock later k : ℕ) (ts new : Transactions) (t u : TransactionOf) → IsKept e clock ts → map.get ts k ≡ Some t → clock ≤ later → new ≡ map.insert ts k u → IsWhole f → IsKept f later new
+pub kept_change : (e f : Entries) (clock later k : ℕ) (ts new : Transactions) (t u : TransactionOf) → StateKeeps e clock ts → map.get ts k ≡ Some t → clock ≤ later → new ≡ map.insert ts k u → HasData f → StateKeeps f later new
 kept_change e f clock later k ts new t u kept there le is whole = let b = kept.begun k t there in kept_put e f clock later k ts new u kept le (omega arith) is whole

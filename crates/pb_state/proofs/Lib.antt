@@ -3,8 +3,11 @@ pub mod Rising
 pub mod Outcomes
 pub mod Keeping
 pub mod Newest
-pub mod Commits
+pub mod Allowed
+pub mod NewState
+pub mod ItsDeclaration
+pub mod ReadsTaken
 mod Walking
 mod Whole
-mod Records
+mod ObserversByNumber
 mod Runs

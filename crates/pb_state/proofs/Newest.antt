@@ -7,7 +7,7 @@ use Rattle.pb_store.specs.declared.slot.Item.{Item}
 use Rattle.pb_store.specs.declared.slot.Item.TheVariants as items
 use Rattle.pb_store.specs.declared.slot.Sort.TheVariants as sorts
 use Rattle.pb_store.specs.Contents.{Entries, IsNewest, IsOfSort}
-use Rattle.pb_state.specs.State.{NoLock, SomeLock, NoWriteFrom, SomeWriteFrom, primary_of, start_of}
+use Rattle.pb_steps.specs.Readings.{NoLock, SomeLock, NoWriteFrom, SomeWriteFrom, primary_of, start_of}
 
 abbrev pub last : Ts
 last = record { 0 = 18446744073709551615 }

@@ -5,7 +5,7 @@ use Rattle.std.specs.Cmp.{unsigned_tied, nat_cmp_total}
 use Rattle.std.specs.FinMap as map
 use Rattle.std.proofs.lemmas.Bool.{eqb-true, eq-eqb, ne_eqb, cases_lt}
 use Rattle.std.proofs.lemmas.List.{get_or_default, get_or_append_left, length_push, get_or_push}
-use Rattle.pb_state.specs.Starts.{AreRising, IsAt, IsNowhere}
+use Rattle.pb_state.specs.Starts.{StartsRise, IsStartAt, IsNoStart}
 
 other_number : (q k : ℕ) → q ≢ k → eq_by_cmp nat_cmp q k ≡ false
 other_number q k h = unsigned_tied q k ∙ ne_eqb q k h
@@ -19,7 +19,7 @@ module _ {X : Type 0} where
   any_default es m d e lt = ap (λ (p : ℕ × X). p.0) (get_or_default es m d e lt)
 
   -- numbers up to one that is below
-  pub below_here : (es : List (ℕ × X)) (m k : ℕ) (here : ℕ × X) → AreRising es → m < length es → (get_or es m here).0 < k → (i : ℕ) (d : ℕ × X) → i < m + 1 → (get_or es i d).0 < k
+  pub below_here : (es : List (ℕ × X)) (m k : ℕ) (here : ℕ × X) → StartsRise es → m < length es → (get_or es m here).0 < k → (i : ℕ) (d : ℕ × X) → i < m + 1 → (get_or es i d).0 < k
   below_here es m k here r lt below i d up =
       let same = any_default es m d here lt in
       elim (cases_lt i m) [
@@ -28,7 +28,7 @@ module _ {X : Type 0} where
       ]
 
   -- numbers from one that is above on
-  pub above_here : (es : List (ℕ × X)) (m k : ℕ) (here : ℕ × X) → AreRising es → m < length es → k < (get_or es m here).0 → (i : ℕ) (d : ℕ × X) → m ≤ i → i < length es → k < (get_or es i d).0
+  pub above_here : (es : List (ℕ × X)) (m k : ℕ) (here : ℕ × X) → StartsRise es → m < length es → k < (get_or es m here).0 → (i : ℕ) (d : ℕ × X) → m ≤ i → i < length es → k < (get_or es i d).0
   above_here es m k here r lt above i d up within =
       let same = any_default es m d here lt in
       elim (cases_lt m i) [
@@ -36,13 +36,13 @@ module _ {X : Type 0} where
         | inr more ↦ let e : i ≡ m = omega arith in subst (λ n. k < (get_or es n d).0) (sym e) (omega arith)
       ]
 
-  pub found_at : (es : List (ℕ × X)) (m k : ℕ) (here : ℕ × X) → m < length es → (get_or es m here).0 ≡ k → IsAt es k m
+  pub found_at : (es : List (ℕ × X)) (m k : ℕ) (here : ℕ × X) → m < length es → (get_or es m here).0 ≡ k → IsStartAt es k m
   found_at es m k here lt is = record { within = lt; here = λ d. any_default es m d here lt ∙ is }
 
-  tail_rises : (e : ℕ × X) (es : List (ℕ × X)) → AreRising (e ∷ es) → AreRising es
+  tail_rises : (e : ℕ × X) (es : List (ℕ × X)) → StartsRise (e ∷ es) → StartsRise es
   tail_rises e es r = record { at = λ i j d lt within. r.at (suc i) (suc j) d (omega arith) (omega arith) }
 
-  pub find_at : (es : List (ℕ × X)) (k i : ℕ) (d : ℕ × X) → AreRising es → IsAt es k i → map.find nat_cmp k es ≡ Some (get_or es i d).1
+  pub find_at : (es : List (ℕ × X)) (k i : ℕ) (d : ℕ × X) → StartsRise es → IsStartAt es k i → map.find nat_cmp k es ≡ Some (get_or es i d).1
   find_at [] k i d r h = let lt = h.within in absurd (omega arith)
   find_at (e ∷ es) k zero d r h = ap (λ b. cond b (Some e.1) (map.find nat_cmp k es)) (same_number k e.0 (sym (h.here d)))
   find_at (e ∷ es) k (suc i) d r h =
@@ -52,7 +52,7 @@ module _ {X : Type 0} where
       ap (λ b. cond b (Some e.1) (map.find nat_cmp k es)) (other_number k e.0 (λ s. omega (arith, lt, is, s)))
       ∙ find_at es k i d (tail_rises e es r) (record { within = omega arith; here = h.here })
 
-  pub find_nowhere : (es : List (ℕ × X)) (k : ℕ) → IsNowhere es k → map.find nat_cmp k es ≡ None
+  pub find_nowhere : (es : List (ℕ × X)) (k : ℕ) → IsNoStart es k → map.find nat_cmp k es ≡ None
   find_nowhere [] k h = refl
   find_nowhere (e ∷ es) k h =
       ap (λ b. cond b (Some e.1) (map.find nat_cmp k es)) (other_number k e.0 (λ s. h.none 0 e (omega arith) (sym s)))
@@ -71,7 +71,7 @@ module _ {X : Type 0} where
   number_set (x ∷ es) (suc i) p d lt e zero = refl
   number_set (x ∷ es) (suc i) p d lt e (suc a) = number_set es i p d (omega arith) e a
 
-  pub set_rises : (es : List (ℕ × X)) (i : ℕ) (p d : ℕ × X) → AreRising es → i < length es → p.0 ≡ (get_or es i d).0 → AreRising (set es i p)
+  pub set_rises : (es : List (ℕ × X)) (i : ℕ) (p d : ℕ × X) → StartsRise es → i < length es → p.0 ≡ (get_or es i d).0 → StartsRise (set es i p)
   set_rises es i p d r lt e = record {
     at = λ a b f less within.
         let w : b < length es = omega (arith, within, length-set es i p) in
@@ -92,7 +92,7 @@ module _ {X : Type 0} where
   skipped false true v x rest e = cc
   skipped false false v x rest e = refl
 
-  find_set : (es : List (ℕ × X)) (k i : ℕ) (v : X) (q : ℕ) → AreRising es → IsAt es k i → map.find nat_cmp q (set es i (k, v)) ≡ cond (eq_by_cmp nat_cmp q k) (Some v) (map.find nat_cmp q es)
+  find_set : (es : List (ℕ × X)) (k i : ℕ) (v : X) (q : ℕ) → StartsRise es → IsStartAt es k i → map.find nat_cmp q (set es i (k, v)) ≡ cond (eq_by_cmp nat_cmp q k) (Some v) (map.find nat_cmp q es)
   find_set [] k i v q r h = let lt = h.within in absurd (omega arith)
   find_set (e ∷ es) k zero v q r h = skipped _ _ (Some v) (Some e.1) (map.find nat_cmp q es) (ap (λ n. eq_by_cmp nat_cmp q n) (sym (h.here e)))
   find_set (e ∷ es) k (suc i) v q r h =
@@ -105,7 +105,7 @@ module _ {X : Type 0} where
       ap (cond (eq_by_cmp nat_cmp q e.0) (Some e.1)) (find_set es k i v q (tail_rises e es r) (record { within = omega arith; here = h.here }))
       ∙ either _ _ (Some v) (Some e.1) (map.find nat_cmp q es) apart
 
-  pub inserted : (es : List (ℕ × X)) (k i : ℕ) (v : X) → AreRising es → IsAt es k i → map.from_entries {R = nat_cmp} (set es i (k, v)) ≡ map.insert (map.from_entries es) k v
+  pub inserted : (es : List (ℕ × X)) (k i : ℕ) (v : X) → StartsRise es → IsStartAt es k i → map.from_entries {R = nat_cmp} (set es i (k, v)) ≡ map.insert (map.from_entries es) k v
   inserted es k i v r h = map.same_map nat_cmp_total map.nat_cmp-IsAntisymmetric _ _ (λ q.
       map.get-from_entries nat_cmp_total (set es i (k, v)) q
       ∙ find_set es k i v q r h
@@ -114,7 +114,7 @@ module _ {X : Type 0} where
 
   -- ---- one more pair at the end
 
-  pub push_rises : (es : List (ℕ × X)) (p : ℕ × X) → AreRising es → ((i : ℕ) (d : ℕ × X) → i < length es → (get_or es i d).0 < p.0) → AreRising (es ++ p ∷ [])
+  pub push_rises : (es : List (ℕ × X)) (p : ℕ × X) → StartsRise es → ((i : ℕ) (d : ℕ × X) → i < length es → (get_or es i d).0 < p.0) → StartsRise (es ++ p ∷ [])
   push_rises es p r all = record {
     at = λ i j d less within.
         elim (cases_lt j (length es)) [
@@ -133,39 +133,39 @@ module _ {X : Type 0} where
         ];
   }
 
-  pub nowhere_above : (es : List (ℕ × X)) (k : ℕ) → ((i : ℕ) (d : ℕ × X) → i < length es → (get_or es i d).0 < k) → IsNowhere es k
+  pub nowhere_above : (es : List (ℕ × X)) (k : ℕ) → ((i : ℕ) (d : ℕ × X) → i < length es → (get_or es i d).0 < k) → IsNoStart es k
   nowhere_above es k all = record { none = λ i d lt is. let h = all i d lt in omega (arith, h, is) }
 
   -- a bound on the numbers that the map has is one on those in the list
-  pub all_below : (es : List (ℕ × X)) (k : ℕ) → AreRising es → ((q : ℕ) (v : X) → map.get (map.from_entries {R = nat_cmp} es) q ≡ Some v → q < k) → (i : ℕ) (d : ℕ × X) → i < length es → (get_or es i d).0 < k
+  pub all_below : (es : List (ℕ × X)) (k : ℕ) → StartsRise es → ((q : ℕ) (v : X) → map.get (map.from_entries {R = nat_cmp} es) q ≡ Some v → q < k) → (i : ℕ) (d : ℕ × X) → i < length es → (get_or es i d).0 < k
   all_below es k r low i d lt =
       let q = (get_or es i d).0 in
       low q (get_or es i d).1 (map.get-from_entries nat_cmp_total es q ∙ find_at es q i d r (record { within = lt; here = λ e. any_default es i e d lt }))
 
-  pub pushed : (es : List (ℕ × X)) (k : ℕ) (v : X) → IsNowhere es k → map.from_entries {R = nat_cmp} (es ++ (k, v) ∷ []) ≡ map.insert (map.from_entries es) k v
+  pub pushed : (es : List (ℕ × X)) (k : ℕ) (v : X) → IsNoStart es k → map.from_entries {R = nat_cmp} (es ++ (k, v) ∷ []) ≡ map.insert (map.from_entries es) k v
   pushed es k v h = map.from_entries_push nat_cmp_total map.nat_cmp-IsAntisymmetric es k v (find_nowhere es k h)
 
   -- ---- the same of the map that they are
 
-  pub held : (es : List (ℕ × X)) (m : map.FinMap nat_cmp X) (k i : ℕ) (e : ℕ × X) → AreRising es → map.from_entries es ≡ m → IsAt es k i → e ≡ get_or es i e → map.get m k ≡ Some e.1
+  pub held : (es : List (ℕ × X)) (m : map.FinMap nat_cmp X) (k i : ℕ) (e : ℕ × X) → StartsRise es → map.from_entries es ≡ m → IsStartAt es k i → e ≡ get_or es i e → map.get m k ≡ Some e.1
   held es m k i e r is at here =
       ap (λ n. map.get n k) (sym is) ∙ map.get-from_entries nat_cmp_total es k ∙ find_at es k i e r at ∙ ap (λ (p : ℕ × X). Some p.1) (sym here)
 
-  pub not_held : (es : List (ℕ × X)) (m : map.FinMap nat_cmp X) (k : ℕ) → map.from_entries es ≡ m → IsNowhere es k → map.get m k ≡ None
+  pub not_held : (es : List (ℕ × X)) (m : map.FinMap nat_cmp X) (k : ℕ) → map.from_entries es ≡ m → IsNoStart es k → map.get m k ≡ None
   not_held es m k is none = ap (λ n. map.get n k) (sym is) ∙ map.get-from_entries nat_cmp_total es k ∙ find_nowhere es k none
 
-  pub changed : (es : List (ℕ × X)) (m : map.FinMap nat_cmp X) (k i : ℕ) (e : ℕ × X) (v w : X) → AreRising es → map.from_entries es ≡ m → IsAt es k i → e ≡ get_or es i e → v ≡ w → map.from_entries {R = nat_cmp} (set es i (e.0, v)) ≡ map.insert m k w
+  pub changed : (es : List (ℕ × X)) (m : map.FinMap nat_cmp X) (k i : ℕ) (e : ℕ × X) (v w : X) → StartsRise es → map.from_entries es ≡ m → IsStartAt es k i → e ≡ get_or es i e → v ≡ w → map.from_entries {R = nat_cmp} (set es i (e.0, v)) ≡ map.insert m k w
   changed es m k i e v w r is at here same =
       let number : e.0 ≡ k = ap (λ (p : ℕ × X). p.0) here ∙ at.here e in
       (λ j. map.from_entries {R = nat_cmp} (set es i (number j, same j))) ∙ inserted es k i w r at ∙ ap (λ n. map.insert n k w) is
 
-  pub changed_rises : (es : List (ℕ × X)) (k i : ℕ) (e : ℕ × X) (v : X) → AreRising es → IsAt es k i → e ≡ get_or es i e → AreRising (set es i (e.0, v))
+  pub changed_rises : (es : List (ℕ × X)) (k i : ℕ) (e : ℕ × X) (v : X) → StartsRise es → IsStartAt es k i → e ≡ get_or es i e → StartsRise (set es i (e.0, v))
   changed_rises es k i e v r at here = set_rises es i (e.0, v) e r at.within (ap (λ (p : ℕ × X). p.0) here)
 
-  pub added : (es : List (ℕ × X)) (m : map.FinMap nat_cmp X) (k : ℕ) (v : X) → AreRising es → map.from_entries es ≡ m → ((q : ℕ) (x : X) → map.get m q ≡ Some x → q < k) → map.from_entries {R = nat_cmp} (es ++ (k, v) ∷ []) ≡ map.insert m k v
+  pub added : (es : List (ℕ × X)) (m : map.FinMap nat_cmp X) (k : ℕ) (v : X) → StartsRise es → map.from_entries es ≡ m → ((q : ℕ) (x : X) → map.get m q ≡ Some x → q < k) → map.from_entries {R = nat_cmp} (es ++ (k, v) ∷ []) ≡ map.insert m k v
   added es m k v r is low =
       let below = all_below es k r (λ q x g. low q x (ap (λ n. map.get n q) (sym is) ∙ g)) in
       pushed es k v (nowhere_above es k below) ∙ ap (λ n. map.insert n k v) is
 
-  pub added_rises : (es : List (ℕ × X)) (m : map.FinMap nat_cmp X) (k : ℕ) (v : X) → AreRising es → map.from_entries es ≡ m → ((q : ℕ) (x : X) → map.get m q ≡ Some x → q < k) → AreRising (es ++ (k, v) ∷ [])
+  pub added_rises : (es : List (ℕ × X)) (m : map.FinMap nat_cmp X) (k : ℕ) (v : X) → StartsRise es → map.from_entries es ≡ m → ((q : ℕ) (x : X) → map.get m q ≡ Some x → q < k) → StartsRise (es ++ (k, v) ∷ [])
   added_rises es m k v r is low = push_rises es (k, v) r (all_below es k r (λ q x g. low q x (ap (λ n. map.get n q) (sym is) ∙ g)))

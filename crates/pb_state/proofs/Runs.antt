@@ -4,7 +4,7 @@ use Rattle.std.proofs.lemmas.Bool.{eqb-true, lt-ltb}
 use Rattle.pb_base.specs.Same.{same, same_is, is_same}
 use Rattle.pb_vm.specs.Accepted.{AcceptedOf}
 use Rattle.pb_vm.specs.Finished.{Meant, meant_code, is_plain, is_empty}
-use Rattle.pb_state.specs.Declarations.{plain_run}
+use Rattle.pb_steps.specs.Declarations.{plain_run}
 
 not_true : (b : Bool) → (b ≡ true → ⊥) → false ≡ b
 not_true true h = absurd (h refl)

@@ -14,9 +14,10 @@ use Rattle.pb_store.specs.declared.slot.Sort.{Sort}
 use Rattle.pb_store.specs.declared.slot.Sort.TheVariants as sorts
 use Rattle.pb_store.specs.Slot.{slot_cmp, slot_cmp_total, slot_cmp-IsAntisymmetric}
 use Rattle.pb_store.specs.Contents.{Entries, slot_at}
-use Rattle.pb_state.specs.State.{data_at, lock_at, content_of, primary_of, start_of}
-use Rattle.pb_state.specs.Machine.{put_lock, commit_lock}
-use Rattle.pb_state.specs.Kept.{IsWhole}
+use Rattle.pb_steps.specs.Readings.{data_at, lock_at, data_of, primary_of, start_of}
+use Rattle.pb_steps.specs.Prewrite.{put_lock}
+use Rattle.pb_steps.specs.CommitPrimary.{commit_lock}
+use Rattle.pb_state.specs.Keeping.{HasData}
 
 same_slot : (a b : Slot) → eq_by_cmp slot_cmp a b ≡ true → a ≡ b
 same_slot a b e = slot_cmp-IsAntisymmetric a b ((Equal-is (slot_cmp a b)).0 e)
@@ -69,11 +70,11 @@ write_item (Some (items.Data c)) s e = cc
 write_item (Some (items.Lock q)) s e = cc
 write_item (Some (items.Write t)) s e = let h : t.0 ≡ s = cc in λ i. Some (items.Write (record { 0 = h i }))
 
-data_stays : (b : Bool) (c : Content) (o : Option Item) → is_some (content_of o) ≡ true → is_some (content_of (cond b (Some (items.Data c)) o)) ≡ true
+data_stays : (b : Bool) (c : Content) (o : Option Item) → is_some (data_of o) ≡ true → is_some (data_of (cond b (Some (items.Data c)) o)) ≡ true
 data_stays true c o h = refl
 data_stays false c o h = h
 
-data_there : (b : Bool) (c : Content) (o : Option Item) → b ≡ true → is_some (content_of (cond b (Some (items.Data c)) o)) ≡ true
+data_there : (b : Bool) (c : Content) (o : Option Item) → b ≡ true → is_some (data_of (cond b (Some (items.Data c)) o)) ≡ true
 data_there true c o e = refl
 data_there false c o e = cc
 
@@ -82,13 +83,13 @@ itself a = ap is_eq (tied_itself slot_cmp_total a)
 
 -- ---- the three changes
 
-pub whole_nothing : (e : Entries) → e ≡ map.empty → IsWhole e
+pub whole_nothing : (e : Entries) → e ≡ map.empty → HasData e
 whole_nothing e is = record {
   locked = λ x s p h. let none : map.get e (slot_at x sorts.Lock s) ≡ None = ap (λ m. map.get m (slot_at x sorts.Lock s)) is ∙ map.get-empty slot_cmp (slot_at x sorts.Lock s) in let l = lock_item _ p h in absurd cc;
   written = λ x c s h. let none : map.get e (slot_at x sorts.Write c) ≡ None = ap (λ m. map.get m (slot_at x sorts.Write c)) is ∙ map.get-empty slot_cmp (slot_at x sorts.Write c) in let l = write_item _ s h in absurd cc;
 }
 
-module _ (e f : Entries) (x p : Cell) (k : Content) (s : ℕ) (w : IsWhole e) (is : f ≡ put_lock e x s k p) where
+module _ (e f : Entries) (x p : Cell) (k : Content) (s : ℕ) (w : HasData e) (is : f ≡ put_lock e x s k p) where
   abbrev d : Slot
   d = slot_at x sorts.Data s
 
@@ -98,15 +99,15 @@ module _ (e f : Entries) (x p : Cell) (k : Content) (s : ℕ) (w : IsWhole e) (i
   abbrev with_data : Entries
   with_data = map.insert e d (items.Data k)
 
-  at_data : (y : Cell) (u : ℕ) → data_at f y u ≡ content_of (cond (eq_by_cmp slot_cmp (slot_at y sorts.Data u) d) (Some (items.Data k)) (map.get e (slot_at y sorts.Data u)))
+  at_data : (y : Cell) (u : ℕ) → data_at f y u ≡ data_of (cond (eq_by_cmp slot_cmp (slot_at y sorts.Data u) d) (Some (items.Data k)) (map.get e (slot_at y sorts.Data u)))
   at_data y u =
       let q = slot_at y sorts.Data u in
-      ap content_of (ap (λ m. map.get m q) is ∙ put_other with_data q l (items.Lock p) (λ h. cc) ∙ map.get-insert slot_cmp_total e d (items.Data k) q)
+      ap data_of (ap (λ m. map.get m q) is ∙ put_other with_data q l (items.Lock p) (λ h. cc) ∙ map.get-insert slot_cmp_total e d (items.Data k) q)
 
   data_kept : (y : Cell) (u : ℕ) → is_some (data_at e y u) ≡ true → is_some (data_at f y u) ≡ true
   data_kept y u h = ap is_some (at_data y u) ∙ data_stays _ k _ h
 
-  pub whole_locked : IsWhole f
+  pub whole_locked : HasData f
   whole_locked = record {
     locked = λ y u q h.
         let g = slot_at y sorts.Lock u in
@@ -123,7 +124,7 @@ is_there : {A : Type 0} (o : Option A) → is_some o ≡ true → (a : A) × (o 
 is_there None e = cc
 is_there (Some a) e = (a, refl)
 
-module _ (e f : Entries) (x : Cell) (s c : ℕ) (w : IsWhole e) (held : is_some (lock_at e x s) ≡ true) (is : f ≡ commit_lock e x s c) where
+module _ (e f : Entries) (x : Cell) (s c : ℕ) (w : HasData e) (held : is_some (lock_at e x s) ≡ true) (is : f ≡ commit_lock e x s c) where
   abbrev lock : Slot
   lock = slot_at x sorts.Lock s
 
@@ -133,7 +134,7 @@ module _ (e f : Entries) (x : Cell) (s c : ℕ) (w : IsWhole e) (held : is_some 
   data_same : (y : Cell) (u : ℕ) → data_at f y u ≡ data_at e y u
   data_same y u =
       let q = slot_at y sorts.Data u in
-      ap content_of (ap (λ m. map.get m q) is ∙ put_other (map.remove e lock) q record_at (items.Write (record { 0 = s })) (λ h. cc) ∙ erased_other e q lock (λ h. cc))
+      ap data_of (ap (λ m. map.get m q) is ∙ put_other (map.remove e lock) q record_at (items.Write (record { 0 = s })) (λ h. cc) ∙ erased_other e q lock (λ h. cc))
 
   of_lock : (q : Cell) (p : Cell) (u : ℕ) (t : ℕ) → slot_at q sorts.Write t ≡ record_at → items.Write (record { 0 = s }) ≡ items.Write (record { 0 = u }) → is_some (data_at e q u) ≡ true
   of_lock q p u t z n =
@@ -143,7 +144,7 @@ module _ (e f : Entries) (x : Cell) (s c : ℕ) (w : IsWhole e) (held : is_some 
       let starts : s ≡ u = ap (λ (t : Ts). t.0) named in
       subst (λ b. is_some (data_at e b u) ≡ true) (sym cells) (subst (λ v. is_some (data_at e x v) ≡ true) starts (w.locked x s h.0 h.1))
 
-  pub whole_committed : IsWhole f
+  pub whole_committed : HasData f
   whole_committed = record {
     locked = λ y u q h.
         let g = slot_at y sorts.Lock u in

@@ -1,10 +1,4 @@
-pub mod State
+pub mod Cells
 pub mod Starts
-pub mod Known
-pub mod Declarations
-pub mod Fitting
-pub mod Refusal
-pub mod Kept
-pub mod Machine
-pub mod Allowed
+pub mod Keeping
 pub mod Walks

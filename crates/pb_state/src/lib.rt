@@ -1,15 +1,22 @@
-//! The steps of the shared table, and the state that they change.
+//! The state of the shared table, and its transactions.
 #![tactic(auto)]
 
-mod declaration;
-mod observer;
+mod begin;
+mod cells;
+mod commit_primary;
+mod declare;
+mod observed;
+mod prewrite;
+mod read;
+mod readings;
+mod stamp;
 mod state;
-mod step;
 mod transaction;
+mod transactions;
 
-pub use declaration::{Seen, acknowledged_in};
-pub use observer::Observer;
+pub use pb_steps::{
+    Answer, Declaration, Declared, Observer, Phase, RecordedRead, Seen, Step, Work,
+    acknowledged_in, version_in,
+};
 pub use pb_vm::{Accepted, Finished, Moved, Record, Vm};
 pub use state::State;
-pub use step::{Answer, Declaration, Declared, Step, Work};
-pub use transaction::Phase;

@@ -1,6 +1,6 @@
 use Rattle.std.proofs.Common.{◌≡◌, ◌+◌, [], ◌∷◌, ◌++◌, ◌∙◌, sym, ap, subst, take}
 use Rattle.std.proofs.lemmas.List.{take_more, take_all}
-use Rattle.pb_core.specs.declared.entry.Entry.{Entry}
+use Rattle.pb_history.specs.declared.entry.Entry.{Entry}
 use Rattle.pb_alone.specs.Puts.{puts_by, all_puts, AllTold}
 use Rattle.pb_alone.specs.Committed.{Gathers}
 use Rattle.pb_alone.proofs.Gathering.{gathers_on, told_on, gathers}
@@ -25,4 +25,4 @@ returns g c =
     let state = c.args.shared.now.state in
     let all : take c.loop-entry.entry-index es ≡ c.args.shared.now.journal = take_all c.loop-entry.entry-index es c.loop-entry-test.false ∙ c.journal-entry-items.ensures.entries in
     subst (Gathers c.args.shared.now.state.observers c.args.shared.now.journal) (sym (c.loop-entry.invariant.gathered ∙ ap (all_puts state) all))
-    (gathers c.args.shared.now.journal state c.journal-entry-items.ensures.known c.journal-entry-items.ensures.history (subst (AllTold state) all c.loop-entry.invariant.told))
+    (gathers c.args.shared.now.journal state c.journal-entry-items.ensures.history (subst (AllTold state) all c.loop-entry.invariant.told))

@@ -1,7 +1,7 @@
 use Rattle.std.proofs.Common.{◌∙◌, ◌≡◌, ℕ, List, IfOk, Result, Ok, Err, String, Global, string_bytes, subst, sym}
 use Rattle.std.specs.FinMap as map
 use Rattle.pb_base.specs.declared.refusal.NoMemory.{NoMemory}
-use Rattle.pb_state.specs.State.{lock_count}
+use Rattle.pb_steps.specs.Readings.{lock_count}
 use Rattle.pb_core.specs.Calls.{SharedOf}
 use Rattle.pb_texts.specs.declared.report.newest.Put.{Put}
 use Rattle.pb_texts.specs.Reports.{IsReport}

@@ -1,23 +1,21 @@
 use Rattle.std.proofs.Common.{subst}
 use Rattle.pb_core.specs.Calls.{SharedOf}
-use Rattle.pb_core.specs.History.{TellsHistory}
-use Rattle.pb_core.specs.Reads.{TellsReads}
-use Rattle.pb_core.specs.Runs.{TellsRuns}
-use Rattle.pb_core.proofs.Tells.{tells}
-use Rattle.pb_core.proofs.RunLaws.{tells_reads, tells_runs}
+use Rattle.pb_history.specs.History.{TellsHistory}
+use Rattle.pb_history.specs.ReadsTold.{TellsReads}
+use Rattle.pb_history.specs.RunsTold.{TellsRuns}
 use Rattle.pb_core.proofs.shared.Shared.journal.Goals as goal
 
 pub returns-clause-history : goal.returns-clause-history
 returns-clause-history g c =
     let s = c.self.inside in
-    subst (λ (v : SharedOf). TellsHistory v.journal v.state) c.self.view_is (tells s.state.observers s.state.seats s.opened s.journal.items s.state c.self.invariant.legal)
+    subst (λ (v : SharedOf). TellsHistory v.journal v.state) c.self.view_is (c.histories_are_told.ensures s.state.observers s.state.seats s.opened s.journal.items s.state c.self.invariant.legal)
 
 pub returns-clause-reads : goal.returns-clause-reads
 returns-clause-reads g c =
     let s = c.self.inside in
-    subst (λ (v : SharedOf). TellsReads v.state.observers v.state.seats v.opened v.journal) c.self.view_is (tells_reads s.state.observers s.state.seats s.opened s.journal.items s.state c.self.invariant.legal)
+    subst (λ (v : SharedOf). TellsReads v.state.observers v.state.seats v.opened v.journal) c.self.view_is (c.reads_are_told.ensures s.state.observers s.state.seats s.opened s.journal.items s.state c.self.invariant.legal)
 
 pub returns-clause-runs : goal.returns-clause-runs
 returns-clause-runs g c =
     let s = c.self.inside in
-    subst (λ (v : SharedOf). TellsRuns v.journal v.state) c.self.view_is (tells_runs s.state.observers s.state.seats s.opened s.journal.items s.state c.self.invariant.legal c.self.invariant.known)
+    subst (λ (v : SharedOf). TellsRuns v.journal v.state) c.self.view_is (c.runs_are_told.ensures s.state.observers s.state.seats s.opened s.journal.items s.state c.self.invariant.legal)

@@ -1,11 +1,11 @@
 use Rattle.std.proofs.Common.{sym, ap, ◌∙◌}
-use Rattle.pb_state.specs.State.{StateOf}
+use Rattle.pb_steps.specs.State.{StateOf}
 use Rattle.pb_core.proofs.Nothing.{nothing_if}
 use Rattle.pb_core.proofs.Fresh.{fresh_seats}
 use Rattle.pb_core.proofs.shared.Shared.open.Goals as goal
 
-pub new-state-requires : goal.new-state-requires
-new-state-requires g c = nothing_if c.args.table.contents (sym c.is_empty.ensures ∙ c.if-not-is_empty.false)
+pub new-state-requires-clause-empty : goal.new-state-requires-clause-empty
+new-state-requires-clause-empty g c = nothing_if c.args.table.contents (sym c.is_empty.ensures ∙ c.if-not-is_empty.false)
 
 pub returns-clause-seats : goal.returns-clause-seats
 returns-clause-seats g c = fresh_seats _ c.args.seats c.in-Ok-empty_seats.all.items c.new.ensures.items (ap (λ (s : StateOf). s.seats) c.new-state.ensures) c.in-Ok-empty_seats.ensures

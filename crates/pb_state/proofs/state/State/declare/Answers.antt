@@ -1,12 +1,38 @@
-use Rattle.std.proofs.Common.{arith, ap, ◌∙◌}
+use Rattle.std.proofs.Common.{◌≡◌, Some, refl, arith, ap, ◌∙◌}
 use Rattle.std.specs.FinMap as map
-use Rattle.pb_state.specs.State.{StateOf}
-use Rattle.pb_state.specs.Allowed.{declares, own_held}
+use Rattle.pb_steps.specs.declared.phase.Phase.TheVariants as phases
+use Rattle.pb_steps.specs.State.{StateOf, TransactionOf, cells_of}
+use Rattle.pb_state.specs.Cells.{cells_in}
+use Rattle.pb_state.proofs.NewState.{new_state}
+use Rattle.pb_state.proofs.ItsDeclaration.{may_be_its}
+use Rattle.pb_state.proofs.Allowed.{may_declare}
 use Rattle.pb_state.proofs.Keeping.{kept_change}
 use Rattle.pb_state.proofs.state.State.declare.Goals as goal
 
 pub invariant_of-self : goal.invariant_of-self
 invariant_of-self g c =
-    let may = declares c.args.self.now c.args.seat c.args.start c.args.what.now c.requires in
-    let held = ap (λ (s : StateOf). map.get s.transactions c.args.start.0) c.self.view_is ∙ own_held c.args.self.now c.args.seat c.args.start.0 may.0 may.1 in
-    kept_change c.self.inside.table.contents.entries _ c.self.inside.clock _ c.args.start.0 c.self.inside.transactions _ may.0 _ c.self.invariant held (omega arith) (c.declare.ensures may.0 held) c.self.invariant.whole
+    let may = may_declare c.args.self.now c.args.seat c.args.start c.args.what.now c.requires in
+    let held = ap (λ (s : StateOf). map.get s.transactions c.args.start.0) c.self.view_is ∙ may.own.there in
+    (kept_change c.self.inside.table.contents.entries _ c.self.inside.clock _ c.args.start.0 c.self.inside.transactions _ may.t _ c.self.invariant.0 held (omega arith) (c.declare.ensures may.t held) c.self.invariant.0.whole, c.self.invariant.1)
+
+pub returns-clause-taken : goal.returns-clause-taken
+returns-clause-taken g c =
+    let may = may_declare c.args.self.now c.args.seat c.args.start c.args.what.now c.requires in
+    let held = ap (λ (s : StateOf). map.get s.transactions c.args.start.0) c.self.view_is ∙ may.own.there in
+    let there : Some c.in-Some.transaction.now ≡ map.get c.self.inside.transactions c.args.start.0 = c.in-Some.ensures in
+    let same : c.in-Some.transaction.now ≡ may.t = cc in
+    let work : c.work-work.result ≡ may.t.work = c.work-work.ensures ∙ ap (λ (t : TransactionOf). t.work) same in
+    let observers : c.deref.result.now ≡ c.args.self.now.observers = c.deref.ensures.value ∙ ap (λ (s : StateOf). s.observers) c.self.view_is in
+    let cells : cells_in c.in_ok-cells.cells ≡ cells_of c.args.self.now.observers may.t.work c.args.start.0 c.args.what.now = c.in_ok-cells.ensures.cells ∙ (λ i. cells_of (observers i) (work i) c.args.start.0 c.args.what.now) in
+    record {
+      allowed = c.requires;
+      taken = record {
+        t = may.t;
+        own = may.own;
+        reading = may.reading;
+        known = c.in_ok-cells.ensures.known;
+        its = may_be_its c.args.self.now.observers may.t.work c.args.start.0 may.t.reads c.args.what.now may.its;
+        new_is = new_state c.self.inside.table c.self.inside.table c.self.inside.observers.items c.self.inside.clock c.self.inside.seats c.self.inside.transactions c.declare.new.self c.args.start.0 _ (λ m. m) refl
+            (c.declare.ensures may.t held ∙ ap (λ ws. map.insert c.self.inside.transactions c.args.start.0 (record may.t { phase = phases.Declared; declared = ws })) cells) c.args.self.now c.self.view_is;
+      };
+    }

@@ -1,7 +1,12 @@
-use Rattle.std.proofs.Common.{arith, ap, ◌∙◌}
+use Rattle.std.proofs.Common.{◌≡◌, Bool, true, false, Some, arith, ap, subst, ◌∙◌}
 use Rattle.std.specs.FinMap as map
-use Rattle.pb_state.specs.State.{StateOf}
-use Rattle.pb_state.specs.Allowed.{may_prewrite, own_held}
+use Rattle.std.specs.Bool.{MatchBool}
+use Rattle.pb_base.specs.Batch.{content_in, primary_in}
+use Rattle.pb_steps.specs.State.{StateOf}
+use Rattle.pb_steps.specs.Readings.{NoLock, NoWriteFrom}
+use Rattle.pb_steps.specs.Prewrite.{put_lock}
+use Rattle.pb_state.proofs.NewState.{new_state}
+use Rattle.pb_state.proofs.Allowed.{may_prewrite}
 use Rattle.pb_store.specs.Contents.{Contents}
 use Rattle.pb_state.proofs.Whole.{whole_locked}
 use Rattle.pb_state.proofs.Keeping.{kept_change}
@@ -10,11 +15,44 @@ use Rattle.pb_state.proofs.state.State.prewrite.Goals as goal
 pub invariant_of-self : goal.invariant_of-self
 invariant_of-self g c =
     let may = may_prewrite c.args.self.now c.args.seat c.args.start c.args.cell.now c.requires in
-    let held = ap (λ (s : StateOf). map.get s.transactions c.args.start.0) c.self.view_is ∙ own_held c.args.self.now c.args.seat c.args.start.0 may.t may.of in
-    kept_change c.self.inside.table.contents.entries _ c.self.inside.clock _ c.args.start.0 c.self.inside.transactions _ may.t _ c.self.invariant held (omega arith) (c.set_phase.ensures may.t held) c.self.invariant.whole
+    let held = ap (λ (s : StateOf). map.get s.transactions c.args.start.0) c.self.view_is ∙ may.own.there in
+    (kept_change c.self.inside.table.contents.entries _ c.self.inside.clock _ c.args.start.0 c.self.inside.transactions _ may.t _ c.self.invariant.0 held (omega arith) (c.set_phase.ensures may.t held) c.self.invariant.0.whole, c.self.invariant.1)
 
 pub invariant_of-self-2 : goal.invariant_of-self-2
 invariant_of-self-2 g c =
     let may = may_prewrite c.args.self.now c.args.seat c.args.start c.args.cell.now c.requires in
-    let held = ap (λ (s : StateOf). map.get s.transactions c.args.start.0) c.self.view_is ∙ own_held c.args.self.now c.args.seat c.args.start.0 may.t may.of in
-    kept_change c.self.inside.table.contents.entries _ c.self.inside.clock _ c.args.start.0 c.self.inside.transactions _ may.t _ c.self.invariant held (omega arith) (c.in_ok-prewrite.ensures.ok may.t held) (whole_locked c.self.inside.table.contents.entries _ c.args.cell.now c.in-Some-primary.primary c.in-Some-content.content c.args.start.0 c.self.invariant.whole (ap (λ (d : Contents). d.entries) (c.in_ok-prewrite.ensures.applied ∙ c.lock_edits-edits.ensures.lock c.self.inside.table.contents)))
+    let held = ap (λ (s : StateOf). map.get s.transactions c.args.start.0) c.self.view_is ∙ may.own.there in
+    (kept_change c.self.inside.table.contents.entries _ c.self.inside.clock _ c.args.start.0 c.self.inside.transactions _ may.t _ c.self.invariant.0 held (omega arith) (c.in_ok-prewrite.ensures.ok may.t held) (whole_locked c.self.inside.table.contents.entries _ c.args.cell.now c.in-Some-primary.primary c.in-Some-content.content c.args.start.0 c.self.invariant.0.whole (ap (λ (d : Contents). d.entries) (c.in_ok-prewrite.ensures.applied ∙ c.lock_edits-edits.ensures.lock c.self.inside.table.contents))), c.self.invariant.1)
+
+free_if : (b : Bool) (P Q : Type 0) → MatchBool b P Q → b ≡ false → Q
+free_if true P Q h e = cc
+free_if false P Q h e = h
+
+pub returns-clause-taken : goal.returns-clause-taken
+returns-clause-taken g c =
+    let may = may_prewrite c.args.self.now c.args.seat c.args.start c.args.cell.now c.requires in
+    let held = ap (λ (s : StateOf). map.get s.transactions c.args.start.0) c.self.view_is ∙ may.own.there in
+    let there : Some c.in-Some.transaction.now ≡ map.get c.self.inside.transactions c.args.start.0 = c.in-Some.ensures in
+    let same : c.in-Some.transaction.now ≡ may.t = cc in
+    let content : content_in may.t.declared c.args.cell.now ≡ Some c.in-Some-content.content = cc in
+    let first : primary_in may.t.declared ≡ Some c.in-Some-primary.primary = cc in
+    let e : c.self.inside.table.contents.entries ≡ c.args.self.now.entries = ap (λ (s : StateOf). s.entries) c.self.view_is in
+    let free = free_if c.is_taken.result _ _ c.is_taken.ensures c.if-is_taken.false in
+    record {
+      allowed = c.requires;
+      taken = record {
+        t = may.t;
+        own = may.own;
+        phase = may.phase;
+        in_order = may.in_order;
+        content = c.in-Some-content.content;
+        declares = content;
+        once = may.once;
+        primary = c.in-Some-primary.primary;
+        primary_is = first;
+        unlocked = subst (λ m. NoLock m c.args.cell.now) e free.0;
+        no_later = subst (λ m. NoWriteFrom m c.args.cell.now c.args.start.0) e free.1;
+        new_is = new_state c.self.inside.table c.prewrite.new.table c.self.inside.observers.items c.self.inside.clock c.self.inside.seats c.self.inside.transactions c.prewrite.new.self c.args.start.0 _
+            (λ m. put_lock m c.args.cell.now c.args.start.0 c.in-Some-content.content c.in-Some-primary.primary) (c.in_ok-prewrite.ensures.applied ∙ c.lock_edits-edits.ensures.lock c.self.inside.table.contents) (c.in_ok-prewrite.ensures.ok may.t held) c.args.self.now c.self.view_is;
+      };
+    }

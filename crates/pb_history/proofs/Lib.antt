@@ -1,0 +1,4 @@
+pub mod Agreement
+pub mod StepsAgree
+pub mod HistoryTold
+pub mod RunsTold

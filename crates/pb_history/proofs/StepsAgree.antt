@@ -1,0 +1,280 @@
+-- Each step keeps journal and state in agreement.
+use Rattle.std.proofs.Common.{◌≡◌, ℕ, ◌⊎◌, inl, inr, true, false, List, [], ◌∷◌, ◌++◌, Option, Some, None, refl, sym, ap, subst, ◌∙◌, arith}
+use Rattle.std.specs.FinMap as map
+use Rattle.std.specs.Ordering.{nat_cmp}
+use Rattle.pb_base.specs.declared.cell.Cell.{Cell}
+use Rattle.pb_base.specs.declared.names.Ts.{Ts}
+use Rattle.pb_steps.specs.declared.step.Work.{Work}
+use Rattle.pb_steps.specs.declared.step.Declared.{Declared}
+use Rattle.pb_steps.specs.declared.step.Step.{Step}
+use Rattle.pb_steps.specs.declared.step.Step.TheVariants.{Begin, Read, Declare, Prewrite, Stamp, CommitPrimary}
+use Rattle.pb_steps.specs.declared.seen.RecordedRead.{RecordedRead}
+use Rattle.pb_steps.specs.declared.step.Answer.{Answer}
+use Rattle.pb_steps.specs.declared.step.Answer.TheVariants.{At, Locked, Found, Absent, Done, Conflict, Committed, Lost}
+use Rattle.pb_steps.specs.declared.phase.Phase.{Phase}
+use Rattle.pb_steps.specs.declared.phase.Phase.TheVariants as phases
+use Rattle.pb_steps.specs.State.{StateOf, TransactionOf, opening, new_transaction, cells_of}
+use Rattle.pb_steps.specs.Observers.{ObserverOf}
+use Rattle.pb_steps.specs.Declarations.{MayDeclare}
+use Rattle.pb_steps.specs.Reasons.{IsOwn}
+use Rattle.pb_steps.specs.Steps.{step_reason, StepCase}
+use Rattle.pb_steps.specs.Phases.{is_reading, is_declared}
+use Rattle.pb_steps.specs.Read.{with_read}
+use Rattle.pb_steps.specs.Begin.{Begins}
+use Rattle.pb_steps.specs.Declare.{Declares}
+use Rattle.pb_steps.specs.Prewrite.{Prewrites, Conflicts}
+use Rattle.pb_steps.specs.Stamp.{Stamps}
+use Rattle.pb_steps.specs.CommitPrimary.{CommitsPrimary, Loses}
+use Rattle.pb_history.specs.declared.entry.Entry.{Entry}
+use Rattle.pb_history.specs.Journals.{JournalLeads, IsLegal}
+use Rattle.pb_history.specs.History.{Has, IsEntry}
+use Rattle.pb_history.proofs.Agreement.{ts, got, has_front, has_last, has_more, PastStamp, Told, Agrees, agrees_change, agrees_new, agrees_same}
+
+abbrev entry : ℕ → Step → Answer → Entry
+entry seat step answer = record { seat = seat; step = step; answer = answer }
+
+no_stamp_declared : (h : Phase) → is_declared h ≡ true → (c : ℕ) → PastStamp h c → ⊥
+no_stamp_declared phases.Declared e c p = elim p [ inl q ↦ cc | inr r ↦ elim r [ inl q ↦ cc | inr q ↦ cc ] ]
+no_stamp_declared phases.Reading e c p = cc
+no_stamp_declared (phases.Stamped d) e c p = cc
+no_stamp_declared (phases.Committed d) e c p = cc
+no_stamp_declared phases.Failed e c p = cc
+
+past_declared : (h : Phase) → is_declared h ≡ true → is_reading h ≡ false
+past_declared phases.Declared e = refl
+past_declared phases.Reading e = cc
+past_declared (phases.Stamped d) e = cc
+past_declared (phases.Committed d) e = cc
+past_declared phases.Failed e = cc
+
+reading_is : (h : Phase) → is_reading h ≡ true → h ≡ phases.Reading
+reading_is phases.Reading e = refl
+reading_is phases.Declared e = cc
+reading_is (phases.Stamped d) e = cc
+reading_is (phases.Committed d) e = cc
+reading_is phases.Failed e = cc
+
+no_commit_declared : (h : Phase) → is_declared h ≡ true → (c : ℕ) → h ≡ phases.Committed (ts c) → ⊥
+no_commit_declared h e c q = no_stamp_declared h e c (inr (inl q))
+
+none_if : {A : Type 0} (o : Option A) → ((w : A) → o ≡ Some w → ⊥) → o ≡ None
+none_if None h = refl
+none_if (Some w) h = absurd (h w refl)
+
+module _ (journal : List Entry) (seat : ℕ) (old new : StateOf) (a : Agrees journal old) where
+  begins : (work : Work) (s : ℕ) → Begins old seat work s new → Agrees (journal ++ entry seat (Begin work) (At (ts s)) ∷ []) new
+  begins work s m =
+      let e = entry seat (Begin work) (At (ts s)) in
+      let clock : new.clock ≡ s = ap (λ (z : StateOf). z.clock) m.new_is in
+      let fresh = m.fresh in
+      let unknown : got old s ≡ None = none_if _ (λ t h. let z = a.early s t h in omega (arith, z, fresh)) in
+      agrees_new journal e old new a s (new_transaction seat work) (ap (λ (z : StateOf). z.transactions) m.new_is) (omega (arith, clock, fresh)) (omega (arith, clock)) (ap (λ (z : StateOf). z.observers) m.new_is) unknown
+      (λ h. (new_transaction seat work, h, refl, refl))
+      (record {
+        begun = has_last journal e;
+        reads = λ r h. absurd h;
+        declared = λ h. cc;
+        stamped = λ c p. absurd (elim p [ inl q ↦ cc | inr q ↦ cc ]);
+        committed = λ c q. cc;
+      })
+
+  -- a read is recorded
+  records : (s : Ts) (x : Cell) (b : Answer) (t : TransactionOf) → IsOwn old seat s.0 t → is_reading t.phase ≡ true → new ≡ record old { transactions = map.insert old.transactions s.0 (with_read t s.0 x b) }
+      → Told new seat (Read s x) b → Agrees (journal ++ entry seat (Read s x) b ∷ []) new
+  records s x b t own reading new-is told =
+      let e = entry seat (Read s x) b in
+      let was = own.there in
+      let l = a.logged s.0 t was in
+      let r = reading_is t.phase reading in
+      let clock : new.clock ≡ old.clock = ap (λ (z : StateOf). z.clock) new-is in
+      let low = a.early s.0 t was in
+      agrees_change journal e old new a s.0 (with_read t s.0 x b) (ap (λ (z : StateOf). z.transactions) new-is) (omega (arith, clock)) (omega (arith, clock, low)) (ap (λ (z : StateOf). z.observers) new-is) t was
+      (record { seat = refl; work = refl; past = λ h. cc; stamped = λ c p. absurd (elim p [ inl q ↦ cc | inr z ↦ elim z [ inl q ↦ cc | inr q ↦ cc ] ]); committed = λ c q. cc })
+      (λ h. told)
+      (record {
+        begun = has_front journal e _ l.begun;
+        reads = λ q h. elim (has_more t.reads (record { cell = x; at = ts s.0; answer = b }) q h) [
+          | inl is ↦ subst (λ (w : RecordedRead). IsEntry (journal ++ e ∷ []) t.seat (Read s w.cell) w.answer) is (subst (λ n. IsEntry (journal ++ e ∷ []) n (Read s x) b) (sym own.mine) (has_last journal e))
+          | inr old-one ↦ has_front journal e _ (l.reads q old-one)
+        ];
+        declared = λ h. cc;
+        stamped = λ c p. absurd (elim p [ inl q ↦ cc | inr q ↦ cc ]);
+        committed = λ c q. cc;
+      })
+
+  declared_now : (s : Ts) (what : Declared) → Declares old seat s.0 what new → Agrees (journal ++ entry seat (Declare s what) Done ∷ []) new
+  declared_now s what m =
+      let e = entry seat (Declare s what) Done in
+      let reading = m.reading in
+      let obs : new.observers ≡ old.observers = ap (λ (z : StateOf). z.observers) m.new_is in
+      let was = m.own.there in
+      let mine = m.own.mine in
+      let u : TransactionOf = record m.t { phase = phases.Declared; declared = cells_of old.observers m.t.work s.0 what } in
+      let clock : new.clock ≡ old.clock = ap (λ (z : StateOf). z.clock) m.new_is in
+      let low = a.early s.0 m.t was in
+      agrees_change journal e old new a s.0 u (ap (λ (z : StateOf). z.transactions) m.new_is) (omega (arith, clock)) (omega (arith, clock, low)) obs m.t was
+      (record { seat = refl; work = refl; past = λ h. cc; stamped = λ c p. let r = reading_is m.t.phase reading in absurd (elim p [ inl q ↦ cc | inr z ↦ elim z [ inl q ↦ cc | inr q ↦ cc ] ]); committed = λ c q. let r = reading_is m.t.phase reading in cc })
+      (λ h. (u, h, refl, sym (ap (λ o. cells_of o m.t.work s.0 what) obs), m.known))
+      (record {
+        begun = has_front journal e _ (a.logged s.0 m.t was).begun;
+        reads = λ r h. has_front journal e _ ((a.logged s.0 m.t was).reads r h);
+        declared = λ h. (what, subst (λ n. IsEntry (journal ++ e ∷ []) n (Declare s what) Done) (sym mine) (has_last journal e), refl, m.known, m.its);
+        stamped = λ c p. absurd (elim p [ inl q ↦ cc | inr q ↦ cc ]);
+        committed = λ c q. cc;
+      })
+
+  -- a declared transaction that prewrites or fails
+  goes_on : (step : Step) (answer : Answer) (s : ℕ) (t u : TransactionOf) → got old s ≡ Some t → is_declared t.phase ≡ true → u.seat ≡ t.seat → u.work ≡ t.work → u.reads ≡ t.reads → u.declared ≡ t.declared
+      → (u.phase ≡ t.phase) ⊎ (u.phase ≡ phases.Failed) → new.transactions ≡ map.insert old.transactions s u → new.clock ≡ old.clock → new.observers ≡ old.observers → Told new seat step answer → Agrees (journal ++ entry seat step answer ∷ []) new
+  goes_on step answer s t u was phase same-seat same-work same-reads same-writes how is clock obs told =
+      let e = entry seat step answer in
+      let low = a.early s t was in
+      let l = a.logged s t was in
+      let past = past_declared t.phase phase in
+      agrees_change journal e old new a s u is (omega (arith, clock)) (omega (arith, clock, low)) obs t was
+      (record {
+        seat = same-seat;
+        work = same-work;
+        past = λ h. (elim how [ inl q ↦ ap is_reading q ∙ past | inr q ↦ ap is_reading q ], same-writes);
+        stamped = λ c p. absurd (no_stamp_declared t.phase phase c p);
+        committed = λ c q. absurd (no_commit_declared t.phase phase c q);
+      })
+      (λ h. told)
+      (record {
+        begun = subst (λ n. IsEntry (journal ++ e ∷ []) n (Begin u.work) (At (ts s))) (sym same-seat) (subst (λ w. IsEntry (journal ++ e ∷ []) t.seat (Begin w) (At (ts s))) (sym same-work) (has_front journal e _ l.begun));
+        reads = λ r h. subst (λ n. IsEntry (journal ++ e ∷ []) n (Read (ts s) r.cell) r.answer) (sym same-seat) (has_front journal e _ (l.reads r (subst (λ rs. Has rs r) same-reads h)));
+        declared = λ h. let d = l.declared past in (
+          d.0,
+          subst (λ n. IsEntry (journal ++ e ∷ []) n (Declare (ts s) d.0) Done) (sym same-seat) (has_front journal e _ d.1),
+          same-writes ∙ d.2 ∙ ap (λ w. cells_of old.observers w s d.0) (sym same-work),
+          d.3,
+          subst (λ w. MayDeclare old.observers w s u.reads d.0) (sym same-work) (subst (λ rs. MayDeclare old.observers t.work s rs d.0) (sym same-reads) d.4),
+        );
+        stamped = λ c p. absurd (elim how [
+          | inl q ↦ no_stamp_declared t.phase phase c (elim p [ inl x ↦ inl (sym q ∙ x) | inr x ↦ inr (inl (sym q ∙ x)) ])
+          | inr q ↦ elim p [ inl x ↦ cc | inr x ↦ cc ]
+        ]);
+        committed = λ c x. absurd (elim how [ inl q ↦ no_commit_declared t.phase phase c (sym q ∙ x) | inr q ↦ cc ]);
+      })
+
+  prewrites : (s : Ts) (x : Cell) → Prewrites old seat s.0 x new → Agrees (journal ++ entry seat (Prewrite s x) Done ∷ []) new
+  prewrites s x m =
+      goes_on (Prewrite s x) Done s.0 m.t (record m.t { prewritten = m.t.prewritten ++ x ∷ [] }) m.own.there m.phase
+      refl refl refl refl (inl refl) (ap (λ (z : StateOf). z.transactions) m.new_is) (ap (λ (z : StateOf). z.clock) m.new_is) (ap (λ (z : StateOf). z.observers) m.new_is) tt
+
+  conflicts : (s : Ts) (x : Cell) → Conflicts old seat s.0 x new → Agrees (journal ++ entry seat (Prewrite s x) Conflict ∷ []) new
+  conflicts s x m =
+      goes_on (Prewrite s x) Conflict s.0 m.t (record m.t { phase = phases.Failed }) m.own.there m.phase
+      refl refl refl refl (inr refl) (ap (λ (z : StateOf). z.transactions) m.new_is) (ap (λ (z : StateOf). z.clock) m.new_is) (ap (λ (z : StateOf). z.observers) m.new_is) tt
+
+  stamps : (s : Ts) (c : ℕ) → Stamps old seat s.0 c new → Agrees (journal ++ entry seat (Stamp s) (At (ts c)) ∷ []) new
+  stamps s c m =
+      let e = entry seat (Stamp s) (At (ts c)) in
+      let phase = m.phase in
+      let was = m.own.there in
+      let mine = m.own.mine in
+      let l = a.logged s.0 m.t was in
+      let past = past_declared m.t.phase phase in
+      let u : TransactionOf = record m.t { phase = phases.Stamped (ts c) } in
+      let clock : new.clock ≡ c = ap (λ (z : StateOf). z.clock) m.new_is in
+      let fresh = m.fresh in
+      let low = a.early s.0 m.t was in
+      let logged : IsEntry (journal ++ e ∷ []) m.t.seat (Stamp s) (At (ts c)) = subst (λ n. IsEntry (journal ++ e ∷ []) n (Stamp s) (At (ts c))) (sym mine) (has_last journal e) in
+      agrees_change journal e old new a s.0 u (ap (λ (z : StateOf). z.transactions) m.new_is) (omega (arith, clock, fresh)) (omega (arith, clock, fresh, low)) (ap (λ (z : StateOf). z.observers) m.new_is) m.t was
+      (record { seat = refl; work = refl; past = λ h. (refl, refl); stamped = λ d p. absurd (no_stamp_declared m.t.phase phase d p); committed = λ d q. absurd (no_commit_declared m.t.phase phase d q) })
+      (λ h. (u, h, inl refl))
+      (record {
+        begun = has_front journal e _ l.begun;
+        reads = λ r h. has_front journal e _ (l.reads r h);
+        declared = λ h. let d = l.declared past in (d.0, has_front journal e _ d.1, d.2, d.3, d.4);
+        stamped = λ d p. elim p [ inl q ↦ (let k : ts c ≡ ts d = cc in subst (λ n. IsEntry (journal ++ e ∷ []) m.t.seat (Stamp s) (At n)) k logged) | inr q ↦ cc ];
+        committed = λ d q. cc;
+      })
+
+  commits : (s : Ts) → CommitsPrimary old seat s.0 new → Agrees (journal ++ entry seat (CommitPrimary s) Committed ∷ []) new
+  commits s m =
+      let e = entry seat (CommitPrimary s) Committed in
+      let was = m.own.there in
+      let mine = m.own.mine in
+      let l = a.logged s.0 m.t was in
+      let stamped = m.stamped in
+      let past : is_reading m.t.phase ≡ false = ap is_reading stamped in
+      let u : TransactionOf = record m.t { phase = phases.Committed (ts m.c) } in
+      let clock : new.clock ≡ old.clock = ap (λ (z : StateOf). z.clock) m.new_is in
+      let low = a.early s.0 m.t was in
+      agrees_change journal e old new a s.0 u (ap (λ (z : StateOf). z.transactions) m.new_is) (omega (arith, clock)) (omega (arith, clock, low)) (ap (λ (z : StateOf). z.observers) m.new_is) m.t was
+      (record {
+        seat = refl;
+        work = refl;
+        past = λ h. (refl, refl);
+        stamped = λ d p. inr (inl (elim p [ inl q ↦ (let k : ts m.c ≡ ts d = cc in ap phases.Committed k) | inr r ↦ elim r [ inl q ↦ cc | inr q ↦ cc ] ]));
+        committed = λ d q. cc;
+      })
+      (λ h. (u, h, m.c, refl))
+      (record {
+        begun = has_front journal e _ l.begun;
+        reads = λ r h. has_front journal e _ (l.reads r h);
+        declared = λ h. let d = l.declared past in (d.0, has_front journal e _ d.1, d.2, d.3, d.4);
+        stamped = λ d p. has_front journal e _ (l.stamped d (inl (elim p [ inl q ↦ cc | inr q ↦ (let k : ts m.c ≡ ts d = cc in stamped ∙ ap phases.Stamped k) ])));
+        committed = λ d q. subst (λ n. IsEntry (journal ++ e ∷ []) n (CommitPrimary s) Committed) (sym mine) (has_last journal e);
+      })
+
+  loses : (s : Ts) → Loses old seat s.0 new → Agrees (journal ++ entry seat (CommitPrimary s) Lost ∷ []) new
+  loses s m =
+      let e = entry seat (CommitPrimary s) Lost in
+      let stamped = m.stamped in
+      let was = m.own.there in
+      let l = a.logged s.0 m.t was in
+      let past : is_reading m.t.phase ≡ false = ap is_reading stamped in
+      let u : TransactionOf = record m.t { phase = phases.Failed } in
+      let clock : new.clock ≡ old.clock = ap (λ (z : StateOf). z.clock) m.new_is in
+      let low = a.early s.0 m.t was in
+      agrees_change journal e old new a s.0 u (ap (λ (z : StateOf). z.transactions) m.new_is) (omega (arith, clock)) (omega (arith, clock, low)) (ap (λ (z : StateOf). z.observers) m.new_is) m.t was
+      (record { seat = refl; work = refl; past = λ h. (refl, refl); stamped = λ d p. inr (inr refl); committed = λ d q. cc })
+      (λ h. tt)
+      (record {
+        begun = has_front journal e _ l.begun;
+        reads = λ r h. has_front journal e _ (l.reads r h);
+        declared = λ h. let d = l.declared past in (d.0, has_front journal e _ d.1, d.2, d.3, d.4);
+        stamped = λ d p. absurd (elim p [ inl q ↦ cc | inr q ↦ cc ]);
+        committed = λ d q. cc;
+      })
+
+  case_agrees : (step : Step) (answer : Answer) → StepCase old seat step answer new → Agrees (journal ++ entry seat step answer ∷ []) new
+  case_agrees (Begin work) (At s) m = begins work s.0 m
+  case_agrees (Read s x) (Locked start primary) m = agrees_same journal (entry seat (Read s x) (Locked start primary)) old new a m.new_is tt
+  case_agrees (Read s x) (Found start commit content) m = records s x (Found start commit content) m.t m.own m.reading m.new_is tt
+  case_agrees (Read s x) Absent m = records s x Absent m.t m.own m.reading m.new_is tt
+  case_agrees (Declare s what) Done m = declared_now s what m
+  case_agrees (Prewrite s x) Done m = prewrites s x m
+  case_agrees (Prewrite s x) Conflict m = conflicts s x m
+  case_agrees (Stamp s) (At c) m = stamps s c.0 m
+  case_agrees (CommitPrimary s) Committed m = commits s m
+  case_agrees (CommitPrimary s) Lost m = loses s m
+  case_agrees _ _ m = absurd m
+
+append_one : (xs : List Entry) (y : Entry) (zs : List Entry) → (xs ++ y ∷ []) ++ zs ≡ xs ++ y ∷ zs
+append_one [] y zs = refl
+append_one (x ∷ xs) y zs = ap (λ es. x ∷ es) (append_one xs y zs)
+
+-- from agreement on to agreement
+run_agrees : (before : List Entry) (old : StateOf) (es : List Entry) (new : StateOf) → Agrees before old → JournalLeads old es new → Agrees (before ++ es) new
+run_agrees before old [] new a r = subst (λ s. Agrees (before ++ []) s) (sym r) (subst (λ b. Agrees b old) (sym (append_nil before)) a)
+  where
+    append_nil : (xs : List Entry) → xs ++ [] ≡ xs
+    append_nil [] = refl
+    append_nil (x ∷ xs) = ap (λ ys. x ∷ ys) (append_nil xs)
+run_agrees before old (e ∷ es) new a r =
+    let m = r.1 in
+    subst (λ b. Agrees b new) (append_one before e es)
+    (run_agrees (before ++ e ∷ []) r.0 es new (case_agrees before e.seat old r.0 a e.step e.answer m.taken) r.2)
+
+nothing_agrees : (observers : List ObserverOf) (seats clock : ℕ) → Agrees [] (opening observers seats clock)
+nothing_agrees observers seats clock = record {
+  early = λ s t h. let none = map.get-empty {X = TransactionOf} nat_cmp s in cc;
+  told = λ e h. absurd h;
+  logged = λ s t h. let none = map.get-empty {X = TransactionOf} nat_cmp s in absurd cc;
+}
+
+pub legal_agrees : (observers : List ObserverOf) (seats clock : ℕ) (journal : List Entry) (state : StateOf) → IsLegal observers seats clock journal state → Agrees journal state
+legal_agrees observers seats clock journal state l = run_agrees [] (opening observers seats clock) journal state (nothing_agrees observers seats clock) l.run

@@ -1,0 +1,95 @@
+-- The committed transactions of a journal, and the snapshots that they make (OSDI 2010, sections 2.2 and 2.3).
+use Rattle.std.specs.Prelude.{◌≡◌, ℕ, ◌<◌, ◌≤◌, ◌⊎◌, List, [], ◌∷◌, Some}
+use Rattle.std.specs.FinMap as map
+use Rattle.pb_base.specs.declared.cell.Cell.{Cell}
+use Rattle.pb_base.specs.declared.content.Content.{Content}
+use Rattle.pb_base.specs.Batch.{Writes, content_in}
+use Rattle.pb_steps.specs.declared.step.Work.{Work}
+use Rattle.pb_steps.specs.declared.step.Declared.{Declared}
+use Rattle.pb_steps.specs.declared.step.Step.{Step}
+use Rattle.pb_steps.specs.declared.step.Step.TheVariants.{Begin, Declare, Stamp, CommitPrimary}
+use Rattle.pb_steps.specs.declared.step.Answer.{Answer}
+use Rattle.pb_steps.specs.declared.step.Answer.TheVariants.{At, Done, Committed}
+use Rattle.pb_steps.specs.declared.phase.Phase.TheVariants as phases
+use Rattle.pb_steps.specs.State.{StateOf, TransactionOf, cells_of}
+use Rattle.pb_steps.specs.Observers.{ObserverOf}
+use Rattle.pb_steps.specs.Declarations.{IsKnown}
+use Rattle.pb_history.specs.declared.entry.Entry.{Entry}
+
+-- a list has an item
+abbrev pub Has : {A : Type 0} → List A → A → Type 0
+Has [] x = ⊥
+Has (y ∷ ys) x = (y ≡ x) ⊎ Has ys x
+
+-- the journal has an entry of this seat with this step and answer
+abbrev pub IsEntry : List Entry → ℕ → Step → Answer → Type 0
+IsEntry journal seat step answer = Has journal (record { seat = seat; step = step; answer = answer })
+
+-- a committed transaction
+pub record Member : Type 0 where
+  pub start : ℕ
+  pub commit : ℕ
+  pub seat : ℕ
+  pub work : Work
+  pub writes : Writes
+
+-- a transaction of the journal with the answer `Committed`: its commit is its stamp, its writes are what it declared
+pub record InHistory (observers : List ObserverOf) (journal : List Entry) (m : Member) : Type 0 where
+  pub begun : IsEntry journal m.seat (Begin m.work) (At (record { 0 = m.start }))
+  pub what : Declared
+  pub declared : IsEntry journal m.seat (Declare (record { 0 = m.start }) what) Done
+  pub writes_are : m.writes ≡ cells_of observers m.work m.start what
+  pub stamped : IsEntry journal m.seat (Stamp (record { 0 = m.start })) (At (record { 0 = m.commit }))
+  pub committed : IsEntry journal m.seat (CommitPrimary (record { 0 = m.start })) Committed
+
+-- x is written with this content
+abbrev pub WritesTo : Member → Cell → Content → Type 0
+WritesTo m x content = content_in m.writes x ≡ Some content
+
+-- of the writes to x with a commit at most s, this is the one with the greatest
+pub record IsSnapshot (observers : List ObserverOf) (journal : List Entry) (s : ℕ) (x : Cell) (start commit : ℕ) (content : Content) : Type 0 where
+  pub m : Member
+  pub in_history : InHistory observers journal m
+  pub start_is : m.start ≡ start
+  pub commit_is : m.commit ≡ commit
+  pub writes : WritesTo m x content
+  pub seen : commit ≤ s
+  pub greatest : (n : Member) (k : Content) → InHistory observers journal n → WritesTo n x k → n.commit ≤ s → n.commit ≤ commit
+
+-- no write to x has a commit at most s
+abbrev pub NoSnapshot : List ObserverOf → List Entry → ℕ → Cell → Type 0
+NoSnapshot observers journal s x = (n : Member) (k : Content) → InHistory observers journal n → WritesTo n x k → s < n.commit
+
+-- the state has this transaction, committed
+pub record IsCommitted (state : StateOf) (m : Member) : Type 0 where
+  pub t : TransactionOf
+  pub there : map.get state.transactions m.start ≡ Some t
+  pub phase : t.phase ≡ phases.Committed (record { 0 = m.commit })
+  pub seat : m.seat ≡ t.seat
+  pub work : m.work ≡ t.work
+  pub writes : m.writes ≡ t.declared
+
+-- the state has what a declaration named, and that is known
+pub record IsDeclared (state : StateOf) (start : ℕ) (what : Declared) : Type 0 where
+  pub t : TransactionOf
+  pub there : map.get state.transactions start ≡ Some t
+  pub declared : t.declared ≡ cells_of state.observers t.work start what
+  pub known : IsKnown what
+
+-- the history of a journal, told by the state that it leads to
+pub record TellsHistory (journal : List Entry) (state : StateOf) : Type 0 where
+  pub early : (s : ℕ) (t : TransactionOf) → map.get state.transactions s ≡ Some t → s ≤ state.clock
+  pub committed : (m : Member) → InHistory state.observers journal m → IsCommitted state m
+  pub member : (m : Member) → IsCommitted state m → InHistory state.observers journal m
+  pub declared : (seat start : ℕ) (what : Declared) → IsEntry journal seat (Declare (record { 0 = start }) what) Done → IsDeclared state start what
+
+-- the greatest commit so far is below the next
+abbrev pub RiseFrom : ℕ → List Member → Type 0
+RiseFrom low [] = Unit {0}
+RiseFrom low (m ∷ ms) = (low < m.commit) × RiseFrom m.commit ms
+
+-- the history as a list, in the order of the commits, each transaction once
+pub record IsHistory (observers : List ObserverOf) (journal : List Entry) (ms : List Member) : Type 0 where
+  pub each : (m : Member) → Has ms m → InHistory observers journal m
+  pub whole : (m : Member) → InHistory observers journal m → Has ms m
+  pub rising : RiseFrom 0 ms

@@ -1,0 +1,16 @@
+-- Legal journals.
+use Rattle.std.specs.Prelude.{◌≡◌, ℕ, ◌<◌, ◌^◌, List, [], ◌∷◌}
+use Rattle.pb_steps.specs.Observers.{ObserverOf}
+use Rattle.pb_steps.specs.State.{StateOf, opening}
+use Rattle.pb_steps.specs.Steps.{TableStep}
+use Rattle.pb_history.specs.declared.entry.Entry.{Entry}
+
+-- the journal is a run of steps from one state to another
+abbrev pub JournalLeads : StateOf → List Entry → StateOf → Type 0
+JournalLeads old [] new = new ≡ old
+JournalLeads old (e ∷ es) new = (mid : StateOf) × TableStep old e.seat e.step e.answer mid × JournalLeads mid es new
+
+-- a journal is legal if it is a run from the state with no entry, mark or transaction, and the clock as opened
+pub record IsLegal (observers : List ObserverOf) (seats clock : ℕ) (journal : List Entry) (state : StateOf) : Type 0 where
+  pub fits : clock < 2 ^ 64
+  pub run : JournalLeads (opening observers seats clock) journal state

@@ -1,0 +1,18 @@
+-- The laws of legal journals.
+use Rattle.std.specs.Prelude.{ℕ, List}
+use Rattle.pb_steps.specs.Observers.{ObserverOf}
+use Rattle.pb_steps.specs.State.{StateOf}
+use Rattle.pb_history.specs.declared.entry.Entry.{Entry}
+use Rattle.pb_history.specs.Journals.{IsLegal}
+use Rattle.pb_history.specs.History.{TellsHistory}
+use Rattle.pb_history.specs.ReadsTold.{TellsReads}
+use Rattle.pb_history.specs.RunsTold.{TellsRuns}
+
+abbrev pub HistoriesAreTold : Type 0
+HistoriesAreTold = (observers : List ObserverOf) (seats clock : ℕ) (journal : List Entry) (state : StateOf) → IsLegal observers seats clock journal state → TellsHistory journal state
+
+abbrev pub ReadsAreTold : Type 0
+ReadsAreTold = (observers : List ObserverOf) (seats clock : ℕ) (journal : List Entry) (state : StateOf) → IsLegal observers seats clock journal state → TellsReads observers seats clock journal
+
+abbrev pub RunsAreTold : Type 0
+RunsAreTold = (observers : List ObserverOf) (seats clock : ℕ) (journal : List Entry) (state : StateOf) → IsLegal observers seats clock journal state → TellsRuns journal state

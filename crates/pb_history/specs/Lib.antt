@@ -1,0 +1,6 @@
+pub mod Places
+pub mod Journals
+pub mod History
+pub mod ReadsTold
+pub mod RunsTold
+pub mod Laws

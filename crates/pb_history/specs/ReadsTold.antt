@@ -1,0 +1,26 @@
+-- What the reads of a legal journal tell.
+use Rattle.std.specs.Prelude.{◌≡◌, ℕ, List, ◌∷◌, ◌++◌}
+use Rattle.pb_steps.specs.declared.step.Step.{Step}
+use Rattle.pb_steps.specs.declared.step.Step.TheVariants.{Read}
+use Rattle.pb_steps.specs.declared.step.Answer.{Answer}
+use Rattle.pb_steps.specs.declared.step.Answer.TheVariants.{Found, Absent}
+use Rattle.pb_steps.specs.State.{StateOf, opening}
+use Rattle.pb_steps.specs.Observers.{ObserverOf}
+use Rattle.pb_steps.specs.Readings.{IsVersion, NoVersion}
+use Rattle.pb_history.specs.declared.entry.Entry.{Entry}
+use Rattle.pb_history.specs.Journals.{JournalLeads}
+
+-- a read tells of the cell the newest version up to its start, or that there is none
+abbrev pub TellsVersion : StateOf → Step → Answer → Type 0
+TellsVersion state (Read s x) (Found start commit content) = IsVersion state.entries x s.0 (record { start = start; commit = commit; content = content })
+TellsVersion state (Read s x) Absent = NoVersion state.entries x s.0
+TellsVersion state _ _ = Unit {0}
+
+-- where an entry stands in a journal, the entries before it lead to a state of which it tells
+pub record TellsAt (observers : List ObserverOf) (seats clock : ℕ) (before : List Entry) (e : Entry) : Type 0 where
+  pub state : StateOf
+  pub run : JournalLeads (opening observers seats clock) before state
+  pub tells : TellsVersion state e.step e.answer
+
+pub record TellsReads (observers : List ObserverOf) (seats clock : ℕ) (journal : List Entry) : Type 0 where
+  pub at : (before : List Entry) (e : Entry) (after : List Entry) → journal ≡ before ++ e ∷ after → TellsAt observers seats clock before e

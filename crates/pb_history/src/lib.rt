@@ -1,0 +1,8 @@
+//! Journals of the shared table, and what legal ones tell.
+#![tactic(auto)]
+
+mod entry;
+mod laws;
+
+pub use entry::{Entry, Received};
+pub use laws::{histories_are_told, reads_are_told, runs_are_told};

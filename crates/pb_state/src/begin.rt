@@ -1,0 +1,50 @@
+//! A transaction begins.
+ghost use Rattle.std.specs.Prelude.{◌≡◌, IfOk, OnErr, None};
+ghost use Rattle.pb_steps.specs.Begin.{begin_reasons, is_unknown};
+ghost use Rattle.pb_steps.specs.Reasons.{first_reason};
+ghost use Rattle.pb_steps.specs.Steps.{step_reason, TableStep};
+
+use crate::state::State;
+use crate::transaction::Transaction;
+use pb_base::{NoMemory, Reason, Ts};
+use pb_steps::{Answer, Observer, Step, Work};
+use pb_store::Tablet;
+
+// Whether a run is of an observer that there isn't.
+fn is_unknown(observers: &[Observer], work: Work) -> bool
+    ensures { result ≡ is_unknown observers.now work }
+{
+    match work {
+        Work::Script => false,
+        Work::Run(observer, _) => observer.number() as usize >= observers.len(),
+    }
+}
+
+impl<T: Tablet> State<T> {
+    pub(crate) fn begin_reason(&self, seat: u32, work: Work) -> Option<Reason>
+        ensures { result ≡ first_reason (begin_reasons self.now seat work) }
+    {
+        if self.clock == u64::MAX {
+            return Some(Reason::OutOfTimestamps);
+        }
+        if seat >= self.seats {
+            return Some(Reason::NotOfSeat);
+        }
+        if is_unknown(&self.observers, work) {
+            return Some(Reason::NoSuchObserver);
+        }
+        None
+    }
+
+    pub(crate) fn begin(&mut self, seat: u32, work: Work) -> Result<Answer, NoMemory>
+        requires { step_reason self.old seat (Step.Begin work) ≡ None }
+        ensures taken { IfOk result (λ a. TableStep self.old seat (Step.Begin work) a self.new) }
+        ensures same { OnErr result (self.new ≡ self.old) }
+    {
+        let start = self.clock + 1;
+        let transaction = Transaction::new(self.alloc, seat, work);
+        self.transactions.add(Ts(start), transaction)?;
+        self.clock = start;
+        Ok(Answer::At(Ts(start)))
+    }
+}

@@ -1,0 +1,60 @@
+//! The primary's lock is replaced by its write record.
+ghost use Rattle.std.specs.Prelude.{◌≡◌, IfOk, OnErr, None};
+ghost use Rattle.pb_store.specs.Contents.{Contents, AreEdits, after_edits};
+ghost use Rattle.pb_steps.specs.CommitPrimary.{commit_reasons, commit_lock};
+ghost use Rattle.pb_steps.specs.Reasons.{own_reasons, first_reason};
+ghost use Rattle.pb_steps.specs.Steps.{step_reason, TableStep};
+
+use crate::readings::{has_lock, slot_of};
+use crate::state::State;
+use pb_base::{Cell, NoMemory, Reason, Ts};
+use pb_steps::{Answer, Phase, Step};
+use pb_store::{Edit, Item, Sort, Tablet};
+
+// Replaces the lock of a start on a cell by its write record.
+fn commit_edits(cell: &Cell, start: Ts, commit: Ts) -> [Edit; 2]
+    ensures edits { AreEdits result }
+    ensures committed { (c : Contents) → after_edits result c ≡ record c { entries = commit_lock c.entries cell.now start.0 commit.0 } }
+{
+    let lock = slot_of(cell, Sort::Lock, start);
+    let record = slot_of(cell, Sort::Write, commit);
+    [Edit::Erase(lock), Edit::Put(record, Item::Write(start))]
+}
+
+impl<T: Tablet> State<T> {
+    pub(crate) fn commit_reason(&self, seat: u32, start: Ts) -> Option<Reason>
+        ensures { result ≡ first_reason (own_reasons self.now seat start.0 commit_reasons) }
+    {
+        let Some(transaction) = self.own(seat, start) else {
+            return Some(Reason::NotOfSeat);
+        };
+        if !transaction.phase().is_stamped() {
+            return Some(Reason::WrongPhase);
+        }
+        None
+    }
+
+    pub(crate) fn commit_primary(&mut self, seat: u32, start: Ts) -> Result<Answer, NoMemory>
+        requires { step_reason self.old seat (Step.CommitPrimary start) ≡ None }
+        ensures taken { IfOk result (λ a. TableStep self.old seat (Step.CommitPrimary start) a self.new) }
+        ensures same { OnErr result (self.new ≡ self.old) }
+    {
+        let _seat = seat;
+        let Some(transaction) = self.transactions.get(start) else {
+            unreachable!()
+        };
+        let Phase::Stamped(commit) = transaction.phase() else {
+            unreachable!()
+        };
+        let Some(primary) = transaction.primary() else {
+            unreachable!()
+        };
+        if !has_lock(&self.table, &primary, start) {
+            self.transactions.set_phase(start, Phase::Failed);
+            return Ok(Answer::Lost);
+        }
+        self.table.apply(&commit_edits(&primary, start, commit))?;
+        self.transactions.set_phase(start, Phase::Committed(commit));
+        Ok(Answer::Committed)
+    }
+}

@@ -1,0 +1,122 @@
+//! What stands in a table, as transactions see it.
+ghost use Rattle.std.specs.Prelude.{◌≡◌, ◌<◌, ◌^◌, ◌⊎◌, is_some, MatchBool, MatchOption};
+ghost use Rattle.std.specs.FinMap as map;
+ghost use Rattle.pb_store.specs.Contents.{slot_at};
+ghost use Rattle.pb_steps.specs.Readings.{SomeLock, SomeWriteFrom, NoLock, NoWriteFrom, IsLockUpTo, IsVersion, NoVersion, lock_at, lock_count, is_lock, data_of};
+ghost use Rattle.pb_state.specs.Keeping.{HasData};
+
+use pb_base::{Cell, Content, Ts, Version};
+use pb_store::{Item, Slot, Sort, Table, Tablet};
+
+/// The last timestamp there is.
+const LAST: Ts = Ts(u64::MAX);
+
+pub(crate) fn slot_of(cell: &Cell, sort: Sort, ts: Ts) -> Slot
+    ensures { result ≡ slot_at cell.now sort ts.0 }
+{
+    Slot {
+        cell: *cell,
+        sort,
+        ts,
+    }
+}
+
+// The lock of a start at most this one that stands on the cell, with its primary.
+pub(crate) fn lock_on<T: Tablet>(table: &Table<T>, cell: &Cell, high: Ts) -> Option<(Ts, Cell)>
+    ensures { IsLockUpTo table.now.contents.entries cell.now high.0 result }
+{
+    match table.newest(*cell, Sort::Lock, high) {
+        Some((start, Item::Lock(primary))) => Some((start, primary)),
+        _ => None,
+    }
+}
+
+fn data_of(item: Option<Item>) -> Option<Content>
+    ensures { result ≡ data_of item }
+{
+    match item {
+        Some(Item::Data(content)) => Some(content),
+        _ => None,
+    }
+}
+
+// The newest version of the cell with a commit at most this one. A write record's data are there.
+pub(crate) fn version_of<T: Tablet>(table: &Table<T>, cell: &Cell, high: Ts) -> Option<Version>
+    requires { HasData table.now.contents.entries }
+    ensures { MatchOption result (NoVersion table.now.contents.entries cell.now high.0) (IsVersion table.now.contents.entries cell.now high.0) }
+{
+    let Some((commit, Item::Write(start))) = table.newest(*cell, Sort::Write, high) else {
+        return None;
+    };
+    let Some(content) = data_of(table.get(slot_of(cell, Sort::Data, start))) else {
+        unreachable!()
+    };
+    Some(Version {
+        start,
+        commit,
+        content,
+    })
+}
+
+// Whether a lock stands on the cell, or a write record of this timestamp or later.
+pub(crate) fn is_taken<T: Tablet>(table: &Table<T>, cell: &Cell, from: Ts) -> bool
+    ensures { MatchBool result
+        (SomeLock table.now.contents.entries cell.now ⊎ SomeWriteFrom table.now.contents.entries cell.now from.0)
+        (NoLock table.now.contents.entries cell.now × NoWriteFrom table.now.contents.entries cell.now from.0) }
+{
+    if table.newest(*cell, Sort::Lock, LAST).is_some() {
+        return true;
+    }
+    let Some((commit, _)) = table.newest(*cell, Sort::Write, LAST) else {
+        return false;
+    };
+    if commit.0 < from.0 {
+        return false;
+    }
+    true
+}
+
+// Whether the lock of this start stands on the cell.
+pub(crate) fn has_lock<T: Tablet>(table: &Table<T>, cell: &Cell, start: Ts) -> bool
+    ensures { result ≡ is_some (lock_at table.now.contents.entries cell.now start.0) }
+{
+    table.get(slot_of(cell, Sort::Lock, start)).is_some()
+}
+
+fn is_lock(sort: Sort) -> bool
+    ensures { result ≡ is_lock sort }
+{
+    match sort {
+        Sort::Lock => true,
+        Sort::Data => false,
+        Sort::Write => false,
+    }
+}
+
+pub(crate) fn count_locks<T: Tablet>(table: &Table<T>) -> usize
+    requires { map.len table.now.contents.entries < 2 ^ 64 }
+    ensures { result ≡ lock_count table.now.contents.entries }
+{
+    let mut count = 0;
+    let mut place = 0;
+    while let Some((slot, _)) = table.at(place) {
+        if is_lock(slot.sort) {
+            count += 1;
+        }
+        place += 1;
+    }
+    count
+}
+
+pub(crate) fn count_marks<T: Tablet>(table: &Table<T>) -> usize
+    requires { map.len table.now.contents.marks < 2 ^ 64 }
+    ensures { result ≡ map.len table.now.contents.marks }
+{
+    let mut count = 0;
+    let mut last = None;
+    while let Some(cell) = table.next_mark(last) {
+        count += 1;
+        last = Some(cell);
+    }
+    count
+}

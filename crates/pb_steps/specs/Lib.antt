@@ -1,0 +1,14 @@
+pub mod Phases
+pub mod Observers
+pub mod Reads
+pub mod State
+pub mod Readings
+pub mod Declarations
+pub mod Reasons
+pub mod Begin
+pub mod Read
+pub mod Declare
+pub mod Prewrite
+pub mod Stamp
+pub mod CommitPrimary
+pub mod Steps

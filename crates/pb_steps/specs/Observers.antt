@@ -1,0 +1,46 @@
+-- The observers of a table (OSDI 2010, section 2.4), with the cells that they observe and acknowledge.
+use Rattle.std.specs.Prelude.{ℕ, List, Option, Some, None, slice_get, refl}
+use Rattle.std.specs.Coded.{Coded, code_by, coded×, coded_ℕ, coded_list}
+use Rattle.pb_base.specs.declared.cell.Cell.{Cell}
+use Rattle.pb_base.specs.declared.cell.Cell.TheVariants.{Data, Ack}
+use Rattle.pb_base.specs.declared.names.Row.{Row}
+use Rattle.pb_vm.specs.Accepted.{AcceptedOf, accepted_code}
+use Rattle.pb_steps.specs.declared.step.Work.{Work}
+use Rattle.pb_steps.specs.declared.step.Work.TheVariants.{Script, Run}
+
+-- an observer: its name, the column that it observes, and its accepted program
+pub record ObserverOf : Type 0 where
+  pub name : List ℕ
+  pub column : ℕ
+  pub program : AcceptedOf
+
+abbrev pub observer_code : Coded ObserverOf
+observer_code =
+    code_by (List ℕ × (ℕ × AcceptedOf)) (coded× (coded_list coded_ℕ) (coded× coded_ℕ accepted_code))
+    (λ o. (o.name, (o.column, o.program)))
+    (λ p. record { name = p.0; column = p.1.0; program = p.1.1 })
+    (λ _. refl)
+
+abbrev pub column_or_zero : Option ObserverOf → ℕ
+column_or_zero None = 0
+column_or_zero (Some o) = o.column
+
+-- the column that an observer observes
+abbrev pub observed_column : List ObserverOf → ℕ → ℕ
+observed_column observers o = column_or_zero (slice_get observers o)
+
+-- the cell that an observer observes in a row, and its acknowledgment
+abbrev pub observed_cell : List ObserverOf → ℕ → Row → Cell
+observed_cell observers o row = Data row (observed_column observers o)
+
+abbrev pub acknowledgment : List ObserverOf → ℕ → Row → Cell
+acknowledgment observers o row = Ack o row (observed_column observers o)
+
+abbrev pub acknowledgment_at : Option ObserverOf → ℕ → Row → Option Cell
+acknowledgment_at None o row = None
+acknowledgment_at (Some observer) o row = Some (Ack o row observer.column)
+
+-- the acknowledgment of a run, where there is its observer
+abbrev pub acknowledgment_by : List ObserverOf → Work → Option Cell
+acknowledgment_by observers Script = None
+acknowledgment_by observers (Run o row) = acknowledgment_at (slice_get observers o) o row

@@ -1,0 +1,60 @@
+-- A declared cell is locked and its data written, the primary before the others (OSDI 2010, section 2.2). It fails where
+-- another transaction has a lock on the cell, or wrote it since this one began.
+use Rattle.std.specs.Prelude.{◌≡◌, ℕ, Bool, true, false, not, ◌&&◌, ◌||◌, ◌⊎◌, List, [], ◌∷◌, ◌++◌, Option, Some, None, is_none}
+use Rattle.std.specs.Ordering.{eq_by_cmp}
+use Rattle.std.specs.FinMap as map
+use Rattle.pb_base.specs.declared.cell.Cell.{Cell}
+use Rattle.pb_base.specs.declared.content.Content.{Content}
+use Rattle.pb_base.specs.declared.refusal.Reason.TheVariants.{WrongPhase, NotDeclared, AlreadyPrewritten}
+use Rattle.pb_base.specs.Cell.{cell_cmp}
+use Rattle.pb_base.specs.Batch.{content_in, primary_in}
+use Rattle.pb_store.specs.declared.slot.Item.TheVariants as items
+use Rattle.pb_store.specs.declared.slot.Sort.TheVariants as sorts
+use Rattle.pb_store.specs.Contents.{Entries, slot_at}
+use Rattle.pb_steps.specs.declared.phase.Phase.TheVariants as phases
+use Rattle.pb_steps.specs.Phases.{is_declared}
+use Rattle.pb_steps.specs.State.{StateOf, TransactionOf, with_transaction, is_in}
+use Rattle.pb_steps.specs.Readings.{NoLock, SomeLock, NoWriteFrom, SomeWriteFrom}
+use Rattle.pb_steps.specs.Reasons.{Reasons, IsOwn}
+
+-- a cell that isn't the primary, while that isn't prewritten
+abbrev pub is_before_primary : Option Cell → List Cell → Cell → Bool
+is_before_primary None prewritten x = true
+is_before_primary (Some p) prewritten x = not (eq_by_cmp cell_cmp x p) && not (is_in prewritten p)
+
+abbrev pub is_early : TransactionOf → Cell → Bool
+is_early t x = is_before_primary (primary_in t.declared) t.prewritten x
+
+abbrev pub prewrite_reasons : Cell → TransactionOf → Reasons
+prewrite_reasons x t =
+    (WrongPhase, not (is_declared t.phase) || is_early t x) ∷ (NotDeclared, is_none (content_in t.declared x)) ∷ (AlreadyPrewritten, is_in t.prewritten x) ∷ []
+
+-- data and lock of s at x
+abbrev pub put_lock : Entries → Cell → ℕ → Content → Cell → Entries
+put_lock e x s content primary = map.insert (map.insert e (slot_at x sorts.Data s) (items.Data content)) (slot_at x sorts.Lock s) (items.Lock primary)
+
+-- neither a lock nor a later write record stands on x: data and lock are put there
+pub record Prewrites (old : StateOf) (seat s : ℕ) (x : Cell) (new : StateOf) : Type 0 where
+  pub t : TransactionOf
+  pub own : IsOwn old seat s t
+  pub phase : is_declared t.phase ≡ true
+  pub in_order : is_early t x ≡ false
+  pub content : Content
+  pub declares : content_in t.declared x ≡ Some content
+  pub once : is_in t.prewritten x ≡ false
+  pub primary : Cell
+  pub primary_is : primary_in t.declared ≡ Some primary
+  pub unlocked : NoLock old.entries x
+  pub no_later : NoWriteFrom old.entries x s
+  pub new_is : new ≡ record old {
+    entries = put_lock old.entries x s content primary;
+    transactions = map.insert old.transactions s (record t { prewritten = t.prewritten ++ x ∷ [] });
+  }
+
+-- one of them does: the transaction has failed
+pub record Conflicts (old : StateOf) (seat s : ℕ) (x : Cell) (new : StateOf) : Type 0 where
+  pub t : TransactionOf
+  pub own : IsOwn old seat s t
+  pub phase : is_declared t.phase ≡ true
+  pub why : SomeLock old.entries x ⊎ SomeWriteFrom old.entries x s
+  pub new_is : new ≡ with_transaction old s (record t { phase = phases.Failed })

@@ -1,0 +1,102 @@
+-- The state of the shared table, without journal and books.
+use Rattle.std.specs.Prelude.{ℕ, Bool, List, [], ◌∷◌, Option, option_map, refl}
+use Rattle.std.specs.Coded.{Coded, code_by, coded×, coded_ℕ, coded_list}
+use base.Stored.{coded_unit}
+use Rattle.std.specs.List.{list_any}
+use Rattle.std.specs.Ordering.{nat_cmp, eq_by_cmp}
+use Rattle.std.specs.FinMap as map
+use Rattle.pb_base.specs.declared.cell.Cell.{Cell}
+use Rattle.pb_base.specs.declared.content.Content.TheVariants as contents
+use Rattle.pb_base.specs.Cell.{cell_cmp}
+use Rattle.pb_base.specs.Batch.{Writes}
+use Rattle.pb_store.specs.Contents.{Entries, Marks}
+use Rattle.pb_steps.specs.declared.step.Work.{Work}
+use Rattle.pb_steps.specs.declared.step.Work.TheVariants as works
+use Rattle.pb_steps.specs.declared.step.Declared.{Declared}
+use Rattle.pb_steps.specs.declared.step.Declared.TheVariants as declared
+use Rattle.pb_steps.specs.declared.seen.RecordedRead.{RecordedRead}
+use Rattle.pb_steps.specs.declared.phase.Phase.{Phase}
+use Rattle.pb_steps.specs.declared.phase.Phase.TheVariants as phases
+use Rattle.pb_base.specs.contracts.cell.Cell as cell
+use Rattle.pb_base.specs.contracts.content.Content as content
+use Rattle.pb_store.specs.contracts.slot.Slot as slot
+use Rattle.pb_store.specs.contracts.slot.Item as item
+use Rattle.pb_steps.specs.contracts.step.Work as work
+use Rattle.pb_steps.specs.contracts.seen.RecordedRead as read
+use Rattle.pb_steps.specs.contracts.phase.Phase as phase
+use Rattle.pb_steps.specs.Observers.{ObserverOf, observer_code, acknowledgment}
+
+-- a transaction: whose it is, what for, how far it has come, what it read, and what it writes
+pub record TransactionOf : Type 0 where
+  pub seat : ℕ
+  pub work : Work
+  pub phase : Phase
+  pub reads : List RecordedRead
+  pub declared : Writes
+  pub prewritten : List Cell
+
+abbrev pub Transactions : Type 0
+Transactions = map.FinMap nat_cmp TransactionOf
+
+-- entries and marks of the table, its observers by their numbers, the last timestamp given out, and the transactions by
+-- their starts
+pub record StateOf : Type 0 where
+  pub entries : Entries
+  pub marks : Marks
+  pub observers : List ObserverOf
+  pub clock : ℕ
+  pub seats : ℕ
+  pub transactions : Transactions
+
+-- the state before any step
+abbrev pub opening : List ObserverOf → ℕ → ℕ → StateOf
+opening observers seats last = record { entries = map.empty; marks = map.empty; observers = observers; clock = last; seats = seats; transactions = map.empty }
+
+-- a transaction as it begins
+abbrev pub new_transaction : ℕ → Work → TransactionOf
+new_transaction seat w = record { seat = seat; work = w; phase = phases.Reading; reads = []; declared = []; prewritten = [] }
+
+-- the state with this transaction under a start
+abbrev pub with_transaction : StateOf → ℕ → TransactionOf → StateOf
+with_transaction old s t = record old { transactions = map.insert old.transactions s t }
+
+-- how far the transaction of a start has come
+abbrev pub phase_in : StateOf → ℕ → Option Phase
+phase_in s start = option_map (λ t. t.phase) (map.get s.transactions start)
+
+-- what a declaration writes: a script its batch; a run of start s its acknowledgment, stamped with s, and then the writes
+-- of its program
+abbrev pub cells_of : List ObserverOf → Work → ℕ → Declared → Writes
+cells_of observers work s (declared.Script batch) = batch
+cells_of observers works.Script s (declared.Run o f) = f.writes
+cells_of observers (works.Run p row) s (declared.Run o f) = (acknowledgment observers p row, contents.Stamp (record { 0 = s })) ∷ f.writes
+
+-- what a script declares
+abbrev pub batch_in : Declared → Writes
+batch_in (declared.Script batch) = batch
+batch_in (declared.Run o f) = []
+
+-- the cell is in the list
+abbrev pub is_in : List Cell → Cell → Bool
+is_in xs x = list_any (λ y. eq_by_cmp cell_cmp y x) xs
+
+-- ---- how a model keeps it
+
+abbrev pub transaction_code : Coded TransactionOf
+transaction_code =
+    code_by (ℕ × (Work × (Phase × (List RecordedRead × (Writes × List Cell)))))
+    (coded× coded_ℕ (coded× work.the_row.coded (coded× phase.the_row.coded (coded× (coded_list read.the_row.coded) (coded× (coded_list (coded× cell.the_row.coded content.the_row.coded)) (coded_list cell.the_row.coded))))))
+    (λ t. (t.seat, (t.work, (t.phase, (t.reads, (t.declared, t.prewritten))))))
+    (λ p. record { seat = p.0; work = p.1.0; phase = p.1.1.0; reads = p.1.1.1.0; declared = p.1.1.1.1.0; prewritten = p.1.1.1.1.1 })
+    (λ _. refl)
+
+abbrev pub transactions_code : Coded Transactions
+transactions_code = map.code coded_ℕ transaction_code
+
+abbrev pub state_code : Coded StateOf
+state_code =
+    code_by (Entries × (Marks × (List ObserverOf × (ℕ × (ℕ × Transactions)))))
+    (coded× (map.code slot.the_row.coded item.the_row.coded) (coded× (map.code cell.the_row.coded coded_unit) (coded× (coded_list observer_code) (coded× coded_ℕ (coded× coded_ℕ transactions_code)))))
+    (λ s. (s.entries, (s.marks, (s.observers, (s.clock, (s.seats, s.transactions))))))
+    (λ p. record { entries = p.0; marks = p.1.0; observers = p.1.1.0; clock = p.1.1.1.0; seats = p.1.1.1.1.0; transactions = p.1.1.1.1.1 })
+    (λ _. refl)

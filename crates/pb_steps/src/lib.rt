@@ -1,0 +1,12 @@
+//! The steps of the shared table (OSDI 2010, sections 2.2 to 2.4): what is asked, what is answered, and what a step does.
+#![tactic(auto)]
+
+mod observer;
+mod phase;
+mod seen;
+mod step;
+
+pub use observer::Observer;
+pub use phase::Phase;
+pub use seen::{RecordedRead, Seen, acknowledged_in, version_in};
+pub use step::{Answer, Declaration, Declared, Step, Work};

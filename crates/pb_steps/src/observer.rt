@@ -1,0 +1,25 @@
+//! Observers.
+use pb_base::Column;
+use pb_vm::Accepted;
+use std::marker::Model;
+use std::sync::Arc;
+
+/// An observer of a column (OSDI 2010, section 2.4): where a cell of that column changed, its program runs. Its number
+/// is its place among the observers of the table.
+#[derive(Drop)]
+pub struct Observer {
+    pub name: String,
+    pub column: Column,
+    pub program: Arc<Accepted>,
+}
+
+impl Model for Observer {
+    ghost use Rattle.pb_steps.specs.Observers.{ObserverOf, observer_code};
+    ghost use Rattle.std.specs.Prelude.{string_bytes};
+
+    ghost Value = { ObserverOf };
+
+    ghost coded = { observer_code };
+
+    ghost view = { λ o. record { name = string_bytes o.name; column = o.column; program = o.program.value } };
+}

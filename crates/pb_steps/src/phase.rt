@@ -1,0 +1,40 @@
+//! How far a transaction has come.
+use pb_base::Ts;
+
+/// How far a transaction has come.
+#[derive(Clone, Copy, Debug, PartialEq, Eq)]
+pub enum Phase {
+    Reading,
+    Declared,
+    /// With its commit timestamp.
+    Stamped(Ts),
+    /// With its commit timestamp.
+    Committed(Ts),
+    Failed,
+}
+
+impl Phase {
+    ghost use Rattle.std.specs.Prelude.{◌≡◌};
+    ghost use Rattle.pb_steps.specs.Phases.{is_reading, is_declared, is_stamped};
+
+    /// Whether it reads, and has declared nothing so far.
+    pub fn is_reading(self) -> bool
+        ensures { result ≡ is_reading self }
+    {
+        matches!(self, Phase::Reading)
+    }
+
+    /// Whether it has declared what it writes, and has no commit timestamp so far.
+    pub fn is_declared(self) -> bool
+        ensures { result ≡ is_declared self }
+    {
+        matches!(self, Phase::Declared)
+    }
+
+    /// Whether it has its commit timestamp, and isn't committed so far.
+    pub fn is_stamped(self) -> bool
+        ensures { result ≡ is_stamped self }
+    {
+        matches!(self, Phase::Stamped(_))
+    }
+}

@@ -1,0 +1,152 @@
+//! The steps that are asked of the table, and their answers.
+ghost use Rattle.std.specs.Prelude.{◌≡◌, IfOk};
+
+use pb_base::{Batch, Cell, Content, NoMemory, ObserverNo, Row, Ts};
+use pb_vm::Finished;
+use std::alloc::Global;
+use std::marker::Model;
+use std::sync::Arc;
+
+/// What a transaction is for.
+#[derive(Clone, Copy, Debug, PartialEq, Eq)]
+pub enum Work {
+    /// A change of a script.
+    Script,
+    /// A run of this observer on the cell of its column in this row (OSDI 2010, section 2.4).
+    Run(ObserverNo, Row),
+}
+
+/// What a transaction declares that it writes.
+#[derive(Drop)]
+pub enum Declared {
+    Script(Batch),
+    /// A run of this observer, ended.
+    Run(ObserverNo, Finished),
+}
+
+/// What is declared, with several owners: steps, the journal and the table share it. Contracts see what it holds, and it
+/// keeps that a script declares a batch, and a run what its program means.
+#[derive(Drop)]
+pub struct Declaration {
+    owner: Arc<Declared>,
+}
+
+impl Model for Declaration {
+    ghost use Rattle.pb_steps.specs.declared.step.Declared.{Declared};
+
+    ghost Value = { Declared };
+
+    ghost use Rattle.pb_steps.specs.Declarations.{IsKnown};
+
+    ghost view = { λ d. d.owner.value };
+
+    ghost invariant = { λ d. IsKnown d.owner.value };
+}
+
+impl Declared {
+    ghost use Rattle.pb_steps.specs.Declarations.{IsKnown};
+
+    // For the proof: a batch and a run each tell what their types keep.
+    fn known(&self)
+        ensures { IsKnown self.now }
+    {
+        match self {
+            Declared::Script(batch) => {
+                let _ = batch.len();
+            }
+            Declared::Run(_, finished) => finished.known(),
+        }
+    }
+}
+
+impl Declaration {
+    ghost use Rattle.std.specs.Prelude.{◌≡◌, IfOk};
+    ghost use Rattle.pb_steps.specs.Declarations.{IsKnown};
+
+    /// The first owner.
+    pub fn new(alloc: Global, declared: Declared) -> Result<Declaration, NoMemory>
+        ensures { IfOk result (λ d. d ≡ declared) }
+    {
+        declared.known();
+        let owner = Arc::new(alloc, declared)?;
+        Ok(Declaration { owner })
+    }
+
+    /// One more owner.
+    pub fn share(&self) -> Result<Declaration, NoMemory>
+        ensures { IfOk result (λ d. d ≡ self.now) }
+    {
+        let owner = Arc::try_clone(&self.owner)?;
+        Ok(Declaration { owner })
+    }
+
+    /// What is declared.
+    pub fn get(&self) -> &Declared
+        ensures same { result.now ≡ self.now }
+        ensures known { IsKnown result.now }
+    {
+        &self.owner
+    }
+}
+
+/// What is asked of the table, one step at a time (OSDI 2010, sections 2.2 and 2.3). A transaction goes by its start.
+#[derive(Drop)]
+pub enum Step {
+    /// A new transaction.
+    Begin(Work),
+    /// Reads a cell in the transaction's snapshot: its newest version of a commit at most its start.
+    Read(Ts, Cell),
+    /// Says what the transaction writes, its first cell the primary.
+    Declare(Ts, Declaration),
+    /// Locks a declared cell and writes its data, the primary before the others.
+    Prewrite(Ts, Cell),
+    /// Takes the commit timestamp, once all cells are prewritten.
+    Stamp(Ts),
+    /// Replaces the primary's lock by a write record: the transaction is committed.
+    CommitPrimary(Ts),
+}
+
+impl Step {
+    /// The same step again.
+    pub fn copy(&self) -> Result<Step, NoMemory>
+        ensures { IfOk result (λ s. s ≡ self.now) }
+    {
+        match self {
+            Step::Begin(work) => Ok(Step::Begin(*work)),
+            Step::Read(start, cell) => Ok(Step::Read(*start, *cell)),
+            Step::Declare(start, what) => {
+                let what = what.share()?;
+                Ok(Step::Declare(*start, what))
+            }
+            Step::Prewrite(start, cell) => Ok(Step::Prewrite(*start, *cell)),
+            Step::Stamp(start) => Ok(Step::Stamp(*start)),
+            Step::CommitPrimary(start) => Ok(Step::CommitPrimary(*start)),
+        }
+    }
+}
+
+/// What a step answers.
+#[derive(Clone, Copy, Debug, PartialEq, Eq)]
+pub enum Answer {
+    /// A timestamp given out: a start or a commit.
+    At(Ts),
+    /// A lock stands on the cell, of this start and with this primary; what the cell holds isn't known yet.
+    Locked {
+        start: Ts,
+        primary: Cell,
+    },
+    /// The newest version in the snapshot: its start, its commit, and what it wrote.
+    Found {
+        start: Ts,
+        commit: Ts,
+        content: Content,
+    },
+    /// There is none.
+    Absent,
+    Done,
+    /// Another transaction has a lock on the cell, or wrote it since this one began; it has failed.
+    Conflict,
+    Committed,
+    /// The primary's lock is gone; the transaction has failed.
+    Lost,
+}
