@@ -16,6 +16,3 @@ pub use text::{
     assemble, fault_is_first, faults_are_told_where_they_are, listings_read_back, one_spelling,
     only_listings_are_read,
 };
-
-#[cfg(test)]
-mod tests;

@@ -1,16 +1,17 @@
--- What a command leaves: its status, its output, and what the paths hold.
+-- What a command leaves: its status, its output, the line of its fault, and what the paths hold.
 use Rattle.std.specs.Prelude.{◌≡◌, ℕ, zero, suc, ◌⊎◌, Bool, false, List, Option, Result, Ok, Err}
 use Rattle.pb_texts.specs.declared.words.choice.Options.{Options}
 use Rattle.pb_texts.specs.declared.words.choice.Options.TheVariants as options
 use Rattle.pb_alone.specs.declared.fault.RunFault.{RunFault}
-use Rattle.pb_alone.specs.declared.fault.RunFault.TheVariants as runs
-use Rattle.pb_alone.specs.TextRuns.{RanOn}
+use Rattle.pb_alone.specs.TextRuns.{RunsTexts}
 use Rattle.pb_command.specs.declared.answer.Verdict.{Verdict}
 use Rattle.pb_command.specs.declared.answer.Verdict.TheVariants.{Accepted, Refused}
 use Rattle.pb_command.specs.declared.fault.Fault.{Fault}
 use Rattle.pb_command.specs.declared.fault.Fault.TheVariants as faults
-use Rattle.pb_command.specs.Files.{Held, IsKnownAs}
-use Rattle.pb_command.specs.Programs.{AsmEnds, AnswerEnds, Lists, Checks}
+use Rattle.pb_command.specs.FaultLines.{Tells, IsQuiet}
+use Rattle.pb_command.specs.Files.{Text, Held, IsKnownAs}
+use Rattle.pb_command.specs.PathFaults.{IsUnreadAt}
+use Rattle.pb_command.specs.Programs.{AsmLeaves, AnswerLeaves, Lists, Checks, IsNoText}
 
 -- texts that the two paths hold ran so, from the clock 0
 pub record RanFrom (manifest script : Option (List ℕ)) (old now : Option (List ℕ)) (failed : Bool) (result : Result (Unit {0}) RunFault) : Type 0 where
@@ -18,31 +19,43 @@ pub record RanFrom (manifest script : Option (List ℕ)) (old now : Option (List
   pub script_text : List ℕ
   pub manifest_held : IsKnownAs manifest manifest_text
   pub script_held : IsKnownAs script script_text
-  pub ran : RanOn manifest_text script_text 0 old now failed result
+  pub ran : RunsTexts manifest_text script_text 0 old now failed result
 
--- nothing was written, but for a beginning of the report where a write failed
-abbrev pub IsFault : Option (List ℕ) → Option (List ℕ) → Option (List ℕ) → Option (List ℕ) → Bool → Fault → Type 0
-IsFault manifest script old now failed (faults.Run runs.Output) = RanFrom manifest script old now failed (Err runs.Output)
-IsFault manifest script old now failed _ = (now ≡ old) × (failed ≡ false)
+-- the file at one of the two paths wasn't read, or isn't text
+abbrev pub IsFileFault : Option (List ℕ) → Option (List ℕ) → Text → Text → Fault → Type 0
+IsFileFault manifest script first second (faults.NotText p) =
+    IsNoText manifest first (faults.NotText p) ⊎ IsNoText script second (faults.NotText p)
+IsFileFault manifest script first second f = IsUnreadAt first f ⊎ IsUnreadAt second f
 
-abbrev pub RunLeaves : Option (List ℕ) → Option (List ℕ) → Option (List ℕ) → Option (List ℕ) → Bool → Result Verdict Fault → Type 0
-RunLeaves manifest script old now failed (Ok Accepted) = RanFrom manifest script old now failed (Ok tt)
-RunLeaves manifest script old now failed (Ok Refused) = ⊥
-RunLeaves manifest script old now failed (Err f) = IsFault manifest script old now failed f
+-- the texts ran to this fault; or there was none to run, and nothing was written
+abbrev pub RunFails : Option (List ℕ) → Option (List ℕ) → Text → Text → Option (List ℕ) → Option (List ℕ) → Bool → Fault → Type 0
+RunFails manifest script first second old now failed (faults.Run f) = RanFrom manifest script old now failed (Err f)
+RunFails manifest script first second old now failed f = (now ≡ old) × (failed ≡ false) × IsFileFault manifest script first second f
 
--- the status of a run: 0 where the report was written, and else 1, with nothing written or a beginning of the report
-abbrev pub RunEnds : Option (List ℕ) → Option (List ℕ) → Option (List ℕ) → Option (List ℕ) → Bool → ℕ → Type 0
-RunEnds manifest script old now failed zero = RanFrom manifest script old now failed (Ok tt)
-RunEnds manifest script old now failed (suc zero) = ((now ≡ old) × (failed ≡ false)) ⊎ RanFrom manifest script old now failed (Err runs.Output)
-RunEnds manifest script old now failed (suc (suc n)) = ⊥
+abbrev pub RunLeaves : Option (List ℕ) → Option (List ℕ) → Text → Text → Option (List ℕ) → Option (List ℕ) → Bool → Result Verdict Fault → Type 0
+RunLeaves manifest script first second old now failed (Ok Accepted) = RanFrom manifest script old now failed (Ok tt)
+RunLeaves manifest script first second old now failed (Ok Refused) = ⊥
+RunLeaves manifest script first second old now failed (Err f) = RunFails manifest script first second old now failed f
 
--- What a command leaves, by its status: only `asm` writes to a path, and it writes no output.
-abbrev pub Commands : Options → Held → Held → Option (List ℕ) → Option (List ℕ) → Bool → ℕ → Type 0
-Commands (options.Run manifest script) before after old now failed status =
-    (after ≡ before) × RunEnds (before manifest.now) (before script.now) old now failed status
-Commands (options.Asm input output) before after old now failed status =
-    (now ≡ old) × (failed ≡ false) × AsmEnds before after input.now output.now status
-Commands (options.Dis file) before after old now failed status =
-    (after ≡ before) × AnswerEnds Lists (before file.now) old now failed status
-Commands (options.Check file) before after old now failed status =
-    (after ≡ before) × AnswerEnds Checks (before file.now) old now failed status
+-- What is left where a command ended so: only `asm` writes to a path, and it writes no output.
+abbrev pub Leaves : Options → Held → Held → Bool → Bool → Option (List ℕ) → Option (List ℕ) → Bool → Result Verdict Fault → Type 0
+Leaves (options.Run manifest script) before after was unwritten old now failed outcome =
+    (after ≡ before) × (unwritten ≡ was) × RunLeaves (before manifest.now) (before script.now) manifest.now script.now old now failed outcome
+Leaves (options.Asm input output) before after was unwritten old now failed outcome =
+    (now ≡ old) × (failed ≡ false) × AsmLeaves before after was unwritten input.now output.now outcome
+Leaves (options.Dis file) before after was unwritten old now failed outcome =
+    (after ≡ before) × (unwritten ≡ was) × AnswerLeaves Lists (before file.now) file.now old now failed outcome
+Leaves (options.Check file) before after was unwritten old now failed outcome =
+    (after ≡ before) × (unwritten ≡ was) × AnswerLeaves Checks (before file.now) file.now old now failed outcome
+
+-- an outcome as a status, with what was told
+abbrev pub IsToldAs : Result Verdict Fault → Option (List ℕ) → Option (List ℕ) → Bool → ℕ → Type 0
+IsToldAs (Ok Accepted) old now failed status = (status ≡ 0) × IsQuiet old now failed
+IsToldAs (Ok Refused) old now failed status = (status ≡ 1) × IsQuiet old now failed
+IsToldAs (Err f) old now failed status = (status ≡ 1) × Tells f old now failed
+
+-- how a command ended, as its status and the line of its fault tell it
+pub record Commands (options : Options) (before after : Held) (was unwritten : Bool) (old now : Option (List ℕ)) (failed : Bool) (quiet told : Option (List ℕ)) (mute : Bool) (status : ℕ) : Type 0 where
+  pub outcome : Result Verdict Fault
+  pub leaves : Leaves options before after was unwritten old now failed outcome
+  pub tells : IsToldAs outcome quiet told mute status

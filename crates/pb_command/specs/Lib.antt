@@ -1,3 +1,5 @@
 pub mod Files
 pub mod Commands
 pub mod Programs
+pub mod FaultLines
+pub mod PathFaults

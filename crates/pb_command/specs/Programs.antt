@@ -1,5 +1,5 @@
 -- What is left where a program is assembled, listed or checked.
-use Rattle.std.specs.Prelude.{◌≡◌, ℕ, zero, suc, ◌⊎◌, Bool, true, false, List, ◌++◌, codes, Option, Result, Ok, Err}
+use Rattle.std.specs.Prelude.{◌≡◌, ◌≢◌, ℕ, ◌⊎◌, Bool, true, false, List, ◌++◌, codes, Option, Result, Ok, Err}
 use Rattle.std.specs.Fmt.{decimal}
 use Rattle.std.specs.Io.KnownBytes.{Appends}
 use Rattle.pb_isa.specs.declared.insn.Insn.{Insn}
@@ -10,6 +10,7 @@ use Rattle.pb_helpers.specs.Table.{all_helpers}
 use Rattle.pb_verify.specs.Arriving.{Accepts, Refuses}
 use Rattle.pb_decode.specs.Encoding.{Encodes}
 use Rattle.pb_decode.specs.Faults.{IsTold}
+use Rattle.pb_asm.specs.declared.fault.AsmFault.{AsmFault}
 use Rattle.pb_asm.specs.Listing.{listing}
 use Rattle.pb_asm.specs.Texts.{program_of}
 use Rattle.pb_texts.specs.Sinks.{AppendsPart}
@@ -17,8 +18,8 @@ use Rattle.pb_command.specs.declared.answer.Verdict.{Verdict}
 use Rattle.pb_command.specs.declared.answer.Verdict.TheVariants.{Accepted, Refused}
 use Rattle.pb_command.specs.declared.fault.Fault.{Fault}
 use Rattle.pb_command.specs.declared.fault.Fault.TheVariants as faults
-use Rattle.pb_alone.specs.declared.fault.RunFault.TheVariants as runs
 use Rattle.pb_command.specs.Files.{Text, Held, IsKnownAs, KeepsOthers}
+use Rattle.pb_command.specs.PathFaults.{IsUnreadAt, IsNoTextAt}
 
 -- ---- assembling
 
@@ -43,17 +44,35 @@ pub record Unwritten (before after : Held) (input output : Text) : Type 0 where
   pub assembles : Assembles (before input) bytes
   pub others : KeepsOthers before after output
 
-abbrev pub AsmLeaves : Held → Held → Text → Text → Result Verdict Fault → Type 0
-AsmLeaves before after input output (Ok Accepted) = Assembled before after input output
-AsmLeaves before after input output (Ok Refused) = ⊥
-AsmLeaves before after input output (Err f) = (after ≡ before) ⊎ Unwritten before after input output
+-- the text that the path holds is no program's, and this is its first fault
+pub record IsFaultyText (held : Option (List ℕ)) (line code : ℕ) : Type 0 where
+  pub text : List ℕ
+  pub text_held : IsKnownAs held text
+  pub fault : program_of text ≡ Err (line, code)
 
--- the status of assembling: 0 where the bytes were written, and else 1; no path was written to unless the text is a
--- program's
-abbrev pub AsmEnds : Held → Held → Text → Text → ℕ → Type 0
-AsmEnds before after input output zero = Assembled before after input output
-AsmEnds before after input output (suc zero) = (after ≡ before) ⊎ Unwritten before after input output
-AsmEnds before after input output (suc (suc n)) = ⊥
+-- the bytes that the path holds are no text
+pub record IsNoText (held : Option (List ℕ)) (path : Text) (f : Fault) : Type 0 where
+  pub bytes : List ℕ
+  pub bytes_held : IsKnownAs held bytes
+  pub no_text : IsNoTextAt path bytes f
+
+-- the file at the path is no program's text, or wasn't read, and this tells it
+abbrev pub IsNoProgramText : Option (List ℕ) → Text → Fault → Type 0
+IsNoProgramText held path (faults.Text f) = IsFaultyText held f.line f.code
+IsNoProgramText held path (faults.NotText p) = IsNoText held path (faults.NotText p)
+IsNoProgramText held path f = IsUnreadAt path f
+
+-- Why nothing was assembled, and whether a write to a path has failed: only where one did is it told of the output.
+abbrev pub AsmFails : Held → Held → Bool → Bool → Text → Text → Fault → Type 0
+AsmFails before after was failed input output (faults.Unwritable p) = (p.now ≡ output) × Unwritten before after input output × (failed ≡ true)
+AsmFails before after was failed input output faults.NoMemory =
+    ((after ≡ before) × (failed ≡ was)) ⊎ (Unwritten before after input output × (failed ≡ true))
+AsmFails before after was failed input output f = (after ≡ before) × (failed ≡ was) × IsNoProgramText (before input) input f
+
+abbrev pub AsmLeaves : Held → Held → Bool → Bool → Text → Text → Result Verdict Fault → Type 0
+AsmLeaves before after was failed input output (Ok Accepted) = Assembled before after input output × (failed ≡ was)
+AsmLeaves before after was failed input output (Ok Refused) = ⊥
+AsmLeaves before after was failed input output (Err f) = AsmFails before after was failed input output f
 
 -- ---- answers on bytes
 
@@ -104,24 +123,20 @@ pub record Cut (judges : Judges) (held : Option (List ℕ)) (old now : Option (L
   pub part : AppendsPart old now text
   pub unwritten : failed ≡ true
 
-abbrev pub AnswerFails : Judges → Option (List ℕ) → Option (List ℕ) → Option (List ℕ) → Bool → Fault → Type 0
-AnswerFails judges held old now failed faults.Output = Cut judges held old now failed
-AnswerFails judges held old now failed _ = (now ≡ old) × (failed ≡ false)
+abbrev pub AnswerFails : Judges → Option (List ℕ) → Text → Option (List ℕ) → Option (List ℕ) → Bool → Fault → Type 0
+AnswerFails judges held path old now failed faults.Output = Cut judges held old now failed
+AnswerFails judges held path old now failed f = (now ≡ old) × (failed ≡ false) × IsUnreadAt path f
 
-abbrev pub AnswerLeaves : Judges → Option (List ℕ) → Option (List ℕ) → Option (List ℕ) → Bool → Result Verdict Fault → Type 0
-AnswerLeaves judges held old now failed (Ok verdict) = Answered judges held old now failed verdict
-AnswerLeaves judges held old now failed (Err f) = AnswerFails judges held old now failed f
+abbrev pub AnswerLeaves : Judges → Option (List ℕ) → Text → Option (List ℕ) → Option (List ℕ) → Bool → Result Verdict Fault → Type 0
+AnswerLeaves judges held path old now failed (Ok verdict) = Answered judges held old now failed verdict
+AnswerLeaves judges held path old now failed (Err f) = AnswerFails judges held path old now failed f
 
--- The status of an answer: 0 where the bytes are accepted, and that was written. Else 1: they are refused, and that was
--- written; or nothing was written, or a beginning of the text where a write failed.
-abbrev pub AnswerEnds : Judges → Option (List ℕ) → Option (List ℕ) → Option (List ℕ) → Bool → ℕ → Type 0
-AnswerEnds judges held old now failed zero = Answered judges held old now failed Accepted
-AnswerEnds judges held old now failed (suc zero) =
-    Answered judges held old now failed Refused ⊎ (((now ≡ old) × (failed ≡ false)) ⊎ Cut judges held old now failed)
-AnswerEnds judges held old now failed (suc (suc n)) = ⊥
+-- the fault is one of a text that was read
+abbrev pub IsTextFault : AsmFault → Fault → Type 0
+IsTextFault f (faults.Text g) = (g ≡ f) × (f.code ≢ 1)
+IsTextFault f faults.NoMemory = Unit {0}
+IsTextFault f _ = ⊥
 
--- the fault is none of the output
-abbrev pub IsNoOutput : Fault → Type 0
-IsNoOutput faults.Output = ⊥
-IsNoOutput (faults.Run runs.Output) = ⊥
-IsNoOutput _ = Unit {0}
+-- memory was refused
+abbrev pub IsNoMemory : Fault → Type 0
+IsNoMemory f = f ≡ faults.NoMemory

@@ -2,8 +2,7 @@
 ghost use Rattle.std.specs.Prelude.{◌≡◌, false, IfOk, IfErr, string_bytes};
 ghost use Rattle.pb_store.specs.Contents.{nothing};
 ghost use Rattle.pb_command.specs.Files.{IsKnownAs};
-ghost use Rattle.pb_command.specs.Commands.{RunLeaves, Commands};
-ghost use Rattle.pb_command.specs.Programs.{IsNoOutput};
+ghost use Rattle.pb_command.specs.Commands.{RunLeaves, IsFileFault, IsToldAs, Commands};
 
 use crate::answer::Verdict;
 use crate::fault::{Fault, tell};
@@ -25,7 +24,8 @@ fn texts_at<'a, P: Paths>(
     ensures manifest { IfOk result (λ t. IsKnownAs (P.held paths.old manifest.now) (string_bytes t.0)) }
     ensures script { IfOk result (λ t. IsKnownAs (P.held paths.old script.now) (string_bytes t.1)) }
     ensures same { P.held paths.new ≡ P.held paths.old }
-    ensures fault { IfErr result IsNoOutput }
+    ensures quiet { P.failed paths.new ≡ P.failed paths.old }
+    ensures fault { IfErr result (IsFileFault (P.held paths.old manifest.now) (P.held paths.old script.now) manifest.now script.now) }
 {
     let first = bytes_at(paths, manifest)?;
     let second = bytes_at(paths, script)?;
@@ -45,8 +45,9 @@ fn run_files<'a, T: Tablet, P: Paths, O: Sink>(
 ) -> Result<Verdict, Fault<'a>>
     requires empty { table.contents ≡ nothing }
     requires unfailed { O.failed out.old ≡ false }
-    ensures ran { RunLeaves (P.held paths.old manifest.now) (P.held paths.old script.now) (O.taken out.old) (O.taken out.new) (O.failed out.new) result }
+    ensures ran { RunLeaves (P.held paths.old manifest.now) (P.held paths.old script.now) manifest.now script.now (O.taken out.old) (O.taken out.new) (O.failed out.new) result }
     ensures same { P.held paths.new ≡ P.held paths.old }
+    ensures quiet { P.failed paths.new ≡ P.failed paths.old }
 {
     match texts_at(paths, manifest, script) {
         Ok((manifest, script)) => {
@@ -58,6 +59,21 @@ fn run_files<'a, T: Tablet, P: Paths, O: Sink>(
         Err(fault) => {
             table.close();
             Err(fault)
+        }
+    }
+}
+
+// The status of an outcome. Its fault, if it is one, is told.
+fn status_of<'a, E: Sink>(alloc: Global, outcome: &Result<Verdict, Fault<'a>>, err: &mut E) -> u8
+    requires unfailed { E.failed err.old ≡ false }
+    ensures { IsToldAs outcome.now (E.taken err.old) (E.taken err.new) (E.failed err.new) result }
+{
+    match outcome {
+        Ok(Verdict::Accepted) => 0,
+        Ok(Verdict::Refused) => 1,
+        Err(fault) => {
+            tell(alloc, fault, err);
+            1
         }
     }
 }
@@ -78,7 +94,7 @@ pub fn command<T: Tablet, P: Paths, O: Sink, E: Sink>(
     requires empty { table.contents ≡ nothing }
     requires out_unfailed { O.failed out.old ≡ false }
     requires err_unfailed { E.failed err.old ≡ false }
-    ensures { Commands options.now (P.held paths.old) (P.held paths.new) (O.taken out.old) (O.taken out.new) (O.failed out.new) result }
+    ensures { Commands options.now (P.held paths.old) (P.held paths.new) (P.failed paths.old) (P.failed paths.new) (O.taken out.old) (O.taken out.new) (O.failed out.new) (E.taken err.old) (E.taken err.new) (E.failed err.new) result }
 {
     let outcome = match options {
         Options::Run { manifest, script } => {
@@ -97,12 +113,5 @@ pub fn command<T: Tablet, P: Paths, O: Sink, E: Sink>(
             check_file(alloc, file, paths, out)
         }
     };
-    match outcome {
-        Ok(Verdict::Accepted) => 0,
-        Ok(Verdict::Refused) => 1,
-        Err(fault) => {
-            tell(alloc, &fault, err);
-            1
-        }
-    }
+    status_of(alloc, &outcome, err)
 }

@@ -1,11 +1,12 @@
 //! Why a command failed, and the line that tells it.
-ghost use Rattle.std.specs.Prelude.{◌≡◌};
+ghost use Rattle.std.specs.Prelude.{◌≡◌, false, IfOk, string_bytes};
+ghost use Rattle.pb_command.specs.FaultLines.{place_line, script_line, run_fault_line, fault_line, Tells};
 ghost use Rattle.pb_command.specs.declared.fault.Fault.TheVariants as faults;
 
 use pb_alone::RunFault;
 use pb_asm::AsmFault;
 use pb_base::{NoMemory, Sink};
-use pb_texts::write_all;
+use pb_texts::{ScriptFault, write_all};
 use std::alloc::{AllocError, Global};
 
 /// Why a command failed.
@@ -37,22 +38,56 @@ impl<'a> From<AllocError> for Fault<'a> {
     }
 }
 
+// The line that tells the fault of a program's text.
+fn text_line(alloc: Global, fault: AsmFault) -> Result<String, AllocError>
+    ensures { IfOk result (λ s. string_bytes s ≡ place_line fault.line fault.code) }
+{
+    let AsmFault { line, code } = fault;
+    format!(in alloc; "line {line} code {code}\n")
+}
+
+// The line that tells the fault of a script.
+fn script_line(alloc: Global, fault: &ScriptFault) -> Result<String, AllocError>
+    ensures { IfOk result (λ s. string_bytes s ≡ script_line fault.now.line fault.now.code) }
+{
+    let ScriptFault { line, code } = *fault;
+    format!(in alloc; "script: line {line} code {code}\n")
+}
+
+// The line that tells the fault of a run.
+fn run_line(alloc: Global, fault: &RunFault) -> Result<String, AllocError>
+    ensures { IfOk result (λ s. string_bytes s ≡ run_fault_line fault.now) }
+{
+    match fault {
+        RunFault::Manifest(fault) => format!(in alloc; "manifest: {fault}\n"),
+        RunFault::Script(fault) => script_line(alloc, fault),
+        RunFault::Refused(number) => format!(in alloc; "worker 0 code {number}\n"),
+        RunFault::Output => String::from_str(alloc, "cannot write the output\n"),
+        RunFault::NoMemory => String::from_str(alloc, "no memory\n"),
+    }
+}
+
 // The line that tells a fault.
-fn line_of(alloc: Global, fault: &Fault) -> Result<String, AllocError> {
+fn line_of(alloc: Global, fault: &Fault) -> Result<String, AllocError>
+    ensures { IfOk result (λ s. string_bytes s ≡ fault_line fault.now) }
+{
     match fault {
         Fault::Unreadable(path) => format!(in alloc; "cannot read {path}\n"),
         Fault::TooLarge(path) => format!(in alloc; "too large {path}\n"),
         Fault::NotText(path) => format!(in alloc; "not text {path}\n"),
         Fault::Unwritable(path) => format!(in alloc; "cannot write {path}\n"),
-        Fault::Text(fault) => format!(in alloc; "{fault}\n"),
-        Fault::Run(fault) => format!(in alloc; "{fault}\n"),
+        Fault::Text(fault) => text_line(alloc, *fault),
+        Fault::Run(fault) => run_line(alloc, fault),
         Fault::Output => String::from_str(alloc, "cannot write the output\n"),
         Fault::NoMemory => String::from_str(alloc, "no memory\n"),
     }
 }
 
 /// Tells a fault, or that there is no memory for its line. Where even that can't be written, the status says it alone.
-pub fn tell<E: Sink>(alloc: Global, fault: &Fault, err: &mut E) {
+pub fn tell<E: Sink>(alloc: Global, fault: &Fault, err: &mut E)
+    requires unfailed { E.failed err.old ≡ false }
+    ensures { Tells fault.now (E.taken err.old) (E.taken err.new) (E.failed err.new) }
+{
     let _ = match line_of(alloc, fault) {
         Ok(line) => write_all(err, line.as_bytes()),
         Err(_) => write_all(err, b"no memory\n"),

@@ -3,7 +3,8 @@ ghost use Rattle.std.specs.Io.KnownBytes.{Appends};
 ghost use Rattle.std.specs.Prelude.{◌≡◌, true, false, IfOk, IfErr, string_bytes};
 ghost use Rattle.pb_texts.specs.Sinks.{AppendsPart};
 ghost use Rattle.pb_command.specs.declared.fault.Fault.TheVariants as faults;
-ghost use Rattle.pb_command.specs.Programs.{IsNoOutput};
+ghost use Rattle.pb_command.specs.PathFaults.{IsUnreadAt};
+ghost use Rattle.pb_command.specs.Programs.{IsNoProgramText, IsTextFault, IsNoMemory};
 ghost use Rattle.pb_command.specs.declared.answer.Verdict.TheVariants as verdicts;
 ghost use Rattle.pb_command.specs.Programs.{Assembles, AsmLeaves, Lists, Checks, AnswerLeaves, refusal_line, acceptance_line};
 
@@ -21,7 +22,7 @@ use std::alloc::{AllocError, Global};
 
 // The fault of a text.
 fn text_fault<'a>(fault: AsmFault) -> Fault<'a>
-    ensures { IsNoOutput result }
+    ensures { IsTextFault fault result }
 {
     if fault.code == 1 {
         Fault::NoMemory
@@ -31,13 +32,15 @@ fn text_fault<'a>(fault: AsmFault) -> Fault<'a>
 }
 
 // The bytes of the program whose text a file is.
-fn assembled<'a, P: Paths>(
+fn bytes_of_text<'a, P: Paths>(
     alloc: Global,
     input: &'a str,
     paths: &mut P,
 ) -> Result<Vec<u8>, Fault<'a>>
     ensures bytes { IfOk result (λ v. Assembles (P.held paths.old input.now) v.items) }
+    ensures fault { IfErr result (IsNoProgramText (P.held paths.old input.now) input.now) }
     ensures same { P.held paths.new ≡ P.held paths.old }
+    ensures quiet { P.failed paths.new ≡ P.failed paths.old }
 {
     let bytes = bytes_at(paths, input)?;
     let text = text_of(bytes, input)?;
@@ -54,9 +57,9 @@ pub fn assemble_file<'a, P: Paths>(
     output: &'a str,
     paths: &mut P,
 ) -> Result<Verdict, Fault<'a>>
-    ensures { AsmLeaves (P.held paths.old) (P.held paths.new) input.now output.now result }
+    ensures { AsmLeaves (P.held paths.old) (P.held paths.new) (P.failed paths.old) (P.failed paths.new) input.now output.now result }
 {
-    let bytes = assembled(alloc, input, paths)?;
+    let bytes = bytes_of_text(alloc, input, paths)?;
     match paths.write(output, &bytes) {
         Ok(()) => Ok(Verdict::Accepted),
         Err(PathFault::NoMemory) => Err(Fault::NoMemory),
@@ -75,7 +78,7 @@ fn refusal_line(alloc: Global, refused: Refused) -> Result<String, AllocError>
 // A refusal, and the line that tells it.
 fn refusal_of<'a>(alloc: Global, refused: Refused) -> Result<Answer, Fault<'a>>
     ensures told { IfOk result (λ a. (a.verdict ≡ verdicts.Refused) × (string_bytes a.text ≡ refusal_line refused.slot refused.code)) }
-    ensures fault { IfErr result IsNoOutput }
+    ensures fault { IfErr result IsNoMemory }
 {
     let text = refusal_line(alloc, refused)?;
     Ok(Answer {
@@ -87,7 +90,7 @@ fn refusal_of<'a>(alloc: Global, refused: Refused) -> Result<Answer, Fault<'a>>
 // The listing of bytes, or where they are refused.
 fn listing_of<'a>(alloc: Global, bytes: &[u8]) -> Result<Answer, Fault<'a>>
     ensures told { IfOk result (λ a. Lists bytes.now a.verdict (string_bytes a.text)) }
-    ensures fault { IfErr result IsNoOutput }
+    ensures fault { IfErr result IsNoMemory }
 {
     match decode(alloc, bytes) {
         Ok(program) => {
@@ -105,7 +108,7 @@ fn listing_of<'a>(alloc: Global, bytes: &[u8]) -> Result<Answer, Fault<'a>>
 // That a program is accepted, and the line that tells it.
 fn acceptance_of<'a>(alloc: Global, slots: usize) -> Result<Answer, Fault<'a>>
     ensures told { IfOk result (λ a. (a.verdict ≡ verdicts.Accepted) × (string_bytes a.text ≡ acceptance_line slots)) }
-    ensures fault { IfErr result IsNoOutput }
+    ensures fault { IfErr result IsNoMemory }
 {
     let text = format!(in alloc; "accepted {slots} slots\n")?;
     Ok(Answer {
@@ -117,7 +120,7 @@ fn acceptance_of<'a>(alloc: Global, slots: usize) -> Result<Answer, Fault<'a>>
 // Whether the program of these bytes is accepted with all helpers, or where bytes or program are refused.
 fn verdict_of<'a>(alloc: Global, bytes: &[u8]) -> Result<Answer, Fault<'a>>
     ensures told { IfOk result (λ a. Checks bytes.now a.verdict (string_bytes a.text)) }
-    ensures fault { IfErr result IsNoOutput }
+    ensures fault { IfErr result IsNoMemory }
 {
     let program = match decode(alloc, bytes) {
         Ok(program) => program,
@@ -132,7 +135,7 @@ fn verdict_of<'a>(alloc: Global, bytes: &[u8]) -> Result<Answer, Fault<'a>>
 }
 
 // Writes an answer.
-fn written<'a, O: Sink>(answer: &Answer, out: &mut O) -> Result<Verdict, Fault<'a>>
+fn write_answer<'a, O: Sink>(answer: &Answer, out: &mut O) -> Result<Verdict, Fault<'a>>
     requires unfailed { O.failed out.old ≡ false }
     ensures ok { IfOk result (λ v. (v ≡ answer.now.verdict) × (O.failed out.new ≡ false) × Appends (O.taken out.old) (O.taken out.new) (string_bytes answer.now.text)) }
     ensures err { IfErr result (λ f. (f ≡ faults.Output) × (O.failed out.new ≡ true) × AppendsPart (O.taken out.old) (O.taken out.new) (string_bytes answer.now.text)) }
@@ -151,12 +154,13 @@ pub fn list_file<'a, P: Paths, O: Sink>(
     out: &mut O,
 ) -> Result<Verdict, Fault<'a>>
     requires unfailed { O.failed out.old ≡ false }
-    ensures told { AnswerLeaves Lists (P.held paths.old file.now) (O.taken out.old) (O.taken out.new) (O.failed out.new) result }
+    ensures told { AnswerLeaves Lists (P.held paths.old file.now) file.now (O.taken out.old) (O.taken out.new) (O.failed out.new) result }
     ensures same { P.held paths.new ≡ P.held paths.old }
+    ensures quiet { P.failed paths.new ≡ P.failed paths.old }
 {
     let bytes = bytes_at(paths, file)?;
     let answer = listing_of(alloc, &bytes)?;
-    written(&answer, out)
+    write_answer(&answer, out)
 }
 
 /// Writes whether the program whose bytes a file is is accepted with all helpers, or where they are refused.
@@ -167,10 +171,11 @@ pub fn check_file<'a, P: Paths, O: Sink>(
     out: &mut O,
 ) -> Result<Verdict, Fault<'a>>
     requires unfailed { O.failed out.old ≡ false }
-    ensures told { AnswerLeaves Checks (P.held paths.old file.now) (O.taken out.old) (O.taken out.new) (O.failed out.new) result }
+    ensures told { AnswerLeaves Checks (P.held paths.old file.now) file.now (O.taken out.old) (O.taken out.new) (O.failed out.new) result }
     ensures same { P.held paths.new ≡ P.held paths.old }
+    ensures quiet { P.failed paths.new ≡ P.failed paths.old }
 {
     let bytes = bytes_at(paths, file)?;
     let answer = verdict_of(alloc, &bytes)?;
-    written(&answer, out)
+    write_answer(&answer, out)
 }

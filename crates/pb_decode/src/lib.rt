@@ -10,6 +10,3 @@ mod writing;
 pub use fault::DecodeFault;
 pub use reading::{decode, either_program_or_fault};
 pub use writing::encode;
-
-#[cfg(test)]
-mod tests;

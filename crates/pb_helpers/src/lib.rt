@@ -13,6 +13,3 @@ pub use arguments::{
 };
 pub use code::Code;
 pub use table::HelperTable;
-
-#[cfg(test)]
-mod tests;

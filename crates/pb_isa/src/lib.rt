@@ -8,6 +8,3 @@ mod program;
 pub use arithmetic::{alu, holds};
 pub use insn::{AluOp, Cmp, Insn, Operand, Reg, Size, Width};
 pub use program::{NoProgram, Program};
-
-#[cfg(test)]
-mod tests;

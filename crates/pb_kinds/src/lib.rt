@@ -8,6 +8,3 @@ mod ranges;
 
 pub use frame::{Frame, Kind, entry, join, joins_are_meets};
 pub use ranges::{in_record, in_stack};
-
-#[cfg(test)]
-mod tests;

@@ -3,7 +3,5 @@
 
 mod list;
 mod sorted;
-#[cfg(test)]
-mod tests;
 
 pub use list::ListTablet;

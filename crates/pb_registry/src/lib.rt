@@ -7,6 +7,3 @@ mod manifest;
 mod observer;
 
 pub use manifest::{Registry, RegistryFault};
-
-#[cfg(test)]
-mod tests;

@@ -10,6 +10,3 @@ pub use report::{Newest, Put, Tally, one_report, report_of};
 pub use script::{ScriptFault, fault_is_first, parse_script, reads_small_batches};
 pub use sink::write_all;
 pub use words::{Options, options, plain_words_are_taken};
-
-#[cfg(test)]
-mod tests;

@@ -13,6 +13,3 @@ pub use accepted::Accepted;
 pub use arriving::frames_are_meets;
 pub use rules::codes_rise;
 pub use verifier::{VerifyFault, either_accepted_or_refused, verify};
-
-#[cfg(test)]
-mod tests;

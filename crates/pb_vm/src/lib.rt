@@ -18,6 +18,3 @@ pub use change::Record;
 pub use finished::Finished;
 pub use judge::{AcceptFault, accept, encodings_are_taken};
 pub use vm::Vm;
-
-#[cfg(test)]
-mod tests;

@@ -12,11 +12,12 @@ const LIMIT: u64 = 16_777_216;
 #[derive(Drop)]
 pub struct Files<'a> {
     rt: &'a HostRuntime,
+    failed: bool,
 }
 
 impl<'a> Files<'a> {
     pub fn new(rt: &'a HostRuntime) -> Files<'a> {
-        Files { rt }
+        Files { rt, failed: false }
     }
 
     // The bytes of a file, as far as one more than it may have.
@@ -40,6 +41,8 @@ fn fault_of(error: &io::Error) -> PathFault {
 impl<'a> Paths for Files<'a> {
     ghost held = { λ _ _. None };
 
+    ghost failed = { λ f. f.failed };
+
     fn read(&mut self, path: &str) -> Result<Vec<u8>, PathFault> {
         match self.bytes(path) {
             Ok(bytes) if bytes.len() as u64 > LIMIT => Err(PathFault::TooLarge),
@@ -51,7 +54,10 @@ impl<'a> Paths for Files<'a> {
     fn write(&mut self, path: &str, bytes: &[u8]) -> Result<(), PathFault> {
         match fs::write(self.rt, path, bytes) {
             Ok(()) => Ok(()),
-            Err(error) => Err(fault_of(&error)),
+            Err(error) => {
+                self.failed = true;
+                Err(fault_of(&error))
+            }
         }
     }
 }

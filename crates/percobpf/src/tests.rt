@@ -24,7 +24,7 @@ const MANIFEST: &[u8] = b"{\"profile\":1,\"observers\":[]}";
 // mov64 r0, 0 and exit.
 const WATCH: &str = "b7000000000000009500000000000000";
 
-// The two files of a run, at the paths `m` and `s`.
+// The two files of a run, at the paths `m` and `s`. No write succeeds.
 #[derive(Drop)]
 struct Held<'a> {
     alloc: Global,
@@ -33,12 +33,14 @@ struct Held<'a> {
 }
 
 impl<'a> Paths for Held<'a> {
-    ghost use Rattle.std.specs.Prelude.{[], ◌∷◌, if◌then◌else◌};
+    ghost use Rattle.std.specs.Prelude.{[], ◌∷◌, if◌then◌else◌, true};
     ghost use Rattle.std.specs.Option.{option_map};
     ghost use Rattle.std.specs.Result.{result_ok};
     ghost use Rattle.std.specs.Str.{bytes_eq};
 
     ghost held = { λ h path. option_map (λ r. r.now) (result_ok (if bytes_eq path (109 ∷ []) then h.manifest else h.script)) };
+
+    ghost failed = { λ _. true };
 
     fn read(&mut self, path: &str) -> Result<Vec<u8>, PathFault> {
         let held = if path == "m" {

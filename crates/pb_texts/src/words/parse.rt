@@ -15,7 +15,12 @@ fn run_command<'a>(alloc: Global) -> Result<Command<'a>, AllocError>
 {
     let manifest = Arg::new(alloc, "MANIFEST").required(true);
     let script = Arg::new(alloc, "SCRIPT").required(true);
-    Command::new(alloc, "run").arg(manifest)?.arg(script)
+    let manifest = manifest.help("A JSON file with the observers and their programs");
+    let script = script.help("A text file with the changes, one a line");
+    let bare = Command::new(alloc, "run");
+    bare.about("Makes a script's changes, runs the observers on them, and prints the report")
+        .arg(manifest)?
+        .arg(script)
 }
 
 fn asm_command<'a>(alloc: Global) -> Result<Command<'a>, AllocError>
@@ -24,7 +29,12 @@ fn asm_command<'a>(alloc: Global) -> Result<Command<'a>, AllocError>
 {
     let input = Arg::new(alloc, "IN").required(true);
     let output = Arg::new(alloc, "OUT").required(true);
-    Command::new(alloc, "asm").arg(input)?.arg(output)
+    let input = input.help("A text file with one instruction a line");
+    let output = output.help("The file that the program's bytes are written to");
+    let bare = Command::new(alloc, "asm");
+    bare.about("Writes the bytes of a program's text")
+        .arg(input)?
+        .arg(output)
 }
 
 fn dis_command<'a>(alloc: Global) -> Result<Command<'a>, AllocError>
@@ -32,7 +42,10 @@ fn dis_command<'a>(alloc: Global) -> Result<Command<'a>, AllocError>
     ensures local { IfOk result (λ c. (fields_of c).has_globals ≡ false) }
 {
     let file = Arg::new(alloc, "FILE").required(true);
-    Command::new(alloc, "dis").arg(file)
+    let file = file.help("A file with a program's bytes");
+    let bare = Command::new(alloc, "dis");
+    bare.about("Prints the text of a program's bytes, or where they are refused")
+        .arg(file)
 }
 
 fn check_command<'a>(alloc: Global) -> Result<Command<'a>, AllocError>
@@ -40,7 +53,10 @@ fn check_command<'a>(alloc: Global) -> Result<Command<'a>, AllocError>
     ensures local { IfOk result (λ c. (fields_of c).has_globals ≡ false) }
 {
     let bytes = Arg::new(alloc, "FILE").required(true);
-    Command::new(alloc, "check").arg(bytes)
+    let bytes = bytes.help("A file with a program's bytes");
+    let bare = Command::new(alloc, "check");
+    bare.about("Prints whether a program's bytes are accepted, or where they are refused")
+        .arg(bytes)
 }
 
 // The program with the subcommands that read texts.
@@ -50,6 +66,7 @@ fn texts_program<'a>(alloc: Global) -> Result<Command<'a>, AllocError>
     let run = run_command(alloc)?;
     let asm = asm_command(alloc)?;
     let bare = Command::new(alloc, "percobpf").subcommand_required(true);
+    let bare = bare.about("A table of cells with snapshot transactions, and BPF observers that run on its changes");
     bare.subcommand(run)?.subcommand(asm)
 }
 

@@ -1,5 +1,6 @@
 //! `asm` and `dis`, over paths and sinks in memory.
-ghost use Rattle.std.specs.Prelude.{◌≡◌, IfOk};
+ghost use Rattle.std.specs.Prelude.{◌≡◌, ◌∷◌, [], true, IfOk};
+ghost use Rattle.std.specs.Str.{bytes_eq};
 
 use super::{Outcome, carry};
 use pb_base::NoMemory;
@@ -18,6 +19,7 @@ pub(crate) struct Folder<'a> {
     // What each write is refused with.
     refuses: Option<PathFault>,
     output: Option<Vec<u8>>,
+    failed: bool,
 }
 
 impl<'a> Paths for Folder<'a> {
@@ -28,6 +30,8 @@ impl<'a> Paths for Folder<'a> {
 
     ghost held = { λ f path. if bytes_eq path (105 ∷ []) then option_map (λ r. r.now) (result_ok f.input) else if bytes_eq path (111 ∷ []) then option_map (λ v. v.items) f.output else None };
 
+    ghost failed = { λ f. f.failed };
+
     fn read(&mut self, path: &str) -> Result<Vec<u8>, PathFault> {
         if path != "i" {
             return Err(PathFault::Failed);
@@ -36,14 +40,31 @@ impl<'a> Paths for Folder<'a> {
     }
 
     fn write(&mut self, path: &str, bytes: &[u8]) -> Result<(), PathFault> {
+        match self.kept(path, bytes) {
+            Ok(output) => {
+                self.output = Some(output);
+                Ok(())
+            }
+            Err(fault) => {
+                self.failed = true;
+                Err(fault)
+            }
+        }
+    }
+}
+
+impl<'a> Folder<'a> {
+    // What a write leaves at a path.
+    fn kept(&self, path: &str, bytes: &[u8]) -> Result<Vec<u8>, PathFault>
+        ensures { IfOk result (λ v. (bytes_eq path.now (111 ∷ []) ≡ true) × (v.items ≡ bytes.now)) }
+    {
         if path != "o" {
             return Err(PathFault::Failed);
         }
-        if let Some(fault) = self.refuses {
-            return Err(fault);
+        match self.refuses {
+            Some(fault) => Err(fault),
+            None => copied(self.alloc, bytes),
         }
-        self.output = Some(copied(self.alloc, bytes)?);
-        Ok(())
     }
 }
 
@@ -63,6 +84,7 @@ pub(crate) fn holding(alloc: Global, input: &[u8]) -> Folder {
         input: Ok(input),
         refuses: None,
         output: None,
+        failed: false,
     }
 }
 
@@ -221,6 +243,7 @@ fn files_are_refused(rt: HostRuntime) {
             input,
             refuses: None,
             output: None,
+            failed: false,
         };
         assert!(rt; tells(&rt, &mut folder, fault), "{fault}");
         // The first fault is told.

@@ -1,5 +1,5 @@
 //! Whole programs and their verdicts.
-use crate::tests::{add, alu, copy, jump_if_zero, load_byte, mov, store_byte, told, told_with};
+use crate::verify::{add, alu, copy, jump_if_zero, load_byte, mov, store_byte, told, told_with};
 use pb_helpers::HelperTable;
 use pb_isa::{AluOp, Cmp, Insn, Operand, Reg, Size, Width};
 use std::alloc::Global;

@@ -1,4 +1,4 @@
-use crate::{AsmFault, assemble, disassemble};
+use pb_asm::{AsmFault, assemble, disassemble};
 use pb_isa::{AluOp, Cmp, Insn, Operand, Reg, Size, Width};
 use std::alloc::Global;
 use std::process::Abort;

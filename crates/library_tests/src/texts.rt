@@ -1,7 +1,7 @@
 ghost use Rattle.std.specs.Prelude.{◌≤◌, length};
 
-use crate::{Options, Put, Tally, options, parse_script, report_of, write_all};
 use pb_base::{Cell, Column, Content, ObserverNo, Out, Row, Sink, Ts};
+use pb_texts::{Options, Put, Tally, options, parse_script, report_of, write_all};
 use std::alloc::Global;
 use std::process::Abort;
 use std::rt::HostRuntime;

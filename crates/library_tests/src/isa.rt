@@ -1,4 +1,4 @@
-use crate::{AluOp, Cmp, Insn, NoProgram, Operand, Program, Reg, Width, alu, holds};
+use pb_isa::{AluOp, Cmp, Insn, NoProgram, Operand, Program, Reg, Width, alu, holds};
 use std::alloc::Global;
 use std::process::Abort;
 use std::rt::HostRuntime;

@@ -2,9 +2,9 @@ mod codes;
 mod ends;
 mod worked;
 
-use crate::{VerifyFault, verify};
 use pb_helpers::HelperTable;
 use pb_isa::{AluOp, Cmp, Insn, Operand, Program, Reg, Size, Width};
+use pb_verify::{VerifyFault, verify};
 use std::alloc::Global;
 use std::process::Abort;
 

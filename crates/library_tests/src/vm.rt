@@ -1,5 +1,5 @@
-use crate::{AcceptFault, Accepted, Moved, Phase, Record, Vm, accept};
 use pb_base::{Cell, Column, Content, Refused, Row, Ts, Version};
+use pb_vm::{AcceptFault, Accepted, Moved, Phase, Record, Vm, accept};
 use std::alloc::Global;
 use std::process::Abort;
 use std::rt::HostRuntime;

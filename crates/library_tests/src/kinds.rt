@@ -1,4 +1,4 @@
-use crate::{Frame, Kind, entry, in_record, in_stack, join};
+use pb_kinds::{Frame, Kind, entry, in_record, in_stack, join};
 use std::rt::HostRuntime;
 use std::test::*;
 

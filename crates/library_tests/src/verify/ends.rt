@@ -1,5 +1,5 @@
 //! Bytes at both ends of the stack and of the record, at every size, and far pointers.
-use crate::tests::{add, alu, copy, mov, told};
+use crate::verify::{add, alu, copy, mov, told};
 use pb_isa::{AluOp, Insn, Operand, Reg, Size};
 use std::alloc::Global;
 use std::process::Abort;

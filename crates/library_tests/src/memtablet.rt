@@ -3,8 +3,8 @@ ghost use Rattle.std.specs.Prelude.{◌≡◌};
 ghost use Rattle.pb_base.specs.Cell.{row_of};
 ghost use Rattle.pb_store.specs.Contents.{IsOfSort};
 
-use crate::ListTablet;
 use pb_base::{Cell, Column, Content, NoMemory, Row, Ts};
+use pb_memtablet::ListTablet;
 use pb_store::{Edit, Item, Slot, Sort, Table, Tablet};
 use std::test::Fail;
 

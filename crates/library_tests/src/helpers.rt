@@ -1,4 +1,4 @@
-use crate::{Code, HelperTable, argument_code};
+use pb_helpers::{Code, HelperTable, argument_code};
 use pb_kinds::{Frame, Kind, entry, in_stack};
 use std::process::Abort;
 use std::rt::HostRuntime;

@@ -1,5 +1,5 @@
-use crate::{Registry, RegistryFault};
 use pb_base::Refused;
+use pb_registry::{Registry, RegistryFault};
 use std::alloc::Global;
 use std::process::Abort;
 use std::rt::HostRuntime;

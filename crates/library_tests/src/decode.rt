@@ -1,7 +1,7 @@
 mod vectors;
 
-use crate::{DecodeFault, decode, encode};
 use pb_base::Refused;
+use pb_decode::{DecodeFault, decode, encode};
 use pb_isa::{AluOp, Cmp, Insn, Operand, Program, Reg, Size, Width};
 use std::alloc::Global;
 use std::process::Abort;

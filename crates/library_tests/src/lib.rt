@@ -1,0 +1,25 @@
+//! The tests of the libraries: tables of worked rows, and each public call once with ample memory.
+//!
+//! They stand in a crate of their own, since a crate that has tests is proved twice.
+#![tactic(auto)]
+
+#[cfg(test)]
+mod asm;
+#[cfg(test)]
+mod decode;
+#[cfg(test)]
+mod helpers;
+#[cfg(test)]
+mod isa;
+#[cfg(test)]
+mod kinds;
+#[cfg(test)]
+mod memtablet;
+#[cfg(test)]
+mod registry;
+#[cfg(test)]
+mod texts;
+#[cfg(test)]
+mod verify;
+#[cfg(test)]
+mod vm;
