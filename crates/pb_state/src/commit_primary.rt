@@ -39,7 +39,6 @@ impl<T: Tablet> State<T> {
         ensures taken { IfOk result (λ a. TableStep self.old seat (Step.CommitPrimary start) a self.new) }
         ensures same { OnErr result (self.new ≡ self.old) }
     {
-        let _seat = seat;
         let Some(transaction) = self.transactions.get(start) else {
             unreachable!()
         };

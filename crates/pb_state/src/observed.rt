@@ -140,7 +140,6 @@ pub(crate) fn cells_of(
     ensures some { IfOk result (λ c. is_some (primary_in (cells_in c)) ≡ true) }
     ensures known { IsKnown what.now }
 {
-    let _reads = reads;
     if let Declared::Script(batch) = what.get() {
         // For the proof: that the batch has a first cell.
         let _primary = batch.primary();

@@ -39,7 +39,6 @@ impl<T: Tablet> State<T> {
         ensures taken { IfOk result (λ a. TableStep self.old seat (Step.Prewrite start cell.now) a self.new) }
         ensures same { OnErr result (self.new ≡ self.old) }
     {
-        let _seat = seat;
         if is_taken(&self.table, cell, start) {
             self.transactions.set_phase(start, Phase::Failed);
             return Ok(Answer::Conflict);

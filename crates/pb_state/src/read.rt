@@ -28,7 +28,6 @@ impl<T: Tablet> State<T> {
         ensures taken { IfOk result (λ a. TableStep self.old seat (Step.Read start cell.now) a self.new) }
         ensures same { OnErr result (self.new ≡ self.old) }
     {
-        let _seat = seat;
         if let Some((lock, primary)) = lock_on(&self.table, cell, start) {
             return Ok(Answer::Locked {
                 start: lock,

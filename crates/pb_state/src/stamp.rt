@@ -29,7 +29,6 @@ impl<T: Tablet> State<T> {
         requires { step_reason self.old seat (Step.Stamp start) ≡ None }
         ensures { TableStep self.old seat (Step.Stamp start) result self.new }
     {
-        let _seat = seat;
         let commit = Ts(self.clock + 1);
         self.transactions.set_phase(start, Phase::Stamped(commit));
         self.clock = commit.0;
