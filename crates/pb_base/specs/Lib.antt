@@ -2,3 +2,4 @@ pub mod Cell
 pub mod Sink
 pub mod Batch
 pub mod Same
+pub mod Reading
