@@ -16,16 +16,23 @@ use Rattle.pb_isa.specs.declared.insn.Operand.TheVariants as operand
 use Rattle.pb_isa.specs.declared.insn.Reg.{Reg}
 use Rattle.pb_isa.specs.declared.insn.Reg.TheVariants.{R0, R1, R2, R3, R4, R5, R6, R7, R8, R9, R10}
 use Rattle.pb_isa.specs.Bounds.{OperandFits, Fits}
-use Rattle.pb_isa.specs.Slots.{places_of, layout, slots, IsProgram}
+use Rattle.pb_isa.specs.Slots.{places_of, layout, slots}
+use Rattle.pb_isa.specs.Programs.{ProgramOf, IsProgram}
+use Rattle.pb_isa.specs.declared.limits.TheConstants.{MAX_SLOTS}
 use Rattle.pb_asm.specs.declared.fault.Code.{Code}
 use Rattle.pb_asm.specs.declared.fault.Code.TheVariants as code
 use Rattle.pb_asm.specs.declared.names.Word.{Word}
 use Rattle.pb_asm.specs.declared.names.Word.TheVariants as word
 use Rattle.pb_asm.specs.Names.{name, words, reg_name, word_named}
-use Rattle.pb_asm.specs.Reading.{◌>>=◌, or_code, behind, before, around}
-use Rattle.pb_asm.specs.Operands.{is_number, number_upto, minus, plus, imm_of, offset_of, reg_of, operand_of, based, at_minus, at_plus, place_of, comma, last, alu, wide, load, store_imm, store, jump_if, operands, insn_of, line_of}
+use Rattle.pb_base.specs.Reading.{◌>>=◌}
+use Rattle.std.specs.Prelude.{ok_or}
+use Rattle.pb_asm.specs.Cuts.{strip_prefix, strip_suffix, split_once}
+use Rattle.pb_base.specs.Reading.{is_numeral, numeral_upto}
+use Rattle.pb_asm.specs.Operands.{minus, plus, imm_of_text, offset_of_text, reg_of_text, operand_of_text, based, at_minus, at_plus, place_of_text, comma, last, alu_operands, load_imm_operands, load_operands, store_imm_operands, store_operands, jump_if_operands, operands, insn_of_words, line_of}
 use Rattle.pb_asm.specs.Listing.{operand_text, offset_text, place_text, insn_text, listing}
-use Rattle.pb_asm.specs.Texts.{is_skipped, with_line, and_then, numbered, lines_read, some_of, program_of}
+use Rattle.pb_base.specs.Reading.{is_skipped, ◌>>=◌, numbered}
+use Rattle.pb_asm.specs.Codes.{asm_code}
+use Rattle.pb_asm.specs.Texts.{with_insn_line, insns_of_lines, some_of, program_of_text}
 use Rattle.pb_asm.proofs.Numbers.{own}
 use Rattle.pb_asm.proofs.Cutting.{before_there}
 use Rattle.pb_asm.proofs.Shapes.{above, above_append, above_less, cut_there, cut_none, around_there, around_none, reg_above, name_above, word_back, reg_back, decimal_above, first_is_digit}
@@ -46,10 +53,10 @@ no_zero (suc n) lt =
     let e : (slice_index (decimal (suc n)) 0 == 48) ≡ false = grind (arith, f) in
     rw e refl
 
-number_is : (n : ℕ) → n < 2 ^ 64 → is_number (decimal n) ≡ true
+number_is : (n : ℕ) → n < 2 ^ 64 → is_numeral (decimal n) ≡ true
 number_is n lt = tests (length (decimal n) == 0) (slice_index (decimal n) 0 == 48) (nat_lt 1 (length (decimal n))) (list_all is_ascii_digit (decimal n)) (not_empty _ (decimal_nonempty n lt)) (no_zero n lt) (digits_decimal own n lt)
 
-pub number_back : (greatest n : ℕ) → n ≤ greatest → n < 2 ^ 64 → number_upto greatest (decimal n) ≡ Ok n
+pub number_back : (greatest n : ℕ) → n ≤ greatest → n < 2 ^ 64 → numeral_upto code.Form code.Range greatest (decimal n) ≡ Ok n
 number_back greatest n le lt =
     let v : digits_value 10 (decimal n) ≡ n = digits_value-decimal own n lt in
     let e : nat_le (digits_value 10 (decimal n)) greatest ≡ true = le-leb _ _ (omega (arith, v, le)) in
@@ -63,15 +70,15 @@ plus_back : (limit n : ℕ) → n < limit → n < 2 ^ 64 → plus limit (decimal
 unfolding plus
 plus_back limit n le lt = rw (number_back (limit - 1) n (omega (arith, le)) lt) refl
 
-front_cases : (c x : ℕ) (xs : List ℕ) → c < 48 → (b : Bool) → nat_le 48 x ≡ b → cond b (above 48 xs) false ≡ true → behind c (x ∷ xs) ≡ None
+front_cases : (c x : ℕ) (xs : List ℕ) → c < 48 → (b : Bool) → nat_le 48 x ≡ b → cond b (above 48 xs) false ≡ true → strip_prefix c (x ∷ xs) ≡ None
 front_cases c x xs lt true is h = let q = leb-true 48 x is in let e : (x == c) ≡ false = grind (arith, q, lt) in rw e refl
 front_cases c x xs lt false is h = absurd cc
 
-no_front : (c : ℕ) (xs : List ℕ) → c < 48 → above 48 xs ≡ true → behind c xs ≡ None
+no_front : (c : ℕ) (xs : List ℕ) → c < 48 → above 48 xs ≡ true → strip_prefix c xs ≡ None
 no_front c [] lt h = refl
 no_front c (x ∷ xs) lt h = front_cases c x xs lt (nat_le 48 x) refl h
 
-imm_back : (k : ℤ) → FitsSigned w32 k → imm_of (signed_decimal k) ≡ Ok k
+imm_back : (k : ℤ) → FitsSigned w32 k → imm_of_text (signed_decimal k) ≡ Ok k
 imm_back (pos n) fits =
     let lt : n < 2 ^ 31 = fits.sfits in
     let big : n < 2 ^ 64 = omega (arith, lt) in
@@ -80,7 +87,7 @@ imm_back (negsuc n) fits =
     let lt : n < 2 ^ 31 = fits.sfits in
     minus_back (2 ^ 31) n (omega (arith, lt)) (omega (arith, lt))
 
-offset_back : (o : ℤ) → FitsSigned w16 o → offset_of (offset_text o) ≡ Ok o
+offset_back : (o : ℤ) → FitsSigned w16 o → offset_of_text (offset_text o) ≡ Ok o
 offset_back (pos n) fits =
     let lt : n < 2 ^ 15 = fits.sfits in
     plus_back (2 ^ 15) n lt (omega (arith, lt))
@@ -90,8 +97,8 @@ offset_back (negsuc n) fits =
 
 -- ---- registers, operands, places
 
-reg_read : (r : Reg) → reg_of (reg_name r) ≡ Ok r
-reg_read r = ap (or_code code.Form) (reg_back r)
+reg_read : (r : Reg) → reg_of_text (reg_name r) ≡ Ok r
+reg_read r = ap (λ (o : Option Reg). ok_or o code.Form) (reg_back r)
 
 first_letter : (r : Reg) → (slice_index (reg_name r) 0 == 114) ≡ true
 first_letter R0 = refl
@@ -117,8 +124,8 @@ not_r (pos n) fits =
     grind (arith, g)
 not_r (negsuc n) fits = refl
 
-operand_back : (a : Operand) → OperandFits a → operand_of (operand_text a) ≡ Ok a
-unfolding operand_of
+operand_back : (a : Operand) → OperandFits a → operand_of_text (operand_text a) ≡ Ok a
+unfolding operand_of_text
 operand_back (operand.Imm k) fits = rw (not_r k fits, imm_back k fits) refl
 operand_back (operand.Reg r) fits = rw (is_r r, reg_read r) refl
 
@@ -127,7 +134,7 @@ unfolding based
 based_back b o read h = rw (reg_read b, h) refl
 
 -- what stands between the brackets
-inside : (b : Reg) (o : ℤ) → FitsSigned w16 o → at_plus (reg_name b ++ offset_text o) (around 43 (reg_name b ++ offset_text o)) ≡ Ok (b, o)
+inside : (b : Reg) (o : ℤ) → FitsSigned w16 o → at_plus (reg_name b ++ offset_text o) (split_once 43 (reg_name b ++ offset_text o)) ≡ Ok (b, o)
 inside b (pos n) fits =
     let lt : n < 2 ^ 15 = fits.sfits in
     ap (at_plus (reg_name b ++ 43 ∷ decimal n)) (around_there 43 48 (reg_name b) (decimal n) (omega arith) (reg_above b))
@@ -140,12 +147,12 @@ inside b (negsuc n) fits =
     ∙ ap at_minus (around_there 45 48 (reg_name b) (decimal (suc n)) (omega arith) (reg_above b))
     ∙ based_back b (negsuc n) (minus (2 ^ 15) (decimal (suc n))) (minus_back (2 ^ 15) n (omega (arith, lt)) big)
 
-place_back : (b : Reg) (o : ℤ) → FitsSigned w16 o → place_of (place_text b o) ≡ Ok (b, o)
-unfolding place_of
+place_back : (b : Reg) (o : ℤ) → FitsSigned w16 o → place_of_text (place_text b o) ≡ Ok (b, o)
+unfolding place_of_text
 place_back b o fits =
     let grouped : reg_name b ++ (offset_text o ++ 93 ∷ []) ≡ (reg_name b ++ offset_text o) ++ 93 ∷ [] = sym (append_assoc (reg_name b) (offset_text o) (93 ∷ [])) in
-    let e : before 93 (reg_name b ++ (offset_text o ++ 93 ∷ [])) ≡ Some (reg_name b ++ offset_text o) = ap (before 93) grouped ∙ before_there 93 (reg_name b ++ offset_text o) in
-    ap (λ (x : Option (List ℕ)). or_code code.Form x >>= λ inner. at_plus inner (around 43 inner)) e ∙ inside b o fits
+    let e : strip_suffix 93 (reg_name b ++ (offset_text o ++ 93 ∷ [])) ≡ Some (reg_name b ++ offset_text o) = ap (strip_suffix 93) grouped ∙ before_there 93 (reg_name b ++ offset_text o) in
+    ap (λ (x : Option (List ℕ)). ok_or x code.Form >>= λ inner. at_plus inner (split_once 43 inner)) e ∙ inside b o fits
 
 -- ---- the words of a line
 
@@ -198,8 +205,8 @@ three_words w x y z h k l =
     name_cut w (x ++ (codes ", " ++ (y ++ (codes ", " ++ z)))) ∙ ap (λ (ws : List (List ℕ)). name w ∷ ws) (comma_cut x (y ++ (codes ", " ++ z)) h
     ∙ ap (λ (ws : List (List ℕ)). (x ++ 44 ∷ []) ∷ ws) (comma_cut y z k ∙ ap (λ (ws : List (List ℕ)). (y ++ 44 ∷ []) ∷ ws) (last_cut z l)))
 
-first_read : (w : Word) (texts : List (List ℕ)) → insn_of (name w ∷ texts) ≡ operands w texts
-unfolding insn_of
+first_read : (w : Word) (texts : List (List ℕ)) → insn_of_words (name w ∷ texts) ≡ operands w texts
+unfolding insn_of_words
 first_read w texts = rw (word_back w) refl
 
 comma_read : (x : List ℕ) (texts : List (List ℕ)) → comma ((x ++ 44 ∷ []) ∷ texts) ≡ Ok (x, texts)
@@ -211,35 +218,35 @@ unfolding last
 last_read read x a h = rw h refl
 
 pub line_back : (i : Insn) → Fits i → line_of (insn_text i) ≡ Ok i
-unfolding alu wide load store_imm store jump_if
+unfolding alu_operands load_imm_operands load_operands store_imm_operands store_operands jump_if_operands
 line_back (insn.Alu op w d a) fits =
-    ap insn_of (two_words (word.Alu op w) (reg_name d) (operand_text a) (reg_line d) (operand_line a fits)) ∙ first_read (word.Alu op w) _
-    ∙ rw (comma_read (reg_name d) (operand_text a ∷ []), reg_read d, last_read operand_of (operand_text a) a (operand_back a fits)) refl
+    ap insn_of_words (two_words (word.Alu op w) (reg_name d) (operand_text a) (reg_line d) (operand_line a fits)) ∙ first_read (word.Alu op w) _
+    ∙ rw (comma_read (reg_name d) (operand_text a ∷ []), reg_read d, last_read operand_of_text (operand_text a) a (operand_back a fits)) refl
 line_back (insn.Neg w d) fits =
-    ap insn_of (one_word (word.Neg w) (reg_name d) (reg_line d)) ∙ first_read (word.Neg w) _
-    ∙ rw (last_read reg_of (reg_name d) d (reg_read d)) refl
+    ap insn_of_words (one_word (word.Neg w) (reg_name d) (reg_line d)) ∙ first_read (word.Neg w) _
+    ∙ rw (last_read reg_of_text (reg_name d) d (reg_read d)) refl
 line_back (insn.LoadImm d v) fits =
-    ap insn_of (two_words word.LoadImm (reg_name d) (decimal v) (reg_line d) (decimal_line v fits)) ∙ first_read word.LoadImm _
-    ∙ rw (comma_read (reg_name d) (decimal v ∷ []), reg_read d, last_read (number_upto (2 ^ 64 - 1)) (decimal v) v (number_back (2 ^ 64 - 1) v (omega (arith, fits)) fits)) refl
+    ap insn_of_words (two_words word.LoadImm (reg_name d) (decimal v) (reg_line d) (decimal_line v fits)) ∙ first_read word.LoadImm _
+    ∙ rw (comma_read (reg_name d) (decimal v ∷ []), reg_read d, last_read (numeral_upto code.Form code.Range (2 ^ 64 - 1)) (decimal v) v (number_back (2 ^ 64 - 1) v (omega (arith, fits)) fits)) refl
 line_back (insn.Load z d b o) fits =
-    ap insn_of (two_words (word.Load z) (reg_name d) (place_text b o) (reg_line d) (place_line b o fits)) ∙ first_read (word.Load z) _
-    ∙ rw (comma_read (reg_name d) (place_text b o ∷ []), reg_read d, last_read place_of (place_text b o) (b, o) (place_back b o fits)) refl
+    ap insn_of_words (two_words (word.Load z) (reg_name d) (place_text b o) (reg_line d) (place_line b o fits)) ∙ first_read (word.Load z) _
+    ∙ rw (comma_read (reg_name d) (place_text b o ∷ []), reg_read d, last_read place_of_text (place_text b o) (b, o) (place_back b o fits)) refl
 line_back (insn.StoreImm z b o k) fits =
-    ap insn_of (two_words (word.StoreImm z) (place_text b o) (signed_decimal k) (place_line b o fits.0) (signed_line k fits.1)) ∙ first_read (word.StoreImm z) _
-    ∙ rw (comma_read (place_text b o) (signed_decimal k ∷ []), place_back b o fits.0, last_read imm_of (signed_decimal k) k (imm_back k fits.1)) refl
-line_back (insn.Store z b o s) fits =
-    ap insn_of (two_words (word.Store z) (place_text b o) (reg_name s) (place_line b o fits) (reg_line s)) ∙ first_read (word.Store z) _
-    ∙ rw (comma_read (place_text b o) (reg_name s ∷ []), place_back b o fits, last_read reg_of (reg_name s) s (reg_read s)) refl
+    ap insn_of_words (two_words (word.StoreImm z) (place_text b o) (signed_decimal k) (place_line b o fits.0) (signed_line k fits.1)) ∙ first_read (word.StoreImm z) _
+    ∙ rw (comma_read (place_text b o) (signed_decimal k ∷ []), place_back b o fits.0, last_read imm_of_text (signed_decimal k) k (imm_back k fits.1)) refl
+line_back (insn.Store z b s o) fits =
+    ap insn_of_words (two_words (word.Store z) (place_text b o) (reg_name s) (place_line b o fits) (reg_line s)) ∙ first_read (word.Store z) _
+    ∙ rw (comma_read (place_text b o) (reg_name s ∷ []), place_back b o fits, last_read reg_of_text (reg_name s) s (reg_read s)) refl
 line_back (insn.Jump o) fits =
-    ap insn_of (one_word word.Jump (offset_text o) (offset_line o fits)) ∙ first_read word.Jump _
-    ∙ rw (last_read offset_of (offset_text o) o (offset_back o fits)) refl
+    ap insn_of_words (one_word word.Jump (offset_text o) (offset_line o fits)) ∙ first_read word.Jump _
+    ∙ rw (last_read offset_of_text (offset_text o) o (offset_back o fits)) refl
 line_back (insn.JumpIf c w d a o) fits =
-    ap insn_of (three_words (word.JumpIf c w) (reg_name d) (operand_text a) (offset_text o) (reg_line d) (operand_line a fits.0) (offset_line o fits.1)) ∙ first_read (word.JumpIf c w) _
-    ∙ rw (comma_read (reg_name d) ((operand_text a ++ 44 ∷ []) ∷ offset_text o ∷ []), reg_read d, comma_read (operand_text a) (offset_text o ∷ []), operand_back a fits.0, last_read offset_of (offset_text o) o (offset_back o fits.1)) refl
+    ap insn_of_words (three_words (word.JumpIf c w) (reg_name d) (operand_text a) (offset_text o) (reg_line d) (operand_line a fits.0) (offset_line o fits.1)) ∙ first_read (word.JumpIf c w) _
+    ∙ rw (comma_read (reg_name d) ((operand_text a ++ 44 ∷ []) ∷ offset_text o ∷ []), reg_read d, comma_read (operand_text a) (offset_text o ∷ []), operand_back a fits.0, last_read offset_of_text (offset_text o) o (offset_back o fits.1)) refl
 line_back (insn.Call k) fits =
-    ap insn_of (one_word word.Call (signed_decimal k) (signed_line k fits)) ∙ first_read word.Call _
-    ∙ rw (last_read imm_of (signed_decimal k) k (imm_back k fits)) refl
-line_back insn.Exit fits = ap insn_of (cut_none 32 48 (name word.Exit) (omega arith) (name_above word.Exit)) ∙ first_read word.Exit []
+    ap insn_of_words (one_word word.Call (signed_decimal k) (signed_line k fits)) ∙ first_read word.Call _
+    ∙ rw (last_read imm_of_text (signed_decimal k) k (imm_back k fits)) refl
+line_back insn.Exit fits = ap insn_of_words (cut_none 32 48 (name word.Exit) (omega arith) (name_above word.Exit)) ∙ first_read word.Exit []
 
 -- ---- the lines of a listing
 
@@ -265,7 +272,7 @@ insn_shown (insn.Neg w d) = name_shown (word.Neg w) (codes " " ++ reg_name d)
 insn_shown (insn.LoadImm d v) = name_shown word.LoadImm (codes " " ++ (reg_name d ++ (codes ", " ++ decimal v)))
 insn_shown (insn.Load z d b o) = name_shown (word.Load z) (codes " " ++ (reg_name d ++ (codes ", " ++ place_text b o)))
 insn_shown (insn.StoreImm z b o k) = name_shown (word.StoreImm z) (codes " " ++ (place_text b o ++ (codes ", " ++ signed_decimal k)))
-insn_shown (insn.Store z b o s) = name_shown (word.Store z) (codes " " ++ (place_text b o ++ (codes ", " ++ reg_name s)))
+insn_shown (insn.Store z b s o) = name_shown (word.Store z) (codes " " ++ (place_text b o ++ (codes ", " ++ reg_name s)))
 insn_shown (insn.Jump o) = name_shown word.Jump (codes " " ++ offset_text o)
 insn_shown (insn.JumpIf c w d a o) = name_shown (word.JumpIf c w) (codes " " ++ (reg_name d ++ (codes ", " ++ (operand_text a ++ (codes ", " ++ offset_text o)))))
 insn_shown (insn.Call k) = name_shown word.Call (codes " " ++ signed_decimal k)
@@ -287,7 +294,7 @@ insn_above (insn.Neg w d) fits = with_name (word.Neg w) (reg_name d) (less (reg_
 insn_above (insn.LoadImm d v) fits = with_name word.LoadImm (reg_name d ++ (codes ", " ++ decimal v)) (with_comma (reg_name d) (decimal v) (reg_line d) (less (decimal v) (decimal_line v fits)))
 insn_above (insn.Load z d b o) fits = with_name (word.Load z) (reg_name d ++ (codes ", " ++ place_text b o)) (with_comma (reg_name d) (place_text b o) (reg_line d) (less (place_text b o) (place_line b o fits)))
 insn_above (insn.StoreImm z b o k) fits = with_name (word.StoreImm z) (place_text b o ++ (codes ", " ++ signed_decimal k)) (with_comma (place_text b o) (signed_decimal k) (place_line b o fits.0) (less (signed_decimal k) (signed_line k fits.1)))
-insn_above (insn.Store z b o s) fits = with_name (word.Store z) (place_text b o ++ (codes ", " ++ reg_name s)) (with_comma (place_text b o) (reg_name s) (place_line b o fits) (less (reg_name s) (reg_line s)))
+insn_above (insn.Store z b s o) fits = with_name (word.Store z) (place_text b o ++ (codes ", " ++ reg_name s)) (with_comma (place_text b o) (reg_name s) (place_line b o fits) (less (reg_name s) (reg_line s)))
 insn_above (insn.Jump o) fits = with_name word.Jump (offset_text o) (less (offset_text o) (offset_line o fits))
 insn_above (insn.JumpIf c w d a o) fits = with_name (word.JumpIf c w) (reg_name d ++ (codes ", " ++ (operand_text a ++ (codes ", " ++ offset_text o)))) (with_comma (reg_name d) (operand_text a ++ (codes ", " ++ offset_text o)) (reg_line d) (with_comma (operand_text a) (offset_text o) (operand_line a fits.0) (less (offset_text o) (offset_line o fits.1))))
 insn_above (insn.Call k) fits = with_name word.Call (signed_decimal k) (less (signed_decimal k) (signed_line k fits))
@@ -310,26 +317,26 @@ slots_append (i ∷ p) q =
     let a = length-append (places_of i) (layout (p ++ q)) in let b = length-append (places_of i) (layout p) in let h = slots_append p q in
     omega (arith, a, b, h)
 
-pub added : (before : List Insn) (i : Insn) → Fits i → slots (before ++ i ∷ []) ≤ 512 → with_line before (insn_text i) ≡ Ok (before ++ i ∷ [])
-unfolding with_line
-added before i fits most = rw (insn_shown i, line_back i fits, le-ltb 512 (slots (before ++ i ∷ [])) most) refl
+pub added : (before : List Insn) (i : Insn) → Fits i → slots (before ++ i ∷ []) ≤ MAX_SLOTS → with_insn_line before (insn_text i) ≡ Ok (before ++ i ∷ [])
+unfolding with_insn_line
+added before i fits most = rw (insn_shown i, line_back i fits, le-ltb MAX_SLOTS (slots (before ++ i ∷ [])) most) refl
 
-read_on : (n : ℕ) (before p : List Insn) → AllByRecursion Fits p → slots (before ++ p) ≤ 512 → lines_read n before (map insn_text p ++ [] ∷ []) ≡ Ok (before ++ p)
-unfolding with_line
+read_on : (n : ℕ) (before p : List Insn) → AllByRecursion Fits p → slots (before ++ p) ≤ MAX_SLOTS → insns_of_lines n before (map insn_text p ++ [] ∷ []) ≡ Ok (before ++ p)
+unfolding with_insn_line
 read_on n before [] fits most = ap Ok (sym (append-nil before))
 read_on n before (i ∷ p) fits most =
     let grouped : (before ++ i ∷ []) ++ p ≡ before ++ i ∷ p = append_assoc before (i ∷ []) p in
     let a = slots_append (before ++ i ∷ []) p in
-    let whole : slots ((before ++ i ∷ []) ++ p) ≤ 512 = subst (λ (q : List Insn). slots q ≤ 512) (sym grouped) most in
-    let one_more : slots (before ++ i ∷ []) ≤ 512 = omega (arith, a, whole) in
-    ap (λ (r : Result (List Insn) Code). and_then (numbered n r) (λ q. lines_read (n + 1) q (map insn_text p ++ [] ∷ []))) (added before i fits.0 one_more)
+    let whole : slots ((before ++ i ∷ []) ++ p) ≤ MAX_SLOTS = subst (λ (q : List Insn). slots q ≤ MAX_SLOTS) (sym grouped) most in
+    let one_more : slots (before ++ i ∷ []) ≤ MAX_SLOTS = omega (arith, a, whole) in
+    ap (λ (r : Result (List Insn) Code). (numbered asm_code n r >>= λ q. insns_of_lines (n + 1) q (map insn_text p ++ [] ∷ []))) (added before i fits.0 one_more)
     ∙ read_on (n + 1) (before ++ i ∷ []) p fits.1 whole ∙ ap Ok grouped
 
-pub some_there : (p : List Insn) → 0 < slots p → some_of p ≡ Ok p
+pub some_there : (is : List Insn) → 0 < slots is → some_of is ≡ Ok (record { insns = is })
 some_there [] some = let no : ⊥ = omega (arith, some) in absurd no
 some_there (i ∷ p) some = refl
 
-pub listing_back : (p : List Insn) → IsProgram p → AllByRecursion Fits p → program_of (listing p) ≡ Ok p
+pub listing_back : (p : ProgramOf) → IsProgram p → AllByRecursion Fits p.insns → program_of_text (listing p.insns) ≡ Ok p
 listing_back p is fits =
-    ap (λ (ls : List (List ℕ)). and_then (lines_read 0 [] ls) some_of) (lines_cut p fits)
-    ∙ ap (λ (r : Result (List Insn) (ℕ × ℕ)). and_then r some_of) (read_on 0 [] p fits is.most) ∙ some_there p is.some
+    ap (λ (ls : List (List ℕ)). insns_of_lines 0 [] ls >>= some_of) (lines_cut p.insns fits)
+    ∙ ap (λ (r : Result (List Insn) (ℕ × ℕ)). r >>= some_of) (read_on 0 [] p.insns fits is.most) ∙ some_there p.insns is.some

@@ -19,7 +19,7 @@ use Rattle.pb_isa.specs.declared.insn.Reg.TheVariants.{R0, R1, R2, R3, R4, R5, R
 use Rattle.pb_asm.specs.declared.names.Word.{Word}
 use Rattle.pb_asm.specs.declared.names.Word.TheVariants.{Alu, Neg, LoadImm, Load, StoreImm, Store, Jump, JumpIf, Call, Exit}
 use Rattle.pb_asm.specs.Names.{op_name, cmp_name, size_name, width_name, name, words, word_named, reg_name, registers, reg_named}
-use Rattle.pb_asm.specs.Reading.{around}
+use Rattle.pb_asm.specs.Cuts.{split_once}
 
 -- each byte is at least n
 abbrev pub above : ℕ → List ℕ → Bool
@@ -82,7 +82,7 @@ drop_front : (c : ℕ) (xs ys : List ℕ) → drop (suc (length xs)) (xs ++ c �
 drop_front c [] ys = refl
 drop_front c (x ∷ xs) ys = drop_front c xs ys
 
-pub around_there : (c n : ℕ) (xs ys : List ℕ) → c < n → above n xs ≡ true → around c (xs ++ c ∷ ys) ≡ Some (xs, ys)
+pub around_there : (c n : ℕ) (xs ys : List ℕ) → c < n → above n xs ≡ true → split_once c (xs ++ c ∷ ys) ≡ Some (xs, ys)
 around_there c n xs ys lt h =
     let p = place_there c n xs ys lt h in
     let l = length-append xs (c ∷ ys) in
@@ -93,7 +93,7 @@ around_there c n xs ys lt h =
     ap (λ (b : Bool). cond b (Some (before_first (λ b. b == c) (xs ++ c ∷ ys), after_first (λ b. b == c) (xs ++ c ∷ ys))) None) e
     ∙ ap (λ (y : List ℕ). Some (y, after_first (λ b. b == c) (xs ++ c ∷ ys))) f ∙ ap (λ (y : List ℕ). Some (xs, y)) g
 
-pub around_none : (c n : ℕ) (xs : List ℕ) → c < n → above n xs ≡ true → around c xs ≡ None
+pub around_none : (c n : ℕ) (xs : List ℕ) → c < n → above n xs ≡ true → split_once c xs ≡ None
 around_none c n xs lt h =
     let p = place_none c n xs lt h in
     let e : nat_lt (position_or_len (λ b. b == c) xs) (length xs) ≡ false = le-ltb _ _ (omega (arith, p)) in

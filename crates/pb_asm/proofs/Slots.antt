@@ -6,6 +6,7 @@ use Rattle.pb_isa.specs.declared.insn.Insn.{Insn}
 use Rattle.pb_isa.specs.declared.insn.Insn.TheVariants.{Alu, Neg, LoadImm, Load, StoreImm, Store, Jump, JumpIf, Call, Exit}
 use Rattle.pb_isa.specs.Bounds.{Fits}
 use Rattle.pb_isa.specs.Slots.{places_of, layout, slots}
+use Rattle.pb_isa.specs.declared.limits.TheConstants.{MAX_SLOTS}
 
 pub slots_push : (p : List Insn) (i : Insn) → slots (p ++ i ∷ []) ≡ slots p + slots (i ∷ [])
 slots_push [] i = omega arith
@@ -30,8 +31,8 @@ pub all_push : (p : List Insn) (i : Insn) → AllByRecursion Fits p → Fits i �
 all_push [] i h f = (f, tt)
 all_push (j ∷ p) i h f = (h.0, all_push p i h.1 f)
 
--- some instructions that take at most 512 slots are a program
-pub never_refused : (p : List Insn) → 0 < length p → slots p ≤ 512 → (slots p ≡ 0) ⊎ (512 < slots p) → ⊥
+-- some instructions that take at most MAX_SLOTS slots are a program
+pub never_refused : (p : List Insn) → 0 < length p → slots p ≤ MAX_SLOTS → (slots p ≡ 0) ⊎ (MAX_SLOTS < slots p) → ⊥
 never_refused [] some most h = omega (arith, some)
 never_refused (i ∷ p) some most (inl none) = let a = length-append (places_of i) (layout p) in let k = some_place i in omega (arith, a, k, none)
 never_refused (i ∷ p) some most (inr many) = omega (arith, most, many)

@@ -4,7 +4,7 @@ use Rattle.std.proofs.lemmas.List.{get_or-append-add, get_or-drop}
 use Rattle.byteorder.specs.Numbers.{little_number-reads_back, little_from-lt}
 use Rattle.byteorder.specs.Endian.{little_bytes}
 use Rattle.pb_decode.specs.declared.fields.Slot.{Slot}
-use Rattle.pb_decode.specs.Fields.{slot_bytes, slot_at}
+use Rattle.pb_decode.specs.Fields.{slot_bytes, slot_of_bytes}
 use Rattle.pb_decode.specs.Faults.{AreBytes}
 
 -- what the fields are below
@@ -18,7 +18,7 @@ same_bytes rest p q r s t u v = rw (p, q, r, s, t, u, v) refl
 short : {X : Type 0} (n : ℕ) → 8 ≤ n → n < 8 → X
 short n p q = let no : ⊥ = omega (arith, p, q) in absurd no
 
-pub front_slot : (bytes : List ℕ) → AreBytes bytes → 8 ≤ length bytes → bytes ≡ slot_bytes (slot_at bytes) ++ drop 8 bytes
+pub front_slot : (bytes : List ℕ) → AreBytes bytes → 8 ≤ length bytes → bytes ≡ slot_bytes (slot_of_bytes bytes) ++ drop 8 bytes
 front_slot ([]) fits long = short 0 long (omega arith)
 front_slot (a ∷ []) fits long = short 1 long (omega arith)
 front_slot (a ∷ b ∷ []) fits long = short 2 long (omega arith)
@@ -37,7 +37,7 @@ rest_bytes xs ys fits i = subst (λ (n : ℕ). n < 256) (get_or-append-add xs ys
 drop_bytes : (n : ℕ) (bytes : List ℕ) → AreBytes bytes → AreBytes (drop n bytes)
 drop_bytes n bytes fits i = subst (λ (k : ℕ). k < 256) (sym (get_or-drop n bytes i 0)) (fits (n + i))
 
-pub is_slot : (bytes : List ℕ) → AreBytes bytes → IsSlot (slot_at bytes)
+pub is_slot : (bytes : List ℕ) → AreBytes bytes → IsSlot (slot_of_bytes bytes)
 is_slot bytes fits =
     record {
       offset = little_from-lt 0 2 (drop 2 bytes) (drop_bytes 2 bytes fits);
@@ -48,6 +48,6 @@ pub same_slot : (s : Slot) (o d r f k : ℕ) → o ≡ s.opcode → d ≡ s.dst 
 same_slot s o d r f k p q t u v = rw (p, q, t, u, v) refl
 
 -- the slot that its own bytes say
-pub slot_back : (s : Slot) (rest : List ℕ) → s.dst < 16 → s.src < 16 → IsSlot s → slot_at (slot_bytes s ++ rest) ≡ s
+pub slot_back : (s : Slot) (rest : List ℕ) → s.dst < 16 → s.src < 16 → IsSlot s → slot_of_bytes (slot_bytes s ++ rest) ≡ s
 slot_back s rest dst src fits =
     same_slot s _ _ _ _ _ refl (omega (arith, dst, src)) (omega (arith, dst, src)) (little_number-reads_back 2 s.offset (little_bytes 4 s.imm ++ rest) fits.offset) (little_number-reads_back 4 s.imm rest fits.imm)

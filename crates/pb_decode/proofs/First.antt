@@ -1,6 +1,6 @@
 -- What is read at the front is spelt so, and what is spelt so is read.
 use Rattle.std.proofs.Common.{◌≡◌, ℕ, ◌+◌, ◌*◌, ◌/◌, ◌%◌, ◌^◌, ◌<◌, ◌≤◌, ℤ, Bool, true, false, cond, List, [], ◌++◌, length, drop, Option, Some, None, Result, Ok, Err, refl, sym, ap, subst, ◌∙◌, append_assoc, arith}
-use Rattle.std.specs.Prelude.{◌==◌, nat_lt, FitsSigned}
+use Rattle.std.specs.Prelude.{ok_or, ◌==◌, nat_lt, FitsSigned}
 use Rattle.std.specs.Int.{w16, w32, cast_signed, cast_unsigned}
 use Rattle.std.proofs.lemmas.Bool.{eqb-true, and_parts, ltb-false, le-ltb}
 use Rattle.std.proofs.lemmas.List.{append-nil, length-append}
@@ -19,9 +19,10 @@ use Rattle.pb_decode.specs.declared.fields.Slot.{Slot}
 use Rattle.pb_decode.specs.declared.fault.Code.{Code}
 use Rattle.pb_decode.specs.declared.fault.Code.TheVariants.{Opcode, Register, Unused, CutOff, SecondSlot}
 use Rattle.pb_decode.specs.Opcodes.{opcode, form_of}
-use Rattle.pb_decode.specs.Fields.{slot_bytes, slot_at}
+use Rattle.pb_decode.specs.Fields.{slot_bytes, slot_of_bytes}
 use Rattle.pb_decode.specs.Encoding.{first_slot, second_slot, second_bytes, insn_bytes}
-use Rattle.pb_decode.specs.Reading.{◌>>=◌, or_code, is_clean, is_second, pair_of, insn_of, clean_or_code, first_with, first_of}
+use Rattle.pb_base.specs.Reading.{◌>>=◌}
+use Rattle.pb_decode.specs.Reading.{is_clean, is_second, pair_of, insn_of_form, clean_or_code, first_with, first_of}
 use Rattle.pb_decode.specs.Faults.{AreBytes}
 use Rattle.pb_decode.proofs.Bytes.{IsSlot, front_slot, is_slot, rest_bytes, same_slot, slot_back}
 use Rattle.pb_decode.proofs.Table.{form_front, form_back, reg_back, reg_front, number_below}
@@ -39,9 +40,9 @@ bind_ok : {A B : Type 0} (r : Result A Code) (f : A → Result B Code) (y : B) �
 bind_ok (Ok x) f y e = (x, refl, e)
 bind_ok (Err d) f y e = absurd cc
 
-or_code_ok : {A : Type 0} (c : Code) (o : Option A) (x : A) → or_code c o ≡ Ok x → o ≡ Some x
-or_code_ok c (Some y) x e = ap Some (ok_is y x e)
-or_code_ok c None x e = absurd cc
+ok_or_ok : {A : Type 0} (c : Code) (o : Option A) (x : A) → ok_or o c ≡ Ok x → o ≡ Some x
+ok_or_ok c (Some y) x e = ap Some (ok_is y x e)
+ok_or_ok c None x e = absurd cc
 
 clean_ok : (f g : Form) (s : Slot) (b : Bool) → is_clean f s ≡ b → cond b (Ok f) (Err Unused) ≡ done g → (b ≡ true) × (f ≡ g)
 clean_ok f g s true is e = (refl, ok_is f g e)
@@ -65,17 +66,17 @@ imm_fits n lt = sfits_to_z {w = w32} {n = n} (record { fits = lt })
 off_fits : (n : ℕ) → n < 2 ^ 16 → FitsSigned w16 (cast_signed w16 n)
 off_fits n lt = sfits_to_z {w = w16} {n = n} (record { fits = lt })
 
-pair_cases : (d : Reg) (s : Slot) (rest : List ℕ) (x : Read) (short clean : Bool) → nat_lt (length rest) 8 ≡ short → is_second (slot_at rest) ≡ clean
-    → cond short (Err CutOff) (cond clean (Ok (LoadImm d (s.imm + 2 ^ 32 * (slot_at rest).imm), drop 8 rest)) (Err SecondSlot)) ≡ done x
-    → (8 ≤ length rest) × (is_second (slot_at rest) ≡ true) × ((LoadImm d (s.imm + 2 ^ 32 * (slot_at rest).imm), drop 8 rest) ≡ x)
+pair_cases : (d : Reg) (s : Slot) (rest : List ℕ) (x : Read) (short clean : Bool) → nat_lt (length rest) 8 ≡ short → is_second (slot_of_bytes rest) ≡ clean
+    → cond short (Err CutOff) (cond clean (Ok (LoadImm d (s.imm + 2 ^ 32 * (slot_of_bytes rest).imm), drop 8 rest)) (Err SecondSlot)) ≡ done x
+    → (8 ≤ length rest) × (is_second (slot_of_bytes rest) ≡ true) × ((LoadImm d (s.imm + 2 ^ 32 * (slot_of_bytes rest).imm), drop 8 rest) ≡ x)
 pair_cases d s rest x true clean p q e = absurd cc
 pair_cases d s rest x false false p q e = absurd cc
-pair_cases d s rest x false true p q e = (ltb-false _ _ p, q, ok_is (LoadImm d (s.imm + 2 ^ 32 * (slot_at rest).imm), drop 8 rest) x e)
+pair_cases d s rest x false true p q e = (ltb-false _ _ p, q, ok_is (LoadImm d (s.imm + 2 ^ 32 * (slot_of_bytes rest).imm), drop 8 rest) x e)
 
 pair_takes : (d : Reg) (s : Slot) (rest : List ℕ) (x : Read) → opcode form.LoadImm ≡ s.opcode → number d ≡ s.dst → 0 ≡ s.src → 0 ≡ s.offset → IsSlot s → AreBytes rest → pair_of d s.imm rest ≡ Ok x → Takes s rest x
 pair_takes d s rest x o p z f is fits e =
-    let c = pair_cases d s rest x (nat_lt (length rest) 8) (is_second (slot_at rest)) refl refl e in
-    let t = slot_at rest in
+    let c = pair_cases d s rest x (nat_lt (length rest) 8) (is_second (slot_of_bytes rest)) refl refl e in
+    let t = slot_of_bytes rest in
     let low = s.imm in
     let high = t.imm in
     let below = is.imm in
@@ -91,7 +92,7 @@ pair_takes d s rest x o p z f is fits e =
     ap (λ (u : Slot). slot_bytes u ++ rest) (sym first) ∙ ap (λ (bs : List ℕ). slot_bytes (first_slot (LoadImm d v)) ++ bs) behind ∙ sym (append_assoc (slot_bytes (first_slot (LoadImm d v))) (second_bytes (LoadImm d v)) (drop 8 rest)) in
     subst (Takes s rest) c.2 (parts, omega (arith, below, over))
 
-form_takes : (f : Form) (d r : Reg) (s : Slot) (rest : List ℕ) (x : Read) → opcode f ≡ s.opcode → number d ≡ s.dst → number r ≡ s.src → IsSlot s → AreBytes rest → is_clean f s ≡ true → insn_of f d r s rest ≡ Ok x → Takes s rest x
+form_takes : (f : Form) (d r : Reg) (s : Slot) (rest : List ℕ) (x : Read) → opcode f ≡ s.opcode → number d ≡ s.dst → number r ≡ s.src → IsSlot s → AreBytes rest → is_clean f s ≡ true → insn_of_form f d r s rest ≡ Ok x → Takes s rest x
 form_takes (form.Alu op w K) d r s rest x o p q is fits clean e =
     let a = and_parts (s.src == 0) (s.offset == 0) clean in
     single _ s rest x (same_slot s _ _ _ _ _ o p (is_zero s.src a.0) (is_zero s.offset a.1) (of_z-to_z w32 s.imm is.imm)) refl (imm_fits s.imm is.imm) e
@@ -132,19 +133,19 @@ form_takes form.Exit d r s rest x o p q is fits clean e =
 with_takes : (s : Slot) (rest : List ℕ) (x : Read) → IsSlot s → AreBytes rest → first_with s rest ≡ Ok x → Takes s rest x
 unfolding first_with
 with_takes s rest x is fits e =
-    let a = bind_ok (or_code Opcode (form_of s.opcode)) _ x e in
-    let b = bind_ok (or_code Register (reg_of s.dst)) _ x a.2 in
-    let c = bind_ok (or_code Register (reg_of s.src)) _ x b.2 in
+    let a = bind_ok (ok_or (form_of s.opcode) Opcode) _ x e in
+    let b = bind_ok (ok_or (reg_of s.dst) Register) _ x a.2 in
+    let c = bind_ok (ok_or (reg_of s.src) Register) _ x b.2 in
     let d = bind_ok (clean_or_code a.0 s) _ x c.2 in
     let clean = clean_ok a.0 d.0 s (is_clean a.0 s) refl d.1 in
-    let g : insn_of a.0 b.0 c.0 s rest ≡ Ok x = subst (λ (f : Form). insn_of f b.0 c.0 s rest ≡ Ok x) (sym clean.1) d.2 in
-    form_takes a.0 b.0 c.0 s rest x (form_front s.opcode a.0 (or_code_ok Opcode (form_of s.opcode) a.0 a.1)) (reg_front s.dst b.0 (or_code_ok Register (reg_of s.dst) b.0 b.1)) (reg_front s.src c.0 (or_code_ok Register (reg_of s.src) c.0 c.1)) is fits clean.0 g
+    let g : insn_of_form a.0 b.0 c.0 s rest ≡ Ok x = subst (λ (f : Form). insn_of_form f b.0 c.0 s rest ≡ Ok x) (sym clean.1) d.2 in
+    form_takes a.0 b.0 c.0 s rest x (form_front s.opcode a.0 (ok_or_ok Opcode (form_of s.opcode) a.0 a.1)) (reg_front s.dst b.0 (ok_or_ok Register (reg_of s.dst) b.0 b.1)) (reg_front s.src c.0 (ok_or_ok Register (reg_of s.src) c.0 c.1)) is fits clean.0 g
 
 -- what is read at the front is spelt so
 pub first_takes : (bytes : List ℕ) (x : Read) → AreBytes bytes → 8 ≤ length bytes → first_of bytes ≡ Ok x → (bytes ≡ insn_bytes x.0 ++ x.1) × Fits x.0
 first_takes bytes x fits long e =
     let f = front_slot bytes fits long in
-    let t = with_takes (slot_at bytes) (drop 8 bytes) x (is_slot bytes fits) (rest_bytes (slot_bytes (slot_at bytes)) (drop 8 bytes) (subst AreBytes f fits)) e in
+    let t = with_takes (slot_of_bytes bytes) (drop 8 bytes) x (is_slot bytes fits) (rest_bytes (slot_bytes (slot_of_bytes bytes)) (drop 8 bytes) (subst AreBytes f fits)) e in
     (f ∙ t.0, t.1)
 
 -- ---- back again
@@ -177,7 +178,7 @@ slot_is_low (Neg w d) fits = (reg_low d, zero_low, record { offset = zero_off; i
 slot_is_low (LoadImm d v) fits = (reg_low d, zero_low, record { offset = zero_off; imm = omega arith })
 slot_is_low (Load z d b o) fits = (reg_low d, reg_low b, record { offset = off_below o fits; imm = zero_imm })
 slot_is_low (StoreImm z b o k) fits = (reg_low b, zero_low, record { offset = off_below o fits.0; imm = imm_below k fits.1 })
-slot_is_low (Store z b o s) fits = (reg_low b, reg_low s, record { offset = off_below o fits; imm = zero_imm })
+slot_is_low (Store z b s o) fits = (reg_low b, reg_low s, record { offset = off_below o fits; imm = zero_imm })
 slot_is_low (Jump o) fits = (zero_low, zero_low, record { offset = off_below o fits; imm = zero_imm })
 slot_is_low (JumpIf c w d (operand.Imm k) o) fits = (reg_low d, zero_low, record { offset = off_below o fits.1; imm = imm_below k fits.0 })
 slot_is_low (JumpIf c w d (operand.Reg s) o) fits = (reg_low d, reg_low s, record { offset = off_below o fits.1; imm = zero_imm })
@@ -196,9 +197,9 @@ halves v = omega arith
 high_fits : (v : ℕ) → v < 2 ^ 64 → v / 2 ^ 32 < 2 ^ 32
 high_fits v lt = omega (arith, lt)
 
-pair_made : (d : Reg) (low h : ℕ) (rest : List ℕ) → 8 ≤ length rest → slot_at rest ≡ second_slot h → pair_of d low rest ≡ Ok (LoadImm d (low + 2 ^ 32 * h), drop 8 rest)
+pair_made : (d : Reg) (low h : ℕ) (rest : List ℕ) → 8 ≤ length rest → slot_of_bytes rest ≡ second_slot h → pair_of d low rest ≡ Ok (LoadImm d (low + 2 ^ 32 * h), drop 8 rest)
 pair_made d low h rest long is =
-    ap (λ (b : Bool). cond b (Err CutOff) (cond (is_second (slot_at rest)) (Ok (LoadImm d (low + 2 ^ 32 * (slot_at rest).imm), drop 8 rest)) (Err SecondSlot))) (le-ltb (length rest) 8 long)
+    ap (λ (b : Bool). cond b (Err CutOff) (cond (is_second (slot_of_bytes rest)) (Ok (LoadImm d (low + 2 ^ 32 * (slot_of_bytes rest).imm), drop 8 rest)) (Err SecondSlot))) (le-ltb (length rest) 8 long)
     ∙ ap (λ (t : Slot). cond (is_second t) (Ok (LoadImm d (low + 2 ^ 32 * t.imm), drop 8 rest)) (Err SecondSlot)) is
 
 long_enough : (s : Slot) (rest : List ℕ) → 8 ≤ length (slot_bytes s ++ rest)
@@ -218,7 +219,7 @@ with_again (Neg w d) rest fits = rw (form_back (form.Neg w), reg_back d) refl
 with_again (LoadImm d v) rest fits = rw (form_back form.LoadImm, reg_back d) (pair_again d v rest fits)
 with_again (Load z d b o) rest fits = rw (form_back (form.Load z), reg_back d, reg_back b, off_again o fits) refl
 with_again (StoreImm z b o k) rest fits = rw (form_back (form.StoreImm z), reg_back b, off_again o fits.0, imm_again k fits.1) refl
-with_again (Store z b o s) rest fits = rw (form_back (form.Store z), reg_back b, reg_back s, off_again o fits) refl
+with_again (Store z b s o) rest fits = rw (form_back (form.Store z), reg_back b, reg_back s, off_again o fits) refl
 with_again (Jump o) rest fits = rw (form_back form.Jump, off_again o fits) refl
 with_again (JumpIf c w d (operand.Imm k) o) rest fits = rw (form_back (form.JumpIf c w K), reg_back d, off_again o fits.1, imm_again k fits.0) refl
 with_again (JumpIf c w d (operand.Reg s) o) rest fits = rw (form_back (form.JumpIf c w X), reg_back d, reg_back s, off_again o fits.1) refl
@@ -230,7 +231,7 @@ pub first_again : (i : Insn) (rest : List ℕ) → Fits i → first_of (insn_byt
 first_again i rest fits =
     let low = slot_is_low i fits in
     let grouped : insn_bytes i ++ rest ≡ slot_bytes (first_slot i) ++ (second_bytes i ++ rest) = append_assoc (slot_bytes (first_slot i)) (second_bytes i) rest in
-    let s : slot_at (slot_bytes (first_slot i) ++ (second_bytes i ++ rest)) ≡ first_slot i = slot_back (first_slot i) (second_bytes i ++ rest) low.0 low.1 low.2 in
+    let s : slot_of_bytes (slot_bytes (first_slot i) ++ (second_bytes i ++ rest)) ≡ first_slot i = slot_back (first_slot i) (second_bytes i ++ rest) low.0 low.1 low.2 in
     ap first_of grouped ∙ ap (λ (t : Slot). first_with t (second_bytes i ++ rest)) s ∙ with_again i rest fits
 
 -- no instruction's bytes begin another's

@@ -1,6 +1,6 @@
 -- What is read at the front is at fault exactly by the lowest code that applies there.
 use Rattle.std.proofs.Common.{◌≡◌, ℕ, ◌≤◌, inl, inr, Bool, true, false, cond, List, ◌++◌, length, drop, Option, Some, None, Result, Ok, Err, refl, sym, ap, subst, ◌∙◌, arith}
-use Rattle.std.specs.Prelude.{nat_eq, nat_lt}
+use Rattle.std.specs.Prelude.{ok_or, nat_eq, nat_lt}
 use Rattle.std.proofs.lemmas.Bool.{ltb-true, ltb-false}
 use Rattle.pb_isa.specs.declared.insn.Insn.{Insn}
 use Rattle.pb_isa.specs.declared.insn.Reg.{Reg}
@@ -11,9 +11,10 @@ use Rattle.pb_decode.specs.declared.forms.Source.TheVariants.{K, X}
 use Rattle.pb_decode.specs.declared.fault.Code.{Code}
 use Rattle.pb_decode.specs.declared.fault.Code.TheVariants.{Length, TooLong, Opcode, Register, Unused, CutOff, SecondSlot}
 use Rattle.pb_decode.specs.Opcodes.{opcode, form_of}
-use Rattle.pb_decode.specs.Fields.{slot_at}
-use Rattle.pb_decode.specs.Reading.{◌>>=◌, or_code, is_clean, is_second, insn_of, clean_or_code, first_with, first_of}
-use Rattle.pb_decode.specs.Faults.{code_number, Applies, IsLowest}
+use Rattle.pb_decode.specs.Fields.{slot_of_bytes}
+use Rattle.pb_base.specs.Reading.{◌>>=◌}
+use Rattle.pb_decode.specs.Reading.{is_clean, is_second, insn_of_form, clean_or_code, first_with, first_of}
+use Rattle.pb_decode.specs.Faults.{decode_code, Applies, IsLowest}
 use Rattle.pb_decode.specs.Encoding.{insn_bytes}
 use Rattle.pb_isa.specs.Bounds.{Fits}
 use Rattle.pb_decode.proofs.First.{first_again}
@@ -42,7 +43,7 @@ same_form f g n is p = some_same (form_of n) g f (ap form_of (sym p) ∙ form_ba
 
 -- ---- step by step
 
-least_opcode : (bytes : List ℕ) (other : Code) → Applies bytes other → 12 ≤ code_number other
+least_opcode : (bytes : List ℕ) (other : Code) → Applies bytes other → 12 ≤ decode_code other
 least_opcode bytes Length h = absurd h
 least_opcode bytes TooLong h = absurd h
 least_opcode bytes Opcode h = omega arith
@@ -51,14 +52,14 @@ least_opcode bytes Unused h = omega arith
 least_opcode bytes CutOff h = omega arith
 least_opcode bytes SecondSlot h = omega arith
 
-no_opcode : (bytes : List ℕ) → form_of (slot_at bytes).opcode ≡ None → IsLowest bytes Opcode
+no_opcode : (bytes : List ℕ) → form_of (slot_of_bytes bytes).opcode ≡ None → IsLowest bytes Opcode
 no_opcode bytes none =
     record {
-      applies = λ f p. no_none (form_of (slot_at bytes).opcode) f (ap form_of (sym p) ∙ form_back f) none;
+      applies = λ f p. no_none (form_of (slot_of_bytes bytes).opcode) f (ap form_of (sym p) ∙ form_back f) none;
       least = least_opcode bytes;
     }
 
-least_register : (bytes : List ℕ) → (Applies bytes Opcode → ⊥) → (other : Code) → Applies bytes other → 13 ≤ code_number other
+least_register : (bytes : List ℕ) → (Applies bytes Opcode → ⊥) → (other : Code) → Applies bytes other → 13 ≤ decode_code other
 least_register bytes known Length h = absurd h
 least_register bytes known TooLong h = absurd h
 least_register bytes known Opcode h = absurd (known h)
@@ -67,7 +68,7 @@ least_register bytes known Unused h = omega arith
 least_register bytes known CutOff h = omega arith
 least_register bytes known SecondSlot h = omega arith
 
-least_unused : (bytes : List ℕ) → (Applies bytes Opcode → ⊥) → (Applies bytes Register → ⊥) → (other : Code) → Applies bytes other → 14 ≤ code_number other
+least_unused : (bytes : List ℕ) → (Applies bytes Opcode → ⊥) → (Applies bytes Register → ⊥) → (other : Code) → Applies bytes other → 14 ≤ decode_code other
 least_unused bytes known low Length h = absurd h
 least_unused bytes known low TooLong h = absurd h
 least_unused bytes known low Opcode h = absurd (known h)
@@ -78,22 +79,22 @@ least_unused bytes known low SecondSlot h = omega arith
 
 -- the codes before those of the pair do not apply
 record Passed (bytes : List ℕ) (f : Form) : Type 0 where
-  is : form_of (slot_at bytes).opcode ≡ Some f
-  dst : (slot_at bytes).dst ≤ 10
-  src : (slot_at bytes).src ≤ 10
-  clean : is_clean f (slot_at bytes) ≡ true
+  is : form_of (slot_of_bytes bytes).opcode ≡ Some f
+  dst : (slot_of_bytes bytes).dst ≤ 10
+  src : (slot_of_bytes bytes).src ≤ 10
+  clean : is_clean f (slot_of_bytes bytes) ≡ true
 
-known_opcode : (bytes : List ℕ) (f : Form) → form_of (slot_at bytes).opcode ≡ Some f → Applies bytes Opcode → ⊥
-known_opcode bytes f is h = h f (form_front (slot_at bytes).opcode f is)
+known_opcode : (bytes : List ℕ) (f : Form) → form_of (slot_of_bytes bytes).opcode ≡ Some f → Applies bytes Opcode → ⊥
+known_opcode bytes f is h = h f (form_front (slot_of_bytes bytes).opcode f is)
 
-low_registers : (bytes : List ℕ) → (slot_at bytes).dst ≤ 10 → (slot_at bytes).src ≤ 10 → Applies bytes Register → ⊥
+low_registers : (bytes : List ℕ) → (slot_of_bytes bytes).dst ≤ 10 → (slot_of_bytes bytes).src ≤ 10 → Applies bytes Register → ⊥
 low_registers bytes d s (inl h) = omega (arith, d, h)
 low_registers bytes d s (inr h) = omega (arith, s, h)
 
-clean_fields : (bytes : List ℕ) (f : Form) → form_of (slot_at bytes).opcode ≡ Some f → is_clean f (slot_at bytes) ≡ true → Applies bytes Unused → ⊥
+clean_fields : (bytes : List ℕ) (f : Form) → form_of (slot_of_bytes bytes).opcode ≡ Some f → is_clean f (slot_of_bytes bytes) ≡ true → Applies bytes Unused → ⊥
 clean_fields bytes f is clean h =
-    let same = same_form f h.0 (slot_at bytes).opcode is h.1 in
-    not_false (is_clean f (slot_at bytes)) clean (subst (λ (g : Form). is_clean g (slot_at bytes) ≡ false) same h.2)
+    let same = same_form f h.0 (slot_of_bytes bytes).opcode is h.1 in
+    not_false (is_clean f (slot_of_bytes bytes)) clean (subst (λ (g : Form). is_clean g (slot_of_bytes bytes) ≡ false) same h.2)
 
 only_pair : (bytes : List ℕ) (f : Form) → Passed bytes f → (Applies bytes CutOff → ⊥) → (Applies bytes SecondSlot → ⊥) → (code : Code) → Applies bytes code → ⊥
 only_pair bytes f p a b Length h = h
@@ -105,9 +106,9 @@ only_pair bytes f p a b CutOff h = a h
 only_pair bytes f p a b SecondSlot h = b h
 
 none_applies : (bytes : List ℕ) (f : Form) → Passed bytes f → (LoadImm ≡ f → ⊥) → (code : Code) → Applies bytes code → ⊥
-none_applies bytes f p other = only_pair bytes f p (λ h. other (same_form f LoadImm (slot_at bytes).opcode p.is h.0)) (λ h. other (same_form f LoadImm (slot_at bytes).opcode p.is h.0))
+none_applies bytes f p other = only_pair bytes f p (λ h. other (same_form f LoadImm (slot_of_bytes bytes).opcode p.is h.0)) (λ h. other (same_form f LoadImm (slot_of_bytes bytes).opcode p.is h.0))
 
-least_cut : (bytes : List ℕ) → Passed bytes LoadImm → (other : Code) → Applies bytes other → 15 ≤ code_number other
+least_cut : (bytes : List ℕ) → Passed bytes LoadImm → (other : Code) → Applies bytes other → 15 ≤ decode_code other
 least_cut bytes p Length h = absurd h
 least_cut bytes p TooLong h = absurd h
 least_cut bytes p Opcode h = absurd (known_opcode bytes LoadImm p.is h)
@@ -119,7 +120,7 @@ least_cut bytes p SecondSlot h = omega arith
 not_short : (bytes : List ℕ) → 8 ≤ length (drop 8 bytes) → Applies bytes CutOff → ⊥
 not_short bytes long h = let lt = h.1 in omega (arith, long, lt)
 
-least_second : (bytes : List ℕ) → Passed bytes LoadImm → 8 ≤ length (drop 8 bytes) → (other : Code) → Applies bytes other → 16 ≤ code_number other
+least_second : (bytes : List ℕ) → Passed bytes LoadImm → 8 ≤ length (drop 8 bytes) → (other : Code) → Applies bytes other → 16 ≤ decode_code other
 least_second bytes p long Length h = absurd h
 least_second bytes p long TooLong h = absurd h
 least_second bytes p long Opcode h = absurd (known_opcode bytes LoadImm p.is h)
@@ -128,18 +129,18 @@ least_second bytes p long Unused h = absurd (clean_fields bytes LoadImm p.is p.c
 least_second bytes p long CutOff h = absurd (not_short bytes long h)
 least_second bytes p long SecondSlot h = omega arith
 
-pair_told : (bytes : List ℕ) (x : Read) → Passed bytes LoadImm → (short second : Bool) → nat_lt (length (drop 8 bytes)) 8 ≡ short → is_second (slot_at (drop 8 bytes)) ≡ second → Told bytes (cond short (Err CutOff) (cond second (Ok x) (Err SecondSlot)))
-pair_told bytes x p true second a b = record { applies = (form_front (slot_at bytes).opcode LoadImm p.is, ltb-true (length (drop 8 bytes)) 8 a); least = least_cut bytes p }
-pair_told bytes x p false true a b = only_pair bytes LoadImm p (not_short bytes (ltb-false (length (drop 8 bytes)) 8 a)) (λ h. not_false (is_second (slot_at (drop 8 bytes))) b h.2)
+pair_told : (bytes : List ℕ) (x : Read) → Passed bytes LoadImm → (short second : Bool) → nat_lt (length (drop 8 bytes)) 8 ≡ short → is_second (slot_of_bytes (drop 8 bytes)) ≡ second → Told bytes (cond short (Err CutOff) (cond second (Ok x) (Err SecondSlot)))
+pair_told bytes x p true second a b = record { applies = (form_front (slot_of_bytes bytes).opcode LoadImm p.is, ltb-true (length (drop 8 bytes)) 8 a); least = least_cut bytes p }
+pair_told bytes x p false true a b = only_pair bytes LoadImm p (not_short bytes (ltb-false (length (drop 8 bytes)) 8 a)) (λ h. not_false (is_second (slot_of_bytes (drop 8 bytes))) b h.2)
 pair_told bytes x p false false a b =
     let long = ltb-false (length (drop 8 bytes)) 8 a in
-    record { applies = (form_front (slot_at bytes).opcode LoadImm p.is, long, b); least = least_second bytes p long }
+    record { applies = (form_front (slot_of_bytes bytes).opcode LoadImm p.is, long, b); least = least_second bytes p long }
 
-insn_told : (bytes : List ℕ) (f : Form) (d r : Reg) → Passed bytes f → Told bytes (insn_of f d r (slot_at bytes) (drop 8 bytes))
+insn_told : (bytes : List ℕ) (f : Form) (d r : Reg) → Passed bytes f → Told bytes (insn_of_form f d r (slot_of_bytes bytes) (drop 8 bytes))
 insn_told bytes (Alu op w K) d r p = none_applies bytes (Alu op w K) p (λ e. absurd cc)
 insn_told bytes (Alu op w X) d r p = none_applies bytes (Alu op w X) p (λ e. absurd cc)
 insn_told bytes (Neg w) d r p = none_applies bytes (Neg w) p (λ e. absurd cc)
-insn_told bytes LoadImm d r p = pair_told bytes _ p (nat_lt (length (drop 8 bytes)) 8) (is_second (slot_at (drop 8 bytes))) refl refl
+insn_told bytes LoadImm d r p = pair_told bytes _ p (nat_lt (length (drop 8 bytes)) 8) (is_second (slot_of_bytes (drop 8 bytes))) refl refl
 insn_told bytes (Load z) d r p = none_applies bytes (Load z) p (λ e. absurd cc)
 insn_told bytes (StoreImm z) d r p = none_applies bytes (StoreImm z) p (λ e. absurd cc)
 insn_told bytes (Store z) d r p = none_applies bytes (Store z) p (λ e. absurd cc)
@@ -150,34 +151,34 @@ insn_told bytes Call d r p = none_applies bytes Call p (λ e. absurd cc)
 insn_told bytes Exit d r p = none_applies bytes Exit p (λ e. absurd cc)
 
 abbrev with_registers : List ℕ → Form → Reg → Reg → Result Read Code
-with_registers bytes f d r = clean_or_code f (slot_at bytes) >>= (λ g. insn_of g d r (slot_at bytes) (drop 8 bytes))
+with_registers bytes f d r = clean_or_code f (slot_of_bytes bytes) >>= (λ g. insn_of_form g d r (slot_of_bytes bytes) (drop 8 bytes))
 
-clean_told : (bytes : List ℕ) (f : Form) (d r : Reg) → form_of (slot_at bytes).opcode ≡ Some f → (slot_at bytes).dst ≤ 10 → (slot_at bytes).src ≤ 10 → (b : Bool) → is_clean f (slot_at bytes) ≡ b
-    → Told bytes (cond b (Ok f) (Err Unused) >>= (λ g. insn_of g d r (slot_at bytes) (drop 8 bytes)))
+clean_told : (bytes : List ℕ) (f : Form) (d r : Reg) → form_of (slot_of_bytes bytes).opcode ≡ Some f → (slot_of_bytes bytes).dst ≤ 10 → (slot_of_bytes bytes).src ≤ 10 → (b : Bool) → is_clean f (slot_of_bytes bytes) ≡ b
+    → Told bytes (cond b (Ok f) (Err Unused) >>= (λ g. insn_of_form g d r (slot_of_bytes bytes) (drop 8 bytes)))
 clean_told bytes f d r is p q true b = insn_told bytes f d r (record { is = is; dst = p; src = q; clean = b })
-clean_told bytes f d r is p q false b = record { applies = (f, form_front (slot_at bytes).opcode f is, b); least = least_unused bytes (known_opcode bytes f is) (low_registers bytes p q) }
+clean_told bytes f d r is p q false b = record { applies = (f, form_front (slot_of_bytes bytes).opcode f is, b); least = least_unused bytes (known_opcode bytes f is) (low_registers bytes p q) }
 
 low_register : (n : ℕ) (r : Reg) → reg_of n ≡ Some r → n ≤ 10
 low_register n r h = let a = reg_front n r h in let b = number_below r in omega (arith, a, b)
 
-src_told : (bytes : List ℕ) (f : Form) (d : Reg) → form_of (slot_at bytes).opcode ≡ Some f → (slot_at bytes).dst ≤ 10 → (o : Option Reg) → reg_of (slot_at bytes).src ≡ o
-    → Told bytes (or_code Register o >>= with_registers bytes f d)
-src_told bytes f d is p (Some r) h = clean_told bytes f d r is p (low_register (slot_at bytes).src r h) (is_clean f (slot_at bytes)) refl
-src_told bytes f d is p None h = record { applies = inr (reg_none (slot_at bytes).src h); least = least_register bytes (known_opcode bytes f is) }
+src_told : (bytes : List ℕ) (f : Form) (d : Reg) → form_of (slot_of_bytes bytes).opcode ≡ Some f → (slot_of_bytes bytes).dst ≤ 10 → (o : Option Reg) → reg_of (slot_of_bytes bytes).src ≡ o
+    → Told bytes (ok_or o Register >>= with_registers bytes f d)
+src_told bytes f d is p (Some r) h = clean_told bytes f d r is p (low_register (slot_of_bytes bytes).src r h) (is_clean f (slot_of_bytes bytes)) refl
+src_told bytes f d is p None h = record { applies = inr (reg_none (slot_of_bytes bytes).src h); least = least_register bytes (known_opcode bytes f is) }
 
-dst_told : (bytes : List ℕ) (f : Form) → form_of (slot_at bytes).opcode ≡ Some f → (o : Option Reg) → reg_of (slot_at bytes).dst ≡ o
-    → Told bytes (or_code Register o >>= (λ d. or_code Register (reg_of (slot_at bytes).src) >>= with_registers bytes f d))
-dst_told bytes f is (Some d) h = src_told bytes f d is (low_register (slot_at bytes).dst d h) (reg_of (slot_at bytes).src) refl
-dst_told bytes f is None h = record { applies = inl (reg_none (slot_at bytes).dst h); least = least_register bytes (known_opcode bytes f is) }
+dst_told : (bytes : List ℕ) (f : Form) → form_of (slot_of_bytes bytes).opcode ≡ Some f → (o : Option Reg) → reg_of (slot_of_bytes bytes).dst ≡ o
+    → Told bytes (ok_or o Register >>= (λ d. ok_or (reg_of (slot_of_bytes bytes).src) Register >>= with_registers bytes f d))
+dst_told bytes f is (Some d) h = src_told bytes f d is (low_register (slot_of_bytes bytes).dst d h) (reg_of (slot_of_bytes bytes).src) refl
+dst_told bytes f is None h = record { applies = inl (reg_none (slot_of_bytes bytes).dst h); least = least_register bytes (known_opcode bytes f is) }
 
-form_told : (bytes : List ℕ) (o : Option Form) → form_of (slot_at bytes).opcode ≡ o
-    → Told bytes (or_code Opcode o >>= (λ f. or_code Register (reg_of (slot_at bytes).dst) >>= (λ d. or_code Register (reg_of (slot_at bytes).src) >>= with_registers bytes f d)))
-form_told bytes (Some f) h = dst_told bytes f h (reg_of (slot_at bytes).dst) refl
+form_told : (bytes : List ℕ) (o : Option Form) → form_of (slot_of_bytes bytes).opcode ≡ o
+    → Told bytes (ok_or o Opcode >>= (λ f. ok_or (reg_of (slot_of_bytes bytes).dst) Register >>= (λ d. ok_or (reg_of (slot_of_bytes bytes).src) Register >>= with_registers bytes f d)))
+form_told bytes (Some f) h = dst_told bytes f h (reg_of (slot_of_bytes bytes).dst) refl
 form_told bytes None h = no_opcode bytes h
 
 told : (bytes : List ℕ) → Told bytes (first_of bytes)
 unfolding first_with
-told bytes = form_told bytes (form_of (slot_at bytes).opcode) refl
+told bytes = form_told bytes (form_of (slot_of_bytes bytes).opcode) refl
 
 -- ---- both ways
 
@@ -195,7 +196,7 @@ insn_clean i rest code fits h = none_read (insn_bytes i ++ rest) (i, rest) code 
 code_of : ℕ → Code
 code_of n = cond (nat_eq n 10) Length (cond (nat_eq n 11) TooLong (cond (nat_eq n 12) Opcode (cond (nat_eq n 13) Register (cond (nat_eq n 14) Unused (cond (nat_eq n 15) CutOff SecondSlot)))))
 
-code_back : (c : Code) → code_of (code_number c) ≡ c
+code_back : (c : Code) → code_of (decode_code c) ≡ c
 unfolding code_of
 code_back Length = refl
 code_back TooLong = refl
@@ -205,8 +206,8 @@ code_back Unused = refl
 code_back CutOff = refl
 code_back SecondSlot = refl
 
-same_code : (c d : Code) → code_number c ≤ code_number d → code_number d ≤ code_number c → c ≡ d
-same_code c d p q = let e : code_number c ≡ code_number d = omega (arith, p, q) in sym (code_back c) ∙ ap code_of e ∙ code_back d
+same_code : (c d : Code) → decode_code c ≤ decode_code d → decode_code d ≤ decode_code c → c ≡ d
+same_code c d p q = let e : decode_code c ≡ decode_code d = omega (arith, p, q) in sym (code_back c) ∙ ap code_of e ∙ code_back d
 
 read_lowest : (bytes : List ℕ) (code : Code) → IsLowest bytes code → (r : Result Read Code) → first_of bytes ≡ r → r ≡ Err code
 read_lowest bytes code h (Ok x) e = absurd (none_read bytes x code e h.applies)

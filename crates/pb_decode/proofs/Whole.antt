@@ -9,14 +9,16 @@ use Rattle.pb_isa.specs.declared.insn.Insn.{Insn}
 use Rattle.pb_isa.specs.declared.insn.Insn.TheVariants.{Alu, Neg, LoadImm, Load, StoreImm, Store, Jump, JumpIf, Call, Exit}
 use Rattle.pb_isa.specs.declared.insn.Operand.TheVariants as operand
 use Rattle.pb_isa.specs.Bounds.{Fits}
-use Rattle.pb_isa.specs.Slots.{places_of, layout, slots, IsProgram}
+use Rattle.pb_isa.specs.Slots.{places_of, layout, slots}
+use Rattle.pb_isa.specs.Programs.{ProgramOf, IsProgram}
+use Rattle.pb_isa.specs.declared.limits.TheConstants.{MAX_SLOTS}
 use Rattle.pb_decode.specs.declared.fault.Code.{Code}
 use Rattle.pb_decode.specs.declared.fault.Code.TheVariants.{Length, TooLong}
 use Rattle.pb_decode.specs.declared.fault.DecodeFault.{DecodeFault}
 use Rattle.pb_decode.specs.declared.fault.DecodeFault.TheVariants as faults
 use Rattle.pb_decode.specs.Encoding.{insn_bytes, encoding, Encodes}
 use Rattle.pb_decode.specs.Reading.{first_of}
-use Rattle.pb_decode.specs.Faults.{code_number, whole_fault, IsFaultAt, IsFault, IsTold, AreBytes, HasProgram, HasFault, AreSpelt, IsRefusal, IsNoMemory, IsNoMemoryOr}
+use Rattle.pb_decode.specs.Faults.{decode_code, whole_fault, IsFaultAt, IsDecodeFault, AreRefusedAs, AreBytes, HasProgram, HasFault, AreSpelt, IsRefusal, IsNoMemory, IsNoMemoryOr}
 use Rattle.pb_decode.proofs.Bytes.{rest_bytes}
 use Rattle.pb_decode.proofs.First.{first_takes, first_again, one_insn}
 use Rattle.pb_decode.proofs.Lowest.{lowest, lowest_read}
@@ -30,7 +32,7 @@ insn_len (Neg w d) = refl
 insn_len (LoadImm d v) = refl
 insn_len (Load z d b o) = refl
 insn_len (StoreImm z b o k) = refl
-insn_len (Store z b o s) = refl
+insn_len (Store z b s o) = refl
 insn_len (Jump o) = refl
 insn_len (JumpIf c w d (operand.Imm k) o) = refl
 insn_len (JumpIf c w d (operand.Reg s) o) = refl
@@ -43,7 +45,7 @@ some_place (Neg w d) = omega arith
 some_place (LoadImm d v) = omega arith
 some_place (Load z d b o) = omega arith
 some_place (StoreImm z b o k) = omega arith
-some_place (Store z b o s) = omega arith
+some_place (Store z b s o) = omega arith
 some_place (Jump o) = omega arith
 some_place (JumpIf c w d a o) = omega arith
 some_place (Call k) = omega arith
@@ -111,8 +113,11 @@ same_list (i ∷ p) (j ∷ q) f g e =
     let s = same_list p q f.1 g.1 o.1 in
     rw (o.0, s) refl
 
-pub one_program : (bytes : List ℕ) (p q : List Insn) → Encodes bytes p → Encodes bytes q → p ≡ q
-one_program bytes p q a b = same_list p q a.fits b.fits (sym a.spelt ∙ b.spelt)
+abbrev program : List Insn → ProgramOf
+program is = record { insns = is }
+
+pub one_program : (bytes : List ℕ) (p q : ProgramOf) → Encodes bytes p → Encodes bytes q → p ≡ q
+one_program bytes p q a b = ap program (same_list p.insns q.insns a.fits b.fits (sym a.spelt ∙ b.spelt))
 
 -- ---- the fault of the whole
 
@@ -120,32 +125,32 @@ one_program bytes p q a b = same_list p q a.fits b.fits (sym a.spelt ∙ b.spelt
 pub record IsWhole (n : ℕ) : Type 0 where
   pub some : 0 < n
   pub even : n % 8 ≡ 0
-  pub most : n ≤ 8 * 512
+  pub most : n ≤ 8 * MAX_SLOTS
 
 not_zero : (n : ℕ) → (n == 0) ≡ false → 0 < n
 not_zero n h = grind arith
 
-tests : (n : ℕ) (a b c : Bool) → (n == 0) ≡ a → (n % 8 == 0) ≡ b → nat_lt (8 * 512) n ≡ c → cond (a || not b) (Some Length) (cond c (Some TooLong) None) ≡ None → IsWhole n
+tests : (n : ℕ) (a b c : Bool) → (n == 0) ≡ a → (n % 8 == 0) ≡ b → nat_lt (8 * MAX_SLOTS) n ≡ c → cond (a || not b) (Some Length) (cond c (Some TooLong) None) ≡ None → IsWhole n
 tests n true b c p q r e = absurd cc
 tests n false false c p q r e = absurd cc
 tests n false true true p q r e = absurd cc
 tests n false true false p q r e =
-    let e0 = eqb-true (n % 8) 0 q in let most = ltb-false (8 * 512) n r in
+    let e0 = eqb-true (n % 8) 0 q in let most = ltb-false (8 * MAX_SLOTS) n r in
     record { some = not_zero n p; even = e0; most = omega (arith, most) }
 
 pub whole_none : (bytes : List ℕ) → whole_fault bytes ≡ None → IsWhole (length bytes)
-whole_none bytes h = tests (length bytes) (length bytes == 0) (length bytes % 8 == 0) (nat_lt (8 * 512) (length bytes)) refl refl refl h
+whole_none bytes h = tests (length bytes) (length bytes == 0) (length bytes % 8 == 0) (nat_lt (8 * MAX_SLOTS) (length bytes)) refl refl refl h
 
 pub none_whole : (bytes : List ℕ) → IsWhole (length bytes) → whole_fault bytes ≡ None
 none_whole bytes w =
     let some = w.some in let even = w.even in let most = w.most in
     let a : (length bytes == 0) ≡ false = grind arith in
-    let c : nat_lt (8 * 512) (length bytes) ≡ false = le-ltb (8 * 512) (length bytes) most in
+    let c : nat_lt (8 * MAX_SLOTS) (length bytes) ≡ false = le-ltb (8 * MAX_SLOTS) (length bytes) most in
     rw (a, even, c) refl
 
-program_whole : (bytes : List ℕ) (p : List Insn) → Encodes bytes p → IsWhole (length bytes)
+program_whole : (bytes : List ℕ) (p : ProgramOf) → Encodes bytes p → IsWhole (length bytes)
 program_whole bytes p h =
-    let l : length bytes ≡ 8 * slots p = ap length h.spelt ∙ bytes_len p in
+    let l : length bytes ≡ 8 * slots p.insns = ap length h.spelt ∙ bytes_len p.insns in
     let s = h.program.some in let m = h.program.most in
     record { some = omega (arith, l, s); even = omega (arith, l); most = omega (arith, l, m) }
 
@@ -155,11 +160,11 @@ no_some o x p q = absurd cc
 some_same : {A : Type 0} (o : Option A) (x y : A) → o ≡ Some x → o ≡ Some y → x ≡ y
 some_same o x y p q = cc
 
-pub not_both : (bytes : List ℕ) (p : List Insn) (slot : ℕ) (code : Code) → Encodes bytes p → IsFault bytes slot code → ⊥
+pub not_both : (bytes : List ℕ) (p : ProgramOf) (slot : ℕ) (code : Code) → Encodes bytes p → IsDecodeFault bytes slot code → ⊥
 not_both bytes p slot code h (inl w) = no_some (whole_fault bytes) code (none_whole bytes (program_whole bytes p h)) w.0
-not_both bytes p slot code h (inr a) = none_inside p a.1.front a.1.rest code h.fits a.1.fits (sym h.spelt ∙ a.1.parts) a.1.some (lowest_read a.1.rest code a.1.fault)
+not_both bytes p slot code h (inr a) = none_inside p.insns a.1.front a.1.rest code h.fits a.1.fits (sym h.spelt ∙ a.1.parts) a.1.some (lowest_read a.1.rest code a.1.fault)
 
-pub one_fault : (bytes : List ℕ) (s t : ℕ) (c d : Code) → IsFault bytes s c → IsFault bytes t d → (s ≡ t) × (c ≡ d)
+pub one_fault : (bytes : List ℕ) (s t : ℕ) (c d : Code) → IsDecodeFault bytes s c → IsDecodeFault bytes t d → (s ≡ t) × (c ≡ d)
 one_fault bytes s t c d (inl a) (inl b) = (a.1 ∙ sym b.1, some_same (whole_fault bytes) c d a.0 b.0)
 one_fault bytes s t c d (inl a) (inr b) = absurd (no_some (whole_fault bytes) c b.0 a.0)
 one_fault bytes s t c d (inr a) (inl b) = absurd (no_some (whole_fault bytes) d a.0 b.0)
@@ -169,7 +174,7 @@ one_fault bytes s t c d (inr a) (inr b) =
 
 -- ---- one of the two
 
-pub is_program : (bytes : List ℕ) (p : List Insn) → IsWhole (length bytes) → AreSpelt bytes p → Encodes bytes p
+pub is_program : (bytes : List ℕ) (p : List Insn) → IsWhole (length bytes) → AreSpelt bytes p → Encodes bytes (program p)
 is_program bytes p w h =
     let l : length bytes ≡ 8 * slots p = ap length h.spelt ∙ bytes_len p in
     let some = w.some in let most = w.most in
@@ -210,7 +215,7 @@ chosen bytes (Some code) is fits = inr (0, code, inl (is, refl))
 chosen bytes None is fits =
     let w = whole_none bytes is in
     elim (walk (length bytes) bytes (omega arith) w.even fits) [
-      | inl h ↦ inl (h.0, is_program bytes h.0 w h.1)
+      | inl h ↦ inl (program h.0, is_program bytes h.0 w h.1)
       | inr h ↦ inr (h.0, h.1, inr (is, h.2))
     ]
 
@@ -219,19 +224,19 @@ either bytes fits = chosen bytes (whole_fault bytes) refl fits
 
 -- ---- both ways
 
-pub only_program : (r : Result (List Insn) DecodeFault) (bytes : List ℕ) → IfOk r (λ q. Encodes bytes q) → IfErr r (IsRefusal bytes) → (p : List Insn) → Encodes bytes p → IfOk r (λ q. q ≡ p) × IfErr r IsNoMemory
+pub only_program : (r : Result ProgramOf DecodeFault) (bytes : List ℕ) → IfOk r (λ q. Encodes bytes q) → IfErr r (IsRefusal bytes) → (p : ProgramOf) → Encodes bytes p → IfOk r (λ q. q ≡ p) × IfErr r IsNoMemory
 only_program (Ok q) bytes ok err p h = (one_program bytes q p ok h, tt)
 only_program (Err faults.NoMemory) bytes ok err p h = (tt, tt)
 only_program (Err (faults.Refused f)) bytes ok err p h = absurd (not_both bytes p f.slot err.0 h err.2)
 
-pub only_fault : (r : Result (List Insn) DecodeFault) (bytes : List ℕ) → IfOk r (λ q. Encodes bytes q) → IfErr r (IsRefusal bytes) → (slot told : ℕ) → IsTold bytes slot told → IfOk r (λ _. ⊥) × IfErr r (IsNoMemoryOr slot told)
+pub only_fault : (r : Result ProgramOf DecodeFault) (bytes : List ℕ) → IfOk r (λ q. Encodes bytes q) → IfErr r (IsRefusal bytes) → (slot told : ℕ) → AreRefusedAs bytes slot told → IfOk r (λ _. ⊥) × IfErr r (IsNoMemoryOr slot told)
 only_fault (Ok q) bytes ok err slot told h = absurd (not_both bytes q slot h.0 ok h.2)
 only_fault (Err faults.NoMemory) bytes ok err slot told h = (tt, tt)
 only_fault (Err (faults.Refused f)) bytes ok err slot told h =
     let o = one_fault bytes f.slot slot err.0 h.0 err.2 h.2 in
-    (tt, (o.0, err.1 ∙ ap code_number o.1 ∙ sym h.1))
+    (tt, (o.0, err.1 ∙ ap decode_code o.1 ∙ sym h.1))
 
-pub never_refused : (p : List Insn) → IsProgram p → (slots p ≡ 0) ⊎ (512 < slots p) → ⊥
+pub never_refused : (p : ProgramOf) → IsProgram p → (slots p.insns ≡ 0) ⊎ (MAX_SLOTS < slots p.insns) → ⊥
 never_refused p is (inl none) = let some = is.some in omega (arith, some, none)
 never_refused p is (inr many) = let most = is.most in omega (arith, most, many)
 

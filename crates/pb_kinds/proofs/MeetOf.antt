@@ -5,7 +5,7 @@ use Rattle.std.proofs.Math.Bool.{and-false}
 use Rattle.pb_kinds.specs.declared.frame.Kind.{Kind}
 use Rattle.pb_kinds.specs.declared.frame.Kind.TheVariants.{Unset, Number, Stack, Record}
 use Rattle.pb_kinds.specs.declared.frame.Frame.{Frame}
-use Rattle.pb_kinds.specs.Frames.{is_written, same_kind, meet, meet_kinds, meet_bytes, join}
+use Rattle.pb_kinds.specs.Frames.{has_byte, same_kind, meet, meet_kinds, meet_bytes, join}
 use Rattle.pb_kinds.specs.Meet.{IsMeet}
 
 same_means_equal : (a b : Kind) → same_kind a b ≡ true → a ≡ b
@@ -88,7 +88,7 @@ join_is_meet a b = record {
     (λ h. record { kind = known_joined a.kinds b.kinds r k h.0.kind h.1.kind; set = h.0.set }),
   );
   bytes = λ i. (
-    (λ h. both_true (is_written a i) (is_written b i) (sym (byte_at a.written b.written i) ∙ h)),
+    (λ h. both_true (has_byte a i) (has_byte b i) (sym (byte_at a.written b.written i) ∙ h)),
     (λ h. byte_at a.written b.written i ∙ rw (h.0, h.1) refl),
   );
 }

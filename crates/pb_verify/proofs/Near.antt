@@ -6,9 +6,9 @@ use Rattle.pb_isa.specs.Slots.{insn_at}
 use Rattle.pb_kinds.specs.declared.frame.Kind.{Kind}
 use Rattle.pb_kinds.specs.declared.frame.Kind.TheVariants.{Unset, Number, Stack, Record}
 use Rattle.pb_kinds.specs.declared.frame.Frame.{Frame}
-use Rattle.pb_kinds.specs.Frames.{kind_of, both, meet, same_kind, join, entry}
+use Rattle.pb_kinds.specs.Frames.{kind_of, both, meet, same_kind, join, entry_frame}
 use Rattle.pb_verify.specs.Following.{with_kind, leads}
-use Rattle.pb_verify.specs.Arriving.{merge, sent, gathered, arriving, is_among}
+use Rattle.pb_verify.specs.Arriving.{merge, if_leads, gather, frame_before, has_slot}
 use Rattle.pb_verify.specs.Within.{IsNear, IsWithin, IsWithinIf, AllWithin}
 
 pub near_more : (a b : ℕ) (k : Kind) → a ≤ b → IsNear a k → IsNear b k
@@ -53,10 +53,10 @@ within_join : (b : ℕ) (f g : Frame) → IsWithin b f → IsWithin b (join f g)
 unfolding join
 within_join b f g h = record { each = near_both b f.kinds g.kinds h.each }
 
-within_entry : (b : ℕ) → IsWithin b entry
-unfolding entry
+within_entry : (b : ℕ) → IsWithin b entry_frame
+unfolding entry_frame
 within_entry b = record {
-  each = near_each b entry.kinds (tt, (omega arith, (tt, (tt, (tt, (tt, (tt, (tt, (tt, (tt, (omega arith, tt)))))))))));
+  each = near_each b entry_frame.kinds (tt, (omega arith, (tt, (tt, (tt, (tt, (tt, (tt, (tt, (tt, (omega arith, tt)))))))))));
 }
 
 within_merge : (b : ℕ) (f g : Option Frame) → IsWithinIf b f → IsWithinIf b g → IsWithinIf b (merge f g)
@@ -68,11 +68,11 @@ within_cond : (b : ℕ) (t : Bool) (f : Option Frame) → IsWithinIf b f → IsW
 within_cond b true f h = h
 within_cond b false f h = tt
 
-within_sent : (b : ℕ) (i : Option Insn) (m n : ℕ) (f : Option Frame) → IsWithinIf b f → IsWithinIf b (sent i m n f)
+within_sent : (b : ℕ) (i : Option Insn) (m n : ℕ) (f : Option Frame) → IsWithinIf b f → IsWithinIf b (if_leads i m n f)
 within_sent b None m n f h = tt
-within_sent b (Some i) m n f h = within_cond b (is_among n (leads m i)) f h
+within_sent b (Some i) m n f h = within_cond b (has_slot (leads m i) n) f h
 
-within_gathered : (p : List Insn) (b n m : ℕ) (known : Option Frame) (fs : List (Option Frame)) → IsWithinIf b known → ((k : ℕ) → IsWithinIf b (get_or fs k None)) → IsWithinIf b (gathered p n m known fs)
+within_gathered : (p : List Insn) (b n m : ℕ) (known : Option Frame) (fs : List (Option Frame)) → IsWithinIf b known → ((k : ℕ) → IsWithinIf b (get_or fs k None)) → IsWithinIf b (gather p n m known fs)
 within_gathered p b n m known [] h all = h
 within_gathered p b n m known (f ∷ fs) h all =
     within_gathered p b n (m + 1) _ fs (within_merge b known _ h (within_sent b (insn_at p m) m n f (all zero))) (λ k. all (suc k))
@@ -81,9 +81,9 @@ within_choice : (b : ℕ) (t : Bool) (f g : Option Frame) → IsWithinIf b f →
 within_choice b true f g h k = h
 within_choice b false f g h k = k
 
-pub within_arriving : (p : List Insn) (b n : ℕ) (fs : List (Option Frame)) → AllWithin b fs → IsWithinIf b (arriving p n fs)
+pub within_arriving : (p : List Insn) (b n : ℕ) (fs : List (Option Frame)) → AllWithin b fs → IsWithinIf b (frame_before p n fs)
 within_arriving p b n fs h =
-    within_choice b (nat_eq n 0) (Some entry) (gathered p n 0 None fs) (within_entry b) (within_gathered p b n 0 None fs tt h.every)
+    within_choice b (nat_eq n 0) (Some entry_frame) (gather p n 0 None fs) (within_entry b) (within_gathered p b n 0 None fs tt h.every)
 
 pub within_if_more : (a b : ℕ) (f : Option Frame) → a ≤ b → IsWithinIf a f → IsWithinIf b f
 within_if_more a b None l h = tt

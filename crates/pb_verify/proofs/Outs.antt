@@ -1,13 +1,13 @@
 use Rattle.std.proofs.Common.{◌≡◌, ℕ, suc, ◌+◌, List, [], ◌∷◌, ◌++◌, refl, zero, add-one, length, length-append, arith}
 use Rattle.pb_isa.specs.declared.insn.Insn.{Insn}
 use Rattle.pb_isa.specs.Slots.{insn_at}
-use Rattle.pb_verify.specs.Arriving.{outs, in_at, arriving, leaving}
+use Rattle.pb_verify.specs.Arriving.{outs, in_at, frame_before, frame_after}
 
-pub outs_more : (p : List Insn) (n : ℕ) → outs p (n + 1) ≡ outs p n ++ leaving (insn_at p n) (in_at p n) ∷ []
+pub outs_more : (p : List Insn) (n : ℕ) → outs p (n + 1) ≡ outs p n ++ frame_after (insn_at p n) (in_at p n) ∷ []
 unfolding outs in_at
 outs_more p n = rw add-one refl
 
-pub in_is : (p : List Insn) (n : ℕ) → in_at p n ≡ arriving p n (outs p n)
+pub in_is : (p : List Insn) (n : ℕ) → in_at p n ≡ frame_before p n (outs p n)
 unfolding in_at
 in_is p n = refl
 

@@ -16,7 +16,7 @@ use Rattle.pb_isa.specs.declared.insn.Width.TheVariants.{Bits64}
 use Rattle.pb_isa.specs.declared.insn.Operand.TheVariants.{Imm}
 use Rattle.pb_isa.specs.declared.insn.Reg.{Reg}
 use Rattle.pb_isa.specs.Registers.{number}
-use Rattle.pb_vm.specs.Encoding.{is_known, encoded, encoding, registers, immediate, is_mov, slot_code, register, insn_of}
+use Rattle.pb_vm.specs.Encoding.{is_known, encoded, plain_encoding, register_byte, immediate, is_mov, slot_code, register, plain_insn}
 
 -- the three tests of a slot all pass
 tests : (x y z : Bool) (a b c : ℕ) → (if not x then Some a else if y then Some b else if z then Some c else None) ≡ None → (x ≡ true) × (y ≡ false) × (z ≡ false)
@@ -80,14 +80,14 @@ signed_4 i j k l a b c d = le_bytes_4 (i ∷ j ∷ k ∷ l ∷ []) _ refl (fit_4
 pub record Bytes (s : List ℕ) : Type 0 where
   pub each : (x : ℕ) → get_or s x 0 < 256
 
-as_mov : (a r o p i j k l : ℕ) → (f : Bytes (a ∷ r ∷ o ∷ p ∷ i ∷ j ∷ k ∷ l ∷ [])) → a ≡ 183 → r / 16 ≡ 0 → r % 16 ≤ 10 → from_le_bytes w16 (o ∷ p ∷ []) ≡ 0 → encoded (insn_of (a ∷ r ∷ o ∷ p ∷ i ∷ j ∷ k ∷ l ∷ [])) ≡ a ∷ r ∷ o ∷ p ∷ i ∷ j ∷ k ∷ l ∷ []
+as_mov : (a r o p i j k l : ℕ) → (f : Bytes (a ∷ r ∷ o ∷ p ∷ i ∷ j ∷ k ∷ l ∷ [])) → a ≡ 183 → r / 16 ≡ 0 → r % 16 ≤ 10 → from_le_bytes w16 (o ∷ p ∷ []) ≡ 0 → encoded (plain_insn (a ∷ r ∷ o ∷ p ∷ i ∷ j ∷ k ∷ l ∷ [])) ≡ a ∷ r ∷ o ∷ p ∷ i ∷ j ∷ k ∷ l ∷ []
 as_mov a r o p i j k l f x y z w =
     let e_r = number_of (r % 16) z ∙ low_half r y in
     let e_o = zeros_2 o p (f.each 2) (f.each 3) w in
     let e_i = signed_4 i j k l (f.each 4) (f.each 5) (f.each 6) (f.each 7) in
     rw x (ap (λ t. 183 ∷ number (register (r % 16)) ∷ (t ++ to_le_bytes w32 (cast_unsigned w32 (cast_signed w32 (from_le_bytes w32 (i ∷ j ∷ k ∷ l ∷ [])))))) e_o ∙ ap (λ t. 183 ∷ number (register (r % 16)) ∷ o ∷ p ∷ t) e_i ∙ ap (λ t. 183 ∷ t ∷ o ∷ p ∷ i ∷ j ∷ k ∷ l ∷ []) e_r)
 
-as_exit : (a r o p i j k l : ℕ) → (f : Bytes (a ∷ r ∷ o ∷ p ∷ i ∷ j ∷ k ∷ l ∷ [])) → a ≡ 149 → r ≡ 0 → from_le_bytes w16 (o ∷ p ∷ []) ≡ 0 → from_le_bytes w32 (i ∷ j ∷ k ∷ l ∷ []) ≡ 0 → encoded (insn_of (a ∷ r ∷ o ∷ p ∷ i ∷ j ∷ k ∷ l ∷ [])) ≡ a ∷ r ∷ o ∷ p ∷ i ∷ j ∷ k ∷ l ∷ []
+as_exit : (a r o p i j k l : ℕ) → (f : Bytes (a ∷ r ∷ o ∷ p ∷ i ∷ j ∷ k ∷ l ∷ [])) → a ≡ 149 → r ≡ 0 → from_le_bytes w16 (o ∷ p ∷ []) ≡ 0 → from_le_bytes w32 (i ∷ j ∷ k ∷ l ∷ []) ≡ 0 → encoded (plain_insn (a ∷ r ∷ o ∷ p ∷ i ∷ j ∷ k ∷ l ∷ [])) ≡ a ∷ r ∷ o ∷ p ∷ i ∷ j ∷ k ∷ l ∷ []
 as_exit a r o p i j k l f x y z w =
     let e_o = zeros_2 o p (f.each 2) (f.each 3) z in
     let e_i = zeros_4 i j k l (f.each 4) (f.each 5) (f.each 6) (f.each 7) w in
@@ -107,7 +107,7 @@ other : (b c : Bool) → (b || c) ≡ true → b ≡ false → c ≡ true
 other true c h e = cc
 other false c h e = h
 
-encodes_eight : (a r o p i j k l : ℕ) → (f : Bytes (a ∷ r ∷ o ∷ p ∷ i ∷ j ∷ k ∷ l ∷ [])) → (b : Bool) → nat_eq a 183 ≡ b → slot_code (a ∷ r ∷ o ∷ p ∷ i ∷ j ∷ k ∷ l ∷ []) ≡ None → encoded (insn_of (a ∷ r ∷ o ∷ p ∷ i ∷ j ∷ k ∷ l ∷ [])) ≡ a ∷ r ∷ o ∷ p ∷ i ∷ j ∷ k ∷ l ∷ []
+encodes_eight : (a r o p i j k l : ℕ) → (f : Bytes (a ∷ r ∷ o ∷ p ∷ i ∷ j ∷ k ∷ l ∷ [])) → (b : Bool) → nat_eq a 183 ≡ b → slot_code (a ∷ r ∷ o ∷ p ∷ i ∷ j ∷ k ∷ l ∷ []) ≡ None → encoded (plain_insn (a ∷ r ∷ o ∷ p ∷ i ∷ j ∷ k ∷ l ∷ [])) ≡ a ∷ r ∷ o ∷ p ∷ i ∷ j ∷ k ∷ l ∷ []
 encodes_eight a r o p i j k l f true e h =
     let t = tests (nat_eq a 183 || nat_eq a 149) (nat_lt 10 (r % 16) || nat_lt 10 (r / 16)) _ 12 13 14 h in
     let low = neither (nat_lt 10 (r % 16)) (nat_lt 10 (r / 16)) t.1 in
@@ -121,7 +121,7 @@ encodes_eight a r o p i j k l f false e h =
     let w = neither (not (nat_eq (from_le_bytes w16 (o ∷ p ∷ [])) 0)) (not (nat_eq (from_le_bytes w32 (i ∷ j ∷ k ∷ l ∷ [])) 0)) v.1 in
     as_exit a r o p i j k l f (is_same a 149 (other (nat_eq a 183) (nat_eq a 149) t.0 e)) (is_zero _ v.0) (is_zero _ w.0) (is_zero _ w.1)
 
-pub encodes_slot : (s : List ℕ) → length s ≡ 8 → Bytes s → slot_code s ≡ None → encoded (insn_of s) ≡ s
+pub encodes_slot : (s : List ℕ) → length s ≡ 8 → Bytes s → slot_code s ≡ None → encoded (plain_insn s) ≡ s
 encodes_slot (a ∷ r ∷ o ∷ p ∷ i ∷ j ∷ k ∷ l ∷ []) n f h = encodes_eight a r o p i j k l f (nat_eq a 183) refl h
 encodes_slot [] n f h = absurd (omega arith)
 encodes_slot (a ∷ []) n f h = absurd (omega arith)
@@ -140,19 +140,19 @@ no_bytes (b ∷ bs) h = absurd (omega arith)
 in_front : (bytes : List ℕ) → Bytes bytes → length (take 8 bytes) ≡ 8 → Bytes (take 8 bytes)
 in_front bytes f n = record { each = λ x. elim (cases_lt x 8) [ inl l ↦ rw (get_or-take 8 bytes x 0 l) (f.each x) | inr g ↦ rw (get_or_past (take 8 bytes) x 0 (omega arith)) (omega arith) ] }
 
-pub encodes_all : (k : ℕ) (bytes : List ℕ) → length bytes ≡ 8 * k → Bytes bytes → ((n : ℕ) → n < k → slot_code (get_or (first_chunks 8 k bytes) n []) ≡ None) → encoding (map insn_of (first_chunks 8 k bytes)) ≡ bytes
+pub encodes_all : (k : ℕ) (bytes : List ℕ) → length bytes ≡ 8 * k → Bytes bytes → ((n : ℕ) → n < k → slot_code (get_or (first_chunks 8 k bytes) n []) ≡ None) → plain_encoding (map plain_insn (first_chunks 8 k bytes)) ≡ bytes
 encodes_all zero bytes n f h = no_bytes bytes n
 encodes_all (suc k) bytes n f h =
     let front : length (take 8 bytes) ≡ 8 = simp length-take (omega arith) in
     let rest : length (drop 8 bytes) ≡ 8 * k = simp length-drop (omega arith) in
     let one = encodes_slot (take 8 bytes) front (in_front bytes f front) (h 0 (omega arith)) in
     let more = encodes_all k (drop 8 bytes) rest (record { each = λ x. rw (get_or-drop 8 bytes x 0) (f.each (8 + x)) }) (λ m l. h (suc m) (omega arith)) in
-    ap (λ t. t ++ encoding (map insn_of (first_chunks 8 k (drop 8 bytes)))) one ∙ ap (λ t. take 8 bytes ++ t) more ∙ take-append-drop 8 bytes
+    ap (λ t. t ++ plain_encoding (map plain_insn (first_chunks 8 k (drop 8 bytes)))) one ∙ ap (λ t. take 8 bytes ++ t) more ∙ take-append-drop 8 bytes
 
 either_known : (b : Bool) (d : Reg) (z : ℤ) → is_known (if b then Alu Mov Bits64 d (Imm z) else Exit) ≡ true
 either_known true d z = refl
 either_known false d z = refl
 
-pub all_known : (ss : List (List ℕ)) → list_all is_known (map insn_of ss) ≡ true
+pub all_known : (ss : List (List ℕ)) → list_all is_known (map plain_insn ss) ≡ true
 all_known [] = refl
-all_known (s ∷ ss) = both_true (either_known (is_mov s) (register (registers s % 16)) (cast_signed w32 (immediate s))) (all_known ss)
+all_known (s ∷ ss) = both_true (either_known (is_mov s) (register (register_byte s % 16)) (cast_signed w32 (immediate s))) (all_known ss)

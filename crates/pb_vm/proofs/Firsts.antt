@@ -2,12 +2,12 @@
 use Rattle.std.proofs.Common.{◌≡◌, ℕ, zero, suc, ◌+◌, ◌-◌, ◌<◌, ◌≤◌, inl, inr, Option, Some, None, refl, sym, ap, ◌∙◌, arith}
 use Rattle.std.proofs.lemmas.Bool.{cases_eq}
 use Rattle.pb_base.specs.declared.refusal.Refused.{Refused}
-use Rattle.pb_vm.specs.Verdict.{first_fault, at_slot, refused}
+use Rattle.pb_vm.specs.Verdict.{first_fault, at_slot, refused_at}
 
 pub first_skip : (code : ℕ → Option ℕ) (n k : ℕ) → n < k → code n ≡ None → first_fault code n (k - n) ≡ first_fault code (n + 1) (k - (n + 1))
 first_skip code n k l h = let e : k - n ≡ suc (k - (n + 1)) = omega arith in rw (e, h) refl
 
-pub first_here : (code : ℕ → Option ℕ) (n k c : ℕ) → n < k → code n ≡ Some c → first_fault code n (k - n) ≡ Some (refused n c)
+pub first_here : (code : ℕ → Option ℕ) (n k c : ℕ) → n < k → code n ≡ Some c → first_fault code n (k - n) ≡ Some (refused_at n c)
 first_here code n k c l h = let e : k - n ≡ suc (k - (n + 1)) = omega arith in rw (e, h) refl
 
 pub first_over : (code : ℕ → Option ℕ) (n k : ℕ) → k ≤ n → first_fault code n (k - n) ≡ None
@@ -25,7 +25,7 @@ first_none code n (suc k) m h l u =
     elim (cases_eq n m) [ inl e ↦ ap code (sym e) ∙ parts.0 | inr g ↦ first_none code (n + 1) k m parts.1 (omega arith) (omega arith) ]
 
 -- a search that has come to slot n: it tells the code there, or goes on
-pub told_here : (code : ℕ → Option ℕ) (n k c : ℕ) → first_fault code n (k - n) ≡ first_fault code 0 k → n < k → code n ≡ Some c → Some (refused n c) ≡ first_fault code 0 k
+pub told_here : (code : ℕ → Option ℕ) (n k c : ℕ) → first_fault code n (k - n) ≡ first_fault code 0 k → n < k → code n ≡ Some c → Some (refused_at n c) ≡ first_fault code 0 k
 told_here code n k c i l h = sym (first_here code n k c l h) ∙ i
 
 pub goes_on : (code : ℕ → Option ℕ) (n k : ℕ) → first_fault code n (k - n) ≡ first_fault code 0 k → n < k → code n ≡ None → first_fault code (n + 1) (k - (n + 1)) ≡ first_fault code 0 k

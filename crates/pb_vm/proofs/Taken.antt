@@ -7,9 +7,10 @@ use Rattle.pb_base.specs.declared.refusal.Refused.{Refused}
 use Rattle.pb_isa.specs.declared.insn.Insn.{Insn}
 use Rattle.pb_isa.specs.Slots.{slots}
 use Rattle.pb_isa.specs.Helpers.{no_helpers}
-use Rattle.pb_vm.specs.Encoding.{encoding, insn_of, slots_in, program_of}
-use Rattle.pb_vm.specs.Rules.{Accepts, rule_code}
-use Rattle.pb_vm.specs.Accepted.{AcceptedOf}
+use Rattle.pb_vm.specs.Encoding.{plain_encoding, plain_insn, slots_in, program_of}
+use Rattle.pb_vm.specs.Rules.{PlainAccepts, rule_code}
+use Rattle.pb_isa.specs.Programs.{ProgramOf, AcceptedOf}
+use Rattle.pb_isa.specs.declared.limits.TheConstants.{MAX_SLOTS}
 use Rattle.pb_vm.specs.Verdict.{size_fault, decode_fault, rule_fault, code_in, IsTaken}
 use Rattle.pb_vm.proofs.Lines.{slots_known}
 use Rattle.pb_vm.proofs.Firsts.{first_none}
@@ -18,7 +19,7 @@ use Rattle.pb_vm.proofs.Encoded.{Bytes, encodes_all, all_known}
 pub record Sized (bytes : List ℕ) : Type 0 where
   pub some : 0 < length bytes
   pub whole : length bytes ≡ 8 * (length bytes / 8)
-  pub most : length bytes / 8 ≤ 512
+  pub most : length bytes / 8 ≤ MAX_SLOTS
 
 size_tests : (x y z : Bool) (a b : Refused) → (if x || not y then Some a else if z then Some b else None) ≡ None → (x ≡ false) × (y ≡ true) × (z ≡ false)
 size_tests true y z a b h = cc
@@ -32,47 +33,47 @@ above_zero n h = grind (arith, nat_tests)
 whole_slots : (n : ℕ) → nat_eq (n % 8) 0 ≡ true → n ≡ 8 * (n / 8)
 whole_slots n h = let e : n % 8 ≡ 0 = grind (arith, nat_tests) in omega arith
 
-few_slots : (n : ℕ) → nat_lt 4096 n ≡ false → n / 8 ≤ 512
-few_slots n h = let e : n ≤ 4096 = grind (arith, nat_tests) in omega arith
+few_slots : (n : ℕ) → nat_lt (8 * MAX_SLOTS) n ≡ false → n / 8 ≤ MAX_SLOTS
+few_slots n h = let e : n ≤ 8 * MAX_SLOTS = grind (arith, nat_tests) in omega arith
 
 pub sized : (bytes : List ℕ) → size_fault bytes ≡ None → Sized bytes
 sized bytes h =
-    let t = size_tests (nat_eq (length bytes) 0) (nat_eq (length bytes % 8) 0) (nat_lt 4096 (length bytes)) _ _ h in
+    let t = size_tests (nat_eq (length bytes) 0) (nat_eq (length bytes % 8) 0) (nat_lt (8 * MAX_SLOTS) (length bytes)) _ _ h in
     record { some = above_zero (length bytes) t.0; whole = whole_slots (length bytes) t.1; most = few_slots (length bytes) t.2 }
 
 pub length_chunks : (k : ℕ) (bytes : List ℕ) → length (first_chunks 8 k bytes) ≡ k
 length_chunks zero bytes = refl
 length_chunks (suc k) bytes = ap suc (length_chunks k (drop 8 bytes))
 
-slots_of : (bytes : List ℕ) → slots (program_of bytes) ≡ length bytes / 8
-slots_of bytes = slots_known (program_of bytes) (all_known (slots_in bytes)) ∙ length-map (slots_in bytes) insn_of ∙ length_chunks (length bytes / 8) bytes
+slots_of : (bytes : List ℕ) → slots (program_of bytes).insns ≡ length bytes / 8
+slots_of bytes = slots_known (program_of bytes).insns (all_known (slots_in bytes)) ∙ length-map (slots_in bytes) plain_insn ∙ length_chunks (length bytes / 8) bytes
 
 too_few : (n : ℕ) → 0 < n → n ≡ 8 * (n / 8) → n / 8 ≡ 0 → ⊥
 too_few n l e h = omega arith
 
-too_many : (n : ℕ) → n ≤ 512 → 512 < n → ⊥
+too_many : (n : ℕ) → n ≤ MAX_SLOTS → MAX_SLOTS < n → ⊥
 too_many n l h = omega arith
 
-pub in_range : (bytes : List ℕ) (p : List Insn) → size_fault bytes ≡ None → p ≡ program_of bytes → ((slots p ≡ 0) ⊎ (512 < slots p)) → ⊥
+pub in_range : (bytes : List ℕ) (p : List Insn) → size_fault bytes ≡ None → p ≡ (program_of bytes).insns → ((slots p ≡ 0) ⊎ (MAX_SLOTS < slots p)) → ⊥
 in_range bytes p s e h =
     let z = sized bytes s in
     let n : slots p ≡ length bytes / 8 = ap slots e ∙ slots_of bytes in
     elim h [ inl y ↦ too_few (length bytes) z.some z.whole (sym n ∙ y) | inr y ↦ too_many (length bytes / 8) z.most (rw n at y) ]
 
-pub few_insns : (bytes : List ℕ) (p : List Insn) → size_fault bytes ≡ None → p ≡ program_of bytes → length p ≤ 512
-few_insns bytes p s e = let z = (sized bytes s).most in rw (e, length-map (slots_in bytes) insn_of, length_chunks (length bytes / 8) bytes) z
+pub few_insns : (bytes : List ℕ) (p : List Insn) → size_fault bytes ≡ None → p ≡ (program_of bytes).insns → length p ≤ MAX_SLOTS
+few_insns bytes p s e = let z = (sized bytes s).most in rw (e, length-map (slots_in bytes) plain_insn, length_chunks (length bytes / 8) bytes) z
 
-pub accepts : (p : List Insn) (bytes : List ℕ) → p ≡ program_of bytes → rule_fault p ≡ None → Accepts p
+pub accepts : (p : List Insn) (bytes : List ℕ) → p ≡ (program_of bytes).insns → rule_fault p ≡ None → PlainAccepts p
 accepts p bytes e h = record { known = rw e (all_known (slots_in bytes)); holds = λ n l. first_none (rule_code p) 0 (length p) n h (omega arith) (omega arith) }
 
-encodes : (bytes : List ℕ) → Bytes bytes → size_fault bytes ≡ None → decode_fault bytes ≡ None → encoding (program_of bytes) ≡ bytes
+encodes : (bytes : List ℕ) → Bytes bytes → size_fault bytes ≡ None → decode_fault bytes ≡ None → plain_encoding (program_of bytes).insns ≡ bytes
 encodes bytes f s d = encodes_all (length bytes / 8) bytes (sized bytes s).whole f (λ n l. first_none (code_in (slots_in bytes)) 0 (length bytes / 8) n d (omega arith) (omega arith))
 
-pub taken : (bytes : List ℕ) (a : AcceptedOf) → Bytes bytes → size_fault bytes ≡ None → decode_fault bytes ≡ None → rule_fault a.program ≡ None → a.program ≡ program_of bytes → a.helpers ≡ no_helpers → IsTaken bytes a
+pub taken : (bytes : List ℕ) (a : AcceptedOf) → Bytes bytes → size_fault bytes ≡ None → decode_fault bytes ≡ None → rule_fault a.program.insns ≡ None → a.program ≡ program_of bytes → a.helpers ≡ no_helpers → IsTaken bytes a
 taken bytes a f s d r e h = record {
-  sound = rw (s, d, ← e, r) refl;
-  encodes = ap encoding e ∙ encodes bytes f s d;
+  sound = rw (s, d) (ap (λ (q : ProgramOf). rule_fault q.insns) (sym e) ∙ r);
+  encodes = ap (λ (q : ProgramOf). plain_encoding q.insns) e ∙ encodes bytes f s d;
   reads = e;
-  accepts = accepts a.program bytes e r;
+  accepts = accepts a.program.insns bytes (ap (λ (q : ProgramOf). q.insns) e) r;
   helpers = h;
 }
