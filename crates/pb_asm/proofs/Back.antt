@@ -74,7 +74,7 @@ front_cases : (c x : ℕ) (xs : List ℕ) → c < 48 → (b : Bool) → nat_le 4
 front_cases c x xs lt true is h = let q = leb-true 48 x is in let e : (x == c) ≡ false = grind (arith, q, lt) in rw e refl
 front_cases c x xs lt false is h = absurd cc
 
-no_front : (c : ℕ) (xs : List ℕ) → c < 48 → above 48 xs ≡ true → strip_prefix c xs ≡ None
+pub no_front : (c : ℕ) (xs : List ℕ) → c < 48 → above 48 xs ≡ true → strip_prefix c xs ≡ None
 no_front c [] lt h = refl
 no_front c (x ∷ xs) lt h = front_cases c x xs lt (nat_le 48 x) refl h
 
@@ -97,7 +97,7 @@ offset_back (negsuc n) fits =
 
 -- ---- registers, operands, places
 
-reg_read : (r : Reg) → reg_of_text (reg_name r) ≡ Ok r
+pub reg_read : (r : Reg) → reg_of_text (reg_name r) ≡ Ok r
 reg_read r = ap (λ (o : Option Reg). ok_or o code.Form) (reg_back r)
 
 first_letter : (r : Reg) → (slice_index (reg_name r) 0 == 114) ≡ true
@@ -124,7 +124,7 @@ not_r (pos n) fits =
     grind (arith, g)
 not_r (negsuc n) fits = refl
 
-operand_back : (a : Operand) → OperandFits a → operand_of_text (operand_text a) ≡ Ok a
+pub operand_back : (a : Operand) → OperandFits a → operand_of_text (operand_text a) ≡ Ok a
 unfolding operand_of_text
 operand_back (operand.Imm k) fits = rw (not_r k fits, imm_back k fits) refl
 operand_back (operand.Reg r) fits = rw (is_r r, reg_read r) refl
@@ -147,7 +147,7 @@ inside b (negsuc n) fits =
     ∙ ap at_minus (around_there 45 48 (reg_name b) (decimal (suc n)) (omega arith) (reg_above b))
     ∙ based_back b (negsuc n) (minus (2 ^ 15) (decimal (suc n))) (minus_back (2 ^ 15) n (omega (arith, lt)) big)
 
-place_back : (b : Reg) (o : ℤ) → FitsSigned w16 o → place_of_text (place_text b o) ≡ Ok (b, o)
+pub place_back : (b : Reg) (o : ℤ) → FitsSigned w16 o → place_of_text (place_text b o) ≡ Ok (b, o)
 unfolding place_of_text
 place_back b o fits =
     let grouped : reg_name b ++ (offset_text o ++ 93 ∷ []) ≡ (reg_name b ++ offset_text o) ++ 93 ∷ [] = sym (append_assoc (reg_name b) (offset_text o) (93 ∷ [])) in
@@ -156,7 +156,7 @@ place_back b o fits =
 
 -- ---- the words of a line
 
-reg_line : (r : Reg) → above 33 (reg_name r) ≡ true
+pub reg_line : (r : Reg) → above 33 (reg_name r) ≡ true
 reg_line r = above_less 33 48 (reg_name r) (omega arith) (reg_above r)
 
 decimal_line : (n : ℕ) → n < 2 ^ 64 → above 33 (decimal n) ≡ true
@@ -170,25 +170,25 @@ offset_line : (o : ℤ) → FitsSigned w16 o → above 33 (offset_text o) ≡ tr
 offset_line (pos n) fits = let lt : n < 2 ^ 15 = fits.sfits in decimal_line n (omega (arith, lt))
 offset_line (negsuc n) fits = let lt : n < 2 ^ 15 = fits.sfits in decimal_line (suc n) (omega (arith, lt))
 
-operand_line : (a : Operand) → OperandFits a → above 33 (operand_text a) ≡ true
+pub operand_line : (a : Operand) → OperandFits a → above 33 (operand_text a) ≡ true
 operand_line (operand.Imm k) fits = signed_line k fits
 operand_line (operand.Reg r) fits = reg_line r
 
-place_line : (b : Reg) (o : ℤ) → FitsSigned w16 o → above 33 (place_text b o) ≡ true
+pub place_line : (b : Reg) (o : ℤ) → FitsSigned w16 o → above 33 (place_text b o) ≡ true
 place_line b o fits = above_append 33 (reg_name b) (offset_text o ++ 93 ∷ []) (reg_line b) (above_append 33 (offset_text o) (93 ∷ []) (offset_line o fits) refl)
 
-abbrev blanks : List ℕ → List (List ℕ)
+abbrev pub blanks : List ℕ → List (List ℕ)
 blanks text = slice_split (λ b. b == 32) text
 
-comma_cut : (x y : List ℕ) → above 33 x ≡ true → blanks (x ++ (codes ", " ++ y)) ≡ (x ++ 44 ∷ []) ∷ blanks y
+pub comma_cut : (x y : List ℕ) → above 33 x ≡ true → blanks (x ++ (codes ", " ++ y)) ≡ (x ++ 44 ∷ []) ∷ blanks y
 comma_cut x y h =
     let grouped : x ++ (codes ", " ++ y) ≡ (x ++ 44 ∷ []) ++ 32 ∷ y = sym (append_assoc x (44 ∷ []) (32 ∷ y)) in
     ap blanks grouped ∙ cut_there 32 33 (x ++ 44 ∷ []) y (omega arith) (above_append 33 x (44 ∷ []) h refl)
 
-name_cut : (w : Word) (y : List ℕ) → blanks (name w ++ (codes " " ++ y)) ≡ name w ∷ blanks y
+pub name_cut : (w : Word) (y : List ℕ) → blanks (name w ++ (codes " " ++ y)) ≡ name w ∷ blanks y
 name_cut w y = cut_there 32 48 (name w) y (omega arith) (name_above w)
 
-last_cut : (x : List ℕ) → above 33 x ≡ true → blanks x ≡ x ∷ []
+pub last_cut : (x : List ℕ) → above 33 x ≡ true → blanks x ≡ x ∷ []
 last_cut x h = cut_none 32 33 x (omega arith) h
 
 -- a first word and one operand
@@ -205,11 +205,11 @@ three_words w x y z h k l =
     name_cut w (x ++ (codes ", " ++ (y ++ (codes ", " ++ z)))) ∙ ap (λ (ws : List (List ℕ)). name w ∷ ws) (comma_cut x (y ++ (codes ", " ++ z)) h
     ∙ ap (λ (ws : List (List ℕ)). (x ++ 44 ∷ []) ∷ ws) (comma_cut y z k ∙ ap (λ (ws : List (List ℕ)). (y ++ 44 ∷ []) ∷ ws) (last_cut z l)))
 
-first_read : (w : Word) (texts : List (List ℕ)) → insn_of_words (name w ∷ texts) ≡ operands w texts
+pub first_read : (w : Word) (texts : List (List ℕ)) → insn_of_words (name w ∷ texts) ≡ operands w texts
 unfolding insn_of_words
 first_read w texts = rw (word_back w) refl
 
-comma_read : (x : List ℕ) (texts : List (List ℕ)) → comma ((x ++ 44 ∷ []) ∷ texts) ≡ Ok (x, texts)
+pub comma_read : (x : List ℕ) (texts : List (List ℕ)) → comma ((x ++ 44 ∷ []) ∷ texts) ≡ Ok (x, texts)
 unfolding comma
 comma_read x texts = rw (before_there 44 x) refl
 
@@ -263,7 +263,7 @@ shown : (xs ys : List ℕ) → 0 < length xs → above 48 xs ≡ true → is_ski
 shown [] ys some h = let no : ⊥ = omega (arith, some) in absurd no
 shown (x ∷ xs) ys some h = shown_cases x xs ys (nat_le 48 x) refl h
 
-name_shown : (w : Word) (ys : List ℕ) → is_skipped (name w ++ ys) ≡ false
+pub name_shown : (w : Word) (ys : List ℕ) → is_skipped (name w ++ ys) ≡ false
 name_shown w ys = shown (name w) ys (name_nil w (name w) refl) (name_above w)
 
 pub insn_shown : (i : Insn) → is_skipped (insn_text i) ≡ false

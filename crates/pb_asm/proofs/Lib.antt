@@ -7,3 +7,4 @@ mod First
 mod Spelling
 mod Readings
 mod Codes
+pub mod OutOfRange

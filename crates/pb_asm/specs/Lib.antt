@@ -3,4 +3,5 @@ pub mod Codes
 pub mod Cuts
 pub mod Operands
 pub mod Listing
+pub mod OutOfRange
 pub mod Texts

@@ -1,5 +1,5 @@
 //! Texts to programs.
-ghost use Rattle.std.specs.Prelude.{◌≡◌, ◌≢◌, ◌⊎◌, ◌↔◌, ℕ, ◌==◌, ◌<◌, ◌≤◌, IfOk, Ok, Err, List, [], ◌∷◌, ◌++◌, map};
+ghost use Rattle.std.specs.Prelude.{◌≡◌, ◌≢◌, ◌⊎◌, ◌↔◌, ℕ, ◌+◌, ◌==◌, ◌<◌, ◌≤◌, IfOk, Ok, Err, List, [], ◌∷◌, ◌++◌, map};
 ghost use Rattle.std.specs.List.{slice_split, before_first, AllByRecursion};
 ghost use Rattle.pb_isa.specs.Bounds.{Fits};
 ghost use Rattle.pb_isa.specs.declared.insn.Insn.{Insn};
@@ -8,10 +8,11 @@ ghost use Rattle.pb_isa.specs.Programs.{ProgramOf, IsProgram};
 ghost use Rattle.pb_asm.specs.declared.fault.Code.TheVariants as code;
 ghost use Rattle.pb_asm.specs.declared.names.Word.{Word};
 ghost use Rattle.pb_asm.specs.Names.{name};
-ghost use Rattle.pb_base.specs.Reading.{Gives, texts_of, lines_of, is_skipped};
-ghost use Rattle.pb_asm.specs.Codes.{is_memory};
+ghost use Rattle.pb_base.specs.Reading.{Gives, texts_of, lines_of, is_skipped, numbered};
+ghost use Rattle.pb_asm.specs.Codes.{asm_code, is_memory};
 ghost use Rattle.pb_asm.specs.Listing.{insn_text, listing};
 ghost use Rattle.pb_asm.specs.Operands.{line_of};
+ghost use Rattle.pb_asm.specs.OutOfRange.{NumberPlace, line_with, FitsBefore, IsBeyond, EndsWord};
 ghost use Rattle.pb_asm.specs.Texts.{instruction_lines, with_insn_line, insns_of_lines, program_of_text, ReadsProgram, ReadsLines, IsFirstFault, HasNone};
 
 use crate::fault::{AsmFault, Code};
@@ -137,4 +138,11 @@ pub fn faults_are_told_where_they_are()
     ensures word { (line : List ℕ) → (line_of line ≡ Err code.Word) ↔ ((w : Word) → before_first (λ b. b == 32) line ≢ name w) }
     ensures too_long { (before : List Insn) (line : List ℕ) → (with_insn_line before line ≡ Err code.TooLong) ↔ ((i : Insn) × (line ≡ insn_text i) × Fits i × (MAX_SLOTS < slots (before ++ i ∷ []))) }
     ensures nothing { (text : List ℕ) → (program_of_text text ≡ Err (0, 84)) ↔ (instruction_lines text ≡ []) }
+{}
+
+/// Where a line is an instruction's up to a number that has its form and goes beyond its field, code 82 is told of it, whatever
+/// comes behind the number's word.
+pub fn numbers_out_of_range_are_told()
+    ensures read { (place : NumberPlace) (number rest : List ℕ) → FitsBefore place → IsBeyond place number → EndsWord rest → line_of (line_with place number rest) ≡ Err code.Range }
+    ensures told { (n : ℕ) (before : List Insn) (place : NumberPlace) (number rest : List ℕ) → FitsBefore place → IsBeyond place number → EndsWord rest → numbered asm_code n (with_insn_line before (line_with place number rest)) ≡ Err (n + 1, 82) }
 {}
