@@ -50,18 +50,18 @@ unfoldable pub operand_of_text : List ℕ → Result Operand Code
 operand_of_text text = if slice_index text 0 == 114 then (reg_of_text text >>= λ r. Ok (operand.Reg r)) else (imm_of_text text >>= λ k. Ok (operand.Imm k))
 
 -- a register and the offset behind it
-unfoldable pub based : List ℕ → Result ℤ Code → Result (Reg × ℤ) Code
-based register offset = do
+unfoldable pub base_and_offset : List ℕ → Result ℤ Code → Result (Reg × ℤ) Code
+base_and_offset register offset = do
   r ← reg_of_text register
   o ← offset
   Ok (r, o)
 
 abbrev pub at_minus : Option (List ℕ × List ℕ) → Result (Reg × ℤ) Code
-at_minus (Some sides) = based sides.0 (minus (2 ^ 15) sides.1)
+at_minus (Some sides) = base_and_offset sides.0 (minus (2 ^ 15) sides.1)
 at_minus None = Err code.Form
 
 abbrev pub at_plus : List ℕ → Option (List ℕ × List ℕ) → Result (Reg × ℤ) Code
-at_plus text (Some sides) = based sides.0 (plus (2 ^ 15) sides.1)
+at_plus text (Some sides) = base_and_offset sides.0 (plus (2 ^ 15) sides.1)
 at_plus text None = at_minus (split_once 45 text)
 
 -- a place in memory: `[`, register, offset, `]`

@@ -45,17 +45,17 @@ pub data NumberPlace : Type 0 where
   CallImm : NumberPlace
 
 -- a register and this text in brackets
-abbrev pub bracketed : Reg → List ℕ → List ℕ
-bracketed base number = 91 ∷ (reg_name base ++ (number ++ codes "]"))
+abbrev pub place_with : Reg → List ℕ → List ℕ
+place_with base number = 91 ∷ (reg_name base ++ (number ++ codes "]"))
 
 -- the line up to the number and the sign that ends its word, as a listing has it; then the rest
 abbrev pub line_with : NumberPlace → List ℕ → List ℕ → List ℕ
 line_with (AluImm op w dst) number rest = name (word.Alu op w) ++ (codes " " ++ (reg_name dst ++ (codes ", " ++ (number ++ rest))))
 line_with (LoadImmImm dst) number rest = name word.LoadImm ++ (codes " " ++ (reg_name dst ++ (codes ", " ++ (number ++ rest))))
-line_with (LoadOffset z dst src) number rest = name (word.Load z) ++ (codes " " ++ (reg_name dst ++ (codes ", " ++ (bracketed src number ++ rest))))
-line_with (StoreImmOffset z dst) number rest = name (word.StoreImm z) ++ (codes " " ++ ((bracketed dst number ++ codes ",") ++ rest))
+line_with (LoadOffset z dst src) number rest = name (word.Load z) ++ (codes " " ++ (reg_name dst ++ (codes ", " ++ (place_with src number ++ rest))))
+line_with (StoreImmOffset z dst) number rest = name (word.StoreImm z) ++ (codes " " ++ ((place_with dst number ++ codes ",") ++ rest))
 line_with (StoreImmImm z dst offset) number rest = name (word.StoreImm z) ++ (codes " " ++ (place_text dst offset ++ (codes ", " ++ (number ++ rest))))
-line_with (StoreOffset z dst) number rest = name (word.Store z) ++ (codes " " ++ ((bracketed dst number ++ codes ",") ++ rest))
+line_with (StoreOffset z dst) number rest = name (word.Store z) ++ (codes " " ++ ((place_with dst number ++ codes ",") ++ rest))
 line_with JumpOffset number rest = name word.Jump ++ (codes " " ++ (number ++ rest))
 line_with (JumpIfImm c w dst) number rest = name (word.JumpIf c w) ++ (codes " " ++ (reg_name dst ++ (codes ", " ++ ((number ++ codes ",") ++ rest))))
 line_with (JumpIfOffset c w dst src) number rest = name (word.JumpIf c w) ++ (codes " " ++ (reg_name dst ++ (codes ", " ++ (operand_text src ++ (codes ", " ++ (number ++ rest))))))

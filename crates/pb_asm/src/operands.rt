@@ -5,7 +5,7 @@ ghost use Rattle.std.specs.List.{list_all};
 ghost use Rattle.pb_base.specs.Reading.{Gives, is_numeral, numeral_upto};
 ghost use Rattle.pb_asm.specs.declared.fault.Code.TheVariants as code;
 ghost use Rattle.pb_asm.specs.Codes.{is_memory};
-ghost use Rattle.pb_asm.specs.Operands.{minus, plus, imm_of_text, offset_of_text, reg_of_text, operand_of_text, based, place_of_text};
+ghost use Rattle.pb_asm.specs.Operands.{minus, plus, imm_of_text, offset_of_text, reg_of_text, operand_of_text, base_and_offset, place_of_text};
 
 use crate::cuts::{split_once, strip_prefix, strip_suffix};
 use crate::fault::Code;
@@ -124,7 +124,7 @@ pub fn operand_of(text: &str) -> Result<Operand, Code>
 }
 
 /// A place in memory: a register and an offset in brackets.
-#[tactic(auto, unfolding(crate::specs::Operands::place_of_text, crate::specs::Operands::based))]
+#[tactic(auto, unfolding(crate::specs::Operands::place_of_text, crate::specs::Operands::base_and_offset))]
 pub fn place_of(text: &str) -> Result<(Reg, i16), Code>
     ensures { Gives is_memory (λ p. p) result (place_of_text text.now) }
 {

@@ -31,7 +31,7 @@ fn is_skipped(line: &str) -> bool
 
 impl Lines {
     // Adds what one line says.
-    #[tactic(auto, using(crate::proofs::Slots::slots_push, crate::proofs::Slots::all_push), unfolding(crate::specs::Texts::with_insn_line))]
+    #[tactic(auto, using(crate::proofs::SlotCounts::slots_push, crate::proofs::SlotCounts::all_push), unfolding(crate::specs::Texts::with_insn_line))]
     fn add(&mut self, alloc: Global, line: &str) -> Result<(), Code>
         requires most { self.old.taken ≤ MAX_SLOTS }
         requires fits { AllByRecursion Fits self.old.insns.items }

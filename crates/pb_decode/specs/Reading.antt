@@ -1,5 +1,5 @@
 -- What stands at the front of a list of bytes: an instruction, or the lowest code of a fault.
-use Rattle.std.specs.Prelude.{ℕ, ℤ, ◌+◌, ◌*◌, ◌^◌, Bool, ◌&&◌, ◌==◌, nat_lt, if◌then◌else◌, List, length, drop, Option, ok_or, Result, Ok, Err}
+use Rattle.std.specs.Prelude.{ℕ, ℤ, ◌+◌, ◌*◌, ◌^◌, Bool, ◌&&◌, ◌==◌, nat_lt, if◌then◌else◌, List, length, drop, ok_or, Result, Ok, Err}
 use Rattle.std.specs.Int.{w16, w32, cast_signed}
 use Rattle.pb_base.specs.Reading.{◌>>=◌}
 use Rattle.pb_isa.specs.declared.insn.Insn.{Insn}

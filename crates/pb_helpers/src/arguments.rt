@@ -69,7 +69,7 @@ fn is_place(kind: Kind) -> bool
     }
 }
 
-#[tactic(auto, using(crate::proofs::Lowest::lowest_append))]
+#[tactic(auto, using(crate::proofs::LowestCode::lowest_append))]
 fn read_code(frame: &Frame) -> Option<Code>
     ensures { result ≡ lowest_code (read_rules frame.now) }
 {
@@ -80,7 +80,7 @@ fn read_code(frame: &Frame) -> Option<Code>
         .or(Code::WrongArgument.when(!(is_cell(frame) && is_place(frame.kinds[3]))))
 }
 
-#[tactic(auto, using(crate::proofs::Lowest::lowest_append))]
+#[tactic(auto, using(crate::proofs::LowestCode::lowest_append))]
 fn write_code(frame: &Frame) -> Option<Code>
     ensures { result ≡ lowest_code (write_rules frame.now) }
 {
@@ -91,7 +91,7 @@ fn write_code(frame: &Frame) -> Option<Code>
         .or(Code::WrongArgument.when(!(is_cell(frame) && is_place(frame.kinds[3]))))
 }
 
-#[tactic(auto, using(crate::proofs::Lowest::lowest_append))]
+#[tactic(auto, using(crate::proofs::LowestCode::lowest_append))]
 fn delete_code(frame: &Frame) -> Option<Code>
     ensures { result ≡ lowest_code (delete_rules frame.now) }
 {

@@ -34,17 +34,17 @@ abbrev pub meet : Kind → Kind → Kind
 meet a b = if same_kind a b then a else Unset
 
 -- element by element
-abbrev pub both : {A : Type 0} → (A → A → A) → List A → List A → List A
-both f (a ∷ r) (b ∷ s) = f a b ∷ both f r s
-both f [] s = []
-both f (a ∷ r) [] = []
+abbrev pub pointwise : {A : Type 0} → (A → A → A) → List A → List A → List A
+pointwise f (a ∷ r) (b ∷ s) = f a b ∷ pointwise f r s
+pointwise f [] s = []
+pointwise f (a ∷ r) [] = []
 
 abbrev pub meet_kinds : List Kind → List Kind → List Kind
-meet_kinds = both meet
+meet_kinds = pointwise meet
 
 -- a byte is written where both say so
 abbrev pub meet_bytes : List Bool → List Bool → List Bool
-meet_bytes = both (λ a b. a && b)
+meet_bytes = pointwise (λ a b. a && b)
 
 unfoldable pub join : Frame → Frame → Frame
 join a b = record { kinds = meet_kinds a.kinds b.kinds; written = meet_bytes a.written b.written }

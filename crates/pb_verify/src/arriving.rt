@@ -37,6 +37,7 @@ pub fn frame_before(program: &Program, slot: usize, outs: &[Option<Frame>]) -> O
     if slot == 0 {
         return Some(entry());
     }
+    // For the proof: a program has at most `MAX_SLOTS` slots.
     let _slots = program.slots();
     let mut known = None;
     for earlier in 0..slot {

@@ -72,7 +72,7 @@ fn falls(program: &Program, slot: usize) -> Option<Code>
     Code::FallsOff.when(slot == program.slots())
 }
 
-#[tactic(auto, using(crate::proofs::Lowest::lowest_append))]
+#[tactic(auto, using(crate::proofs::LowestCode::lowest_append))]
 fn numeric(frame: &Frame, dst: Reg, src: Operand) -> Option<Code>
     ensures { result ≡ lowest_code (numeric_rules frame.now dst src) }
 {
@@ -82,7 +82,7 @@ fn numeric(frame: &Frame, dst: Reg, src: Operand) -> Option<Code>
         .or(Code::PointerArithmetic.when(on_pointer(frame, dst, src)))
 }
 
-#[tactic(auto, using(crate::proofs::Lowest::lowest_append))]
+#[tactic(auto, using(crate::proofs::LowestCode::lowest_append))]
 fn mov(frame: &Frame, width: Width, dst: Reg, src: Operand) -> Option<Code>
     ensures { result ≡ lowest_code (mov_rules frame.now width dst src) }
 {
@@ -100,7 +100,7 @@ fn mov(frame: &Frame, width: Width, dst: Reg, src: Operand) -> Option<Code>
     }
 }
 
-#[tactic(auto, using(crate::proofs::Lowest::lowest_append))]
+#[tactic(auto, using(crate::proofs::LowestCode::lowest_append))]
 fn add(frame: &Frame, width: Width, dst: Reg, src: Operand) -> Option<Code>
     ensures { result ≡ lowest_code (add_rules frame.now width dst src) }
 {
@@ -155,7 +155,7 @@ fn stores(base: Kind, offset: i16, bytes: u8) -> Option<Code>
     }
 }
 
-#[tactic(auto, using(crate::proofs::Lowest::lowest_append))]
+#[tactic(auto, using(crate::proofs::LowestCode::lowest_append))]
 fn load(frame: &Frame, size: Size, dst: Reg, src: Reg, offset: i16) -> Option<Code>
     requires { IsWithin (2 ^ 62) frame.now }
     ensures { result ≡ lowest_code (load_rules frame.now size dst src offset) }
@@ -164,7 +164,7 @@ fn load(frame: &Frame, size: Size, dst: Reg, src: Reg, offset: i16) -> Option<Co
     reads(frame, src).or(sets(dst)).or(access)
 }
 
-#[tactic(auto, using(crate::proofs::Lowest::lowest_append))]
+#[tactic(auto, using(crate::proofs::LowestCode::lowest_append))]
 fn store_imm(frame: &Frame, size: Size, dst: Reg, offset: i16) -> Option<Code>
     requires { IsWithin (2 ^ 62) frame.now }
     ensures { result ≡ lowest_code (store_imm_rules frame.now size dst offset) }
@@ -173,7 +173,7 @@ fn store_imm(frame: &Frame, size: Size, dst: Reg, offset: i16) -> Option<Code>
     reads(frame, dst).or(access)
 }
 
-#[tactic(auto, using(crate::proofs::Lowest::lowest_append))]
+#[tactic(auto, using(crate::proofs::LowestCode::lowest_append))]
 fn store(frame: &Frame, size: Size, dst: Reg, src: Reg, offset: i16) -> Option<Code>
     requires { IsWithin (2 ^ 62) frame.now }
     ensures { result ≡ lowest_code (store_rules frame.now size dst src offset) }
@@ -200,7 +200,7 @@ fn jumps(program: &Program, slot: usize, offset: i16) -> Option<Code>
     Code::JumpIntoPair.when(program.at(target).is_none())
 }
 
-#[tactic(auto, using(crate::proofs::Lowest::lowest_append))]
+#[tactic(auto, using(crate::proofs::LowestCode::lowest_append))]
 fn jump_if(
     program: &Program,
     slot: usize,
@@ -212,6 +212,7 @@ fn jump_if(
     requires { slot < slots program.now.insns }
     ensures { result ≡ lowest_code (jump_if_rules program.now.insns slot frame.now dst src offset) }
 {
+    // For the proof: a program has at most `MAX_SLOTS` slots, so that the next slot is a number.
     let _slots = program.slots();
     reads(frame, dst)
         .or(reads_operand(frame, src))
@@ -220,7 +221,7 @@ fn jump_if(
         .or(Code::PointerCompared.when(on_pointer(frame, dst, src)))
 }
 
-#[tactic(auto, using(crate::proofs::Lowest::lowest_append))]
+#[tactic(auto, using(crate::proofs::LowestCode::lowest_append))]
 fn exit(frame: &Frame) -> Option<Code>
     ensures { result ≡ lowest_code (exit_rules frame.now) }
 {
@@ -228,7 +229,7 @@ fn exit(frame: &Frame) -> Option<Code>
 }
 
 /// The lowest code of the rules that the instruction at a slot breaks.
-#[tactic(auto, using(crate::proofs::Lowest::lowest_append))]
+#[tactic(auto, using(crate::proofs::LowestCode::lowest_append))]
 pub fn lowest_broken(
     program: &Program,
     helpers: HelperTable,
@@ -240,6 +241,7 @@ pub fn lowest_broken(
     requires near { IsWithin (2 ^ 62) frame.now }
     ensures { result ≡ lowest_code (insn_rules program.now.insns helpers slot frame.now insn) }
 {
+    // For the proof: a program has at most `MAX_SLOTS` slots, so that the next slot is a number.
     let _slots = program.slots();
     let falls = falls(program, slot + 1);
     match insn {

@@ -11,9 +11,9 @@ ends Exit = true
 ends _ = false
 
 -- the instruction writes register r
-abbrev pub sets_register : ℕ → Insn → Bool
-sets_register r (Alu op w dst src) = nat_eq (number dst) r
-sets_register r _ = false
+abbrev pub loads_register : ℕ → Insn → Bool
+loads_register r (Alu op w dst src) = nat_eq (number dst) r
+loads_register r _ = false
 
 -- something leads to slot n: no instruction before it is an exit
 abbrev pub is_reached : List Insn → ℕ → Bool
@@ -21,7 +21,7 @@ is_reached p n = list_all (λ i. not (ends i)) (take n p)
 
 -- register r is written before slot n
 abbrev pub is_set_before : List Insn → ℕ → ℕ → Bool
-is_set_before p n r = list_any (sets_register r) (take n p)
+is_set_before p n r = list_any (loads_register r) (take n p)
 
 -- the registers that are set where slot n is reached: 1 and 10 from entry on, and those written before
 abbrev pub is_set : List Insn → ℕ → ℕ → Bool

@@ -2,7 +2,7 @@
 ghost use Rattle.std.specs.Prelude.{◌≡◌, ◌<◌, ◌≤◌, IfOk, IfErr, length, true};
 ghost use Rattle.std.specs.List.{list_all};
 ghost use Rattle.pb_vm.specs.Encoding.{is_known};
-ghost use Rattle.pb_vm.specs.Rules.{rule_code, plain_broken, is_reached, is_set_before, ends, sets_register};
+ghost use Rattle.pb_vm.specs.Rules.{rule_code, plain_broken, is_reached, is_set_before, ends, loads_register};
 ghost use Rattle.pb_vm.specs.Encodings.{EncodingsAreTaken};
 ghost use Rattle.pb_vm.specs.Verdict.{size_fault, rule_fault, IsTaken, IsAcceptFault};
 
@@ -83,7 +83,7 @@ fn ends(insn: Insn) -> bool
 
 fn sets_result(insn: Insn) -> bool
     requires { is_known insn ≡ true }
-    ensures { result ≡ sets_register 0 insn }
+    ensures { result ≡ loads_register 0 insn }
 {
     match loaded(insn) {
         Some((destination, _)) => destination.number() == 0,

@@ -1,4 +1,4 @@
-use Rattle.pb_asm.proofs.Cutting.{around_is}
+use Rattle.pb_asm.proofs.TextCuts.{around_is}
 use Rattle.pb_asm.proofs.cuts.split_once.Goals as goal
 
 pub returns : goal.returns

@@ -1,4 +1,4 @@
-use Rattle.pb_asm.proofs.Cutting.{behind_is}
+use Rattle.pb_asm.proofs.TextCuts.{behind_is}
 use Rattle.pb_asm.proofs.cuts.strip_prefix.Goals as goal
 
 pub returns : goal.returns

@@ -1,4 +1,4 @@
-use Rattle.pb_asm.proofs.Cutting.{before_is}
+use Rattle.pb_asm.proofs.TextCuts.{before_is}
 use Rattle.pb_asm.proofs.cuts.strip_suffix.Goals as goal
 
 pub returns : goal.returns

@@ -1,5 +1,5 @@
 use Rattle.std.proofs.Common.{sym, ◌∙◌}
-use Rattle.pb_asm.proofs.Numbers.{none_fits}
+use Rattle.pb_asm.proofs.Numerals.{none_fits}
 use Rattle.pb_asm.proofs.operands.numeral_upto.Goals as goal
 
 pub returns-in_default-clause-value : goal.returns-in_default-clause-value

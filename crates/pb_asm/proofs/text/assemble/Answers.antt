@@ -1,7 +1,7 @@
 use Rattle.std.proofs.Common.{arith, ℕ, ◌≤◌, ◌<◌, length, subst}
 use Rattle.pb_isa.specs.Programs.{IsRefused}
 use Rattle.pb_isa.specs.declared.limits.TheConstants.{MAX_SLOTS}
-use Rattle.pb_asm.proofs.Slots.{never_refused}
+use Rattle.pb_asm.proofs.SlotCounts.{never_refused}
 use Rattle.pb_asm.proofs.text.assemble.Goals as goal
 
 pub unreachable-requires : goal.unreachable-requires

@@ -1,4 +1,4 @@
-use Rattle.pb_asm.proofs.OutOfRange.{range_told, line_told}
+use Rattle.pb_asm.proofs.NumbersBeyond.{range_told, line_told}
 use Rattle.pb_asm.proofs.text.numbers_out_of_range_are_told.Goals as goal
 
 pub returns-clause-read : goal.returns-clause-read

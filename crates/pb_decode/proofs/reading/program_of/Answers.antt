@@ -1,6 +1,6 @@
 use Rattle.std.proofs.Common.{◌∙◌, sym, subst}
 use Rattle.pb_isa.specs.Programs.{IsRefused}
-use Rattle.pb_decode.proofs.Whole.{whole_none, is_program, never_refused}
+use Rattle.pb_decode.proofs.OneProgramOrFault.{whole_none, is_program, never_refused}
 use Rattle.pb_decode.proofs.reading.program_of.Goals as goal
 
 pub unreachable-requires : goal.unreachable-requires

@@ -4,7 +4,7 @@ use Rattle.std.proofs.lemmas.Int.{to_z-of_z}
 use Rattle.pb_helpers.specs.declared.code.Code.TheVariants.{PointerCompared}
 use Rattle.pb_helpers.specs.Codes.{when}
 use Rattle.pb_verify.specs.Rules.{reads, reads_operand, on_pointer, jump_rules, falls}
-use Rattle.pb_verify.proofs.Lowest.{or_five}
+use Rattle.pb_verify.proofs.LowestCode.{or_five}
 use Rattle.pb_verify.proofs.rules.jump_if.Goals as goal
 
 pub returns : goal.returns

@@ -2,7 +2,7 @@ use Rattle.std.proofs.Common.{rules, w16}
 use mir.Val.{SFits}
 use Rattle.std.proofs.lemmas.Int.{to_z-of_z}
 use Rattle.pb_verify.specs.Rules.{at, reads, sets, loads, bytes_of}
-use Rattle.pb_verify.proofs.Lowest.{or_three}
+use Rattle.pb_verify.proofs.LowestCode.{or_three}
 use Rattle.pb_verify.proofs.rules.load.Goals as goal
 
 pub returns : goal.returns

@@ -4,7 +4,7 @@ use Rattle.std.proofs.lemmas.Int.{to_z-of_z}
 use Rattle.pb_isa.specs.Helpers.{declared_helper}
 use Rattle.pb_helpers.specs.Arguments.{call_rules}
 use Rattle.pb_verify.specs.Rules.{load_rules, store_imm_rules, store_rules, falls}
-use Rattle.pb_verify.proofs.Lowest.{or_two}
+use Rattle.pb_verify.proofs.LowestCode.{or_two}
 use Rattle.pb_verify.proofs.rules.lowest_broken.Goals as goal
 
 pub returns-in-Load : goal.returns-in-Load

@@ -5,7 +5,7 @@ use Rattle.pb_kinds.specs.Frames.{is_pointer}
 use Rattle.pb_helpers.specs.declared.code.Code.TheVariants.{PointerStored}
 use Rattle.pb_helpers.specs.Codes.{when}
 use Rattle.pb_verify.specs.Rules.{at, reads, stores, bytes_of}
-use Rattle.pb_verify.proofs.Lowest.{or_four}
+use Rattle.pb_verify.proofs.LowestCode.{or_four}
 use Rattle.pb_verify.proofs.rules.store.Goals as goal
 
 pub returns : goal.returns

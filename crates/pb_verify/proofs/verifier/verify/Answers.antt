@@ -1,8 +1,8 @@
 use Rattle.std.proofs.Common.{◌≡◌, ◌+◌, ◌*◌, ◌++◌, [], ◌∷◌, length, sym, ap, ◌∙◌, arith, rules, below_more}
 use Rattle.pb_verify.specs.Arriving.{outs, in_at, frame_before, faults}
 use Rattle.pb_verify.specs.Within.{IsWithinIf}
-use Rattle.pb_verify.proofs.Near.{within_arriving, within_if_more, within_push, none_within}
-use Rattle.pb_verify.proofs.Outs.{outs_more, in_is, outs_none, length-outs}
+use Rattle.pb_verify.proofs.PointersWithin.{within_arriving, within_if_more, within_push, none_within}
+use Rattle.pb_verify.proofs.FramesAfter.{outs_more, in_is, outs_none, length-outs}
 use Rattle.pb_verify.proofs.verifier.verify.Goals as goal
 use Rattle.pb_verify.proofs.verifier.verify.Goals.{After-frame_before-known}
 

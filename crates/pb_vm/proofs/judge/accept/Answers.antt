@@ -3,8 +3,8 @@ use Rattle.pb_isa.specs.declared.insn.Insn.{Insn}
 use Rattle.pb_isa.specs.Programs.{ProgramOf}
 use Rattle.pb_vm.specs.Encoding.{plain_insn, slots_in, program_of}
 use Rattle.pb_vm.specs.Verdict.{size_fault, decode_fault, rule_fault, first_fault, code_in}
-use Rattle.pb_vm.proofs.Encoded.{all_known}
-use Rattle.pb_vm.proofs.Taken.{taken, accepts, in_range}
+use Rattle.pb_vm.proofs.SlotsEncode.{all_known}
+use Rattle.pb_vm.proofs.BytesTaken.{taken, accepts, in_range}
 use Rattle.pb_vm.proofs.judge.accept.Goals as goal
 use Rattle.pb_vm.proofs.judge.accept.Goals.{After-deref}
 

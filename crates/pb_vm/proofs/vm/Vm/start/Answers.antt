@@ -1,7 +1,7 @@
 use Rattle.std.proofs.Common.{◌<◌, length}
 use Rattle.pb_vm.specs.Rules.{PlainAccepts}
-use Rattle.pb_vm.proofs.Lines.{slots_known}
-use Rattle.pb_vm.proofs.Turns.{ready_first}
+use Rattle.pb_vm.proofs.StraightLines.{slots_known}
+use Rattle.pb_vm.proofs.MachineSteps.{ready_first}
 use Rattle.pb_vm.proofs.vm.Vm.start.Goals as goal
 
 pub invariant_of-result : goal.invariant_of-result

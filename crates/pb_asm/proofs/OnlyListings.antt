@@ -17,9 +17,9 @@ use Rattle.pb_asm.specs.Listing.{insn_text}
 use Rattle.pb_base.specs.Reading.{is_skipped, numbered}
 use Rattle.pb_asm.specs.Codes.{asm_code}
 use Rattle.pb_asm.specs.Texts.{instruction_lines, with_insn_line, insns_of_lines, some_of, program_of_text}
-use Rattle.pb_asm.proofs.Slots.{some_place}
-use Rattle.pb_asm.proofs.Spelling.{then_ok, ok_is, else_ok, line_spelled}
-use Rattle.pb_asm.proofs.Back.{added, slots_append, some_there}
+use Rattle.pb_asm.proofs.SlotCounts.{some_place}
+use Rattle.pb_asm.proofs.OneSpelling.{then_ok, ok_is, else_ok, line_spelled}
+use Rattle.pb_asm.proofs.ListingsReadBack.{added, slots_append, some_there}
 
 abbrev kept : List (List ℕ) → List (List ℕ)
 kept ls = filter (λ l. not (is_skipped l)) ls

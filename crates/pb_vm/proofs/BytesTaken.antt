@@ -12,9 +12,9 @@ use Rattle.pb_vm.specs.Rules.{PlainAccepts, rule_code}
 use Rattle.pb_isa.specs.Programs.{ProgramOf, AcceptedOf}
 use Rattle.pb_isa.specs.declared.limits.TheConstants.{MAX_SLOTS}
 use Rattle.pb_vm.specs.Verdict.{size_fault, decode_fault, rule_fault, code_in, IsTaken}
-use Rattle.pb_vm.proofs.Lines.{slots_known}
-use Rattle.pb_vm.proofs.Firsts.{first_none}
-use Rattle.pb_vm.proofs.Encoded.{Bytes, encodes_all, all_known}
+use Rattle.pb_vm.proofs.StraightLines.{slots_known}
+use Rattle.pb_vm.proofs.FirstSlotFault.{first_none}
+use Rattle.pb_vm.proofs.SlotsEncode.{Bytes, encodes_all, all_known}
 
 pub record Sized (bytes : List ℕ) : Type 0 where
   pub some : 0 < length bytes

@@ -6,7 +6,7 @@ use Rattle.pb_isa.specs.Slots.{insn_at}
 use Rattle.pb_kinds.specs.declared.frame.Kind.{Kind}
 use Rattle.pb_kinds.specs.declared.frame.Kind.TheVariants.{Unset, Number, Stack, Record}
 use Rattle.pb_kinds.specs.declared.frame.Frame.{Frame}
-use Rattle.pb_kinds.specs.Frames.{kind_of, both, meet, same_kind, join, entry_frame}
+use Rattle.pb_kinds.specs.Frames.{kind_of, pointwise, meet, same_kind, join, entry_frame}
 use Rattle.pb_verify.specs.Following.{with_kind, leads}
 use Rattle.pb_verify.specs.Arriving.{merge, if_leads, gather, frame_before, has_slot}
 use Rattle.pb_verify.specs.Within.{IsNear, IsWithin, IsWithinIf, AllWithin}
@@ -43,7 +43,7 @@ near_meet : (b : ℕ) (t : Bool) (k : Kind) → IsNear b k → IsNear b (cond t 
 near_meet b true k h = h
 near_meet b false k h = tt
 
-near_both : (b : ℕ) (ks ms : List Kind) → ((r : ℕ) → IsNear b (get_or ks r Unset)) → (r : ℕ) → IsNear b (get_or (both meet ks ms) r Unset)
+near_both : (b : ℕ) (ks ms : List Kind) → ((r : ℕ) → IsNear b (get_or ks r Unset)) → (r : ℕ) → IsNear b (get_or (pointwise meet ks ms) r Unset)
 near_both b [] ms h r = tt
 near_both b (k ∷ ks) [] h r = tt
 near_both b (k ∷ ks) (m ∷ ms) h zero = near_meet b (same_kind k m) k (h zero)

@@ -17,8 +17,8 @@ use Rattle.pb_decode.specs.Reading.{is_clean, is_second, insn_of_form, clean_or_
 use Rattle.pb_decode.specs.Faults.{decode_code, Applies, IsLowest}
 use Rattle.pb_decode.specs.Encoding.{insn_bytes}
 use Rattle.pb_isa.specs.Bounds.{Fits}
-use Rattle.pb_decode.proofs.First.{first_again}
-use Rattle.pb_decode.proofs.Table.{form_front, form_back, reg_front, reg_none, number_below}
+use Rattle.pb_decode.proofs.FrontRead.{first_again}
+use Rattle.pb_decode.proofs.OpcodeTable.{form_front, form_back, reg_front, reg_none, number_below}
 
 abbrev Read : Type 0
 Read = Insn × List ℕ

@@ -30,11 +30,11 @@ use Rattle.pb_base.specs.Reading.{◌>>=◌}
 use Rattle.std.specs.Prelude.{ok_or}
 use Rattle.pb_asm.specs.Cuts.{strip_prefix, strip_suffix, split_once}
 use Rattle.pb_base.specs.Reading.{is_numeral, numeral_upto, no_word}
-use Rattle.pb_asm.specs.Operands.{minus, plus, signed_or, imm_of_text, plus_or_fault, offset_of_text, reg_of_text, operand_of_text, based, at_minus, at_plus, place_of_text, comma, last, alu_operands, load_imm_operands, load_operands, store_imm_operands, store_operands, jump_if_operands, map_insn, operands, insn_of_words, line_of}
+use Rattle.pb_asm.specs.Operands.{minus, plus, signed_or, imm_of_text, plus_or_fault, offset_of_text, reg_of_text, operand_of_text, base_and_offset, at_minus, at_plus, place_of_text, comma, last, alu_operands, load_imm_operands, load_operands, store_imm_operands, store_operands, jump_if_operands, map_insn, operands, insn_of_words, line_of}
 use Rattle.pb_asm.specs.Listing.{operand_text, offset_text, place_text, insn_text}
-use Rattle.pb_asm.proofs.Numbers.{own, digits_in}
-use Rattle.pb_asm.proofs.Cutting.{split_end}
-use Rattle.pb_asm.proofs.Back.{line_back}
+use Rattle.pb_asm.proofs.Numerals.{own, digits_in}
+use Rattle.pb_asm.proofs.TextCuts.{split_end}
+use Rattle.pb_asm.proofs.ListingsReadBack.{line_back}
 
 -- ---- what a reading that ended well has read
 
@@ -214,8 +214,8 @@ operand_is text a h = sort (slice_index text 0 == 114) h
 abbrev Place : List ℕ → Reg × ℤ → Type 0
 Place text p = (text ≡ reg_name p.0 ++ offset_text p.1) × FitsSigned w16 p.1
 
-based_is : (register digits : List ℕ) (c : ℕ) (offset : Result ℤ Code) (p : Reg × ℤ) → based register offset ≡ Ok p → ((o : ℤ) → offset ≡ Ok o → Offset (c ∷ digits) o) → Place (register ++ c ∷ digits) p
-unfolding based
+based_is : (register digits : List ℕ) (c : ℕ) (offset : Result ℤ Code) (p : Reg × ℤ) → base_and_offset register offset ≡ Ok p → ((o : ℤ) → offset ≡ Ok o → Offset (c ∷ digits) o) → Place (register ++ c ∷ digits) p
+unfolding base_and_offset
 based_is register digits c offset p h read =
     let a = then_ok (reg_of_text register) _ p h in
     let b = then_ok offset _ p a.2 in

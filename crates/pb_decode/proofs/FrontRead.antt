@@ -24,8 +24,8 @@ use Rattle.pb_decode.specs.Encoding.{first_slot, second_slot, second_bytes, insn
 use Rattle.pb_base.specs.Reading.{◌>>=◌}
 use Rattle.pb_decode.specs.Reading.{is_clean, is_second, pair_of, insn_of_form, clean_or_code, first_with, first_of}
 use Rattle.pb_decode.specs.Faults.{AreBytes}
-use Rattle.pb_decode.proofs.Bytes.{IsSlot, front_slot, is_slot, rest_bytes, same_slot, slot_back}
-use Rattle.pb_decode.proofs.Table.{form_front, form_back, reg_back, reg_front, number_below}
+use Rattle.pb_decode.proofs.SlotBytes.{IsSlot, front_slot, is_slot, rest_bytes, same_slot, slot_back}
+use Rattle.pb_decode.proofs.OpcodeTable.{form_front, form_back, reg_back, reg_front, number_below}
 
 abbrev Read : Type 0
 Read = Insn × List ℕ

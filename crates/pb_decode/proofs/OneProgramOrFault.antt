@@ -19,9 +19,9 @@ use Rattle.pb_decode.specs.declared.fault.DecodeFault.TheVariants as faults
 use Rattle.pb_decode.specs.Encoding.{insn_bytes, encoding, Encodes}
 use Rattle.pb_decode.specs.Reading.{first_of}
 use Rattle.pb_decode.specs.Faults.{decode_code, whole_fault, IsFaultAt, IsDecodeFault, AreRefusedAs, AreBytes, HasProgram, HasFault, AreSpelt, IsRefusal, IsNoMemory, IsNoMemoryOr}
-use Rattle.pb_decode.proofs.Bytes.{rest_bytes}
-use Rattle.pb_decode.proofs.First.{first_takes, first_again, one_insn}
-use Rattle.pb_decode.proofs.Lowest.{lowest, lowest_read}
+use Rattle.pb_decode.proofs.SlotBytes.{rest_bytes}
+use Rattle.pb_decode.proofs.FrontRead.{first_takes, first_again, one_insn}
+use Rattle.pb_decode.proofs.LowestCode.{lowest, lowest_read}
 
 -- ---- lengths
 

@@ -14,7 +14,7 @@ use Rattle.pb_isa.specs.declared.insn.Reg.TheVariants.{R0, R1, R2, R3, R4, R5, R
 use Rattle.pb_isa.specs.Registers.{number}
 use Rattle.pb_vm.specs.Encoding.{register}
 use Rattle.pb_vm.specs.Keeping.{loaded}
-use Rattle.pb_vm.proofs.Lines.{pair_in}
+use Rattle.pb_vm.proofs.StraightLines.{pair_in}
 
 pub register_of : (d : Reg) → register (number d) ≡ d
 register_of R0 = refl

@@ -28,14 +28,14 @@ use Rattle.pb_base.specs.Reading.{◌>>=◌}
 use Rattle.std.specs.Prelude.{ok_or}
 use Rattle.pb_asm.specs.Cuts.{strip_prefix, strip_suffix, split_once}
 use Rattle.pb_base.specs.Reading.{is_numeral, numeral_upto}
-use Rattle.pb_asm.specs.Operands.{minus, plus, imm_of_text, offset_of_text, reg_of_text, operand_of_text, based, at_minus, at_plus, place_of_text, comma, last, alu_operands, load_imm_operands, load_operands, store_imm_operands, store_operands, jump_if_operands, operands, insn_of_words, line_of}
+use Rattle.pb_asm.specs.Operands.{minus, plus, imm_of_text, offset_of_text, reg_of_text, operand_of_text, base_and_offset, at_minus, at_plus, place_of_text, comma, last, alu_operands, load_imm_operands, load_operands, store_imm_operands, store_operands, jump_if_operands, operands, insn_of_words, line_of}
 use Rattle.pb_asm.specs.Listing.{operand_text, offset_text, place_text, insn_text, listing}
 use Rattle.pb_base.specs.Reading.{is_skipped, ◌>>=◌, numbered}
 use Rattle.pb_asm.specs.Codes.{asm_code}
 use Rattle.pb_asm.specs.Texts.{with_insn_line, insns_of_lines, some_of, program_of_text}
-use Rattle.pb_asm.proofs.Numbers.{own}
-use Rattle.pb_asm.proofs.Cutting.{before_there}
-use Rattle.pb_asm.proofs.Shapes.{above, above_append, above_less, cut_there, cut_none, around_there, around_none, reg_above, name_above, word_back, reg_back, decimal_above, first_is_digit}
+use Rattle.pb_asm.proofs.Numerals.{own}
+use Rattle.pb_asm.proofs.TextCuts.{before_there}
+use Rattle.pb_asm.proofs.NamesAndDigits.{above, above_append, above_less, cut_there, cut_none, around_there, around_none, reg_above, name_above, word_back, reg_back, decimal_above, first_is_digit}
 
 -- ---- numbers
 
@@ -129,8 +129,8 @@ unfolding operand_of_text
 operand_back (operand.Imm k) fits = rw (not_r k fits, imm_back k fits) refl
 operand_back (operand.Reg r) fits = rw (is_r r, reg_read r) refl
 
-based_back : (b : Reg) (o : ℤ) (read : Result ℤ Code) → read ≡ Ok o → based (reg_name b) read ≡ Ok (b, o)
-unfolding based
+based_back : (b : Reg) (o : ℤ) (read : Result ℤ Code) → read ≡ Ok o → base_and_offset (reg_name b) read ≡ Ok (b, o)
+unfolding base_and_offset
 based_back b o read h = rw (reg_read b, h) refl
 
 -- what stands between the brackets

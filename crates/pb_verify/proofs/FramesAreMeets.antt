@@ -13,7 +13,7 @@ use Rattle.pb_kinds.specs.Meet.{JoinsAreMeets}
 use Rattle.pb_verify.specs.Following.{leads}
 use Rattle.pb_verify.specs.Arriving.{merge, if_leads, gather, frame_before, frame_after, has_slot, outs, in_at}
 use Rattle.pb_verify.specs.Ways.{out_at, IsWay, Fact, HasKind, HasByte, Says, IsMeetOfWays}
-use Rattle.pb_verify.proofs.Outs.{length-outs}
+use Rattle.pb_verify.proofs.FramesAfter.{length-outs}
 
 -- a property of the frame, where there is one
 abbrev Of : (Frame → Type 0) → Option Frame → Type 0

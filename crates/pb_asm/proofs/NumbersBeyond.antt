@@ -1,5 +1,5 @@
 -- A number beyond its field is told as out of range.
-use Rattle.std.proofs.Common.{◌≡◌, ℕ, ◌+◌, ◌-◌, ◌^◌, ◌<◌, ◌≤◌, ◌⊎◌, ℤ, Bool, true, false, cond, ◌&&◌, List, [], ◌∷◌, ◌++◌, length, Option, Some, None, Result, Ok, Err, refl, sym, ap, ◌∙◌, append_assoc, append-nil, arith, inl, inr}
+use Rattle.std.proofs.Common.{◌≡◌, ℕ, ◌+◌, ◌-◌, ◌^◌, ℤ, true, false, List, [], ◌∷◌, ◌++◌, Option, Some, Result, Err, refl, sym, ap, ◌∙◌, append_assoc, append-nil, arith, inl, inr}
 use Rattle.std.specs.Prelude.{◌==◌, nat_le, codes, slice_index, ok_or}
 use Rattle.std.specs.Char.{is_ascii_digit}
 use Rattle.std.specs.List.{list_all}
@@ -18,12 +18,12 @@ use Rattle.pb_asm.specs.declared.names.Word.TheVariants as word
 use Rattle.pb_asm.specs.Names.{name, reg_name}
 use Rattle.pb_asm.specs.Cuts.{strip_suffix, split_once}
 use Rattle.pb_asm.specs.Listing.{operand_text, place_text}
-use Rattle.pb_asm.specs.Operands.{minus, plus, imm_of_text, offset_of_text, operand_of_text, based, at_minus, at_plus, place_of_text, last, alu_operands, load_imm_operands, load_operands, store_imm_operands, store_operands, jump_if_operands, operands, insn_of_words, line_of}
-use Rattle.pb_asm.specs.OutOfRange.{IsAbove, IsImmBeyond, IsOffsetBeyond, NumberPlace, AluImm, LoadImmImm, LoadOffset, StoreImmOffset, StoreImmImm, StoreOffset, JumpOffset, JumpIfImm, JumpIfOffset, CallImm, bracketed, line_with, FitsBefore, IsBeyond, EndsWord}
-use Rattle.pb_asm.proofs.Numbers.{digits_in}
-use Rattle.pb_asm.proofs.Cutting.{before_there}
-use Rattle.pb_asm.proofs.Shapes.{above, above_append, above_less, cut_there, around_there, around_none, reg_above}
-use Rattle.pb_asm.proofs.Back.{no_front, reg_read, reg_line, operand_line, operand_back, place_line, place_back, blanks, comma_cut, name_cut, last_cut, first_read, comma_read, name_shown}
+use Rattle.pb_asm.specs.Operands.{minus, plus, imm_of_text, offset_of_text, operand_of_text, base_and_offset, at_minus, at_plus, place_of_text, last, alu_operands, load_imm_operands, load_operands, store_imm_operands, store_operands, jump_if_operands, operands, insn_of_words, line_of}
+use Rattle.pb_asm.specs.OutOfRange.{IsAbove, IsImmBeyond, IsOffsetBeyond, NumberPlace, AluImm, LoadImmImm, LoadOffset, StoreImmOffset, StoreImmImm, StoreOffset, JumpOffset, JumpIfImm, JumpIfOffset, CallImm, place_with, line_with, FitsBefore, IsBeyond, EndsWord}
+use Rattle.pb_asm.proofs.Numerals.{digits_in}
+use Rattle.pb_asm.proofs.TextCuts.{before_there}
+use Rattle.pb_asm.proofs.NamesAndDigits.{above, above_append, above_less, cut_there, around_there, around_none, reg_above}
+use Rattle.pb_asm.proofs.ListingsReadBack.{no_front, reg_read, reg_line, operand_line, operand_back, place_line, place_back, blanks, comma_cut, name_cut, last_cut, first_read, comma_read, name_shown}
 
 -- ---- numbers
 
@@ -84,8 +84,8 @@ offset_line text (inr h) = ap (above 33) h.1 ∙ above_less 33 48 h.0 (omega ari
 
 -- ---- places
 
-based_over : (b : Reg) (read : Result ℤ Code) → read ≡ Err code.Range → based (reg_name b) read ≡ Err code.Range
-unfolding based
+based_over : (b : Reg) (read : Result ℤ Code) → read ≡ Err code.Range → base_and_offset (reg_name b) read ≡ Err code.Range
+unfolding base_and_offset
 based_over b read h = rw (reg_read b, h) refl
 
 abbrev inside : Reg → List ℕ → Result (Reg × ℤ) Code
@@ -101,14 +101,14 @@ inside_over b text (inr h) =
     ∙ ap at_minus (around_there 45 48 (reg_name b) h.0 (omega arith) (reg_above b))
     ∙ based_over b (minus (2 ^ 15) h.0) (minus_over (2 ^ 15) h.0 h.2)
 
-place_over : (b : Reg) (text : List ℕ) → IsOffsetBeyond text → place_of_text (bracketed b text) ≡ Err code.Range
+place_over : (b : Reg) (text : List ℕ) → IsOffsetBeyond text → place_of_text (place_with b text) ≡ Err code.Range
 unfolding place_of_text
 place_over b text h =
     let grouped : reg_name b ++ (text ++ 93 ∷ []) ≡ (reg_name b ++ text) ++ 93 ∷ [] = sym (append_assoc (reg_name b) text (93 ∷ [])) in
     let e : strip_suffix 93 (reg_name b ++ (text ++ 93 ∷ [])) ≡ Some (reg_name b ++ text) = ap (strip_suffix 93) grouped ∙ before_there 93 (reg_name b ++ text) in
     ap (λ (x : Option (List ℕ)). ok_or x code.Form >>= λ inner. at_plus inner (split_once 43 inner)) e ∙ inside_over b text h
 
-bracketed_line : (b : Reg) (text : List ℕ) → IsOffsetBeyond text → above 33 (bracketed b text) ≡ true
+bracketed_line : (b : Reg) (text : List ℕ) → IsOffsetBeyond text → above 33 (place_with b text) ≡ true
 bracketed_line b text h = above_append 33 (reg_name b) (text ++ 93 ∷ []) (reg_line b) (above_append 33 text (93 ∷ []) (offset_line text h) refl)
 
 -- ---- the words of a line
@@ -142,19 +142,19 @@ range_told (LoadImmImm d) number rest fits beyond ends =
     after_name word.LoadImm (reg_name d ++ (codes ", " ++ (number ++ rest))) _ (then_cut (reg_name d) (number ++ rest) _ (reg_line d) c.1)
     ∙ rw (comma_read (reg_name d) (number ∷ c.0), reg_read d, last_over (numeral_upto code.Form code.Range (2 ^ 64 - 1)) number c.0 (numeral_over (2 ^ 64 - 1) number beyond)) refl
 range_told (LoadOffset z d s) number rest fits beyond ends =
-    let c = word_cut (bracketed s number) rest (bracketed_line s number beyond) ends in
-    after_name (word.Load z) (reg_name d ++ (codes ", " ++ (bracketed s number ++ rest))) _ (then_cut (reg_name d) (bracketed s number ++ rest) _ (reg_line d) c.1)
-    ∙ rw (comma_read (reg_name d) (bracketed s number ∷ c.0), reg_read d, last_over place_of_text (bracketed s number) c.0 (place_over s number beyond)) refl
+    let c = word_cut (place_with s number) rest (bracketed_line s number beyond) ends in
+    after_name (word.Load z) (reg_name d ++ (codes ", " ++ (place_with s number ++ rest))) _ (then_cut (reg_name d) (place_with s number ++ rest) _ (reg_line d) c.1)
+    ∙ rw (comma_read (reg_name d) (place_with s number ∷ c.0), reg_read d, last_over place_of_text (place_with s number) c.0 (place_over s number beyond)) refl
 range_told (StoreImmOffset z d) number rest fits beyond ends =
-    let c = word_cut (bracketed d number ++ 44 ∷ []) rest (with_comma (bracketed d number) (bracketed_line d number beyond)) ends in
-    after_name (word.StoreImm z) ((bracketed d number ++ 44 ∷ []) ++ rest) _ c.1 ∙ rw (comma_read (bracketed d number) c.0, place_over d number beyond) refl
+    let c = word_cut (place_with d number ++ 44 ∷ []) rest (with_comma (place_with d number) (bracketed_line d number beyond)) ends in
+    after_name (word.StoreImm z) ((place_with d number ++ 44 ∷ []) ++ rest) _ c.1 ∙ rw (comma_read (place_with d number) c.0, place_over d number beyond) refl
 range_told (StoreImmImm z d o) number rest fits beyond ends =
     let c = word_cut number rest (imm_line number beyond) ends in
     after_name (word.StoreImm z) (place_text d o ++ (codes ", " ++ (number ++ rest))) _ (then_cut (place_text d o) (number ++ rest) _ (place_line d o fits) c.1)
     ∙ rw (comma_read (place_text d o) (number ∷ c.0), place_back d o fits, last_over imm_of_text number c.0 (imm_over number beyond)) refl
 range_told (StoreOffset z d) number rest fits beyond ends =
-    let c = word_cut (bracketed d number ++ 44 ∷ []) rest (with_comma (bracketed d number) (bracketed_line d number beyond)) ends in
-    after_name (word.Store z) ((bracketed d number ++ 44 ∷ []) ++ rest) _ c.1 ∙ rw (comma_read (bracketed d number) c.0, place_over d number beyond) refl
+    let c = word_cut (place_with d number ++ 44 ∷ []) rest (with_comma (place_with d number) (bracketed_line d number beyond)) ends in
+    after_name (word.Store z) ((place_with d number ++ 44 ∷ []) ++ rest) _ c.1 ∙ rw (comma_read (place_with d number) c.0, place_over d number beyond) refl
 range_told JumpOffset number rest fits beyond ends =
     let c = word_cut number rest (offset_line number beyond) ends in
     after_name word.Jump (number ++ rest) _ c.1 ∙ rw (last_over offset_of_text number c.0 (offset_over number beyond)) refl
@@ -173,10 +173,10 @@ range_told CallImm number rest fits beyond ends =
 line_shown : (f : NumberPlace) (number rest : List ℕ) → is_skipped (line_with f number rest) ≡ false
 line_shown (AluImm op w d) number rest = name_shown (word.Alu op w) (codes " " ++ (reg_name d ++ (codes ", " ++ (number ++ rest))))
 line_shown (LoadImmImm d) number rest = name_shown word.LoadImm (codes " " ++ (reg_name d ++ (codes ", " ++ (number ++ rest))))
-line_shown (LoadOffset z d s) number rest = name_shown (word.Load z) (codes " " ++ (reg_name d ++ (codes ", " ++ (bracketed s number ++ rest))))
-line_shown (StoreImmOffset z d) number rest = name_shown (word.StoreImm z) (codes " " ++ ((bracketed d number ++ codes ",") ++ rest))
+line_shown (LoadOffset z d s) number rest = name_shown (word.Load z) (codes " " ++ (reg_name d ++ (codes ", " ++ (place_with s number ++ rest))))
+line_shown (StoreImmOffset z d) number rest = name_shown (word.StoreImm z) (codes " " ++ ((place_with d number ++ codes ",") ++ rest))
 line_shown (StoreImmImm z d o) number rest = name_shown (word.StoreImm z) (codes " " ++ (place_text d o ++ (codes ", " ++ (number ++ rest))))
-line_shown (StoreOffset z d) number rest = name_shown (word.Store z) (codes " " ++ ((bracketed d number ++ codes ",") ++ rest))
+line_shown (StoreOffset z d) number rest = name_shown (word.Store z) (codes " " ++ ((place_with d number ++ codes ",") ++ rest))
 line_shown JumpOffset number rest = name_shown word.Jump (codes " " ++ (number ++ rest))
 line_shown (JumpIfImm k w d) number rest = name_shown (word.JumpIf k w) (codes " " ++ (reg_name d ++ (codes ", " ++ ((number ++ codes ",") ++ rest))))
 line_shown (JumpIfOffset k w d s) number rest = name_shown (word.JumpIf k w) (codes " " ++ (reg_name d ++ (codes ", " ++ (operand_text s ++ (codes ", " ++ (number ++ rest))))))

@@ -20,15 +20,15 @@ use Rattle.pb_base.specs.Reading.{◌>>=◌}
 use Rattle.std.specs.Prelude.{ok_or}
 use Rattle.pb_asm.specs.Cuts.{strip_prefix, strip_suffix, split_once}
 use Rattle.pb_base.specs.Reading.{is_numeral, numeral_upto, next_word, no_word}
-use Rattle.pb_asm.specs.Operands.{minus, plus, signed_or, imm_of_text, plus_or_fault, offset_of_text, reg_of_text, operand_of_text, based, at_minus, at_plus, place_of_text, comma, last, alu_operands, load_imm_operands, load_operands, store_imm_operands, store_operands, jump_if_operands, operands, insn_of_words, line_of}
+use Rattle.pb_asm.specs.Operands.{minus, plus, signed_or, imm_of_text, plus_or_fault, offset_of_text, reg_of_text, operand_of_text, base_and_offset, at_minus, at_plus, place_of_text, comma, last, alu_operands, load_imm_operands, load_operands, store_imm_operands, store_operands, jump_if_operands, operands, insn_of_words, line_of}
 use Rattle.pb_asm.specs.Listing.{insn_text}
 use Rattle.pb_base.specs.Reading.{is_skipped, ◌>>=◌}
 use Rattle.pb_asm.specs.Texts.{instruction_lines, with_insn_line, some_of, program_of_text, IsFirstFault, HasNone}
-use Rattle.pb_asm.proofs.Shapes.{word_back}
-use Rattle.pb_asm.proofs.Back.{line_back, insn_shown}
-use Rattle.pb_asm.proofs.First.{first}
-use Rattle.pb_asm.proofs.Readings.{read, back}
-use Rattle.pb_asm.proofs.Spelling.{word_among, line_spelled}
+use Rattle.pb_asm.proofs.NamesAndDigits.{word_back}
+use Rattle.pb_asm.proofs.ListingsReadBack.{line_back, insn_shown}
+use Rattle.pb_asm.proofs.FirstFault.{first}
+use Rattle.pb_asm.proofs.OnlyListings.{read, back}
+use Rattle.pb_asm.proofs.OneSpelling.{word_among, line_spelled}
 
 -- operands are told as of another form or out of range
 abbrev Tells : {A : Type 0} → Result A Code → Type 0
@@ -89,8 +89,8 @@ operand_tells : (text : List ℕ) → Tells (operand_of_text text)
 unfolding operand_of_text
 operand_tells text = if_tells (slice_index text 0 == 114) _ _ (then_tells (reg_of_text text) _ (reg_tells text) (λ r. tt)) (then_tells (imm_of_text text) _ (imm_tells text) (λ k. tt))
 
-based_tells : (register : List ℕ) (offset : Result ℤ Code) → Tells offset → Tells (based register offset)
-unfolding based
+based_tells : (register : List ℕ) (offset : Result ℤ Code) → Tells offset → Tells (base_and_offset register offset)
+unfolding base_and_offset
 based_tells register offset h = then_tells (reg_of_text register) _ (reg_tells register) (λ r. then_tells offset _ h (λ o. tt))
 
 at_minus_tells : (o : Option (List ℕ × List ℕ)) → Tells (at_minus o)
