@@ -1,3 +1,4 @@
+use crate::insns::{alu, call, jump, jump_if, load, load_imm, neg, store, store_imm};
 use pb_asm::{AsmFault, assemble, disassemble};
 use pb_isa::{AluOp, Cmp, Insn, Operand, Reg, Size, Width};
 use std::alloc::Global;
@@ -35,19 +36,19 @@ fn lines(rt: HostRuntime) {
     let table = [
         (
             "div64 r0, r1",
-            Insn::Alu(AluOp::Div, Width::Bits64, Reg::R0, Operand::Reg(Reg::R1)),
+            alu(AluOp::Div, Width::Bits64, Reg::R0, Operand::Reg(Reg::R1)),
         ),
         (
             "mod32 r0, r1",
-            Insn::Alu(AluOp::Mod, Width::Bits32, Reg::R0, Operand::Reg(Reg::R1)),
+            alu(AluOp::Mod, Width::Bits32, Reg::R0, Operand::Reg(Reg::R1)),
         ),
         (
             "add64 r1, -32",
-            Insn::Alu(AluOp::Add, Width::Bits64, Reg::R1, Operand::Imm(-32)),
+            alu(AluOp::Add, Width::Bits64, Reg::R1, Operand::Imm(-32)),
         ),
         (
             "mov32 r10, -2147483648",
-            Insn::Alu(
+            alu(
                 AluOp::Mov,
                 Width::Bits32,
                 Reg::R10,
@@ -56,39 +57,33 @@ fn lines(rt: HostRuntime) {
         ),
         (
             "mov64 r9, 2147483647",
-            Insn::Alu(AluOp::Mov, Width::Bits64, Reg::R9, Operand::Imm(2147483647)),
+            alu(AluOp::Mov, Width::Bits64, Reg::R9, Operand::Imm(2147483647)),
         ),
-        ("neg64 r1", Insn::Neg(Width::Bits64, Reg::R1)),
-        ("lddw r0, 4294967303", Insn::LoadImm(Reg::R0, 4_294_967_303)),
-        (
-            "lddw r0, 18446744073709551615",
-            Insn::LoadImm(Reg::R0, u64::MAX),
-        ),
-        (
-            "ldxdw r2, [r1+48]",
-            Insn::Load(Size::Dw, Reg::R2, Reg::R1, 48),
-        ),
-        ("ldxb r2, [r1+0]", Insn::Load(Size::B, Reg::R2, Reg::R1, 0)),
+        ("neg64 r1", neg(Width::Bits64, Reg::R1)),
+        ("lddw r0, 4294967303", load_imm(Reg::R0, 4_294_967_303)),
+        ("lddw r0, 18446744073709551615", load_imm(Reg::R0, u64::MAX)),
+        ("ldxdw r2, [r1+48]", load(Size::Dw, Reg::R2, Reg::R1, 48)),
+        ("ldxb r2, [r1+0]", load(Size::B, Reg::R2, Reg::R1, 0)),
         (
             "ldxh r2, [r1-32768]",
-            Insn::Load(Size::H, Reg::R2, Reg::R1, -32768),
+            load(Size::H, Reg::R2, Reg::R1, -32768),
         ),
-        ("stw [r10-1], 5", Insn::StoreImm(Size::W, Reg::R10, -1, 5)),
+        ("stw [r10-1], 5", store_imm(Size::W, Reg::R10, -1, 5)),
         (
             "stxdw [r10-32], r2",
-            Insn::Store(Size::Dw, Reg::R10, -32, Reg::R2),
+            store(Size::Dw, Reg::R10, Reg::R2, -32),
         ),
-        ("ja +32767", Insn::Jump(32767)),
-        ("ja -3", Insn::Jump(-3)),
+        ("ja +32767", jump(32767)),
+        ("ja -3", jump(-3)),
         (
             "jsgt32 r3, -5, +2",
-            Insn::JumpIf(Cmp::Sgt, Width::Bits32, Reg::R3, Operand::Imm(-5), 2),
+            jump_if(Cmp::Sgt, Width::Bits32, Reg::R3, Operand::Imm(-5), 2),
         ),
         (
             "jeq64 r1, r2, +0",
-            Insn::JumpIf(Cmp::Eq, Width::Bits64, Reg::R1, Operand::Reg(Reg::R2), 0),
+            jump_if(Cmp::Eq, Width::Bits64, Reg::R1, Operand::Reg(Reg::R2), 0),
         ),
-        ("call -1", Insn::Call(-1)),
+        ("call -1", call(-1)),
         ("exit", Insn::Exit),
     ];
     for (text, insn) in table {

@@ -1,5 +1,6 @@
 mod vectors;
 
+use crate::insns::{alu, jump_if, load, load_imm, neg, store};
 use pb_base::Refused;
 use pb_decode::{DecodeFault, decode, encode};
 use pb_isa::{AluOp, Cmp, Insn, Operand, Program, Reg, Size, Width};
@@ -35,24 +36,21 @@ fn is_pair(rt: &impl Abort, alloc: Global, insn: Insn, bytes: &[u8]) -> bool {
 fn encodings(rt: HostRuntime) {
     let table = [
         (
-            Insn::Alu(AluOp::Div, Width::Bits64, Reg::R0, Operand::Reg(Reg::R1)),
+            alu(AluOp::Div, Width::Bits64, Reg::R0, Operand::Reg(Reg::R1)),
             0x3f10_0000_0000_0000,
         ),
         (
-            Insn::Alu(AluOp::Mod, Width::Bits32, Reg::R0, Operand::Reg(Reg::R1)),
+            alu(AluOp::Mod, Width::Bits32, Reg::R0, Operand::Reg(Reg::R1)),
             0x9c10_0000_0000_0000,
         ),
-        (Insn::Neg(Width::Bits64, Reg::R1), 0x8701_0000_0000_0000),
+        (neg(Width::Bits64, Reg::R1), 0x8701_0000_0000_0000),
+        (load(Size::Dw, Reg::R2, Reg::R1, 48), 0x7912_3000_0000_0000),
         (
-            Insn::Load(Size::Dw, Reg::R2, Reg::R1, 48),
-            0x7912_3000_0000_0000,
-        ),
-        (
-            Insn::Store(Size::Dw, Reg::R10, -32, Reg::R2),
+            store(Size::Dw, Reg::R10, Reg::R2, -32),
             0x7b2a_e0ff_0000_0000,
         ),
         (
-            Insn::JumpIf(Cmp::Sgt, Width::Bits32, Reg::R3, Operand::Imm(-5), 2),
+            jump_if(Cmp::Sgt, Width::Bits32, Reg::R3, Operand::Imm(-5), 2),
             0x6603_0200_fbff_ffff,
         ),
     ];
@@ -68,14 +66,7 @@ fn encodings(rt: HostRuntime) {
         rt.alloc(),
         &[0x1800_0000_0700_0000, 0x0000_0000_0100_0000],
     );
-    assert!(rt;
-        is_pair(
-            &rt,
-            rt.alloc(),
-            Insn::LoadImm(Reg::R0, 4_294_967_303),
-            &pair
-        )
-    );
+    assert!(rt; is_pair(&rt, rt.alloc(), load_imm(Reg::R0, 4_294_967_303), &pair));
 }
 
 // Slot and code of the fault; the slots and 0 where there is none; 1000 and 1 where memory was refused.

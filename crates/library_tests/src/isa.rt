@@ -94,7 +94,12 @@ fn slots_of(rt: &impl Abort, alloc: Global, exits: usize, pairs: usize) -> usize
         insns.push(Insn::Exit).expect(rt, "memory");
     }
     for _ in 0..pairs {
-        insns.push(Insn::LoadImm(Reg::R1, 5)).expect(rt, "memory");
+        insns
+            .push(Insn::LoadImm {
+                dst: Reg::R1,
+                imm: 5,
+            })
+            .expect(rt, "memory");
     }
     match Program::new(alloc, insns) {
         Ok(program) => program.slots(),
@@ -126,8 +131,16 @@ fn programs(rt: HostRuntime) {
 
 #[test]
 fn second_slots_have_no_instruction(rt: HostRuntime) {
-    let pair = Insn::LoadImm(Reg::R1, 5);
-    let last = Insn::Alu(AluOp::Mov, Width::Bits64, Reg::R0, Operand::Imm(1));
+    let pair = Insn::LoadImm {
+        dst: Reg::R1,
+        imm: 5,
+    };
+    let last = Insn::Alu {
+        op: AluOp::Mov,
+        width: Width::Bits64,
+        dst: Reg::R0,
+        src: Operand::Imm(1),
+    };
     let insns = Vec::from_array(rt.alloc(), [pair, last]).expect(&rt, "memory");
     let program = Program::new(rt.alloc(), insns)
         .ok()

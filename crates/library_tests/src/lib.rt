@@ -10,6 +10,8 @@ mod decode;
 #[cfg(test)]
 mod helpers;
 #[cfg(test)]
+mod insns;
+#[cfg(test)]
 mod isa;
 #[cfg(test)]
 mod kinds;

@@ -2,6 +2,7 @@ mod codes;
 mod ends;
 mod worked;
 
+use crate::insns::{alu, jump_if, load, store_imm};
 use pb_helpers::HelperTable;
 use pb_isa::{AluOp, Cmp, Insn, Operand, Program, Reg, Size, Width};
 use pb_verify::{VerifyFault, verify};
@@ -26,32 +27,32 @@ fn told(rt: &impl Abort, alloc: Global, insns: &[Insn]) -> (u16, u8) {
     told_with(rt, alloc, insns, HelperTable::all())
 }
 
-fn alu(op: AluOp, to: Reg, operand: Operand) -> Insn {
-    Insn::Alu(op, Width::Bits64, to, operand)
+fn alu64(op: AluOp, dst: Reg, src: Operand) -> Insn {
+    alu(op, Width::Bits64, dst, src)
 }
 
 fn mov(to: Reg, value: i32) -> Insn {
-    alu(AluOp::Mov, to, Operand::Imm(value))
+    alu64(AluOp::Mov, to, Operand::Imm(value))
 }
 
 fn copy(to: Reg, from: Reg) -> Insn {
-    alu(AluOp::Mov, to, Operand::Reg(from))
+    alu64(AluOp::Mov, to, Operand::Reg(from))
 }
 
 fn add(to: Reg, value: i32) -> Insn {
-    alu(AluOp::Add, to, Operand::Imm(value))
+    alu64(AluOp::Add, to, Operand::Imm(value))
 }
 
 // A jump where the register is 0.
 fn jump_if_zero(register: Reg, offset: i16) -> Insn {
-    Insn::JumpIf(Cmp::Eq, Width::Bits64, register, Operand::Imm(0), offset)
+    jump_if(Cmp::Eq, Width::Bits64, register, Operand::Imm(0), offset)
 }
 
 // One byte at this distance from R10.
 fn store_byte(offset: i16) -> Insn {
-    Insn::StoreImm(Size::B, Reg::R10, offset, 5)
+    store_imm(Size::B, Reg::R10, offset, 5)
 }
 
 fn load_byte(offset: i16) -> Insn {
-    Insn::Load(Size::B, Reg::R0, Reg::R10, offset)
+    load(Size::B, Reg::R0, Reg::R10, offset)
 }

@@ -1,9 +1,10 @@
-mod Numbers
-pub mod Slots
-mod Cutting
-mod Shapes
-mod Back
-mod First
-mod Spelling
-mod Readings
-mod Codes
+mod Numerals
+pub mod SlotCounts
+mod TextCuts
+mod NamesAndDigits
+mod ListingsReadBack
+mod FirstFault
+mod OneSpelling
+mod OnlyListings
+mod FaultsTold
+pub mod NumbersBeyond

@@ -1,5 +1,7 @@
 pub mod Names
-pub mod Reading
+pub mod Codes
+pub mod Cuts
 pub mod Operands
 pub mod Listing
+pub mod OutOfRange
 pub mod Texts

@@ -11,29 +11,30 @@ use Rattle.pb_asm.specs.declared.names.Word.TheVariants as word
 use Rattle.pb_asm.specs.Names.{name, reg_name}
 
 abbrev pub operand_text : Operand → List ℕ
-operand_text (Imm k) = signed_decimal k
-operand_text (Reg r) = reg_name r
+operand_text (Imm imm) = signed_decimal imm
+operand_text (Reg src) = reg_name src
 
 -- an offset has its sign always
 abbrev pub offset_text : ℤ → List ℕ
 offset_text (pos n) = 43 ∷ decimal n
 offset_text (negsuc n) = 45 ∷ decimal (suc n)
 
+-- a register and an offset in brackets
 abbrev pub place_text : register.Reg → ℤ → List ℕ
-place_text b o = 91 ∷ (reg_name b ++ (offset_text o ++ codes "]"))
+place_text base offset = 91 ∷ (reg_name base ++ (offset_text offset ++ codes "]"))
 
 abbrev pub insn_text : Insn → List ℕ
-insn_text (Alu op w d a) = name (word.Alu op w) ++ (codes " " ++ (reg_name d ++ (codes ", " ++ operand_text a)))
-insn_text (Neg w d) = name (word.Neg w) ++ (codes " " ++ reg_name d)
-insn_text (LoadImm d v) = name word.LoadImm ++ (codes " " ++ (reg_name d ++ (codes ", " ++ decimal v)))
-insn_text (Load z d b o) = name (word.Load z) ++ (codes " " ++ (reg_name d ++ (codes ", " ++ place_text b o)))
-insn_text (StoreImm z b o k) = name (word.StoreImm z) ++ (codes " " ++ (place_text b o ++ (codes ", " ++ signed_decimal k)))
-insn_text (Store z b o s) = name (word.Store z) ++ (codes " " ++ (place_text b o ++ (codes ", " ++ reg_name s)))
-insn_text (Jump o) = name word.Jump ++ (codes " " ++ offset_text o)
-insn_text (JumpIf c w d a o) = name (word.JumpIf c w) ++ (codes " " ++ (reg_name d ++ (codes ", " ++ (operand_text a ++ (codes ", " ++ offset_text o)))))
-insn_text (Call k) = name word.Call ++ (codes " " ++ signed_decimal k)
+insn_text (Alu op w dst src) = name (word.Alu op w) ++ (codes " " ++ (reg_name dst ++ (codes ", " ++ operand_text src)))
+insn_text (Neg w dst) = name (word.Neg w) ++ (codes " " ++ reg_name dst)
+insn_text (LoadImm dst imm) = name word.LoadImm ++ (codes " " ++ (reg_name dst ++ (codes ", " ++ decimal imm)))
+insn_text (Load z dst src offset) = name (word.Load z) ++ (codes " " ++ (reg_name dst ++ (codes ", " ++ place_text src offset)))
+insn_text (StoreImm z dst offset imm) = name (word.StoreImm z) ++ (codes " " ++ (place_text dst offset ++ (codes ", " ++ signed_decimal imm)))
+insn_text (Store z dst src offset) = name (word.Store z) ++ (codes " " ++ (place_text dst offset ++ (codes ", " ++ reg_name src)))
+insn_text (Jump offset) = name word.Jump ++ (codes " " ++ offset_text offset)
+insn_text (JumpIf c w dst src offset) = name (word.JumpIf c w) ++ (codes " " ++ (reg_name dst ++ (codes ", " ++ (operand_text src ++ (codes ", " ++ offset_text offset)))))
+insn_text (Call imm) = name word.Call ++ (codes " " ++ signed_decimal imm)
 insn_text Exit = name word.Exit
 
 -- each line ends with a newline
 abbrev pub listing : List Insn → List ℕ
-listing p = flat_map (λ i. insn_text i ++ 10 ∷ []) p
+listing is = flat_map (λ i. insn_text i ++ 10 ∷ []) is

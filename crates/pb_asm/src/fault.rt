@@ -1,6 +1,6 @@
 //! Why a text is no program.
 ghost use Rattle.std.specs.Prelude.{◌≡◌, ◌≢◌, ◌<◌, ◌+◌};
-ghost use Rattle.pb_asm.specs.Texts.{code_number};
+ghost use Rattle.pb_asm.specs.Codes.{asm_code};
 ghost use Rattle.pb_asm.specs.declared.fault.Code.TheVariants.{Memory};
 
 use std::alloc::{AllocError, AllocFailed};
@@ -17,7 +17,7 @@ pub enum Code {
     Form,
     /// A number out of range.
     Range,
-    /// An instruction that ends past slot 512.
+    /// An instruction that ends past the last slot that a program may have.
     TooLong,
     /// No instruction.
     Nothing,
@@ -26,7 +26,7 @@ pub enum Code {
 impl Code {
     /// The number by which a code is told.
     pub fn code(self) -> u8
-        ensures { result ≡ code_number self }
+        ensures { result ≡ asm_code self }
     {
         match self {
             Code::Memory => 1,
@@ -56,7 +56,7 @@ impl<T: Drop> From<AllocFailed<T>> for Code {
 }
 
 /// The line at which a text is at fault, from 1, and the code: 80 an unknown first word, 81 operands that are not of the
-/// form, 82 a number out of range, 83 an instruction that ends past slot 512, 84 no instruction at all, which has line 0.
+/// form, 82 a number out of range, 83 an instruction that ends past the last slot that a program may have, 84 no instruction at all, which has line 0.
 /// Where memory ran out it is line 0 with code 1.
 #[derive(Clone, Copy, Debug, PartialEq, Eq, Drop, Error)]
 #[error("line {line} code {code}")]
@@ -70,7 +70,7 @@ impl AsmFault {
     pub fn at(index: usize, code: Code) -> AsmFault
         requires { index < usize.MAX }
         ensures memory { code ≡ Memory → result ≡ record { line = 0; code = 1 } }
-        ensures other { code ≢ Memory → result ≡ record { line = index + 1; code = code_number code } }
+        ensures other { code ≢ Memory → result ≡ record { line = index + 1; code = asm_code code } }
     {
         let line = match code {
             Code::Memory => 0,

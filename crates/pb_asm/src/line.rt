@@ -2,13 +2,15 @@
 ghost use Rattle.std.specs.Prelude.{◌≡◌, IfOk, ◌==◌};
 ghost use Rattle.std.specs.List.{slice_split};
 ghost use Rattle.pb_isa.specs.declared.insn.Insn.TheVariants as insn;
-ghost use Rattle.pb_asm.specs.Reading.{Gives, plain};
-ghost use Rattle.pb_asm.specs.Operands.{field, ended, comma, last, alu, wide, load, store_imm, store, jump_if, operands, insn_of, line_of, reg_of, operand_of, place_of, offset_of, imm_of, number_upto};
+ghost use Rattle.pb_base.specs.Reading.{Gives, texts_of, next_word, no_word, words_of};
+ghost use Rattle.pb_asm.specs.declared.fault.Code.TheVariants as code;
+ghost use Rattle.pb_asm.specs.Codes.{is_memory};
+ghost use Rattle.pb_asm.specs.Operands.{comma, last, alu_operands, load_imm_operands, load_operands, store_imm_operands, store_operands, jump_if_operands, operands, insn_of_words, line_of, reg_of_text, operand_of_text, place_of_text, offset_of_text, imm_of_text};
 
-use crate::cuts::before;
+use crate::cuts::strip_suffix;
 use crate::fault::Code;
 use crate::names::Word;
-use crate::operands::{imm_of, number_upto, offset_of, operand_of, place_of, reg_of};
+use crate::operands::{imm_of, numeral_upto, offset_of, operand_of, place_of, reg_of};
 use pb_isa::{AluOp, Cmp, Insn, Reg, Size, Width};
 use std::alloc::{AllocError, Global};
 
@@ -20,8 +22,8 @@ struct Words<'a, 'b> {
 
 impl<'a, 'b> Words<'a, 'b> {
     // The next word, and those after it.
-    fn field(self) -> Result<(&'a str, Words<'a, 'b>), Code>
-        ensures { Gives (λ x. (x.0.now, plain x.1.rest.now)) result (field (plain self.entry.rest.now)) }
+    fn next_word(self) -> Result<(&'a str, Words<'a, 'b>), Code>
+        ensures { Gives is_memory (λ x. (x.0.now, texts_of x.1.rest.now)) result (next_word code.Form (texts_of self.entry.rest.now)) }
     {
         match self.rest {
             [] => Err(Code::Form),
@@ -30,8 +32,8 @@ impl<'a, 'b> Words<'a, 'b> {
     }
 
     // No word is left.
-    fn ended(self) -> Result<(), Code>
-        ensures { Gives (λ x. x) result (ended (plain self.entry.rest.now)) }
+    fn no_word(self) -> Result<(), Code>
+        ensures { Gives is_memory (λ x. x) result (no_word code.Form (texts_of self.entry.rest.now)) }
     {
         if self.rest.is_empty() {
             Ok(())
@@ -43,146 +45,179 @@ impl<'a, 'b> Words<'a, 'b> {
     // The next word, which has a comma at its end, and those after it.
     #[tactic(auto, unfolding(crate::specs::Operands::comma))]
     fn comma(self) -> Result<(&'a str, Words<'a, 'b>), Code>
-        ensures { Gives (λ x. (x.0.now, plain x.1.rest.now)) result (comma (plain self.entry.rest.now)) }
+        ensures { Gives is_memory (λ x. (x.0.now, texts_of x.1.rest.now)) result (comma (texts_of self.entry.rest.now)) }
     {
-        let (word, words) = self.field()?;
-        match before(word, ',') {
+        let (word, words) = self.next_word()?;
+        match strip_suffix(word, ',') {
             Some(word) => Ok((word, words)),
             None => Err(Code::Form),
         }
     }
 
-    #[tactic(auto, unfolding(crate::specs::Operands::alu, crate::specs::Operands::last))]
+    #[tactic(auto, unfolding(crate::specs::Operands::alu_operands, crate::specs::Operands::last))]
     fn alu(self, op: AluOp, width: Width) -> Result<Insn, Code>
-        ensures { Gives (λ i. i) result (alu (insn.Alu op width) (plain self.entry.rest.now)) }
+        ensures { Gives is_memory (λ i. i) result (alu_operands (insn.Alu op width) (texts_of self.entry.rest.now)) }
     {
         let (word, words) = self.comma()?;
         let dst = reg_of(word)?;
-        let (word, words) = words.field()?;
-        let operand = operand_of(word)?;
-        words.ended()?;
-        Ok(Insn::Alu(op, width, dst, operand))
+        let (word, words) = words.next_word()?;
+        let src = operand_of(word)?;
+        words.no_word()?;
+        Ok(Insn::Alu {
+            op,
+            width,
+            dst,
+            src,
+        })
     }
 
-    #[tactic(auto, unfolding(crate::specs::Operands::wide, crate::specs::Operands::last))]
+    #[tactic(auto, unfolding(crate::specs::Operands::load_imm_operands, crate::specs::Operands::last))]
     fn wide(self) -> Result<Insn, Code>
-        ensures { Gives (λ i. i) result (wide (plain self.entry.rest.now)) }
+        ensures { Gives is_memory (λ i. i) result (load_imm_operands (texts_of self.entry.rest.now)) }
     {
         let (word, words) = self.comma()?;
         let dst = reg_of(word)?;
-        let (word, words) = words.field()?;
-        let value = number_upto(u64::MAX, word)?;
-        words.ended()?;
-        Ok(Insn::LoadImm(dst, value))
+        let (word, words) = words.next_word()?;
+        let imm = numeral_upto(u64::MAX, word)?;
+        words.no_word()?;
+        Ok(Insn::LoadImm { dst, imm })
     }
 
-    #[tactic(auto, unfolding(crate::specs::Operands::load, crate::specs::Operands::last))]
+    #[tactic(auto, unfolding(crate::specs::Operands::load_operands, crate::specs::Operands::last))]
     fn load(self, size: Size) -> Result<Insn, Code>
-        ensures { Gives (λ i. i) result (load (insn.Load size) (plain self.entry.rest.now)) }
+        ensures { Gives is_memory (λ i. i) result (load_operands (insn.Load size) (texts_of self.entry.rest.now)) }
     {
         let (word, words) = self.comma()?;
         let dst = reg_of(word)?;
-        let (word, words) = words.field()?;
-        let (base, offset) = place_of(word)?;
-        words.ended()?;
-        Ok(Insn::Load(size, dst, base, offset))
+        let (word, words) = words.next_word()?;
+        let (src, offset) = place_of(word)?;
+        words.no_word()?;
+        Ok(Insn::Load {
+            size,
+            dst,
+            src,
+            offset,
+        })
     }
 
-    #[tactic(auto, unfolding(crate::specs::Operands::store_imm, crate::specs::Operands::last))]
+    #[tactic(auto, unfolding(crate::specs::Operands::store_imm_operands, crate::specs::Operands::last))]
     fn store_imm(self, size: Size) -> Result<Insn, Code>
-        ensures { Gives (λ i. i) result (store_imm (insn.StoreImm size) (plain self.entry.rest.now)) }
+        ensures { Gives is_memory (λ i. i) result (store_imm_operands (insn.StoreImm size) (texts_of self.entry.rest.now)) }
     {
         let (word, words) = self.comma()?;
-        let (base, offset) = place_of(word)?;
-        let (word, words) = words.field()?;
+        let (dst, offset) = place_of(word)?;
+        let (word, words) = words.next_word()?;
         let imm = imm_of(word)?;
-        words.ended()?;
-        Ok(Insn::StoreImm(size, base, offset, imm))
+        words.no_word()?;
+        Ok(Insn::StoreImm {
+            size,
+            dst,
+            offset,
+            imm,
+        })
     }
 
-    #[tactic(auto, unfolding(crate::specs::Operands::store, crate::specs::Operands::last))]
+    #[tactic(auto, unfolding(crate::specs::Operands::store_operands, crate::specs::Operands::last))]
     fn store(self, size: Size) -> Result<Insn, Code>
-        ensures { Gives (λ i. i) result (store (insn.Store size) (plain self.entry.rest.now)) }
+        ensures { Gives is_memory (λ i. i) result (store_operands (insn.Store size) (texts_of self.entry.rest.now)) }
     {
         let (word, words) = self.comma()?;
-        let (base, offset) = place_of(word)?;
-        let (word, words) = words.field()?;
+        let (dst, offset) = place_of(word)?;
+        let (word, words) = words.next_word()?;
         let src = reg_of(word)?;
-        words.ended()?;
-        Ok(Insn::Store(size, base, offset, src))
+        words.no_word()?;
+        Ok(Insn::Store {
+            size,
+            dst,
+            src,
+            offset,
+        })
     }
 
-    #[tactic(auto, unfolding(crate::specs::Operands::jump_if, crate::specs::Operands::last))]
+    #[tactic(auto, unfolding(crate::specs::Operands::jump_if_operands, crate::specs::Operands::last))]
     fn jump_if(self, cmp: Cmp, width: Width) -> Result<Insn, Code>
-        ensures { Gives (λ i. i) result (jump_if (insn.JumpIf cmp width) (plain self.entry.rest.now)) }
+        ensures { Gives is_memory (λ i. i) result (jump_if_operands (insn.JumpIf cmp width) (texts_of self.entry.rest.now)) }
     {
         let (word, words) = self.comma()?;
         let dst = reg_of(word)?;
         let (word, words) = words.comma()?;
-        let operand = operand_of(word)?;
-        let (word, words) = words.field()?;
+        let src = operand_of(word)?;
+        let (word, words) = words.next_word()?;
         let offset = offset_of(word)?;
-        words.ended()?;
-        Ok(Insn::JumpIf(cmp, width, dst, operand, offset))
+        words.no_word()?;
+        Ok(Insn::JumpIf {
+            cmp,
+            width,
+            dst,
+            src,
+            offset,
+        })
     }
 
     #[tactic(auto, unfolding(crate::specs::Operands::last))]
     fn last_reg(self) -> Result<Reg, Code>
-        ensures { Gives (λ r. r) result (last reg_of (plain self.entry.rest.now)) }
+        ensures { Gives is_memory (λ r. r) result (last reg_of_text (texts_of self.entry.rest.now)) }
     {
-        let (word, words) = self.field()?;
+        let (word, words) = self.next_word()?;
         let reg = reg_of(word)?;
-        words.ended()?;
+        words.no_word()?;
         Ok(reg)
     }
 
     #[tactic(auto, unfolding(crate::specs::Operands::last))]
     fn last_offset(self) -> Result<i16, Code>
-        ensures { Gives (λ o. o) result (last offset_of (plain self.entry.rest.now)) }
+        ensures { Gives is_memory (λ o. o) result (last offset_of_text (texts_of self.entry.rest.now)) }
     {
-        let (word, words) = self.field()?;
+        let (word, words) = self.next_word()?;
         let offset = offset_of(word)?;
-        words.ended()?;
+        words.no_word()?;
         Ok(offset)
     }
 
     #[tactic(auto, unfolding(crate::specs::Operands::last))]
     fn last_imm(self) -> Result<i32, Code>
-        ensures { Gives (λ k. k) result (last imm_of (plain self.entry.rest.now)) }
+        ensures { Gives is_memory (λ k. k) result (last imm_of_text (texts_of self.entry.rest.now)) }
     {
-        let (word, words) = self.field()?;
+        let (word, words) = self.next_word()?;
         let imm = imm_of(word)?;
-        words.ended()?;
+        words.no_word()?;
         Ok(imm)
     }
 
     // The operands that a first word asks for.
     fn operands(self, word: Word) -> Result<Insn, Code>
-        ensures { Gives (λ i. i) result (operands word (plain self.entry.rest.now)) }
+        ensures { Gives is_memory (λ i. i) result (operands word (texts_of self.entry.rest.now)) }
     {
         match word {
             Word::Alu(op, width) => self.alu(op, width),
-            Word::Neg(width) => Ok(Insn::Neg(width, self.last_reg()?)),
+            Word::Neg(width) => Ok(Insn::Neg {
+                width,
+                dst: self.last_reg()?,
+            }),
             Word::LoadImm => self.wide(),
             Word::Load(size) => self.load(size),
             Word::StoreImm(size) => self.store_imm(size),
             Word::Store(size) => self.store(size),
-            Word::Jump => Ok(Insn::Jump(self.last_offset()?)),
+            Word::Jump => Ok(Insn::Jump {
+                offset: self.last_offset()?,
+            }),
             Word::JumpIf(cmp, width) => self.jump_if(cmp, width),
-            Word::Call => Ok(Insn::Call(self.last_imm()?)),
+            Word::Call => Ok(Insn::Call {
+                imm: self.last_imm()?,
+            }),
             Word::Exit => {
-                self.ended()?;
+                self.no_word()?;
                 Ok(Insn::Exit)
             }
         }
     }
 
     // One instruction.
-    #[tactic(auto, unfolding(crate::specs::Operands::insn_of))]
+    #[tactic(auto, unfolding(crate::specs::Operands::insn_of_words))]
     fn insn(self) -> Result<Insn, Code>
-        ensures { Gives (λ i. i) result (insn_of (plain self.entry.rest.now)) }
+        ensures { Gives is_memory (λ i. i) result (insn_of_words (texts_of self.entry.rest.now)) }
     {
-        let (first, words) = self.field()?;
+        let (first, words) = self.next_word()?;
         match Word::named(first) {
             Some(word) => words.operands(word),
             None => Err(Code::Word),
@@ -192,14 +227,14 @@ impl<'a, 'b> Words<'a, 'b> {
 
 // The words of a text.
 fn words_of(alloc: Global, text: &str) -> Result<Vec<&str>, AllocError>
-    ensures { IfOk result (λ v. plain v.items ≡ slice_split (λ b. b == 32) text.now) }
+    ensures { IfOk result (λ v. texts_of v.items ≡ words_of text.now) }
 {
     text.split(' ').collect(alloc)
 }
 
 /// The instruction of a line.
 pub fn line_of(alloc: Global, text: &str) -> Result<Insn, Code>
-    ensures { Gives (λ i. i) result (line_of text.now) }
+    ensures { Gives is_memory (λ i. i) result (line_of text.now) }
 {
     let words = words_of(alloc, text)?;
     Words { rest: &words }.insn()

@@ -56,44 +56,70 @@ fn insn_text(alloc: Global, insn: Insn) -> Result<String, AllocError>
     ensures { IfOk result (λ s. string_bytes s ≡ insn_text insn) }
 {
     match insn {
-        Insn::Alu(op, width, dst, operand) => {
-            let operand = operand_text(alloc, operand)?;
-            two(alloc, Word::Alu(op, width), reg_name(dst), &operand)
+        Insn::Alu {
+            op,
+            width,
+            dst,
+            src,
+        } => {
+            let src = operand_text(alloc, src)?;
+            two(alloc, Word::Alu(op, width), reg_name(dst), &src)
         }
-        Insn::Neg(width, dst) => one(alloc, Word::Neg(width), reg_name(dst)),
-        Insn::LoadImm(dst, value) => {
-            let value = format!(in alloc; "{value}")?;
-            two(alloc, Word::LoadImm, reg_name(dst), &value)
+        Insn::Neg { width, dst } => one(alloc, Word::Neg(width), reg_name(dst)),
+        Insn::LoadImm { dst, imm } => {
+            let imm = format!(in alloc; "{imm}")?;
+            two(alloc, Word::LoadImm, reg_name(dst), &imm)
         }
-        Insn::Load(size, dst, base, offset) => {
-            let place = place_text(alloc, base, offset)?;
+        Insn::Load {
+            size,
+            dst,
+            src,
+            offset,
+        } => {
+            let place = place_text(alloc, src, offset)?;
             two(alloc, Word::Load(size), reg_name(dst), &place)
         }
-        Insn::StoreImm(size, base, offset, imm) => {
-            let place = place_text(alloc, base, offset)?;
+        Insn::StoreImm {
+            size,
+            dst,
+            offset,
+            imm,
+        } => {
+            let place = place_text(alloc, dst, offset)?;
             let imm = format!(in alloc; "{imm}")?;
             two(alloc, Word::StoreImm(size), &place, &imm)
         }
-        Insn::Store(size, base, offset, src) => {
-            let place = place_text(alloc, base, offset)?;
+        Insn::Store {
+            size,
+            dst,
+            src,
+            offset,
+        } => {
+            let place = place_text(alloc, dst, offset)?;
             two(alloc, Word::Store(size), &place, reg_name(src))
         }
-        Insn::Jump(offset) => one(alloc, Word::Jump, &offset_text(alloc, offset)?),
-        Insn::JumpIf(cmp, width, dst, operand, offset) => {
+        Insn::Jump { offset } => one(alloc, Word::Jump, &offset_text(alloc, offset)?),
+        Insn::JumpIf {
+            cmp,
+            width,
+            dst,
+            src,
+            offset,
+        } => {
             let name = Word::JumpIf(cmp, width).name();
             let dst = reg_name(dst);
-            let operand = operand_text(alloc, operand)?;
+            let src = operand_text(alloc, src)?;
             let offset = offset_text(alloc, offset)?;
-            format!(in alloc; "{name} {dst}, {operand}, {offset}")
+            format!(in alloc; "{name} {dst}, {src}, {offset}")
         }
-        Insn::Call(helper) => one(alloc, Word::Call, &format!(in alloc; "{helper}")?),
+        Insn::Call { imm } => one(alloc, Word::Call, &format!(in alloc; "{imm}")?),
         Insn::Exit => String::from_str(alloc, Word::Exit.name()),
     }
 }
 
 /// The listing of a program: a line for each instruction.
 pub fn disassemble(alloc: Global, program: &Program) -> Result<String, NoMemory>
-    ensures { IfOk result (λ s. string_bytes s ≡ listing program.now) }
+    ensures { IfOk result (λ s. string_bytes s ≡ listing program.now.insns) }
 {
     let mut text = String::new(alloc);
     for insn in program.insns() {

@@ -2,10 +2,12 @@
 ghost use Rattle.std.specs.Prelude.{◌≡◌, ◌≤◌, ◌<◌, ◌^◌, ◌-◌, ◌-ℤ◌, ◌≤ℤ◌, pos, neg_ℤ, IfOk, ℤ};
 ghost use Rattle.std.specs.Char.{is_ascii_digit};
 ghost use Rattle.std.specs.List.{list_all};
-ghost use Rattle.pb_asm.specs.Reading.{Gives};
-ghost use Rattle.pb_asm.specs.Operands.{is_number, number_upto, minus, plus, imm_of, offset_of, reg_of, operand_of, based, place_of};
+ghost use Rattle.pb_base.specs.Reading.{Gives, is_numeral, numeral_upto};
+ghost use Rattle.pb_asm.specs.declared.fault.Code.TheVariants as code;
+ghost use Rattle.pb_asm.specs.Codes.{is_memory};
+ghost use Rattle.pb_asm.specs.Operands.{minus, plus, imm_of_text, offset_of_text, reg_of_text, operand_of_text, base_and_offset, place_of_text};
 
-use crate::cuts::{around, before, behind};
+use crate::cuts::{split_once, strip_prefix, strip_suffix};
 use crate::fault::Code;
 use crate::names::reg_named;
 use pb_isa::{Operand, Reg};
@@ -17,8 +19,8 @@ fn all_digits(digits: &[u8]) -> bool
 }
 
 // Digits without a leading zero.
-fn is_number(text: &str) -> bool
-    ensures { result ≡ is_number text.now }
+fn is_numeral(text: &str) -> bool
+    ensures { result ≡ is_numeral text.now }
 {
     let digits = text.as_bytes();
     if digits.is_empty() {
@@ -31,11 +33,11 @@ fn is_number(text: &str) -> bool
 }
 
 /// A number, at most this.
-pub fn number_upto(greatest: u64, text: &str) -> Result<u64, Code>
-    ensures value { Gives (λ n. n) result (number_upto greatest text.now) }
+pub fn numeral_upto(greatest: u64, text: &str) -> Result<u64, Code>
+    ensures value { Gives is_memory (λ n. n) result (numeral_upto code.Form code.Range greatest text.now) }
     ensures bound { IfOk result (λ n. n ≤ greatest) }
 {
-    if !is_number(text) {
+    if !is_numeral(text) {
         return Err(Code::Form);
     }
     let Ok(number) = text.parse::<u64>() else {
@@ -51,11 +53,11 @@ pub fn number_upto(greatest: u64, text: &str) -> Result<u64, Code>
 // The digits behind a minus: at most this, and not zero.
 #[tactic(auto, unfolding(crate::specs::Operands::minus))]
 fn minus(greatest: u32, text: &str) -> Result<i64, Code>
-    ensures value { Gives (λ z. z) result (minus greatest text.now) }
+    ensures value { Gives is_memory (λ z. z) result (minus greatest text.now) }
     ensures low { IfOk result (λ z. neg_ℤ (pos greatest) ≤ℤ z) }
     ensures high { IfOk result (λ z. z ≤ℤ pos 0) }
 {
-    let number = number_upto(u64::from(greatest), text)?;
+    let number = numeral_upto(u64::from(greatest), text)?;
     if number == 0 {
         return Err(Code::Form);
     }
@@ -66,19 +68,19 @@ fn minus(greatest: u32, text: &str) -> Result<i64, Code>
 #[tactic(auto, unfolding(crate::specs::Operands::plus))]
 fn plus(limit: u32, text: &str) -> Result<i64, Code>
     requires { 0 < limit }
-    ensures value { Gives (λ z. z) result (plus limit text.now) }
+    ensures value { Gives is_memory (λ z. z) result (plus limit text.now) }
     ensures low { IfOk result (λ z. pos 0 ≤ℤ z) }
     ensures high { IfOk result (λ z. z ≤ℤ pos (limit - 1)) }
 {
-    let number = number_upto(u64::from(limit - 1), text)?;
+    let number = numeral_upto(u64::from(limit - 1), text)?;
     Ok(number as i64)
 }
 
 /// An immediate, which has a sign only where it is negative.
 pub fn imm_of(text: &str) -> Result<i32, Code>
-    ensures { Gives (λ z. z) result (imm_of text.now) }
+    ensures { Gives is_memory (λ z. z) result (imm_of_text text.now) }
 {
-    let number = match behind(text, '-') {
+    let number = match strip_prefix(text, '-') {
         Some(digits) => minus(0x8000_0000, digits)?,
         None => plus(0x8000_0000, text)?,
     };
@@ -87,12 +89,12 @@ pub fn imm_of(text: &str) -> Result<i32, Code>
 
 /// An offset, which always has a sign.
 pub fn offset_of(text: &str) -> Result<i16, Code>
-    ensures { Gives (λ z. z) result (offset_of text.now) }
+    ensures { Gives is_memory (λ z. z) result (offset_of_text text.now) }
 {
-    if let Some(digits) = behind(text, '-') {
+    if let Some(digits) = strip_prefix(text, '-') {
         return Ok(minus(0x8000, digits)? as i16);
     }
-    match behind(text, '+') {
+    match strip_prefix(text, '+') {
         Some(digits) => Ok(plus(0x8000, digits)? as i16),
         None => Err(Code::Form),
     }
@@ -100,7 +102,7 @@ pub fn offset_of(text: &str) -> Result<i16, Code>
 
 /// A register.
 pub fn reg_of(text: &str) -> Result<Reg, Code>
-    ensures { Gives (λ r. r) result (reg_of text.now) }
+    ensures { Gives is_memory (λ r. r) result (reg_of_text text.now) }
 {
     match reg_named(text) {
         Some(reg) => Ok(reg),
@@ -109,9 +111,9 @@ pub fn reg_of(text: &str) -> Result<Reg, Code>
 }
 
 /// An operand that may be a register or an immediate.
-#[tactic(auto, unfolding(crate::specs::Operands::operand_of))]
+#[tactic(auto, unfolding(crate::specs::Operands::operand_of_text))]
 pub fn operand_of(text: &str) -> Result<Operand, Code>
-    ensures { Gives (λ a. a) result (operand_of text.now) }
+    ensures { Gives is_memory (λ a. a) result (operand_of_text text.now) }
 {
     let bytes = text.as_bytes();
     if !bytes.is_empty() && bytes[0] == b'r' {
@@ -122,21 +124,21 @@ pub fn operand_of(text: &str) -> Result<Operand, Code>
 }
 
 /// A place in memory: a register and an offset in brackets.
-#[tactic(auto, unfolding(crate::specs::Operands::place_of, crate::specs::Operands::based))]
+#[tactic(auto, unfolding(crate::specs::Operands::place_of_text, crate::specs::Operands::base_and_offset))]
 pub fn place_of(text: &str) -> Result<(Reg, i16), Code>
-    ensures { Gives (λ p. p) result (place_of text.now) }
+    ensures { Gives is_memory (λ p. p) result (place_of_text text.now) }
 {
-    let Some(front) = behind(text, '[') else {
+    let Some(front) = strip_prefix(text, '[') else {
         return Err(Code::Form);
     };
-    let Some(inner) = before(front, ']') else {
+    let Some(inner) = strip_suffix(front, ']') else {
         return Err(Code::Form);
     };
-    if let Some((base, digits)) = around(inner, '+') {
+    if let Some((base, digits)) = split_once(inner, '+') {
         let base = reg_of(base)?;
         return Ok((base, plus(0x8000, digits)? as i16));
     }
-    let Some((base, digits)) = around(inner, '-') else {
+    let Some((base, digits)) = split_once(inner, '-') else {
         return Err(Code::Form);
     };
     let base = reg_of(base)?;

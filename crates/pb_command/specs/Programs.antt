@@ -2,17 +2,17 @@
 use Rattle.std.specs.Prelude.{◌≡◌, ◌≢◌, ℕ, ◌⊎◌, Bool, true, false, List, ◌++◌, codes, Option, Result, Ok, Err}
 use Rattle.std.specs.Fmt.{decimal}
 use Rattle.std.specs.Io.KnownBytes.{Appends}
-use Rattle.pb_isa.specs.declared.insn.Insn.{Insn}
 use Rattle.pb_isa.specs.Slots.{slots}
+use Rattle.pb_isa.specs.Programs.{ProgramOf}
 use Rattle.pb_helpers.specs.declared.code.Code.{Code}
 use Rattle.pb_helpers.specs.Codes.{code_number}
 use Rattle.pb_helpers.specs.Table.{all_helpers}
 use Rattle.pb_verify.specs.Arriving.{Accepts, Refuses}
 use Rattle.pb_decode.specs.Encoding.{Encodes}
-use Rattle.pb_decode.specs.Faults.{IsTold}
+use Rattle.pb_decode.specs.Faults.{AreRefusedAs}
 use Rattle.pb_asm.specs.declared.fault.AsmFault.{AsmFault}
 use Rattle.pb_asm.specs.Listing.{listing}
-use Rattle.pb_asm.specs.Texts.{program_of}
+use Rattle.pb_asm.specs.Texts.{program_of_text}
 use Rattle.pb_texts.specs.Sinks.{AppendsPart}
 use Rattle.pb_command.specs.declared.answer.Verdict.{Verdict}
 use Rattle.pb_command.specs.declared.answer.Verdict.TheVariants.{Accepted, Refused}
@@ -26,9 +26,9 @@ use Rattle.pb_command.specs.PathFaults.{IsUnreadAt, IsNoTextAt}
 -- the bytes are those of the program whose text the path holds
 pub record Assembles (input : Option (List ℕ)) (bytes : List ℕ) : Type 0 where
   pub text : List ℕ
-  pub program : List Insn
+  pub program : ProgramOf
   pub text_held : IsKnownAs input text
-  pub read : program_of text ≡ Ok program
+  pub read : program_of_text text ≡ Ok program
   pub encoded : Encodes bytes program
 
 -- the program's bytes stand at the path for the output
@@ -86,8 +86,8 @@ Judges = List ℕ → Verdict → List ℕ → Type 0
 
 -- the listing of the program that the bytes encode; or the first slot at fault, with its lowest code
 abbrev pub Lists : Judges
-Lists bytes Accepted text = (p : List Insn) × Encodes bytes p × (text ≡ listing p)
-Lists bytes Refused text = (slot code : ℕ) × IsTold bytes slot code × (text ≡ refusal_line slot code)
+Lists bytes Accepted text = (p : ProgramOf) × Encodes bytes p × (text ≡ listing p.insns)
+Lists bytes Refused text = (slot code : ℕ) × AreRefusedAs bytes slot code × (text ≡ refusal_line slot code)
 
 -- the line that tells that a program is accepted
 abbrev pub acceptance_line : ℕ → List ℕ
@@ -97,11 +97,11 @@ acceptance_line n = codes "accepted " ++ (decimal n ++ codes " slots\n")
 -- program that may call all helpers
 abbrev pub IsRefusedAt : List ℕ → ℕ → ℕ → Type 0
 IsRefusedAt bytes slot code =
-    IsTold bytes slot code ⊎ ((p : List Insn) × Encodes bytes p × ((c : Code) × (code ≡ code_number c) × Refuses p all_helpers slot c))
+    AreRefusedAs bytes slot code ⊎ ((p : ProgramOf) × Encodes bytes p × ((c : Code) × (code ≡ code_number c) × Refuses p all_helpers slot c))
 
 -- whether the rules accept the program that the bytes encode
 abbrev pub Checks : Judges
-Checks bytes Accepted text = (p : List Insn) × Encodes bytes p × Accepts p all_helpers × (text ≡ acceptance_line (slots p))
+Checks bytes Accepted text = (p : ProgramOf) × Encodes bytes p × Accepts p all_helpers × (text ≡ acceptance_line (slots p.insns))
 Checks bytes Refused text = (slot code : ℕ) × IsRefusedAt bytes slot code × (text ≡ refusal_line slot code)
 
 -- the bytes at a path were judged so, and the whole text was written

@@ -1,5 +1,5 @@
-mod Bytes
-mod Table
-mod First
-mod Lowest
-mod Whole
+mod SlotBytes
+mod OpcodeTable
+mod FrontRead
+mod LowestCode
+mod OneProgramOrFault

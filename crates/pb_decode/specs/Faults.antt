@@ -3,7 +3,9 @@ use Rattle.std.specs.Prelude.{◌≡◌, ◌≢◌, ◌<◌, ◌≤◌, ◌⊎�
 use Rattle.std.specs.List.{AllByRecursion}
 use Rattle.pb_isa.specs.declared.insn.Insn.{Insn}
 use Rattle.pb_isa.specs.Bounds.{Fits}
+use Rattle.pb_isa.specs.declared.limits.TheConstants.{MAX_SLOTS}
 use Rattle.pb_isa.specs.Slots.{slots}
+use Rattle.pb_isa.specs.Programs.{ProgramOf}
 use Rattle.pb_decode.specs.declared.fault.Code.{Code}
 use Rattle.pb_decode.specs.declared.fault.Code.TheVariants.{Length, TooLong, Opcode, Register, Unused, CutOff, SecondSlot}
 use Rattle.pb_decode.specs.declared.fault.DecodeFault.{DecodeFault}
@@ -11,19 +13,19 @@ use Rattle.pb_decode.specs.declared.fault.DecodeFault.TheVariants.{NoMemory, Ref
 use Rattle.pb_decode.specs.declared.forms.Form.{Form}
 use Rattle.pb_decode.specs.declared.forms.Form.TheVariants.{LoadImm}
 use Rattle.pb_decode.specs.Opcodes.{opcode}
-use Rattle.pb_decode.specs.Fields.{slot_at}
+use Rattle.pb_decode.specs.Fields.{slot_of_bytes}
 use Rattle.pb_decode.specs.Encoding.{encoding, Encodes}
 use Rattle.pb_decode.specs.Reading.{is_clean, is_second}
 
 -- the numbers by which the faults are told
-abbrev pub code_number : Code → ℕ
-code_number Length = 10
-code_number TooLong = 11
-code_number Opcode = 12
-code_number Register = 13
-code_number Unused = 14
-code_number CutOff = 15
-code_number SecondSlot = 16
+abbrev pub decode_code : Code → ℕ
+decode_code Length = 10
+decode_code TooLong = 11
+decode_code Opcode = 12
+decode_code Register = 13
+decode_code Unused = 14
+decode_code CutOff = 15
+decode_code SecondSlot = 16
 
 -- When a code applies to the bytes at the front, told by their first slot and the bytes behind it: no form has the opcode;
 -- a register is over 10, in either half; the form doesn't use a field that is not zero; the opcode is the pair's, and no
@@ -31,26 +33,26 @@ code_number SecondSlot = 16
 abbrev pub Applies : List ℕ → Code → Type 0
 Applies bytes Length = ⊥
 Applies bytes TooLong = ⊥
-Applies bytes Opcode = (f : Form) → opcode f ≢ (slot_at bytes).opcode
-Applies bytes Register = (10 < (slot_at bytes).dst) ⊎ (10 < (slot_at bytes).src)
-Applies bytes Unused = (f : Form) × (opcode f ≡ (slot_at bytes).opcode) × (is_clean f (slot_at bytes) ≡ false)
-Applies bytes CutOff = (opcode LoadImm ≡ (slot_at bytes).opcode) × (length (drop 8 bytes) < 8)
-Applies bytes SecondSlot = (opcode LoadImm ≡ (slot_at bytes).opcode) × (8 ≤ length (drop 8 bytes)) × (is_second (slot_at (drop 8 bytes)) ≡ false)
+Applies bytes Opcode = (f : Form) → opcode f ≢ (slot_of_bytes bytes).opcode
+Applies bytes Register = (10 < (slot_of_bytes bytes).dst) ⊎ (10 < (slot_of_bytes bytes).src)
+Applies bytes Unused = (f : Form) × (opcode f ≡ (slot_of_bytes bytes).opcode) × (is_clean f (slot_of_bytes bytes) ≡ false)
+Applies bytes CutOff = (opcode LoadImm ≡ (slot_of_bytes bytes).opcode) × (length (drop 8 bytes) < 8)
+Applies bytes SecondSlot = (opcode LoadImm ≡ (slot_of_bytes bytes).opcode) × (8 ≤ length (drop 8 bytes)) × (is_second (slot_of_bytes (drop 8 bytes)) ≡ false)
 
 -- the lowest code that applies
 pub record IsLowest (bytes : List ℕ) (code : Code) : Type 0 where
   pub applies : Applies bytes code
-  pub least : (other : Code) → Applies bytes other → code_number code ≤ code_number other
+  pub least : (other : Code) → Applies bytes other → decode_code code ≤ decode_code other
 
 -- a fault, told
 abbrev pub told_as : ℕ → Code → DecodeFault
-told_as slot code = Refused (record { slot = slot; code = code_number code })
+told_as slot code = Refused (record { slot = slot; code = decode_code code })
 
--- the fault of the whole, which is told before all others: no slots at all, or more than 512
+-- the fault of the whole, which is told before all others: no slots at all, or too many
 abbrev pub whole_fault : List ℕ → Option Code
 whole_fault bytes =
     if (length bytes == 0) || not (length bytes % 8 == 0) then Some Length
-    else if nat_lt (8 * 512) (length bytes) then Some TooLong
+    else if nat_lt (8 * MAX_SLOTS) (length bytes) then Some TooLong
     else None
 
 -- The instructions in front are spelt as they have to be, and a code applies to what stands behind them. Where it is a
@@ -65,17 +67,17 @@ pub record IsFaultAt (bytes : List ℕ) (slot : ℕ) (code : Code) : Type 0 wher
   pub fault : IsLowest rest code
 
 -- the first slot at fault, with its lowest code
-abbrev pub IsFault : List ℕ → ℕ → Code → Type 0
-IsFault bytes slot code = (whole_fault bytes ≡ Some code × (slot ≡ 0)) ⊎ ((whole_fault bytes ≡ None) × IsFaultAt bytes slot code)
+abbrev pub IsDecodeFault : List ℕ → ℕ → Code → Type 0
+IsDecodeFault bytes slot code = (whole_fault bytes ≡ Some code × (slot ≡ 0)) ⊎ ((whole_fault bytes ≡ None) × IsFaultAt bytes slot code)
 
 -- the same with the code's number
-abbrev pub IsTold : List ℕ → ℕ → ℕ → Type 0
-IsTold bytes slot told = (code : Code) × (told ≡ code_number code) × IsFault bytes slot code
+abbrev pub AreRefusedAs : List ℕ → ℕ → ℕ → Type 0
+AreRefusedAs bytes slot told = (code : Code) × (told ≡ decode_code code) × IsDecodeFault bytes slot code
 
 -- why no program came back: memory was refused, or that is the fault
 abbrev pub IsRefusal : List ℕ → DecodeFault → Type 0
 IsRefusal bytes NoMemory = Unit {0}
-IsRefusal bytes (Refused r) = IsTold bytes r.slot r.code
+IsRefusal bytes (Refused r) = AreRefusedAs bytes r.slot r.code
 
 abbrev pub IsNoMemory : DecodeFault → Type 0
 IsNoMemory NoMemory = Unit {0}
@@ -85,10 +87,10 @@ abbrev pub AreBytes : List ℕ → Type 0
 AreBytes bytes = (i : ℕ) → get_or bytes i 0 < 256
 
 abbrev pub HasProgram : List ℕ → Type 0
-HasProgram bytes = (p : List Insn) × Encodes bytes p
+HasProgram bytes = (p : ProgramOf) × Encodes bytes p
 
 abbrev pub HasFault : List ℕ → Type 0
-HasFault bytes = (slot : ℕ) × (code : Code) × IsFault bytes slot code
+HasFault bytes = (slot : ℕ) × (code : Code) × IsDecodeFault bytes slot code
 
 -- the same where memory was refused, or that fault was met
 abbrev pub IsNoMemoryOr : ℕ → ℕ → DecodeFault → Type 0
@@ -96,11 +98,11 @@ IsNoMemoryOr slot told NoMemory = Unit {0}
 IsNoMemoryOr slot told (Refused r) = (r.slot ≡ slot) × (r.code ≡ told)
 
 -- the bytes are those of these instructions, however many there are
-pub record AreSpelt (bytes : List ℕ) (p : List Insn) : Type 0 where
-  pub fits : AllByRecursion Fits p
-  pub spelt : bytes ≡ encoding p
+pub record AreSpelt (bytes : List ℕ) (is : List Insn) : Type 0 where
+  pub fits : AllByRecursion Fits is
+  pub spelt : bytes ≡ encoding is
 
 -- memory was refused, or a slot is at fault
 abbrev pub IsRefusalInside : List ℕ → DecodeFault → Type 0
 IsRefusalInside bytes NoMemory = Unit {0}
-IsRefusalInside bytes (Refused r) = (code : Code) × (r.code ≡ code_number code) × IsFaultAt bytes r.slot code
+IsRefusalInside bytes (Refused r) = (code : Code) × (r.code ≡ decode_code code) × IsFaultAt bytes r.slot code

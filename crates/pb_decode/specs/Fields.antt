@@ -8,8 +8,8 @@ abbrev pub slot_bytes : Slot → List ℕ
 slot_bytes s = s.opcode ∷ (s.dst + 16 * s.src) ∷ (little_bytes 2 s.offset ++ little_bytes 4 s.imm)
 
 -- the slot in the first eight bytes
-abbrev pub slot_at : List ℕ → Slot
-slot_at bytes =
+abbrev pub slot_of_bytes : List ℕ → Slot
+slot_of_bytes bytes =
     record {
       opcode = slice_index bytes 0;
       dst = slice_index bytes 1 % 16;

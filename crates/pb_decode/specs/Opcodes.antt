@@ -83,15 +83,16 @@ opcode Exit = 5 + 16 * 9
 abbrev pub each : (Width → Source → Form) → List Form
 each f = f Bits32 K ∷ f Bits32 X ∷ f Bits64 K ∷ f Bits64 X ∷ []
 
-abbrev pub sizes : List Size
-sizes = W ∷ H ∷ B ∷ Dw ∷ []
+-- by their codes
+abbrev pub sizes_by_code : List Size
+sizes_by_code = W ∷ H ∷ B ∷ Dw ∷ []
 
 -- the profile: every form that there is
 unfoldable pub forms : List Form
 forms =
     flat_map (λ op. each (Alu op)) (Add ∷ Sub ∷ Mul ∷ Div ∷ Or ∷ And ∷ Lsh ∷ Rsh ∷ Mod ∷ Xor ∷ Mov ∷ Arsh ∷ [])
     ++ flat_map (λ c. each (JumpIf c)) (Eq ∷ Gt ∷ Ge ∷ Set ∷ Ne ∷ Sgt ∷ Sge ∷ Lt ∷ Le ∷ Slt ∷ Sle ∷ [])
-    ++ map Load sizes ++ map StoreImm sizes ++ map Store sizes
+    ++ map Load sizes_by_code ++ map StoreImm sizes_by_code ++ map Store sizes_by_code
     ++ Neg Bits32 ∷ Neg Bits64 ∷ LoadImm ∷ Jump ∷ Call ∷ Exit ∷ []
 
 abbrev pub with_opcode : ℕ → List Form → Option Form

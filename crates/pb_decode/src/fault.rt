@@ -1,6 +1,6 @@
 //! Why bytes are no program.
 ghost use Rattle.std.specs.Prelude.{◌≡◌};
-ghost use Rattle.pb_decode.specs.Faults.{code_number};
+ghost use Rattle.pb_decode.specs.Faults.{decode_code};
 ghost use Rattle.pb_decode.specs.declared.fault.DecodeFault.TheVariants.{NoMemory};
 
 use pb_base::Refused;
@@ -12,7 +12,7 @@ use thiserror::Error;
 pub enum Code {
     /// Their length is zero, or no multiple of 8.
     Length,
-    /// Over 512 slots.
+    /// Over [`MAX_SLOTS`](pb_isa::MAX_SLOTS) slots.
     TooLong,
     /// An opcode outside the profile.
     Opcode,
@@ -29,7 +29,7 @@ pub enum Code {
 impl Code {
     /// The number by which a code is told.
     pub fn code(self) -> u8
-        ensures { result ≡ code_number self }
+        ensures { result ≡ decode_code self }
     {
         match self {
             Code::Length => 10,

@@ -1,6 +1,6 @@
 //! The fields of a slot (RFC 9669, section 3.1).
 ghost use Rattle.std.specs.Prelude.{◌≡◌, ◌≤◌, ◌<◌, length};
-ghost use Rattle.pb_decode.specs.Fields.{slot_at, slot_bytes};
+ghost use Rattle.pb_decode.specs.Fields.{slot_of_bytes, slot_bytes};
 
 use byteorder::{ByteOrder, LittleEndian};
 
@@ -18,7 +18,7 @@ impl Slot {
     /// The slot in the first eight bytes.
     pub fn at(bytes: &[u8]) -> Slot
         requires { 8 ≤ length bytes.now }
-        ensures { result ≡ slot_at bytes.now }
+        ensures { result ≡ slot_of_bytes bytes.now }
     {
         Slot {
             opcode: bytes[0],

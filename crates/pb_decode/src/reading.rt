@@ -1,25 +1,27 @@
 //! Bytes to programs.
-ghost use Rattle.std.specs.Prelude.{◌≡◌, ◌≤◌, ◌*◌, ◌%◌, ◌⊎◌, ◌++◌, ℕ, List, length, IfOk, IfErr};
+ghost use Rattle.std.specs.Prelude.{◌≡◌, ◌≤◌, ◌*◌, ◌%◌, ◌⊎◌, ◌++◌, ℕ, List, length, false, ok_or, IfOk, IfErr};
+ghost use Rattle.pb_base.specs.Reading.{Gives};
 ghost use Rattle.pb_isa.specs.declared.insn.Insn.{Insn};
+ghost use Rattle.pb_isa.specs.Programs.{ProgramOf};
 ghost use Rattle.pb_isa.specs.Bounds.{Fits};
 ghost use Rattle.pb_isa.specs.Registers.{reg_of};
 ghost use Rattle.pb_decode.specs.declared.fault.Code.{Code};
 ghost use Rattle.pb_decode.specs.declared.fault.Code.TheVariants.{Register};
-ghost use Rattle.pb_decode.specs.Fields.{slot_at};
+ghost use Rattle.pb_decode.specs.Fields.{slot_of_bytes};
 ghost use Rattle.pb_decode.specs.Encoding.{insn_bytes, encoding, Encodes};
-ghost use Rattle.pb_decode.specs.Reading.{Gives, or_code, is_second, pair_of, insn_of, first_of};
-ghost use Rattle.pb_decode.specs.Faults.{Applies, whole_fault, told_as, IsFault, IsTold, IsRefusal, IsRefusalInside, IsNoMemory, IsNoMemoryOr, AreSpelt, AreBytes, HasProgram, HasFault};
+ghost use Rattle.pb_decode.specs.Reading.{is_second, pair_of, operand_of_source, insn_of_form, first_of};
+ghost use Rattle.pb_decode.specs.Faults.{Applies, whole_fault, told_as, IsDecodeFault, AreRefusedAs, IsRefusal, IsRefusalInside, IsNoMemory, IsNoMemoryOr, AreSpelt, AreBytes, HasProgram, HasFault};
 
 use crate::fault::{Code, DecodeFault};
 use crate::fields::Slot;
 use crate::forms::{Form, Source};
 use pb_base::Refused;
-use pb_isa::{Insn, NoProgram, Operand, Program, Reg};
+use pb_isa::{Insn, MAX_SLOTS, NoProgram, Operand, Program, Reg};
 use std::alloc::Global;
 
 // The register of a number.
 fn register(number: u8) -> Result<Reg, Code>
-    ensures { result ≡ or_code Register (reg_of number) }
+    ensures { result ≡ ok_or (reg_of number) Register }
 {
     match Reg::of(number) {
         Some(reg) => Ok(reg),
@@ -36,7 +38,7 @@ fn is_second(slot: Slot) -> bool
 
 // The 64-bit immediate of this low half, whose high half stands in the slot behind.
 fn pair_of(dst: Reg, low: u32, bytes: &[u8]) -> Result<(Insn, &[u8]), Code>
-    ensures { Gives (λ x. (x.0, x.1.now)) result (pair_of dst low bytes.now) }
+    ensures { Gives (λ _. false) (λ x. (x.0, x.1.now)) result (pair_of dst low bytes.now) }
 {
     if bytes.len() < 8 {
         return Err(Code::CutOff);
@@ -45,32 +47,62 @@ fn pair_of(dst: Reg, low: u32, bytes: &[u8]) -> Result<(Insn, &[u8]), Code>
     if !is_second(second) {
         return Err(Code::SecondSlot);
     }
-    let value = u64::from(low) + 0x1_0000_0000 * u64::from(second.imm);
-    Ok((Insn::LoadImm(dst, value), &bytes[8..]))
+    let imm = u64::from(low) + 0x1_0000_0000 * u64::from(second.imm);
+    Ok((Insn::LoadImm { dst, imm }, &bytes[8..]))
+}
+
+// The source operand.
+fn operand(source: Source, src: Reg, imm: i32) -> Operand
+    ensures { result ≡ operand_of_source source src imm }
+{
+    match source {
+        Source::K => Operand::Imm(imm),
+        Source::X => Operand::Reg(src),
+    }
 }
 
 // The instruction of a form with these fields, and the bytes behind it.
 fn insn_of(form: Form, dst: Reg, src: Reg, slot: Slot, bytes: &[u8]) -> Result<(Insn, &[u8]), Code>
-    ensures { Gives (λ x. (x.0, x.1.now)) result (insn_of form dst src slot bytes.now) }
+    ensures { Gives (λ _. false) (λ x. (x.0, x.1.now)) result (insn_of_form form dst src slot bytes.now) }
 {
     let imm = slot.imm.cast_signed();
     let offset = slot.offset.cast_signed();
     let insn = match form {
-        Form::Alu(op, width, Source::K) => Insn::Alu(op, width, dst, Operand::Imm(imm)),
-        Form::Alu(op, width, Source::X) => Insn::Alu(op, width, dst, Operand::Reg(src)),
-        Form::Neg(width) => Insn::Neg(width, dst),
+        Form::Alu(op, width, source) => Insn::Alu {
+            op,
+            width,
+            dst,
+            src: operand(source, src, imm),
+        },
+        Form::Neg(width) => Insn::Neg { width, dst },
         Form::LoadImm => return pair_of(dst, slot.imm, bytes),
-        Form::Load(size) => Insn::Load(size, dst, src, offset),
-        Form::StoreImm(size) => Insn::StoreImm(size, dst, offset, imm),
-        Form::Store(size) => Insn::Store(size, dst, offset, src),
-        Form::Jump => Insn::Jump(offset),
-        Form::JumpIf(cmp, width, Source::K) => {
-            Insn::JumpIf(cmp, width, dst, Operand::Imm(imm), offset)
-        }
-        Form::JumpIf(cmp, width, Source::X) => {
-            Insn::JumpIf(cmp, width, dst, Operand::Reg(src), offset)
-        }
-        Form::Call => Insn::Call(imm),
+        Form::Load(size) => Insn::Load {
+            size,
+            dst,
+            src,
+            offset,
+        },
+        Form::StoreImm(size) => Insn::StoreImm {
+            size,
+            dst,
+            offset,
+            imm,
+        },
+        Form::Store(size) => Insn::Store {
+            size,
+            dst,
+            src,
+            offset,
+        },
+        Form::Jump => Insn::Jump { offset },
+        Form::JumpIf(cmp, width, source) => Insn::JumpIf {
+            cmp,
+            width,
+            dst,
+            src: operand(source, src, imm),
+            offset,
+        },
+        Form::Call => Insn::Call { imm },
         Form::Exit => Insn::Exit,
     };
     Ok((insn, bytes))
@@ -80,7 +112,7 @@ fn insn_of(form: Form, dst: Reg, src: Reg, slot: Slot, bytes: &[u8]) -> Result<(
 #[tactic(auto, unfolding(crate::specs::Reading::first_with))]
 fn first_of(bytes: &[u8]) -> Result<(Insn, &[u8]), Code>
     requires { 8 ≤ length bytes.now }
-    ensures { Gives (λ x. (x.0, x.1.now)) result (first_of bytes.now) }
+    ensures { Gives (λ _. false) (λ x. (x.0, x.1.now)) result (first_of bytes.now) }
 {
     let slot = Slot::at(bytes);
     let Some(form) = Form::of(slot.opcode) else {
@@ -100,7 +132,7 @@ fn whole_fault(bytes: &[u8]) -> Option<Code>
 {
     if bytes.is_empty() || bytes.len() % 8 != 0 {
         Some(Code::Length)
-    } else if bytes.len() > 8 * 512 {
+    } else if bytes.len() > 8 * MAX_SLOTS {
         Some(Code::TooLong)
     } else {
         None
@@ -118,7 +150,7 @@ fn refused(slot: u16, code: Code) -> DecodeFault
 // The instructions that the bytes spell, one after the other.
 fn insns_of(alloc: Global, bytes: &[u8]) -> Result<Vec<Insn>, DecodeFault>
     requires whole { length bytes.now % 8 ≡ 0 }
-    requires most { length bytes.now ≤ 8 * 512 }
+    requires most { length bytes.now ≤ 8 * MAX_SLOTS }
     ensures ok { IfOk result (λ v. AreSpelt bytes.now v.items) }
     ensures err { IfErr result (IsRefusalInside bytes.now) }
 {
@@ -157,8 +189,8 @@ fn program_of(alloc: Global, bytes: &[u8]) -> Result<Program, DecodeFault>
 pub fn decode(alloc: Global, bytes: &[u8]) -> Result<Program, DecodeFault>
     ensures ok { IfOk result (λ p. Encodes bytes.now p) }
     ensures err { IfErr result (IsRefusal bytes.now) }
-    ensures program { (p : List Insn) → Encodes bytes.now p → IfOk result (λ q. q ≡ p) × IfErr result IsNoMemory }
-    ensures fault { (slot told : ℕ) → IsTold bytes.now slot told → IfOk result (λ _. ⊥) × IfErr result (IsNoMemoryOr slot told) }
+    ensures program { (p : ProgramOf) → Encodes bytes.now p → IfOk result (λ q. q ≡ p) × IfErr result IsNoMemory }
+    ensures fault { (slot told : ℕ) → AreRefusedAs bytes.now slot told → IfOk result (λ _. ⊥) × IfErr result (IsNoMemoryOr slot told) }
 {
     program_of(alloc, bytes)
 }
@@ -166,8 +198,8 @@ pub fn decode(alloc: Global, bytes: &[u8]) -> Result<Program, DecodeFault>
 /// A list of bytes is one program's, or has one fault, and not both. No code applies where an instruction stands.
 pub fn either_program_or_fault()
     ensures either { (bytes : List ℕ) → AreBytes bytes → HasProgram bytes ⊎ HasFault bytes }
-    ensures not_both { (bytes : List ℕ) (p : List Insn) (slot : ℕ) (code : Code) → Encodes bytes p → IsFault bytes slot code → ⊥ }
-    ensures one_program { (bytes : List ℕ) (p q : List Insn) → Encodes bytes p → Encodes bytes q → p ≡ q }
-    ensures one_fault { (bytes : List ℕ) (s t : ℕ) (c d : Code) → IsFault bytes s c → IsFault bytes t d → (s ≡ t) × (c ≡ d) }
+    ensures not_both { (bytes : List ℕ) (p : ProgramOf) (slot : ℕ) (code : Code) → Encodes bytes p → IsDecodeFault bytes slot code → ⊥ }
+    ensures one_program { (bytes : List ℕ) (p q : ProgramOf) → Encodes bytes p → Encodes bytes q → p ≡ q }
+    ensures one_fault { (bytes : List ℕ) (s t : ℕ) (c d : Code) → IsDecodeFault bytes s c → IsDecodeFault bytes t d → (s ≡ t) × (c ≡ d) }
     ensures no_code { (i : Insn) (rest : List ℕ) (code : Code) → Fits i → Applies (insn_bytes i ++ rest) code → ⊥ }
 {}

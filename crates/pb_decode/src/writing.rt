@@ -33,13 +33,13 @@ fn slot(form: Form, dst: u8, src: u8, offset: u16, imm: u32) -> Slot
 }
 
 // The slot of an arithmetic operation.
-fn alu_slot(op: AluOp, width: Width, dst: Reg, operand: Operand) -> Slot
-    ensures slot { result ≡ first_slot (insn.Alu op width dst operand) }
+fn alu_slot(op: AluOp, width: Width, dst: Reg, src: Operand) -> Slot
+    ensures slot { result ≡ first_slot (insn.Alu op width dst src) }
     ensures dst { result.dst < 16 }
     ensures src { result.src < 16 }
 {
     let dst = number(dst);
-    match operand {
+    match src {
         Operand::Imm(imm) => {
             let form = Form::Alu(op, width, Source::K);
             slot(form, dst, 0, 0, imm.cast_unsigned())
@@ -49,14 +49,14 @@ fn alu_slot(op: AluOp, width: Width, dst: Reg, operand: Operand) -> Slot
 }
 
 // The slot of a conditional jump.
-fn jump_slot(cmp: Cmp, width: Width, dst: Reg, operand: Operand, offset: i16) -> Slot
-    ensures slot { result ≡ first_slot (insn.JumpIf cmp width dst operand offset) }
+fn jump_slot(cmp: Cmp, width: Width, dst: Reg, src: Operand, offset: i16) -> Slot
+    ensures slot { result ≡ first_slot (insn.JumpIf cmp width dst src offset) }
     ensures dst { result.dst < 16 }
     ensures src { result.src < 16 }
 {
     let dst = number(dst);
     let offset = offset.cast_unsigned();
-    match operand {
+    match src {
         Operand::Imm(imm) => {
             let form = Form::JumpIf(cmp, width, Source::K);
             slot(form, dst, 0, offset, imm.cast_unsigned())
@@ -75,29 +75,53 @@ fn first_slot(insn: Insn) -> Slot
     ensures src { result.src < 16 }
 {
     match insn {
-        Insn::Alu(op, width, dst, operand) => alu_slot(op, width, dst, operand),
-        Insn::Neg(width, dst) => slot(Form::Neg(width), number(dst), 0, 0, 0),
-        Insn::LoadImm(dst, value) => {
-            let low = (value % 0x1_0000_0000) as u32;
+        Insn::Alu {
+            op,
+            width,
+            dst,
+            src,
+        } => alu_slot(op, width, dst, src),
+        Insn::Neg { width, dst } => slot(Form::Neg(width), number(dst), 0, 0, 0),
+        Insn::LoadImm { dst, imm } => {
+            let low = (imm % 0x1_0000_0000) as u32;
             slot(Form::LoadImm, number(dst), 0, 0, low)
         }
-        Insn::Load(size, dst, base, offset) => {
+        Insn::Load {
+            size,
+            dst,
+            src,
+            offset,
+        } => {
             let offset = offset.cast_unsigned();
-            slot(Form::Load(size), number(dst), number(base), offset, 0)
+            slot(Form::Load(size), number(dst), number(src), offset, 0)
         }
-        Insn::StoreImm(size, base, offset, imm) => {
+        Insn::StoreImm {
+            size,
+            dst,
+            offset,
+            imm,
+        } => {
             let (offset, imm) = (offset.cast_unsigned(), imm.cast_unsigned());
-            slot(Form::StoreImm(size), number(base), 0, offset, imm)
+            slot(Form::StoreImm(size), number(dst), 0, offset, imm)
         }
-        Insn::Store(size, base, offset, src) => {
+        Insn::Store {
+            size,
+            dst,
+            src,
+            offset,
+        } => {
             let offset = offset.cast_unsigned();
-            slot(Form::Store(size), number(base), number(src), offset, 0)
+            slot(Form::Store(size), number(dst), number(src), offset, 0)
         }
-        Insn::Jump(offset) => slot(Form::Jump, 0, 0, offset.cast_unsigned(), 0),
-        Insn::JumpIf(cmp, width, dst, operand, offset) => {
-            jump_slot(cmp, width, dst, operand, offset)
-        }
-        Insn::Call(helper) => slot(Form::Call, 0, 0, 0, helper.cast_unsigned()),
+        Insn::Jump { offset } => slot(Form::Jump, 0, 0, offset.cast_unsigned(), 0),
+        Insn::JumpIf {
+            cmp,
+            width,
+            dst,
+            src,
+            offset,
+        } => jump_slot(cmp, width, dst, src, offset),
+        Insn::Call { imm } => slot(Form::Call, 0, 0, 0, imm.cast_unsigned()),
         Insn::Exit => slot(Form::Exit, 0, 0, 0, 0),
     }
 }
@@ -107,13 +131,13 @@ fn put(out: &mut Vec<u8>, insn: Insn) -> Result<(), AllocError>
     ensures { OnOk result (out.new.items ≡ out.old.items ++ insn_bytes insn) }
 {
     out.extend_from_slice(&first_slot(insn).bytes())?;
-    if let Insn::LoadImm(_, value) = insn {
+    if let Insn::LoadImm { imm, .. } = insn {
         let second = Slot {
             opcode: 0,
             dst: 0,
             src: 0,
             offset: 0,
-            imm: (value / 0x1_0000_0000) as u32,
+            imm: (imm / 0x1_0000_0000) as u32,
         };
         out.extend_from_slice(&second.bytes())?;
     }
@@ -122,7 +146,7 @@ fn put(out: &mut Vec<u8>, insn: Insn) -> Result<(), AllocError>
 
 /// The one byte list that decodes to this program.
 pub fn encode(alloc: Global, program: &Program) -> Result<Vec<u8>, NoMemory>
-    ensures bytes { IfOk result (λ v. v.items ≡ encoding program.now) }
+    ensures bytes { IfOk result (λ v. v.items ≡ encoding program.now.insns) }
     ensures one { IfOk result (λ v. Encodes v.items program.now) }
 {
     let mut bytes = Vec::new(alloc);

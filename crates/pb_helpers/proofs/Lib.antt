@@ -1,2 +1,2 @@
-pub mod Lowest
-pub mod Rising
+pub mod LowestCode
+pub mod ArgumentCodesRise

@@ -5,11 +5,11 @@ use Rattle.pb_isa.specs.Helpers.{Helper, Read, Write, Delete, Start}
 use Rattle.pb_kinds.specs.declared.frame.Kind.{Kind}
 use Rattle.pb_kinds.specs.declared.frame.Kind.TheVariants.{Stack}
 use Rattle.pb_kinds.specs.declared.frame.Frame.{Frame}
-use Rattle.pb_kinds.specs.Frames.{kind_of, is_unset, is_number}
+use Rattle.pb_kinds.specs.Frames.{kind_of, is_unset, is_number_kind}
 use Rattle.pb_kinds.specs.Ranges.{in_stack, are_written}
 use Rattle.pb_helpers.specs.declared.code.Code.{Code}
 use Rattle.pb_helpers.specs.declared.code.Code.TheVariants.{ReadsUnset, OutsideStack, UnwrittenByte, NotDeclared, WrongArgument}
-use Rattle.pb_helpers.specs.Codes.{when, AreRising}
+use Rattle.pb_helpers.specs.Codes.{when, CodesRiseWithin}
 
 -- the register with this number is read
 abbrev pub unset : Frame → ℕ → List Code
@@ -33,7 +33,7 @@ taken_bytes f _ = []
 
 -- row and column are numbers: every number is accepted
 abbrev pub is_cell : Frame → Bool
-is_cell f = is_number (kind_of f 1) && is_number (kind_of f 2)
+is_cell f = is_number_kind (kind_of f 1) && is_number_kind (kind_of f 2)
 
 abbrev pub is_place : Kind → Bool
 is_place (Stack k) = true
@@ -57,4 +57,4 @@ call_rules f (Some Delete) = delete_rules f
 call_rules f (Some Start) = []
 
 abbrev pub ArgumentCodesRise : Type 0
-ArgumentCodesRise = (f : Frame) (h : Option Helper) → AreRising 21 31 (call_rules f h)
+ArgumentCodesRise = (f : Frame) (h : Option Helper) → CodesRiseWithin 21 31 (call_rules f h)

@@ -29,9 +29,9 @@ when true code = code ∷ []
 when false code = []
 
 -- of codes that are listed lowest first
-abbrev pub lowest : List Code → Option Code
-lowest [] = None
-lowest (c ∷ cs) = Some c
+abbrev pub lowest_code : List Code → Option Code
+lowest_code [] = None
+lowest_code (c ∷ cs) = Some c
 
 -- the numbers rise from low to high; one can stand there twice
 abbrev pub RisesWithin : ℕ → ℕ → List ℕ → Type 0
@@ -39,5 +39,5 @@ RisesWithin low high [] = low ≤ high
 RisesWithin low high (n ∷ ns) = (low ≤ n) × RisesWithin n high ns
 
 -- the codes are listed lowest first, all from low to high
-abbrev pub AreRising : ℕ → ℕ → List Code → Type 0
-AreRising low high cs = RisesWithin low high (map code_number cs)
+abbrev pub CodesRiseWithin : ℕ → ℕ → List Code → Type 0
+CodesRiseWithin low high cs = RisesWithin low high (map code_number cs)

@@ -1,7 +1,7 @@
 //! Which arguments a helper accepts.
 ghost use Rattle.std.specs.Prelude.{◌≡◌, ◌<◌, is_some, IsTrue};
-ghost use Rattle.pb_isa.specs.Helpers.{called};
-ghost use Rattle.pb_helpers.specs.Codes.{lowest};
+ghost use Rattle.pb_isa.specs.Helpers.{declared_helper};
+ghost use Rattle.pb_helpers.specs.Codes.{lowest_code};
 ghost use Rattle.pb_helpers.specs.Arguments.{unset, stack_reads, stack_writes, filled_bytes, taken_bytes, is_cell, is_place, read_rules, write_rules, delete_rules, call_rules, ArgumentCodesRise};
 
 use crate::code::Code;
@@ -11,14 +11,14 @@ use pb_kinds::{Frame, Kind, in_stack};
 /// The code of a read of the register with this number.
 pub fn unset_code(frame: &Frame, register: usize) -> Option<Code>
     requires { register < 11 }
-    ensures { result ≡ lowest (unset frame.now register) }
+    ensures { result ≡ lowest_code (unset frame.now register) }
 {
     Code::ReadsUnset.when(frame.kinds[register].is_unset())
 }
 
 /// The lowest code of a read of so many stack bytes, from this distance to the stack's end on.
 pub fn stack_read_code(frame: &Frame, at: i64, bytes: u8) -> Option<Code>
-    ensures { result ≡ lowest (stack_reads frame.now at bytes) }
+    ensures { result ≡ lowest_code (stack_reads frame.now at bytes) }
 {
     if in_stack(at, bytes) {
         Code::UnwrittenByte.when(!frame.are_written(at, bytes))
@@ -29,14 +29,14 @@ pub fn stack_read_code(frame: &Frame, at: i64, bytes: u8) -> Option<Code>
 
 /// The code of a write of so many bytes, from this distance to the stack's end on.
 pub fn stack_write_code(at: i64, bytes: u8) -> Option<Code>
-    ensures { result ≡ lowest (stack_writes at bytes) }
+    ensures { result ≡ lowest_code (stack_writes at bytes) }
 {
     Code::OutsideStack.when(!in_stack(at, bytes))
 }
 
 // The 32 bytes that a helper fills.
 fn filled_bytes(place: Kind) -> Option<Code>
-    ensures { result ≡ lowest (filled_bytes place) }
+    ensures { result ≡ lowest_code (filled_bytes place) }
 {
     match place {
         Kind::Stack(at) => stack_write_code(at, 32),
@@ -46,7 +46,7 @@ fn filled_bytes(place: Kind) -> Option<Code>
 
 // The 32 bytes that a helper takes.
 fn taken_bytes(frame: &Frame, place: Kind) -> Option<Code>
-    ensures { result ≡ lowest (taken_bytes frame.now place) }
+    ensures { result ≡ lowest_code (taken_bytes frame.now place) }
 {
     match place {
         Kind::Stack(at) => stack_read_code(frame, at, 32),
@@ -69,9 +69,9 @@ fn is_place(kind: Kind) -> bool
     }
 }
 
-#[tactic(auto, using(crate::proofs::Lowest::lowest_append))]
+#[tactic(auto, using(crate::proofs::LowestCode::lowest_append))]
 fn read_code(frame: &Frame) -> Option<Code>
-    ensures { result ≡ lowest (read_rules frame.now) }
+    ensures { result ≡ lowest_code (read_rules frame.now) }
 {
     unset_code(frame, 1)
         .or(unset_code(frame, 2))
@@ -80,9 +80,9 @@ fn read_code(frame: &Frame) -> Option<Code>
         .or(Code::WrongArgument.when(!(is_cell(frame) && is_place(frame.kinds[3]))))
 }
 
-#[tactic(auto, using(crate::proofs::Lowest::lowest_append))]
+#[tactic(auto, using(crate::proofs::LowestCode::lowest_append))]
 fn write_code(frame: &Frame) -> Option<Code>
-    ensures { result ≡ lowest (write_rules frame.now) }
+    ensures { result ≡ lowest_code (write_rules frame.now) }
 {
     unset_code(frame, 1)
         .or(unset_code(frame, 2))
@@ -91,9 +91,9 @@ fn write_code(frame: &Frame) -> Option<Code>
         .or(Code::WrongArgument.when(!(is_cell(frame) && is_place(frame.kinds[3]))))
 }
 
-#[tactic(auto, using(crate::proofs::Lowest::lowest_append))]
+#[tactic(auto, using(crate::proofs::LowestCode::lowest_append))]
 fn delete_code(frame: &Frame) -> Option<Code>
-    ensures { result ≡ lowest (delete_rules frame.now) }
+    ensures { result ≡ lowest_code (delete_rules frame.now) }
 {
     unset_code(frame, 1)
         .or(unset_code(frame, 2))
@@ -103,7 +103,7 @@ fn delete_code(frame: &Frame) -> Option<Code>
 /// The lowest code of the rules that a call of the helper with this number breaks; none where the helper is declared and
 /// accepts what the registers hold.
 pub fn argument_code(helpers: HelperTable, number: i32, frame: &Frame) -> Option<Code>
-    ensures { result ≡ lowest (call_rules frame.now (called helpers number)) }
+    ensures { result ≡ lowest_code (call_rules frame.now (declared_helper helpers number)) }
 {
     if !helpers.declares(number) {
         return Some(Code::NotDeclared);

@@ -1,6 +1,6 @@
 //! The rules that an instruction can break.
 ghost use Rattle.std.specs.Prelude.{◌≡◌, if◌then◌else◌};
-ghost use Rattle.pb_helpers.specs.Codes.{code_number, when, lowest};
+ghost use Rattle.pb_helpers.specs.Codes.{code_number, when, lowest_code};
 
 /// What is wrong with an instruction.
 #[derive(Clone, Copy, Debug, PartialEq, Eq)]
@@ -72,7 +72,7 @@ impl Code {
 
     /// This code where its rule is broken.
     pub fn when(self, broken: bool) -> Option<Code>
-        ensures { result ≡ lowest (when broken self) }
+        ensures { result ≡ lowest_code (when broken self) }
     {
         if broken { Some(self) } else { None }
     }

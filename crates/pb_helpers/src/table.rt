@@ -1,6 +1,6 @@
 //! Which helpers a program may call.
 ghost use Rattle.std.specs.Prelude.{◌≡◌, option_map, is_some};
-ghost use Rattle.pb_isa.specs.Helpers.{no_helpers, helper_of, called};
+ghost use Rattle.pb_isa.specs.Helpers.{no_helpers, helper_of, declared_helper};
 ghost use Rattle.pb_helpers.specs.Table.{all_helpers, with_helper};
 
 use std::marker::Model;
@@ -68,7 +68,7 @@ impl HelperTable {
 
     /// Whether the table has the helper of this number.
     pub fn declares(self, number: i32) -> bool
-        ensures { result ≡ is_some (called self number) }
+        ensures { result ≡ is_some (declared_helper self number) }
     {
         match number {
             1 => self.reads,

@@ -8,17 +8,17 @@ use Rattle.pb_isa.specs.declared.insn.Operand.{Operand}
 use Rattle.pb_isa.specs.declared.insn.Operand.TheVariants.{Imm, Reg}
 
 abbrev pub OperandFits : Operand → Type 0
-OperandFits (Imm k) = FitsSigned w32 k
-OperandFits (Reg r) = Unit {0}
+OperandFits (Imm imm) = FitsSigned w32 imm
+OperandFits (Reg src) = Unit {0}
 
 abbrev pub Fits : Insn → Type 0
-Fits (Alu op w d a) = OperandFits a
-Fits (Neg w d) = Unit {0}
-Fits (LoadImm d v) = v < 2 ^ 64
-Fits (Load z d b o) = FitsSigned w16 o
-Fits (StoreImm z b o k) = FitsSigned w16 o × FitsSigned w32 k
-Fits (Store z b o s) = FitsSigned w16 o
-Fits (Jump o) = FitsSigned w16 o
-Fits (JumpIf c w d a o) = OperandFits a × FitsSigned w16 o
-Fits (Call k) = FitsSigned w32 k
+Fits (Alu op w dst src) = OperandFits src
+Fits (Neg w dst) = Unit {0}
+Fits (LoadImm dst imm) = imm < 2 ^ 64
+Fits (Load z dst src offset) = FitsSigned w16 offset
+Fits (StoreImm z dst offset imm) = FitsSigned w16 offset × FitsSigned w32 imm
+Fits (Store z dst src offset) = FitsSigned w16 offset
+Fits (Jump offset) = FitsSigned w16 offset
+Fits (JumpIf c w dst src offset) = OperandFits src × FitsSigned w16 offset
+Fits (Call imm) = FitsSigned w32 imm
 Fits Exit = Unit {0}

@@ -9,7 +9,7 @@ pub data Helper : Type 0 where
   Delete : Helper
   Start : Helper
 
--- the helpers that a program declares
+-- the helpers that a program has_helper
 pub record HelperSet : Type 0 where
   pub read : Bool
   pub write : Bool
@@ -31,16 +31,16 @@ helper_code =
 abbrev pub helper_of : ℤ → Option Helper
 helper_of k = cond (int_eq k (pos 1)) (Some Read) (cond (int_eq k (pos 2)) (Some Write) (cond (int_eq k (pos 3)) (Some Delete) (cond (int_eq k (pos 4)) (Some Start) None)))
 
-abbrev pub declares : HelperSet → Helper → Bool
-declares h Read = h.read
-declares h Write = h.write
-declares h Delete = h.delete
-declares h Start = h.start
+abbrev pub has_helper : HelperSet → Helper → Bool
+has_helper h Read = h.read
+has_helper h Write = h.write
+has_helper h Delete = h.delete
+has_helper h Start = h.start
 
 abbrev pub if_declared : HelperSet → Option Helper → Option Helper
 if_declared h None = None
-if_declared h (Some x) = cond (declares h x) (Some x) None
+if_declared h (Some x) = cond (has_helper h x) (Some x) None
 
 -- the declared helper of this number
-abbrev pub called : HelperSet → ℤ → Option Helper
-called h k = if_declared h (helper_of k)
+abbrev pub declared_helper : HelperSet → ℤ → Option Helper
+declared_helper h k = if_declared h (helper_of k)

@@ -97,33 +97,70 @@ pub enum Cmp {
     Sle,
 }
 
-/// The second operand: an immediate, or a register.
+/// The source operand of arithmetic and of a comparison: an immediate, or a register (RFC 9669, section 4.1).
 #[derive(Clone, Copy, Debug, PartialEq, Eq)]
 pub enum Operand {
     Imm(i32),
     Reg(Reg),
 }
 
-/// An instruction. Each takes one slot, and the 64-bit immediate takes two.
+/// An instruction, with the fields of RFC 9669, section 3.1, that it uses. Each takes one slot, and the 64-bit immediate
+/// takes two.
 #[derive(Clone, Copy, Debug, PartialEq, Eq)]
 pub enum Insn {
-    /// Operation, width, destination, operand.
-    Alu(AluOp, Width, Reg, Operand),
+    /// An operation on destination and source, whose result is the destination's.
+    Alu {
+        op: AluOp,
+        width: Width,
+        dst: Reg,
+        src: Operand,
+    },
     /// The destination's negative.
-    Neg(Width, Reg),
+    Neg {
+        width: Width,
+        dst: Reg,
+    },
     /// A 64-bit immediate, opcode 0x18.
-    LoadImm(Reg, u64),
-    /// LDX: size, destination, base, offset.
-    Load(Size, Reg, Reg, i16),
-    /// ST: size, base, offset, immediate.
-    StoreImm(Size, Reg, i16, i32),
-    /// STX: size, base, offset, source.
-    Store(Size, Reg, i16, Reg),
+    LoadImm {
+        dst: Reg,
+        imm: u64,
+    },
+    /// LDX: from the address in the source, with the offset.
+    Load {
+        size: Size,
+        dst: Reg,
+        src: Reg,
+        offset: i16,
+    },
+    /// ST: to the address in the destination, with the offset.
+    StoreImm {
+        size: Size,
+        dst: Reg,
+        offset: i16,
+        imm: i32,
+    },
+    /// STX: to the address in the destination, with the offset.
+    Store {
+        size: Size,
+        dst: Reg,
+        src: Reg,
+        offset: i16,
+    },
     /// JA: the offset counts slots from the next one.
-    Jump(i16),
-    /// Comparison, width, destination, operand, offset.
-    JumpIf(Cmp, Width, Reg, Operand, i16),
-    /// A helper by its number.
-    Call(i32),
+    Jump {
+        offset: i16,
+    },
+    /// A jump where the comparison of destination and source holds.
+    JumpIf {
+        cmp: Cmp,
+        width: Width,
+        dst: Reg,
+        src: Operand,
+        offset: i16,
+    },
+    /// A helper, by its number.
+    Call {
+        imm: i32,
+    },
     Exit,
 }

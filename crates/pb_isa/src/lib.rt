@@ -3,8 +3,10 @@
 
 mod arithmetic;
 mod insn;
+mod limits;
 mod program;
 
 pub use arithmetic::{alu, holds};
 pub use insn::{AluOp, Cmp, Insn, Operand, Reg, Size, Width};
+pub use limits::{MAX_SLOTS, RECORD_BYTES, STACK_BYTES};
 pub use program::{NoProgram, Program};

@@ -1,14 +1,16 @@
-//! Lists of instructions that take 1 to 512 slots together.
+//! Programs: lists of instructions that take at most so many slots together.
 ghost use Rattle.std.specs.Prelude.{◌≡◌, ◌≢◌, ◌<◌, ◌≤◌, ◌⊎◌, if◌then◌else◌, IfOk, IfErr, Ok, [], ◌∷◌, Some, None};
 ghost use Rattle.pb_isa.specs.Bounds.{Fits};
 ghost use Rattle.pb_isa.specs.Slots.{layout, places_of, insn_at, slots};
+ghost use Rattle.pb_isa.specs.Programs.{IsProgram, IsRefused};
 
 use crate::insn::Insn;
+use crate::limits::MAX_SLOTS;
 use pb_base::NoMemory;
 use std::alloc::Global;
 use std::marker::Model;
 
-/// A program: a list of instructions of 1 to 512 slots together.
+/// A program: some instructions, of at most [`MAX_SLOTS`] slots together.
 #[derive(Drop)]
 pub struct Program {
     insns: Vec<Insn>,
@@ -16,25 +18,26 @@ pub struct Program {
 }
 
 impl Model for Program {
-    ghost use Rattle.std.specs.Prelude.{◌≡◌, ◌<◌, ◌≤◌, List, length};
-    ghost use Rattle.pb_isa.specs.declared.insn.Insn.{Insn};
+    ghost use Rattle.std.specs.Prelude.{◌≡◌, ◌<◌, ◌≤◌, length};
+    ghost use Rattle.pb_isa.specs.declared.limits.TheConstants.{MAX_SLOTS};
+    ghost use Rattle.pb_isa.specs.Programs.{ProgramOf};
 
-    ghost Value = { List Insn };
+    ghost Value = { ProgramOf };
 
     ghost use Rattle.std.specs.List.{AllByRecursion};
     ghost use Rattle.pb_isa.specs.Bounds.{Fits};
     ghost use Rattle.pb_isa.specs.Slots.{layout};
 
-    ghost view = { λ p. p.insns.items };
+    ghost view = { λ p. record { insns = p.insns.items } };
 
-    ghost invariant = { λ p. (p.places.items ≡ layout p.insns.items) × (0 < length p.places.items) × (length p.places.items ≤ 512) × AllByRecursion Fits p.insns.items };
+    ghost invariant = { λ p. (p.places.items ≡ layout p.insns.items) × (0 < length p.places.items) × (length p.places.items ≤ MAX_SLOTS) × AllByRecursion Fits p.insns.items };
 }
 
 /// Why a list of instructions is no program.
 #[derive(Drop)]
 pub enum NoProgram {
     NoMemory,
-    /// It takes no slot, or more than 512.
+    /// They take no slot, or more than [`MAX_SLOTS`].
     NotInRange(Vec<Insn>),
 }
 
@@ -44,19 +47,18 @@ fn is_pair(insn: Insn) -> bool
     ensures fits { Fits insn }
 {
     match insn {
-        Insn::LoadImm(_, _) => true,
+        Insn::LoadImm { .. } => true,
         _ => false,
     }
 }
 
 impl Program {
     ghost use Rattle.std.specs.List.{AllByRecursion};
-    ghost use Rattle.pb_isa.specs.Slots.{IsProgram, IsRefused};
 
-    /// The program of these instructions, where they take 1 to 512 slots; else they are handed back.
+    /// The program of these instructions, where they take 1 to [`MAX_SLOTS`] slots; else they are handed back.
     pub fn new(alloc: Global, insns: Vec<Insn>) -> Result<Program, NoProgram>
-        ensures ok { IfOk result (λ p. (p ≡ insns.items) × IsProgram p) }
-        ensures fits { IfOk result (AllByRecursion Fits) }
+        ensures ok { IfOk result (λ p. (p.insns ≡ insns.items) × IsProgram p) }
+        ensures fits { IfOk result (λ p. AllByRecursion Fits p.insns) }
         ensures err { IfErr result (IsRefused insns.items) }
     {
         let mut places: Vec<Option<Insn>> = Vec::new(alloc);
@@ -70,7 +72,7 @@ impl Program {
                 }
             }
         }
-        if places.is_empty() || places.len() > 512 {
+        if places.is_empty() || places.len() > MAX_SLOTS {
             return Err(NoProgram::NotInRange(insns));
         }
         Ok(Program { insns, places })
@@ -78,7 +80,7 @@ impl Program {
 
     /// How many slots it takes.
     pub fn slots(&self) -> usize
-        ensures slots { result ≡ slots self.now }
+        ensures slots { result ≡ slots self.now.insns }
         ensures program { IsProgram self.now }
     {
         self.places.len()
@@ -86,17 +88,17 @@ impl Program {
 
     /// The instruction whose first slot this is; none in the second slot of a pair.
     pub fn at(&self, slot: usize) -> Option<Insn>
-        requires { slot < slots self.now }
-        ensures { result ≡ insn_at self.now slot }
+        requires { slot < slots self.now.insns }
+        ensures { result ≡ insn_at self.now.insns slot }
     {
         self.places[slot]
     }
 
     /// Its instructions, in order.
     pub fn insns(&self) -> &[Insn]
-        ensures insns { result.now ≡ self.now }
+        ensures insns { result.now ≡ self.now.insns }
         ensures program { IsProgram self.now }
-        ensures fits { AllByRecursion Fits self.now }
+        ensures fits { AllByRecursion Fits self.now.insns }
     {
         &self.insns
     }

@@ -1,3 +1,3 @@
-pub mod Both
-pub mod MeetOf
-pub mod Filling
+pub mod Pointwise
+pub mod JoinIsMeet
+pub mod FlagsFilled

@@ -2,6 +2,7 @@
 -- are this project's own profile.
 use Rattle.std.specs.Prelude.{ℕ, pos, Bool, true, false, ◌&&◌, if◌then◌else◌, List, [], ◌∷◌, replicate, slice_index_or}
 use Rattle.std.specs.Ordering.{int_eq}
+use Rattle.pb_isa.specs.declared.limits.TheConstants.{STACK_BYTES}
 use Rattle.pb_kinds.specs.declared.frame.Kind.{Kind}
 use Rattle.pb_kinds.specs.declared.frame.Kind.TheVariants.{Unset, Number, Stack, Record}
 use Rattle.pb_kinds.specs.declared.frame.Frame.{Frame}
@@ -11,14 +12,14 @@ abbrev pub kind_of : Frame → ℕ → Kind
 kind_of f r = slice_index_or f.kinds r Unset
 
 -- whether a stack byte is written, counted from the lowest
-abbrev pub is_written : Frame → ℕ → Bool
-is_written f i = slice_index_or f.written i false
+abbrev pub has_byte : Frame → ℕ → Bool
+has_byte f i = slice_index_or f.written i false
 
 -- at entry register 1 points to the record and register 10 to the end of the stack, and no byte is written
-unfoldable pub entry : Frame
-entry = record {
+unfoldable pub entry_frame : Frame
+entry_frame = record {
   kinds = Unset ∷ Record (pos 0) ∷ Unset ∷ Unset ∷ Unset ∷ Unset ∷ Unset ∷ Unset ∷ Unset ∷ Unset ∷ Stack (pos 0) ∷ [];
-  written = replicate 512 false;
+  written = replicate STACK_BYTES false;
 }
 
 abbrev pub same_kind : Kind → Kind → Bool
@@ -33,17 +34,17 @@ abbrev pub meet : Kind → Kind → Kind
 meet a b = if same_kind a b then a else Unset
 
 -- element by element
-abbrev pub both : {A : Type 0} → (A → A → A) → List A → List A → List A
-both f (a ∷ r) (b ∷ s) = f a b ∷ both f r s
-both f [] s = []
-both f (a ∷ r) [] = []
+abbrev pub pointwise : {A : Type 0} → (A → A → A) → List A → List A → List A
+pointwise f (a ∷ r) (b ∷ s) = f a b ∷ pointwise f r s
+pointwise f [] s = []
+pointwise f (a ∷ r) [] = []
 
 abbrev pub meet_kinds : List Kind → List Kind → List Kind
-meet_kinds = both meet
+meet_kinds = pointwise meet
 
 -- a byte is written where both say so
 abbrev pub meet_bytes : List Bool → List Bool → List Bool
-meet_bytes = both (λ a b. a && b)
+meet_bytes = pointwise (λ a b. a && b)
 
 unfoldable pub join : Frame → Frame → Frame
 join a b = record { kinds = meet_kinds a.kinds b.kinds; written = meet_bytes a.written b.written }
@@ -52,9 +53,9 @@ abbrev pub is_unset : Kind → Bool
 is_unset Unset = true
 is_unset _ = false
 
-abbrev pub is_number : Kind → Bool
-is_number Number = true
-is_number _ = false
+abbrev pub is_number_kind : Kind → Bool
+is_number_kind Number = true
+is_number_kind _ = false
 
 abbrev pub is_pointer : Kind → Bool
 is_pointer (Stack k) = true

@@ -3,16 +3,16 @@ use Rattle.std.specs.Prelude.{◌≡◌, ◌≢◌, ◌↔◌, ℕ, IsTrue}
 use Rattle.pb_kinds.specs.declared.frame.Kind.{Kind}
 use Rattle.pb_kinds.specs.declared.frame.Kind.TheVariants.{Unset}
 use Rattle.pb_kinds.specs.declared.frame.Frame.{Frame}
-use Rattle.pb_kinds.specs.Frames.{kind_of, is_written, join}
+use Rattle.pb_kinds.specs.Frames.{kind_of, has_byte, join}
 
 -- the register is known to be of this kind, which is one that says something
-pub record IsKnown (f : Frame) (r : ℕ) (k : Kind) : Type 0 where
+pub record KnowsKind (f : Frame) (r : ℕ) (k : Kind) : Type 0 where
   pub kind : kind_of f r ≡ k
   pub set : k ≢ Unset
 
 pub record IsMeet (a b f : Frame) : Type 0 where
-  pub kinds : (r : ℕ) (k : Kind) → IsKnown f r k ↔ (IsKnown a r k × IsKnown b r k)
-  pub bytes : (i : ℕ) → IsTrue (is_written f i) ↔ (IsTrue (is_written a i) × IsTrue (is_written b i))
+  pub kinds : (r : ℕ) (k : Kind) → KnowsKind f r k ↔ (KnowsKind a r k × KnowsKind b r k)
+  pub bytes : (i : ℕ) → IsTrue (has_byte f i) ↔ (IsTrue (has_byte a i) × IsTrue (has_byte b i))
 
 abbrev pub JoinsAreMeets : Type 0
 JoinsAreMeets = (a b : Frame) → IsMeet a b (join a b)

@@ -1,7 +1,9 @@
 //! Kinds, frames, and what two frames both say.
 ghost use Rattle.std.specs.Prelude.{◌≡◌};
-ghost use Rattle.pb_kinds.specs.Frames.{join, meet, meet_kinds, meet_bytes, entry, is_unset, is_number, is_pointer};
+ghost use Rattle.pb_kinds.specs.Frames.{join, meet, meet_kinds, meet_bytes, entry_frame, is_unset, is_number_kind, is_pointer};
 ghost use Rattle.pb_kinds.specs.Meet.{IsMeet, JoinsAreMeets};
+
+use pb_isa::STACK_BYTES;
 
 /// What is known of a register.
 #[derive(Clone, Copy, Debug, PartialEq, Eq)]
@@ -26,7 +28,7 @@ impl Kind {
 
     /// Whether it is a number.
     pub fn is_number(self) -> bool
-        ensures { result ≡ is_number self }
+        ensures { result ≡ is_number_kind self }
     {
         self == Kind::Number
     }
@@ -47,20 +49,20 @@ impl Kind {
 #[derive(Clone, Copy)]
 pub struct Frame {
     pub kinds: [Kind; 11],
-    pub written: [bool; 512],
+    pub written: [bool; STACK_BYTES],
 }
 
 /// The frame at entry: register 1 points to the record and register 10 to the end of the stack, and nothing is written.
-#[tactic(auto, unfolding(crate::specs::Frames::entry))]
+#[tactic(auto, unfolding(crate::specs::Frames::entry_frame))]
 pub fn entry() -> Frame
-    ensures { result ≡ entry }
+    ensures { result ≡ entry_frame }
 {
     let mut kinds = [Kind::Unset; 11];
     kinds[1] = Kind::Record(0);
     kinds[10] = Kind::Stack(0);
     Frame {
         kinds,
-        written: [false; 512],
+        written: [false; STACK_BYTES],
     }
 }
 
@@ -80,11 +82,11 @@ fn meet_kinds(a: &[Kind; 11], b: &[Kind; 11]) -> [Kind; 11]
     kinds
 }
 
-fn meet_bytes(a: &[bool; 512], b: &[bool; 512]) -> [bool; 512]
+fn meet_bytes(a: &[bool; STACK_BYTES], b: &[bool; STACK_BYTES]) -> [bool; STACK_BYTES]
     ensures { result ≡ meet_bytes a.now b.now }
 {
     let mut written = *a;
-    for i in 0..512 {
+    for i in 0..STACK_BYTES {
         written[i] = a[i] && b[i];
     }
     written

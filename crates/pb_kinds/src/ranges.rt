@@ -1,31 +1,32 @@
 //! Which bytes a pointer reaches, and which of them are written.
 ghost use Rattle.std.specs.Prelude.{◌≡◌, ◌≤◌, ◌+◌, length, replicate, true, IsTrue};
 ghost use Rattle.std.specs.List.{list_all};
-ghost use Rattle.pb_kinds.specs.Ranges.{in_stack, in_record, from_low, are_written, filled, with_written};
+ghost use Rattle.pb_kinds.specs.Ranges.{in_stack, in_record, from_low, are_written, set_flags, with_written};
 
 use crate::frame::Frame;
+use pb_isa::{RECORD_BYTES, STACK_BYTES};
 
 /// Whether so many bytes lie all in the stack, from this distance to the stack's end on.
 pub fn in_stack(at: i64, bytes: u8) -> bool
     ensures { result ≡ in_stack at bytes }
 {
-    -512 <= at && at <= -i64::from(bytes)
+    -(STACK_BYTES as i64) <= at && at <= -i64::from(bytes)
 }
 
 /// Whether so many bytes lie all in the change record, from this distance to its first byte on.
 pub fn in_record(at: i64, bytes: u8) -> bool
     ensures { result ≡ in_record at bytes }
 {
-    0 <= at && at <= 80 - i64::from(bytes)
+    0 <= at && at <= RECORD_BYTES as i64 - i64::from(bytes)
 }
 
 // The place of a stack byte, counted from the lowest.
 fn from_low(at: i64, bytes: u8) -> usize
     requires { IsTrue (in_stack at bytes) }
     ensures place { result ≡ from_low at }
-    ensures fits { result + bytes ≤ 512 }
+    ensures fits { result + bytes ≤ STACK_BYTES }
 {
-    (at + 512) as usize
+    (at + STACK_BYTES as i64) as usize
 }
 
 fn all_true(bytes: &[bool]) -> bool
@@ -47,9 +48,9 @@ fn fill(bytes: &mut [bool])
     }
 }
 
-fn fill_from(written: &mut [bool; 512], low: usize, bytes: usize)
-    requires { low + bytes ≤ 512 }
-    ensures { written.new ≡ filled written.old low bytes }
+fn fill_from(written: &mut [bool; STACK_BYTES], low: usize, bytes: usize)
+    requires { low + bytes ≤ STACK_BYTES }
+    ensures { written.new ≡ set_flags written.old low bytes }
 {
     fill(&mut written[low..low + bytes]);
 }

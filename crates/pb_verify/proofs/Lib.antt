@@ -1,6 +1,6 @@
-pub mod Lowest
-pub mod Rising
-pub mod Near
-pub mod Outs
-pub mod MeetOfWays
+pub mod LowestCode
+pub mod CodesRise
+pub mod PointersWithin
+pub mod FramesAfter
+pub mod FramesAreMeets
 pub mod OneVerdict

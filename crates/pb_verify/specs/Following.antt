@@ -22,45 +22,45 @@ abbrev pub with_kind : Frame → Reg → Kind → Frame
 with_kind f r k = record { kinds = slice_set f.kinds (number r) k; written = f.written }
 
 -- a pointer's distance plus the number
-abbrev pub moved : Kind → ℤ → Kind
-moved (Stack k) z = Stack (k +ℤ z)
-moved (Record k) z = Record (k +ℤ z)
-moved k z = Number
+abbrev pub move_pointer : Kind → ℤ → Kind
+move_pointer (Stack k) z = Stack (k +ℤ z)
+move_pointer (Record k) z = Record (k +ℤ z)
+move_pointer k z = Number
 
 -- what the destination of an operation holds: mov64 keeps the source's kind, and add64 and sub64 move pointers
 abbrev pub kind_after : Frame → AluOp → Width → Reg → Operand → Kind
-kind_after f Mov Bits64 d (operands.Reg r) = at f r
-kind_after f Add Bits64 d (operands.Imm k) = moved (at f d) k
-kind_after f Sub Bits64 d (operands.Imm k) = moved (at f d) (neg_ℤ k)
-kind_after f op w d x = Number
+kind_after f Mov Bits64 dst (operands.Reg src) = at f src
+kind_after f Add Bits64 dst (operands.Imm imm) = move_pointer (at f dst) imm
+kind_after f Sub Bits64 dst (operands.Imm imm) = move_pointer (at f dst) (neg_ℤ imm)
+kind_after f op w dst src = Number
 
 -- the bytes of a store are written
-abbrev pub stored : Frame → Kind → ℤ → ℕ → Frame
-stored f (Stack k) o n = if in_stack (k +ℤ o) n then with_written f (k +ℤ o) n else f
-stored f k o n = f
+abbrev pub with_store : Frame → Kind → ℤ → ℕ → Frame
+with_store f (Stack k) offset n = if in_stack (k +ℤ offset) n then with_written f (k +ℤ offset) n else f
+with_store f k offset n = f
 
 -- a call sets R0 and leaves R1 to R5 unset
-abbrev pub called_kinds : List Kind → List Kind
-called_kinds ks = Number ∷ Unset ∷ Unset ∷ Unset ∷ Unset ∷ Unset ∷ slice_index_or ks 6 Unset ∷ slice_index_or ks 7 Unset ∷ slice_index_or ks 8 Unset ∷ slice_index_or ks 9 Unset ∷ slice_index_or ks 10 Unset ∷ []
+abbrev pub kinds_after_call : List Kind → List Kind
+kinds_after_call ks = Number ∷ Unset ∷ Unset ∷ Unset ∷ Unset ∷ Unset ∷ slice_index_or ks 6 Unset ∷ slice_index_or ks 7 Unset ∷ slice_index_or ks 8 Unset ∷ slice_index_or ks 9 Unset ∷ slice_index_or ks 10 Unset ∷ []
 
-abbrev pub returned : Frame → Frame
-returned f = record { kinds = called_kinds f.kinds; written = f.written }
+abbrev pub clobber : Frame → Frame
+clobber f = record { kinds = kinds_after_call f.kinds; written = f.written }
 
 -- a read fills the 32 bytes at R3
 abbrev pub after_call : Frame → Option Helper → Frame
-after_call f (Some Read) = returned (stored f (kind_of f 3) (pos 0) 32)
-after_call f h = returned f
+after_call f (Some Read) = clobber (with_store f (kind_of f 3) (pos 0) 32)
+after_call f h = clobber f
 
 abbrev pub after : Frame → Insn → Frame
-after f (Alu op w d x) = with_kind f d (kind_after f op w d x)
-after f (Neg w d) = with_kind f d Number
-after f (LoadImm d v) = with_kind f d Number
-after f (Load z d r o) = with_kind f d Number
-after f (StoreImm z d o k) = stored f (at f d) o (bytes_of z)
-after f (Store z d o r) = stored f (at f d) o (bytes_of z)
-after f (Jump o) = f
-after f (JumpIf c w d x o) = f
-after f (Call k) = after_call f (helper_of k)
+after f (Alu op w dst src) = with_kind f dst (kind_after f op w dst src)
+after f (Neg w dst) = with_kind f dst Number
+after f (LoadImm dst imm) = with_kind f dst Number
+after f (Load z dst src offset) = with_kind f dst Number
+after f (StoreImm z dst offset imm) = with_store f (at f dst) offset (bytes_of z)
+after f (Store z dst src offset) = with_store f (at f dst) offset (bytes_of z)
+after f (Jump offset) = f
+after f (JumpIf c w dst src offset) = f
+after f (Call imm) = after_call f (helper_of imm)
 after f Exit = f
 
 -- the slot that a jump from slot n leads to, where it goes forward
@@ -70,8 +70,8 @@ ahead n (negsuc z) = []
 
 -- the later slots that the instruction at slot n leads to
 abbrev pub leads : ℕ → Insn → List ℕ
-leads n (LoadImm d v) = (n + 2) ∷ []
-leads n (Jump o) = ahead n o
-leads n (JumpIf c w d x o) = (n + 1) ∷ ahead n o
+leads n (LoadImm dst imm) = (n + 2) ∷ []
+leads n (Jump offset) = ahead n offset
+leads n (JumpIf c w dst src offset) = (n + 1) ∷ ahead n offset
 leads n Exit = []
 leads n i = (n + 1) ∷ []

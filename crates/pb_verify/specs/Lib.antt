@@ -1,7 +1,6 @@
 pub mod Rules
 pub mod Following
 pub mod Arriving
-pub mod Accepted
 pub mod Verdict
 pub mod Within
 pub mod Ways

@@ -4,18 +4,18 @@ use Rattle.pb_isa.specs.declared.insn.Insn.{Insn}
 use Rattle.pb_isa.specs.Slots.{insn_at}
 use Rattle.pb_kinds.specs.declared.frame.Kind.{Kind}
 use Rattle.pb_kinds.specs.declared.frame.Frame.{Frame}
-use Rattle.pb_kinds.specs.Frames.{entry, is_written}
-use Rattle.pb_kinds.specs.Meet.{IsKnown}
-use Rattle.pb_verify.specs.Arriving.{in_at, leaving, sent}
+use Rattle.pb_kinds.specs.Frames.{entry_frame, has_byte}
+use Rattle.pb_kinds.specs.Meet.{KnowsKind}
+use Rattle.pb_verify.specs.Arriving.{in_at, frame_after, if_leads}
 
 -- the frame after the instruction of slot m
 abbrev pub out_at : List Insn → ℕ → Option Frame
-out_at p m = leaving (insn_at p m) (in_at p m)
+out_at p m = frame_after (insn_at p m) (in_at p m)
 
 -- the instruction of the earlier slot m leads to slot n, and this is the frame after it
 pub record IsWay (p : List Insn) (n m : ℕ) (f : Frame) : Type 0 where
   pub earlier : m < n
-  pub leads : sent (insn_at p m) m n (out_at p m) ≡ Some f
+  pub leads : if_leads (insn_at p m) m n (out_at p m) ≡ Some f
 
 -- what a frame says: the kind of a register, and that a byte is written
 pub data Fact : Type 0 where
@@ -23,13 +23,13 @@ pub data Fact : Type 0 where
   HasByte : ℕ → Fact
 
 abbrev pub Says : Frame → Fact → Type 0
-Says f (HasKind r k) = IsKnown f r k
-Says f (HasByte i) = IsTrue (is_written f i)
+Says f (HasKind r k) = KnowsKind f r k
+Says f (HasByte i) = IsTrue (has_byte f i)
 
 -- entry is the only way to the first slot. The frame before a later one says exactly what is said on every way to it, and
 -- where there is no frame, there is no way
 pub record IsMeetOfWays (p : List Insn) : Type 0 where
-  pub first : in_at p 0 ≡ Some entry
+  pub first : in_at p 0 ≡ Some entry_frame
   pub later : (n : ℕ) → 0 < n → IfSome (in_at p n) (λ f. (x : Fact) → Says f x ↔ ((m : ℕ) (g : Frame) → IsWay p n m g → Says g x))
   pub none : (n m : ℕ) (g : Frame) → 0 < n → in_at p n ≡ None → ¬ (IsWay p n m g)
 

@@ -1,11 +1,11 @@
 //! The frame with which a slot is reached.
 ghost use Rattle.std.specs.Prelude.{◌≡◌, ◌<◌, length};
 ghost use Rattle.pb_isa.specs.Slots.{slots};
-ghost use Rattle.pb_verify.specs.Arriving.{merge, sent, arriving};
+ghost use Rattle.pb_verify.specs.Arriving.{merge, if_leads, frame_before};
 ghost use Rattle.pb_verify.specs.Ways.{FramesAreMeets};
 
 use crate::following::leads_to;
-use pb_isa::{Insn, Program};
+use pb_isa::{Insn, MAX_SLOTS, Program};
 use pb_kinds::{Frame, entry, join, joins_are_meets};
 
 fn merge(known: Option<Frame>, more: Option<Frame>) -> Option<Frame>
@@ -18,9 +18,9 @@ fn merge(known: Option<Frame>, more: Option<Frame>) -> Option<Frame>
     }
 }
 
-fn sent(insn: Option<Insn>, from: usize, to: usize, out: Option<Frame>) -> Option<Frame>
-    requires { from < 512 }
-    ensures { result ≡ sent insn from to out }
+fn if_leads(insn: Option<Insn>, from: usize, to: usize, out: Option<Frame>) -> Option<Frame>
+    requires { from < MAX_SLOTS }
+    ensures { result ≡ if_leads insn from to out }
 {
     match insn {
         None => None,
@@ -29,20 +29,21 @@ fn sent(insn: Option<Insn>, from: usize, to: usize, out: Option<Frame>) -> Optio
 }
 
 /// The frame before a slot, where these are the frames after the slots before it.
-pub fn arriving(program: &Program, slot: usize, outs: &[Option<Frame>]) -> Option<Frame>
-    requires inside { slot < slots program.now }
+pub fn frame_before(program: &Program, slot: usize, outs: &[Option<Frame>]) -> Option<Frame>
+    requires inside { slot < slots program.now.insns }
     requires before { length outs.now ≡ slot }
-    ensures { result ≡ arriving program.now slot outs.now }
+    ensures { result ≡ frame_before program.now.insns slot outs.now }
 {
     if slot == 0 {
         return Some(entry());
     }
+    // For the proof: a program has at most `MAX_SLOTS` slots.
     let _slots = program.slots();
     let mut known = None;
     for earlier in 0..slot {
         known = merge(
             known,
-            sent(program.at(earlier), earlier, slot, outs[earlier]),
+            if_leads(program.at(earlier), earlier, slot, outs[earlier]),
         );
     }
     known

@@ -1,12 +1,12 @@
 //! What is known after an instruction, and where it leads.
 ghost use Rattle.std.specs.Prelude.{◌≡◌, ◌≤◌, ◌<◌, ◌+◌, ◌^◌, ℕ, nat_abs};
-ghost use Rattle.pb_verify.specs.Following.{with_kind, moved, kind_after, stored, returned, after_call, after, ahead, leads};
-ghost use Rattle.pb_verify.specs.Arriving.{is_among};
+ghost use Rattle.pb_verify.specs.Following.{with_kind, move_pointer, kind_after, with_store, clobber, after_call, after, ahead, leads};
+ghost use Rattle.pb_verify.specs.Arriving.{has_slot};
 ghost use Rattle.pb_isa.specs.Helpers.{helper_of};
 ghost use Rattle.pb_verify.specs.Within.{IsNear, IsWithin};
 
 use crate::rules::{bytes_of, kind};
-use pb_isa::{AluOp, Insn, Operand, Reg, Width};
+use pb_isa::{AluOp, Insn, MAX_SLOTS, Operand, Reg, Width};
 use pb_kinds::{Frame, Kind, in_stack};
 
 fn with_kind(frame: &Frame, reg: Reg, kind: Kind) -> Frame
@@ -18,10 +18,10 @@ fn with_kind(frame: &Frame, reg: Reg, kind: Kind) -> Frame
     next
 }
 
-fn moved(kind: Kind, by: i64) -> Kind
+fn move_pointer(kind: Kind, by: i64) -> Kind
     requires near { IsNear (2 ^ 62) kind }
     requires small { nat_abs by ≤ 2147483648 }
-    ensures value { result ≡ moved kind by }
+    ensures value { result ≡ move_pointer kind by }
     ensures near { (b : ℕ) → IsNear b kind → IsNear (b + 2147483648) result }
 {
     match kind {
@@ -32,29 +32,29 @@ fn moved(kind: Kind, by: i64) -> Kind
 }
 
 // What the destination of an operation holds.
-fn kind_after(frame: &Frame, op: AluOp, width: Width, to: Reg, operand: Operand) -> Kind
+fn kind_after(frame: &Frame, op: AluOp, width: Width, dst: Reg, src: Operand) -> Kind
     requires { IsWithin (2 ^ 62) frame.now }
-    ensures value { result ≡ kind_after frame.now op width to operand }
+    ensures value { result ≡ kind_after frame.now op width dst src }
     ensures near { (b : ℕ) → IsWithin b frame.now → IsNear (b + 2147483648) result }
 {
-    match (width, operand) {
+    match (width, src) {
         (Width::Bits32, _) => Kind::Number,
-        (Width::Bits64, Operand::Reg(from)) => match op {
-            AluOp::Mov => kind(frame, from),
+        (Width::Bits64, Operand::Reg(src)) => match op {
+            AluOp::Mov => kind(frame, src),
             _ => Kind::Number,
         },
-        (Width::Bits64, Operand::Imm(by)) => match op {
-            AluOp::Add => moved(kind(frame, to), i64::from(by)),
-            AluOp::Sub => moved(kind(frame, to), -i64::from(by)),
+        (Width::Bits64, Operand::Imm(imm)) => match op {
+            AluOp::Add => move_pointer(kind(frame, dst), i64::from(imm)),
+            AluOp::Sub => move_pointer(kind(frame, dst), -i64::from(imm)),
             _ => Kind::Number,
         },
     }
 }
 
 // The bytes of a store are written.
-fn stored(frame: &Frame, base: Kind, offset: i16, bytes: u8) -> Frame
+fn with_store(frame: &Frame, base: Kind, offset: i16, bytes: u8) -> Frame
     requires { IsNear (2 ^ 62) base }
-    ensures value { result ≡ stored frame.now base offset bytes }
+    ensures value { result ≡ with_store frame.now base offset bytes }
     ensures near { (b : ℕ) → IsWithin b frame.now → IsWithin b result }
 {
     let mut next = *frame;
@@ -68,8 +68,8 @@ fn stored(frame: &Frame, base: Kind, offset: i16, bytes: u8) -> Frame
 }
 
 // What a call leaves of the registers.
-fn returned(frame: &Frame) -> Frame
-    ensures value { result ≡ returned frame.now }
+fn clobber(frame: &Frame) -> Frame
+    ensures value { result ≡ clobber frame.now }
     ensures near { (b : ℕ) → IsWithin b frame.now → IsWithin b result }
 {
     let kinds = &frame.kinds;
@@ -98,9 +98,9 @@ fn after_call(frame: &Frame, number: i32) -> Frame
     ensures near { (b : ℕ) → IsWithin b frame.now → IsWithin b result }
 {
     if number == 1 {
-        returned(&stored(frame, kind(frame, Reg::R3), 0, 32))
+        clobber(&with_store(frame, kind(frame, Reg::R3), 0, 32))
     } else {
-        returned(frame)
+        clobber(frame)
     }
 }
 
@@ -111,39 +111,48 @@ pub fn after(frame: &Frame, insn: Insn) -> Frame
     ensures near { (b : ℕ) → IsWithin b frame.now → IsWithin (b + 2147483648) result }
 {
     match insn {
-        Insn::Alu(op, width, to, operand) => {
-            with_kind(frame, to, kind_after(frame, op, width, to, operand))
+        Insn::Alu {
+            op,
+            width,
+            dst,
+            src,
+        } => with_kind(frame, dst, kind_after(frame, op, width, dst, src)),
+        Insn::Neg { dst, .. } | Insn::LoadImm { dst, .. } | Insn::Load { dst, .. } => {
+            with_kind(frame, dst, Kind::Number)
         }
-        Insn::Neg(_, to) | Insn::LoadImm(to, _) | Insn::Load(_, to, _, _) => {
-            with_kind(frame, to, Kind::Number)
-        }
-        Insn::StoreImm(size, base, offset, _) => {
-            stored(frame, kind(frame, base), offset, bytes_of(size))
-        }
-        Insn::Store(size, base, offset, _) => {
-            stored(frame, kind(frame, base), offset, bytes_of(size))
-        }
-        Insn::Call(number) => after_call(frame, number),
-        Insn::Jump(_) | Insn::JumpIf(_, _, _, _, _) | Insn::Exit => *frame,
+        Insn::StoreImm {
+            size,
+            dst,
+            offset,
+            imm: _,
+        } => with_store(frame, kind(frame, dst), offset, bytes_of(size)),
+        Insn::Store {
+            size,
+            dst,
+            src: _,
+            offset,
+        } => with_store(frame, kind(frame, dst), offset, bytes_of(size)),
+        Insn::Call { imm } => after_call(frame, imm),
+        Insn::Jump { .. } | Insn::JumpIf { .. } | Insn::Exit => *frame,
     }
 }
 
 fn jumps_to(slot: usize, offset: i16, to: usize) -> bool
-    requires { slot < 512 }
-    ensures { result ≡ is_among to (ahead slot offset) }
+    requires { slot < MAX_SLOTS }
+    ensures { result ≡ has_slot (ahead slot offset) to }
 {
     offset >= 0 && slot + 1 + offset as usize == to
 }
 
 /// Whether the instruction at a slot leads to the later slot `to`.
 pub fn leads_to(slot: usize, insn: Insn, to: usize) -> bool
-    requires { slot < 512 }
-    ensures { result ≡ is_among to (leads slot insn) }
+    requires { slot < MAX_SLOTS }
+    ensures { result ≡ has_slot (leads slot insn) to }
 {
     match insn {
-        Insn::LoadImm(_, _) => to == slot + 2,
-        Insn::Jump(offset) => jumps_to(slot, offset, to),
-        Insn::JumpIf(_, _, _, _, offset) => to == slot + 1 || jumps_to(slot, offset, to),
+        Insn::LoadImm { .. } => to == slot + 2,
+        Insn::Jump { offset } => jumps_to(slot, offset, to),
+        Insn::JumpIf { offset, .. } => to == slot + 1 || jumps_to(slot, offset, to),
         Insn::Exit => false,
         _ => to == slot + 1,
     }

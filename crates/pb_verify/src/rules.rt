@@ -1,8 +1,8 @@
 //! The rules of one instruction.
 ghost use Rattle.std.specs.Prelude.{◌≡◌, ◌<◌, ◌+◌, ◌^◌, ◌≤◌, ℕ};
 ghost use Rattle.pb_isa.specs.Slots.{slots};
-ghost use Rattle.pb_helpers.specs.Codes.{lowest};
-ghost use Rattle.pb_verify.specs.Rules.{at, reads, sets, reads_operand, points, on_pointer, bytes_of, falls, numeric, mov, add, alu, loads, stores, load, store_imm, store, jumps, jump_if, exit, broken, CodesRise};
+ghost use Rattle.pb_helpers.specs.Codes.{lowest_code};
+ghost use Rattle.pb_verify.specs.Rules.{at, reads, sets, reads_operand, points, on_pointer, bytes_of, falls, numeric_rules, mov_rules, add_rules, alu_rules, loads, stores, load_rules, store_imm_rules, store_rules, jump_rules, jump_if_rules, exit_rules, insn_rules, CodesRise};
 ghost use Rattle.pb_verify.specs.Within.{IsNear, IsWithin};
 
 use pb_helpers::{
@@ -31,94 +31,94 @@ pub fn bytes_of(size: Size) -> u8
 }
 
 fn reads(frame: &Frame, reg: Reg) -> Option<Code>
-    ensures { result ≡ lowest (reads frame.now reg) }
+    ensures { result ≡ lowest_code (reads frame.now reg) }
 {
     unset_code(frame, reg.number())
 }
 
-fn sets(reg: Reg) -> Option<Code>
-    ensures { result ≡ lowest (sets reg) }
+fn sets(dst: Reg) -> Option<Code>
+    ensures { result ≡ lowest_code (sets dst) }
 {
-    Code::WritesR10.when(reg.number() == 10)
+    Code::WritesR10.when(dst.number() == 10)
 }
 
-fn reads_operand(frame: &Frame, operand: Operand) -> Option<Code>
-    ensures { result ≡ lowest (reads_operand frame.now operand) }
+fn reads_operand(frame: &Frame, src: Operand) -> Option<Code>
+    ensures { result ≡ lowest_code (reads_operand frame.now src) }
 {
-    match operand {
+    match src {
         Operand::Imm(_) => None,
-        Operand::Reg(reg) => reads(frame, reg),
+        Operand::Reg(src) => reads(frame, src),
     }
 }
 
-fn points(frame: &Frame, operand: Operand) -> bool
-    ensures { result ≡ points frame.now operand }
+fn points(frame: &Frame, src: Operand) -> bool
+    ensures { result ≡ points frame.now src }
 {
-    match operand {
+    match src {
         Operand::Imm(_) => false,
-        Operand::Reg(reg) => kind(frame, reg).is_pointer(),
+        Operand::Reg(src) => kind(frame, src).is_pointer(),
     }
 }
 
-fn on_pointer(frame: &Frame, reg: Reg, operand: Operand) -> bool
-    ensures { result ≡ on_pointer frame.now reg operand }
+fn on_pointer(frame: &Frame, dst: Reg, src: Operand) -> bool
+    ensures { result ≡ on_pointer frame.now dst src }
 {
-    kind(frame, reg).is_pointer() || points(frame, operand)
+    kind(frame, dst).is_pointer() || points(frame, src)
 }
 
 fn falls(program: &Program, slot: usize) -> Option<Code>
-    ensures { result ≡ lowest (falls program.now slot) }
+    ensures { result ≡ lowest_code (falls program.now.insns slot) }
 {
     Code::FallsOff.when(slot == program.slots())
 }
 
-#[tactic(auto, using(crate::proofs::Lowest::lowest_append))]
-fn numeric(frame: &Frame, to: Reg, operand: Operand) -> Option<Code>
-    ensures { result ≡ lowest (numeric frame.now to operand) }
+#[tactic(auto, using(crate::proofs::LowestCode::lowest_append))]
+fn numeric(frame: &Frame, dst: Reg, src: Operand) -> Option<Code>
+    ensures { result ≡ lowest_code (numeric_rules frame.now dst src) }
 {
-    reads(frame, to)
-        .or(reads_operand(frame, operand))
-        .or(sets(to))
-        .or(Code::PointerArithmetic.when(on_pointer(frame, to, operand)))
+    reads(frame, dst)
+        .or(reads_operand(frame, src))
+        .or(sets(dst))
+        .or(Code::PointerArithmetic.when(on_pointer(frame, dst, src)))
 }
 
-#[tactic(auto, using(crate::proofs::Lowest::lowest_append))]
-fn mov(frame: &Frame, width: Width, to: Reg, operand: Operand) -> Option<Code>
-    ensures { result ≡ lowest (mov frame.now width to operand) }
+#[tactic(auto, using(crate::proofs::LowestCode::lowest_append))]
+fn mov(frame: &Frame, width: Width, dst: Reg, src: Operand) -> Option<Code>
+    ensures { result ≡ lowest_code (mov_rules frame.now width dst src) }
 {
-    match operand {
-        Operand::Imm(_) => sets(to),
-        Operand::Reg(from) => match width {
-            Width::Bits64 => reads(frame, from).or(sets(to)),
+    match src {
+        Operand::Imm(_) => sets(dst),
+        Operand::Reg(src) => match width {
+            Width::Bits64 => reads(frame, src).or(sets(dst)),
             Width::Bits32 => {
-                let is_pointer = kind(frame, from).is_pointer();
-                reads(frame, from)
-                    .or(sets(to))
+                let is_pointer = kind(frame, src).is_pointer();
+                reads(frame, src)
+                    .or(sets(dst))
                     .or(Code::PointerArithmetic.when(is_pointer))
             }
         },
     }
 }
 
-#[tactic(auto, using(crate::proofs::Lowest::lowest_append))]
-fn add(frame: &Frame, width: Width, to: Reg, operand: Operand) -> Option<Code>
-    ensures { result ≡ lowest (add frame.now width to operand) }
+#[tactic(auto, using(crate::proofs::LowestCode::lowest_append))]
+fn add(frame: &Frame, width: Width, dst: Reg, src: Operand) -> Option<Code>
+    ensures { result ≡ lowest_code (add_rules frame.now width dst src) }
 {
     match width {
-        Width::Bits64 => match operand {
-            Operand::Imm(_) => reads(frame, to).or(sets(to)),
-            Operand::Reg(_) => numeric(frame, to, operand),
+        Width::Bits64 => match src {
+            Operand::Imm(_) => reads(frame, dst).or(sets(dst)),
+            Operand::Reg(_) => numeric(frame, dst, src),
         },
-        Width::Bits32 => numeric(frame, to, operand),
+        Width::Bits32 => numeric(frame, dst, src),
     }
 }
 
-fn alu(frame: &Frame, op: AluOp, width: Width, to: Reg, operand: Operand) -> Option<Code>
-    ensures { result ≡ lowest (alu frame.now op width to operand) }
+fn alu(frame: &Frame, op: AluOp, width: Width, dst: Reg, src: Operand) -> Option<Code>
+    ensures { result ≡ lowest_code (alu_rules frame.now op width dst src) }
 {
     match op {
-        AluOp::Mov => mov(frame, width, to, operand),
-        AluOp::Add | AluOp::Sub => add(frame, width, to, operand),
+        AluOp::Mov => mov(frame, width, dst, src),
+        AluOp::Add | AluOp::Sub => add(frame, width, dst, src),
         AluOp::Mul
         | AluOp::Div
         | AluOp::Or
@@ -127,13 +127,13 @@ fn alu(frame: &Frame, op: AluOp, width: Width, to: Reg, operand: Operand) -> Opt
         | AluOp::Rsh
         | AluOp::Mod
         | AluOp::Xor
-        | AluOp::Arsh => numeric(frame, to, operand),
+        | AluOp::Arsh => numeric(frame, dst, src),
     }
 }
 
 fn loads(frame: &Frame, base: Kind, offset: i16, bytes: u8) -> Option<Code>
     requires { IsNear (2 ^ 62) base }
-    ensures { result ≡ lowest (loads frame.now base offset bytes) }
+    ensures { result ≡ lowest_code (loads frame.now base offset bytes) }
 {
     match base {
         Kind::Unset => None,
@@ -145,7 +145,7 @@ fn loads(frame: &Frame, base: Kind, offset: i16, bytes: u8) -> Option<Code>
 
 fn stores(base: Kind, offset: i16, bytes: u8) -> Option<Code>
     requires { IsNear (2 ^ 62) base }
-    ensures { result ≡ lowest (stores base offset bytes) }
+    ensures { result ≡ lowest_code (stores base offset bytes) }
 {
     match base {
         Kind::Unset => None,
@@ -155,39 +155,39 @@ fn stores(base: Kind, offset: i16, bytes: u8) -> Option<Code>
     }
 }
 
-#[tactic(auto, using(crate::proofs::Lowest::lowest_append))]
-fn load(frame: &Frame, size: Size, to: Reg, base: Reg, offset: i16) -> Option<Code>
+#[tactic(auto, using(crate::proofs::LowestCode::lowest_append))]
+fn load(frame: &Frame, size: Size, dst: Reg, src: Reg, offset: i16) -> Option<Code>
     requires { IsWithin (2 ^ 62) frame.now }
-    ensures { result ≡ lowest (load frame.now size to base offset) }
+    ensures { result ≡ lowest_code (load_rules frame.now size dst src offset) }
 {
-    let access = loads(frame, kind(frame, base), offset, bytes_of(size));
-    reads(frame, base).or(sets(to)).or(access)
+    let access = loads(frame, kind(frame, src), offset, bytes_of(size));
+    reads(frame, src).or(sets(dst)).or(access)
 }
 
-#[tactic(auto, using(crate::proofs::Lowest::lowest_append))]
-fn store_imm(frame: &Frame, size: Size, base: Reg, offset: i16) -> Option<Code>
+#[tactic(auto, using(crate::proofs::LowestCode::lowest_append))]
+fn store_imm(frame: &Frame, size: Size, dst: Reg, offset: i16) -> Option<Code>
     requires { IsWithin (2 ^ 62) frame.now }
-    ensures { result ≡ lowest (store_imm frame.now size base offset) }
+    ensures { result ≡ lowest_code (store_imm_rules frame.now size dst offset) }
 {
-    let access = stores(kind(frame, base), offset, bytes_of(size));
-    reads(frame, base).or(access)
+    let access = stores(kind(frame, dst), offset, bytes_of(size));
+    reads(frame, dst).or(access)
 }
 
-#[tactic(auto, using(crate::proofs::Lowest::lowest_append))]
-fn store(frame: &Frame, size: Size, base: Reg, offset: i16, from: Reg) -> Option<Code>
+#[tactic(auto, using(crate::proofs::LowestCode::lowest_append))]
+fn store(frame: &Frame, size: Size, dst: Reg, src: Reg, offset: i16) -> Option<Code>
     requires { IsWithin (2 ^ 62) frame.now }
-    ensures { result ≡ lowest (store frame.now size base offset from) }
+    ensures { result ≡ lowest_code (store_rules frame.now size dst src offset) }
 {
-    let access = stores(kind(frame, base), offset, bytes_of(size));
-    reads(frame, base)
-        .or(reads(frame, from))
-        .or(Code::PointerStored.when(kind(frame, from).is_pointer()))
+    let access = stores(kind(frame, dst), offset, bytes_of(size));
+    reads(frame, dst)
+        .or(reads(frame, src))
+        .or(Code::PointerStored.when(kind(frame, src).is_pointer()))
         .or(access)
 }
 
 fn jumps(program: &Program, slot: usize, offset: i16) -> Option<Code>
-    requires { slot < slots program.now }
-    ensures { result ≡ lowest (jumps program.now slot offset) }
+    requires { slot < slots program.now.insns }
+    ensures { result ≡ lowest_code (jump_rules program.now.insns slot offset) }
 {
     let slots = program.slots();
     if offset < 0 {
@@ -200,60 +200,86 @@ fn jumps(program: &Program, slot: usize, offset: i16) -> Option<Code>
     Code::JumpIntoPair.when(program.at(target).is_none())
 }
 
-#[tactic(auto, using(crate::proofs::Lowest::lowest_append))]
+#[tactic(auto, using(crate::proofs::LowestCode::lowest_append))]
 fn jump_if(
     program: &Program,
     slot: usize,
     frame: &Frame,
-    left: Reg,
-    right: Operand,
+    dst: Reg,
+    src: Operand,
     offset: i16,
 ) -> Option<Code>
-    requires { slot < slots program.now }
-    ensures { result ≡ lowest (jump_if program.now slot frame.now left right offset) }
+    requires { slot < slots program.now.insns }
+    ensures { result ≡ lowest_code (jump_if_rules program.now.insns slot frame.now dst src offset) }
 {
+    // For the proof: a program has at most `MAX_SLOTS` slots, so that the next slot is a number.
     let _slots = program.slots();
-    reads(frame, left)
-        .or(reads_operand(frame, right))
+    reads(frame, dst)
+        .or(reads_operand(frame, src))
         .or(jumps(program, slot, offset))
         .or(falls(program, slot + 1))
-        .or(Code::PointerCompared.when(on_pointer(frame, left, right)))
+        .or(Code::PointerCompared.when(on_pointer(frame, dst, src)))
 }
 
-#[tactic(auto, using(crate::proofs::Lowest::lowest_append))]
+#[tactic(auto, using(crate::proofs::LowestCode::lowest_append))]
 fn exit(frame: &Frame) -> Option<Code>
-    ensures { result ≡ lowest (exit frame.now) }
+    ensures { result ≡ lowest_code (exit_rules frame.now) }
 {
     unset_code(frame, 0).or(Code::ExitsWithPointer.when(frame.kinds[0].is_pointer()))
 }
 
 /// The lowest code of the rules that the instruction at a slot breaks.
-#[tactic(auto, using(crate::proofs::Lowest::lowest_append))]
-pub fn broken(
+#[tactic(auto, using(crate::proofs::LowestCode::lowest_append))]
+pub fn lowest_broken(
     program: &Program,
     helpers: HelperTable,
     slot: usize,
     frame: &Frame,
     insn: Insn,
 ) -> Option<Code>
-    requires inside { slot < slots program.now }
+    requires inside { slot < slots program.now.insns }
     requires near { IsWithin (2 ^ 62) frame.now }
-    ensures { result ≡ lowest (broken program.now helpers slot frame.now insn) }
+    ensures { result ≡ lowest_code (insn_rules program.now.insns helpers slot frame.now insn) }
 {
+    // For the proof: a program has at most `MAX_SLOTS` slots, so that the next slot is a number.
     let _slots = program.slots();
     let falls = falls(program, slot + 1);
     match insn {
-        Insn::Alu(op, width, to, operand) => alu(frame, op, width, to, operand).or(falls),
-        Insn::Neg(_, to) => numeric(frame, to, Operand::Imm(0)).or(falls),
-        Insn::LoadImm(to, _) => sets(to).or(self::falls(program, slot + 2)),
-        Insn::Load(size, to, base, offset) => load(frame, size, to, base, offset).or(falls),
-        Insn::StoreImm(size, base, offset, _) => store_imm(frame, size, base, offset).or(falls),
-        Insn::Store(size, base, offset, from) => store(frame, size, base, offset, from).or(falls),
-        Insn::Jump(offset) => jumps(program, slot, offset),
-        Insn::JumpIf(_, _, left, right, offset) => {
-            jump_if(program, slot, frame, left, right, offset)
-        }
-        Insn::Call(number) => argument_code(helpers, number, frame).or(falls),
+        Insn::Alu {
+            op,
+            width,
+            dst,
+            src,
+        } => alu(frame, op, width, dst, src).or(falls),
+        Insn::Neg { width: _, dst } => numeric(frame, dst, Operand::Imm(0)).or(falls),
+        Insn::LoadImm { dst, imm: _ } => sets(dst).or(self::falls(program, slot + 2)),
+        Insn::Load {
+            size,
+            dst,
+            src,
+            offset,
+        } => load(frame, size, dst, src, offset).or(falls),
+        Insn::StoreImm {
+            size,
+            dst,
+            offset,
+            imm: _,
+        } => store_imm(frame, size, dst, offset).or(falls),
+        Insn::Store {
+            size,
+            dst,
+            src,
+            offset,
+        } => store(frame, size, dst, src, offset).or(falls),
+        Insn::Jump { offset } => jumps(program, slot, offset),
+        Insn::JumpIf {
+            cmp: _,
+            width: _,
+            dst,
+            src,
+            offset,
+        } => jump_if(program, slot, frame, dst, src, offset),
+        Insn::Call { imm } => argument_code(helpers, imm, frame).or(falls),
         Insn::Exit => exit(frame),
     }
 }

@@ -1,15 +1,15 @@
 //! Whether the rules hold at every slot.
 ghost use Rattle.std.specs.Prelude.{◌≡◌, ◌<◌, ◌+◌, ◌^◌, ℕ, [], Some, IfOk, IfErr, MatchResult};
 ghost use Rattle.pb_isa.specs.Slots.{slots, insn_at};
-ghost use Rattle.pb_helpers.specs.Codes.{lowest};
-ghost use Rattle.pb_verify.specs.Arriving.{codes_at, leaving};
-ghost use Rattle.pb_verify.specs.Verdict.{IsAccepted, IsFault, EachHasOneVerdict};
+ghost use Rattle.pb_helpers.specs.Codes.{lowest_code};
+ghost use Rattle.pb_verify.specs.Arriving.{codes_at, frame_after};
+ghost use Rattle.pb_verify.specs.Verdict.{IsAccepted, IsVerifyFault, EachHasOneVerdict};
 ghost use Rattle.pb_verify.specs.Within.{IsWithinIf};
 
 use crate::accepted::Accepted;
-use crate::arriving::arriving;
+use crate::arriving::frame_before;
 use crate::following::after;
-use crate::rules::broken;
+use crate::rules::lowest_broken;
 use pb_base::Refused;
 use pb_helpers::{Code, HelperTable};
 use pb_isa::Program;
@@ -27,24 +27,24 @@ pub enum VerifyFault {
 }
 
 // The frame after a slot, or the lowest code of the rules that are broken there.
-fn leaving(
+fn frame_after(
     program: &Program,
     helpers: HelperTable,
     slot: usize,
-    arriving: Option<Frame>,
+    before: Option<Frame>,
 ) -> Result<Option<Frame>, Code>
-    requires inside { slot < slots program.now }
-    requires near { IsWithinIf (2 ^ 62) arriving }
+    requires inside { slot < slots program.now.insns }
+    requires near { IsWithinIf (2 ^ 62) before }
     ensures value { MatchResult
         result
-        (λ out. (codes_at program.now helpers slot (insn_at program.now slot) arriving ≡ []) × (out ≡ leaving (insn_at program.now slot) arriving))
-        (λ code. lowest (codes_at program.now helpers slot (insn_at program.now slot) arriving) ≡ Some code) }
-    ensures near { IfOk result (λ out. (b : ℕ) → IsWithinIf b arriving → IsWithinIf (b + 2147483648) out) }
+        (λ out. (codes_at program.now.insns helpers slot (insn_at program.now.insns slot) before ≡ []) × (out ≡ frame_after (insn_at program.now.insns slot) before))
+        (λ code. lowest_code (codes_at program.now.insns helpers slot (insn_at program.now.insns slot) before) ≡ Some code) }
+    ensures near { IfOk result (λ out. (b : ℕ) → IsWithinIf b before → IsWithinIf (b + 2147483648) out) }
 {
-    match (program.at(slot), arriving) {
+    match (program.at(slot), before) {
         (None, _) => Ok(None),
         (Some(_), None) => Err(Code::Unreachable),
-        (Some(insn), Some(frame)) => match broken(program, helpers, slot, &frame, insn) {
+        (Some(insn), Some(frame)) => match lowest_broken(program, helpers, slot, &frame, insn) {
             Some(code) => Err(code),
             None => Ok(Some(after(&frame, insn))),
         },
@@ -59,12 +59,12 @@ pub fn verify(
     helpers: HelperTable,
 ) -> Result<Accepted, VerifyFault>
     ensures accepted { IfOk result (IsAccepted program helpers) }
-    ensures refused { IfErr result (IsFault program helpers) }
+    ensures refused { IfErr result (IsVerifyFault program helpers) }
 {
     let mut outs: Vec<Option<Frame>> = Vec::new(alloc);
     for slot in 0..program.slots() {
-        let known = arriving(&program, slot, &outs);
-        match leaving(&program, helpers, slot, known) {
+        let known = frame_before(&program, slot, &outs);
+        match frame_after(&program, helpers, slot, known) {
             Err(code) => {
                 return Err(VerifyFault::Refused(Refused {
                     slot: slot as u16,

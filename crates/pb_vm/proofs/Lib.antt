@@ -1,7 +1,7 @@
-pub mod Taken
-pub mod Encoded
-pub mod Firsts
-pub mod Lines
-pub mod Turns
-pub mod Same
-pub mod Back
+pub mod BytesTaken
+pub mod SlotsEncode
+pub mod FirstSlotFault
+pub mod StraightLines
+pub mod MachineSteps
+pub mod SameInsns
+pub mod EncodingsTaken

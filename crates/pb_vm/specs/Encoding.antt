@@ -11,6 +11,7 @@ use Rattle.pb_isa.specs.declared.insn.Operand.TheVariants.{Imm}
 use Rattle.pb_isa.specs.declared.insn.Reg.{Reg}
 use Rattle.pb_isa.specs.declared.insn.Reg.TheVariants.{R0, R1, R2, R3, R4, R5, R6, R7, R8, R9, R10}
 use Rattle.pb_isa.specs.Registers.{number}
+use Rattle.pb_isa.specs.Programs.{ProgramOf}
 
 -- mov64 of an immediate, or exit
 abbrev pub is_known : Insn → Bool
@@ -20,22 +21,22 @@ is_known _ = false
 
 -- opcode, registers (the low half the destination, the high half the source), offset and immediate, low bytes first
 abbrev pub encoded : Insn → List ℕ
-encoded (Alu Mov Bits64 d (Imm k)) = 183 ∷ number d ∷ 0 ∷ 0 ∷ to_le_bytes w32 (cast_unsigned w32 k)
+encoded (Alu Mov Bits64 dst (Imm imm)) = 183 ∷ number dst ∷ 0 ∷ 0 ∷ to_le_bytes w32 (cast_unsigned w32 imm)
 encoded Exit = 149 ∷ 0 ∷ 0 ∷ 0 ∷ 0 ∷ 0 ∷ 0 ∷ 0 ∷ []
 encoded _ = []
 
 -- the slots of the instructions in order
-abbrev pub encoding : List Insn → List ℕ
-encoding [] = []
-encoding (i ∷ is) = encoded i ++ encoding is
+abbrev pub plain_encoding : List Insn → List ℕ
+plain_encoding [] = []
+plain_encoding (i ∷ is) = encoded i ++ plain_encoding is
 
 -- ---- the fields of a slot
 
-abbrev pub opcode : List ℕ → ℕ
-opcode s = slice_index s 0
+abbrev pub opcode_byte : List ℕ → ℕ
+opcode_byte s = slice_index s 0
 
-abbrev pub registers : List ℕ → ℕ
-registers s = slice_index s 1
+abbrev pub register_byte : List ℕ → ℕ
+register_byte s = slice_index s 1
 
 abbrev pub offset : List ℕ → ℕ
 offset s = from_le_bytes w16 (take 2 (drop 2 s))
@@ -44,22 +45,22 @@ abbrev pub immediate : List ℕ → ℕ
 immediate s = from_le_bytes w32 (drop 4 s)
 
 abbrev pub is_mov : List ℕ → Bool
-is_mov s = nat_eq (opcode s) 183
+is_mov s = nat_eq (opcode_byte s) 183
 
 abbrev pub is_exit : List ℕ → Bool
-is_exit s = nat_eq (opcode s) 149
+is_exit s = nat_eq (opcode_byte s) 149
 
 -- mov has no source and no offset, and exit has only its opcode
 abbrev pub has_unused : List ℕ → Bool
 has_unused s = if is_mov s
-    then not (nat_eq (registers s / 16) 0) || not (nat_eq (offset s) 0)
-    else not (nat_eq (registers s) 0) || (not (nat_eq (offset s) 0) || not (nat_eq (immediate s) 0))
+    then not (nat_eq (register_byte s / 16) 0) || not (nat_eq (offset s) 0)
+    else not (nat_eq (register_byte s) 0) || (not (nat_eq (offset s) 0) || not (nat_eq (immediate s) 0))
 
 -- 12 another opcode, 13 a register number over 10, 14 an unused field that isn't zero
 abbrev pub slot_code : List ℕ → Option ℕ
 slot_code s =
     if not (is_mov s || is_exit s) then Some 12
-    else if nat_lt 10 (registers s % 16) || nat_lt 10 (registers s / 16) then Some 13
+    else if nat_lt 10 (register_byte s % 16) || nat_lt 10 (register_byte s / 16) then Some 13
     else if has_unused s then Some 14
     else None
 
@@ -71,12 +72,12 @@ register n =
     else if nat_eq n 4 then R4 else if nat_eq n 5 then R5 else if nat_eq n 6 then R6 else if nat_eq n 7 then R7
     else if nat_eq n 8 then R8 else if nat_eq n 9 then R9 else R10
 
-abbrev pub insn_of : List ℕ → Insn
-insn_of s = if is_mov s then Alu Mov Bits64 (register (registers s % 16)) (Imm (cast_signed w32 (immediate s))) else Exit
+abbrev pub plain_insn : List ℕ → Insn
+plain_insn s = if is_mov s then Alu Mov Bits64 (register (register_byte s % 16)) (Imm (cast_signed w32 (immediate s))) else Exit
 
 -- eight bytes each
 abbrev pub slots_in : List ℕ → List (List ℕ)
 slots_in bytes = first_chunks 8 (length bytes / 8) bytes
 
-abbrev pub program_of : List ℕ → List Insn
-program_of bytes = map insn_of (slots_in bytes)
+abbrev pub program_of : List ℕ → ProgramOf
+program_of bytes = record { insns = map plain_insn (slots_in bytes) }

@@ -6,8 +6,9 @@ use Rattle.pb_isa.specs.declared.insn.Insn.TheVariants.{Alu, Exit}
 use Rattle.pb_isa.specs.declared.insn.AluOp.TheVariants.{Mov}
 use Rattle.pb_isa.specs.declared.insn.Width.TheVariants.{Bits64}
 use Rattle.pb_isa.specs.declared.insn.Operand.TheVariants.{Imm}
-use Rattle.pb_vm.specs.Encoding.{encoding, program_of}
-use Rattle.pb_vm.specs.Rules.{Accepts}
+use Rattle.pb_isa.specs.declared.limits.TheConstants.{MAX_SLOTS}
+use Rattle.pb_vm.specs.Encoding.{plain_encoding, program_of}
+use Rattle.pb_vm.specs.Rules.{PlainAccepts}
 use Rattle.pb_vm.specs.Verdict.{refusal}
 
 -- one of the two instructions, with an immediate of 32 bits
@@ -21,8 +22,8 @@ HaveEncodings [] = Unit {0}
 HaveEncodings (i ∷ is) = HasEncoding i × HaveEncodings is
 
 pub record IsTakenBack (p : List Insn) : Type 0 where
-  pub taken : refusal (encoding p) ≡ None
-  pub same : program_of (encoding p) ≡ p
+  pub taken : refusal (plain_encoding p) ≡ None
+  pub same : (program_of (plain_encoding p)).insns ≡ p
 
 abbrev pub EncodingsAreTaken : Type 0
-EncodingsAreTaken = (p : List Insn) → HaveEncodings p → 0 < length p → length p ≤ 512 → Accepts p → IsTakenBack p
+EncodingsAreTaken = (p : List Insn) → HaveEncodings p → 0 < length p → length p ≤ MAX_SLOTS → PlainAccepts p → IsTakenBack p

@@ -1,4 +1,4 @@
--- The change record, 80 bytes: row, column, start and commit of the change, whether it is a value, the acknowledged
+-- The change record: row, column, start and commit of the change, whether it is a value, the acknowledged
 -- timestamp, each as 8 bytes with the lowest first, and the value.
 use Rattle.std.specs.Prelude.{ℕ, List, ◌++◌, replicate}
 use Rattle.std.specs.Int.{to_le_bytes}

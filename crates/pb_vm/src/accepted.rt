@@ -1,10 +1,10 @@
 //! Programs that are accepted.
 ghost use Rattle.std.specs.Prelude.{◌≡◌, ◌<◌, ◌≤◌, ◌↔◌, IsTrue};
 ghost use Rattle.pb_isa.specs.Slots.{slots};
-ghost use Rattle.pb_vm.specs.Rules.{Accepts};
+ghost use Rattle.pb_vm.specs.Rules.{PlainAccepts};
 
 use crate::known::are_same;
-use pb_isa::Program;
+use pb_isa::{MAX_SLOTS, Program};
 use std::marker::Model;
 
 /// A program that the rules accept.
@@ -14,8 +14,8 @@ pub struct Accepted {
 }
 
 impl Model for Accepted {
-    ghost use Rattle.pb_vm.specs.Accepted.{AcceptedOf, accepted_code};
-    ghost use Rattle.pb_vm.specs.Rules.{Accepts};
+    ghost use Rattle.pb_isa.specs.Programs.{AcceptedOf, accepted_code};
+    ghost use Rattle.pb_vm.specs.Rules.{PlainAccepts};
     ghost use Rattle.pb_isa.specs.Helpers.{no_helpers};
 
     ghost Value = { AcceptedOf };
@@ -24,7 +24,7 @@ impl Model for Accepted {
 
     ghost view = { λ a. record { program = a.program; helpers = no_helpers } };
 
-    ghost invariant = { λ a. Accepts a.program };
+    ghost invariant = { λ a. PlainAccepts a.program.insns };
 }
 
 impl Accepted {
@@ -33,7 +33,7 @@ impl Accepted {
 
     /// A program that keeps the rules.
     pub(crate) fn new(program: Program) -> Accepted
-        requires { Accepts program }
+        requires { PlainAccepts program.insns }
         ensures program { result.program ≡ program }
         ensures helpers { result.helpers ≡ no_helpers }
     {
@@ -42,10 +42,10 @@ impl Accepted {
 
     /// How many slots it takes.
     pub fn slots(&self) -> usize
-        ensures slots { result ≡ slots self.now.program }
+        ensures slots { result ≡ slots self.now.program.insns }
         ensures some { 0 < result }
-        ensures most { result ≤ 512 }
-        ensures accepted { Accepts self.now.program }
+        ensures most { result ≤ MAX_SLOTS }
+        ensures accepted { PlainAccepts self.now.program.insns }
         ensures helpers { self.now.helpers ≡ no_helpers }
     {
         self.program.slots()

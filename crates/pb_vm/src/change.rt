@@ -3,14 +3,15 @@ ghost use Rattle.std.specs.Prelude.{◌≡◌, ◌↔◌, IsTrue};
 ghost use Rattle.pb_vm.specs.Record.{record_of, present, value_bytes};
 
 use pb_base::{Cell, Content, Ts, Value, Version};
+use pb_isa::RECORD_BYTES;
 use std::marker::Model;
 
-/// The change record: 80 bytes that tell a program which change it runs for. Row, column, the change's start and commit,
+/// The change record: the bytes that tell a program which change it runs for. Row, column, the change's start and commit,
 /// 1 for a value or 0 for a deletion, and the acknowledged timestamp (0 for none) stand at 0, 8, 16, 24, 32 and 40, in
 /// 8 bytes each with the lowest first; at 48 stands the value, or zeros.
 #[derive(Drop)]
 pub struct Record {
-    bytes: [u8; 80],
+    bytes: [u8; RECORD_BYTES],
 }
 
 impl Model for Record {
@@ -44,7 +45,7 @@ impl Record {
     pub fn new(cell: Cell, found: &Version, acknowledged: Ts) -> Record
         ensures { result ≡ record_of cell found.now acknowledged.0 }
     {
-        let mut bytes = [0; 80];
+        let mut bytes = [0; RECORD_BYTES];
         bytes[..8].copy_from_slice(&cell.row().0.to_le_bytes());
         bytes[8..16].copy_from_slice(&u64::from(cell.column().number()).to_le_bytes());
         bytes[16..24].copy_from_slice(&found.start.0.to_le_bytes());

@@ -56,6 +56,7 @@ impl Finished {
         ensures meant { IsMeant self.now }
         ensures plain { is_plain self.now ≡ true }
     {
+        // For the proof: opens the value, whose invariant says both.
         let _ = &self.end;
     }
 
@@ -91,6 +92,7 @@ impl Finished {
     pub fn is_plain(&self) -> bool
         ensures { result ≡ is_plain self.now }
     {
+        // For the proof: opens the value, which asks and writes nothing.
         let _ = &self.run;
         true
     }

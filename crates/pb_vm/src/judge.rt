@@ -2,15 +2,15 @@
 ghost use Rattle.std.specs.Prelude.{◌≡◌, ◌<◌, ◌≤◌, IfOk, IfErr, length, true};
 ghost use Rattle.std.specs.List.{list_all};
 ghost use Rattle.pb_vm.specs.Encoding.{is_known};
-ghost use Rattle.pb_vm.specs.Rules.{rule_code, broken, is_reached, is_written, ends, sets};
+ghost use Rattle.pb_vm.specs.Rules.{rule_code, plain_broken, is_reached, is_set_before, ends, loads_register};
 ghost use Rattle.pb_vm.specs.Encodings.{EncodingsAreTaken};
-ghost use Rattle.pb_vm.specs.Verdict.{size_fault, rule_fault, IsTaken, IsFault};
+ghost use Rattle.pb_vm.specs.Verdict.{size_fault, rule_fault, IsTaken, IsAcceptFault};
 
 use crate::accepted::Accepted;
 use crate::known::loaded;
 use crate::slots::{decode_fault, insns_of};
 use pb_base::{NoMemory, Refused};
-use pb_isa::{Insn, NoProgram, Program};
+use pb_isa::{Insn, MAX_SLOTS, NoProgram, Program};
 use std::alloc::Global;
 use thiserror::Error;
 
@@ -19,7 +19,7 @@ use thiserror::Error;
 pub enum AcceptFault {
     #[error("no memory")]
     NoMemory,
-    /// 10 no bytes or no whole slots, 11 over 512 slots, both at slot 0; 12 another opcode, 13 a register number over 10,
+    /// 10 no bytes or no whole slots, 11 too many slots, both at slot 0; 12 another opcode, 13 a register number over 10,
     /// 14 an unused field that isn't zero; 21 an exit with register 0 unset, 22 a write to register 10, 35 a slot that
     /// nothing leads to, 36 nothing after an instruction that leads on.
     #[error("{0}")]
@@ -31,7 +31,7 @@ fn size_fault(bytes: &[u8]) -> Option<Refused>
 {
     if bytes.is_empty() || bytes.len() % 8 != 0 {
         Some(Refused { slot: 0, code: 10 })
-    } else if bytes.len() > 4096 {
+    } else if bytes.len() > 8 * MAX_SLOTS {
         Some(Refused { slot: 0, code: 11 })
     } else {
         None
@@ -42,8 +42,8 @@ fn size_fault(bytes: &[u8]) -> Option<Refused>
 fn broken(program: &[Insn], slot: usize, insn: Insn, is_set: bool) -> Option<u8>
     requires known { is_known insn ≡ true }
     requires inside { slot < length program.now }
-    requires set { is_set ≡ is_written program.now slot 0 }
-    ensures { result ≡ broken program.now slot insn }
+    requires set { is_set ≡ is_set_before program.now slot 0 }
+    ensures { result ≡ plain_broken program.now slot insn }
 {
     match loaded(insn) {
         Some((destination, _)) => {
@@ -64,7 +64,7 @@ fn rule_code(program: &[Insn], slot: usize, led_to: bool, is_set: bool) -> Optio
     requires known { list_all is_known program.now ≡ true }
     requires inside { slot < length program.now }
     requires led { led_to ≡ is_reached program.now slot }
-    requires set { is_set ≡ is_written program.now slot 0 }
+    requires set { is_set ≡ is_set_before program.now slot 0 }
     ensures { result ≡ rule_code program.now slot }
 {
     if led_to {
@@ -83,7 +83,7 @@ fn ends(insn: Insn) -> bool
 
 fn sets_result(insn: Insn) -> bool
     requires { is_known insn ≡ true }
-    ensures { result ≡ sets 0 insn }
+    ensures { result ≡ loads_register 0 insn }
 {
     match loaded(insn) {
         Some((destination, _)) => destination.number() == 0,
@@ -93,7 +93,7 @@ fn sets_result(insn: Insn) -> bool
 
 fn rule_fault(program: &[Insn]) -> Option<Refused>
     requires known { list_all is_known program.now ≡ true }
-    requires most { length program.now ≤ 512 }
+    requires most { length program.now ≤ MAX_SLOTS }
     ensures { result ≡ rule_fault program.now }
 {
     let mut led_to = true;
@@ -111,7 +111,7 @@ fn rule_fault(program: &[Insn]) -> Option<Refused>
     None
 }
 
-/// Each program of 1 to 512 of these instructions that keeps the rules has an encoding which is accepted as that program.
+/// Each program of some of these instructions that keeps the rules has an encoding which is accepted as that program.
 pub fn encodings_are_taken()
     ensures { EncodingsAreTaken }
 {}
@@ -119,7 +119,7 @@ pub fn encodings_are_taken()
 /// Reads and judges a program, 8 bytes a slot (RFC 9669, section 3).
 pub fn accept(alloc: Global, bytes: &[u8]) -> Result<Accepted, AcceptFault>
     ensures ok { IfOk result (λ a. IsTaken bytes.now a) }
-    ensures err { IfErr result (λ f. IsFault bytes.now f) }
+    ensures err { IfErr result (λ f. IsAcceptFault bytes.now f) }
 {
     if let Some(fault) = size_fault(bytes) {
         return Err(AcceptFault::Refused(fault));

@@ -11,9 +11,12 @@ pub fn loaded(insn: Insn) -> Option<(Reg, i32)>
     ensures { result ≡ loaded insn }
 {
     match insn {
-        Insn::Alu(AluOp::Mov, Width::Bits64, destination, Operand::Imm(immediate)) => {
-            Some((destination, immediate))
-        }
+        Insn::Alu {
+            op: AluOp::Mov,
+            width: Width::Bits64,
+            dst,
+            src: Operand::Imm(imm),
+        } => Some((dst, imm)),
         _ => None,
     }
 }

@@ -1,10 +1,10 @@
 //! The slots of a program, as bytes (RFC 9669, section 3).
 ghost use Rattle.std.specs.Prelude.{◌≡◌, ◌<◌, ◌≤◌, ◌*◌, IfOk, length, map};
-ghost use Rattle.pb_vm.specs.Encoding.{opcode, registers, offset, immediate, is_mov, is_exit, slot_code, register, insn_of};
+ghost use Rattle.pb_vm.specs.Encoding.{opcode_byte, register_byte, offset, immediate, is_mov, is_exit, slot_code, register, plain_insn};
 ghost use Rattle.pb_vm.specs.Verdict.{first_fault, code_in};
 
 use pb_base::{NoMemory, Refused};
-use pb_isa::{AluOp, Insn, Operand, Reg, Width};
+use pb_isa::{AluOp, Insn, MAX_SLOTS, Operand, Reg, Width};
 use std::alloc::Global;
 
 const MOV: u8 = 0xb7;
@@ -62,12 +62,15 @@ fn register(number: u8) -> Reg
 }
 
 fn insn_of(slot: &[u8; 8]) -> Insn
-    ensures { result ≡ insn_of slot.now }
+    ensures { result ≡ plain_insn slot.now }
 {
     if slot[0] == MOV {
-        let destination = register(slot[1] % 16);
-        let value = immediate(slot).cast_signed();
-        Insn::Alu(AluOp::Mov, Width::Bits64, destination, Operand::Imm(value))
+        Insn::Alu {
+            op: AluOp::Mov,
+            width: Width::Bits64,
+            dst: register(slot[1] % 16),
+            src: Operand::Imm(immediate(slot).cast_signed()),
+        }
     } else {
         Insn::Exit
     }
@@ -75,7 +78,7 @@ fn insn_of(slot: &[u8; 8]) -> Insn
 
 /// The first slot that encodes neither of the two instructions.
 pub fn decode_fault(slots: &[[u8; 8]]) -> Option<Refused>
-    requires { length slots.now ≤ 512 }
+    requires { length slots.now ≤ MAX_SLOTS }
     ensures { result ≡ first_fault (code_in slots.now) 0 (length slots.now) }
 {
     for slot in 0..slots.len() {
@@ -91,7 +94,7 @@ pub fn decode_fault(slots: &[[u8; 8]]) -> Option<Refused>
 
 /// The instructions of slots that encode them.
 pub fn insns_of(alloc: Global, slots: &[[u8; 8]]) -> Result<Vec<Insn>, NoMemory>
-    ensures { IfOk result (λ insns. insns.items ≡ map insn_of slots.now) }
+    ensures { IfOk result (λ insns. insns.items ≡ map plain_insn slots.now) }
 {
     let mut insns = Vec::with_capacity(alloc, slots.len())?;
     for slot in slots {

@@ -16,10 +16,30 @@ use std::process::ExitCode;
 // Straight code: arithmetic on register 0, and its way over the stack.
 fn insn_at(place: u16) -> Insn {
     match place % 4 {
-        0 => Insn::Alu(AluOp::Mov, Width::Bits64, Reg::R0, Operand::Imm(0)),
-        1 => Insn::Alu(AluOp::Add, Width::Bits64, Reg::R0, Operand::Imm(1)),
-        2 => Insn::Store(Size::Dw, Reg::R10, -8, Reg::R0),
-        _ => Insn::Load(Size::Dw, Reg::R1, Reg::R10, -8),
+        0 => Insn::Alu {
+            op: AluOp::Mov,
+            width: Width::Bits64,
+            dst: Reg::R0,
+            src: Operand::Imm(0),
+        },
+        1 => Insn::Alu {
+            op: AluOp::Add,
+            width: Width::Bits64,
+            dst: Reg::R0,
+            src: Operand::Imm(1),
+        },
+        2 => Insn::Store {
+            size: Size::Dw,
+            dst: Reg::R10,
+            src: Reg::R0,
+            offset: -8,
+        },
+        _ => Insn::Load {
+            size: Size::Dw,
+            dst: Reg::R1,
+            src: Reg::R10,
+            offset: -8,
+        },
     }
 }
 

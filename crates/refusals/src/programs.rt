@@ -15,7 +15,10 @@ const BYTES: &[u8] = b"\x18\0\0\0\x05\0\0\0\0\0\0\0\0\0\0\0\x95\0\0\0\0\0\0\0";
 
 fn insns(alloc: Global) -> Result<Vec<Insn>, NoMemory> {
     let mut insns = Vec::new(alloc);
-    insns.push(Insn::LoadImm(Reg::R0, 5))?;
+    insns.push(Insn::LoadImm {
+        dst: Reg::R0,
+        imm: 5,
+    })?;
     insns.push(Insn::Exit)?;
     Ok(insns)
 }
@@ -33,7 +36,11 @@ fn is_it(program: &Program) -> bool {
     let insns = program.insns();
     program.slots() == 3
         && insns.len() == 2
-        && insns[0] == Insn::LoadImm(Reg::R0, 5)
+        && insns[0]
+            == Insn::LoadImm {
+                dst: Reg::R0,
+                imm: 5,
+            }
         && insns[1] == Insn::Exit
 }
 

@@ -1,5 +1,6 @@
 //! Each code, by the instructions that are told it and by the like that are not.
-use crate::verify::{add, alu, copy, jump_if_zero, load_byte, mov, store_byte, told, told_with};
+use crate::insns::{alu, call, jump, jump_if, load, load_imm, neg, store, store_imm};
+use crate::verify::{add, alu64, copy, jump_if_zero, load_byte, mov, store_byte, told, told_with};
 use pb_helpers::HelperTable;
 use pb_isa::{AluOp, Cmp, Insn, Operand, Reg, Size, Width};
 use std::alloc::Global;
@@ -48,19 +49,19 @@ fn code_21_reads_an_unset_register(rt: HostRuntime) {
     let unset = Operand::Reg(Reg::R7);
     let table = [
         copy(Reg::R0, Reg::R7),
-        Insn::Alu(AluOp::Mov, Width::Bits32, Reg::R0, unset),
+        alu(AluOp::Mov, Width::Bits32, Reg::R0, unset),
         add(Reg::R7, 1),
-        alu(AluOp::Sub, Reg::R7, Operand::Imm(1)),
-        Insn::Neg(Width::Bits64, Reg::R7),
-        Insn::Neg(Width::Bits32, Reg::R7),
-        Insn::Load(Size::B, Reg::R0, Reg::R7, 0),
-        Insn::StoreImm(Size::B, Reg::R7, 0, 0),
-        Insn::Store(Size::B, Reg::R7, 0, Reg::R7),
-        Insn::Store(Size::B, Reg::R10, -1, Reg::R7),
+        alu64(AluOp::Sub, Reg::R7, Operand::Imm(1)),
+        neg(Width::Bits64, Reg::R7),
+        neg(Width::Bits32, Reg::R7),
+        load(Size::B, Reg::R0, Reg::R7, 0),
+        store_imm(Size::B, Reg::R7, 0, 0),
+        store(Size::B, Reg::R7, Reg::R7, 0),
+        store(Size::B, Reg::R10, Reg::R7, -1),
         jump_if_zero(Reg::R7, 0),
-        Insn::Call(1),
-        Insn::Call(2),
-        Insn::Call(3),
+        call(1),
+        call(2),
+        call(3),
         Insn::Exit,
     ];
     for insn in table {
@@ -68,13 +69,13 @@ fn code_21_reads_an_unset_register(rt: HostRuntime) {
     }
     for op in OPS {
         for width in WIDTHS {
-            let insn = Insn::Alu(op, width, Reg::R7, Operand::Imm(1));
+            let insn = alu(op, width, Reg::R7, Operand::Imm(1));
             assert!(rt; code_of(&rt, alloc, insn) == 21, "{insn:?}");
         }
     }
     // Mov doesn't read its destination.
     for width in WIDTHS {
-        let insn = Insn::Alu(AluOp::Mov, width, Reg::R7, Operand::Imm(1));
+        let insn = alu(AluOp::Mov, width, Reg::R7, Operand::Imm(1));
         assert!(rt; code_of(&rt, alloc, insn) == 0, "{insn:?}");
     }
 }
@@ -84,7 +85,7 @@ fn code_21_after_a_call(rt: HostRuntime) {
     for register in [Reg::R1, Reg::R2, Reg::R3, Reg::R4, Reg::R5] {
         let insns = [
             mov(register, 0),
-            Insn::Call(4),
+            call(4),
             copy(Reg::R0, register),
             Insn::Exit,
         ];
@@ -93,7 +94,7 @@ fn code_21_after_a_call(rt: HostRuntime) {
     for register in [Reg::R0, Reg::R6, Reg::R7, Reg::R8, Reg::R9] {
         let insns = [
             mov(register, 0),
-            Insn::Call(4),
+            call(4),
             copy(Reg::R0, register),
             Insn::Exit,
         ];
@@ -108,10 +109,10 @@ fn code_22_writes_r10(rt: HostRuntime) {
         copy(Reg::R10, Reg::R10),
         copy(Reg::R10, Reg::R1),
         add(Reg::R10, -8),
-        alu(AluOp::Sub, Reg::R10, Operand::Imm(8)),
-        Insn::Neg(Width::Bits64, Reg::R10),
-        Insn::LoadImm(Reg::R10, 5),
-        Insn::Load(Size::B, Reg::R10, Reg::R1, 0),
+        alu64(AluOp::Sub, Reg::R10, Operand::Imm(8)),
+        neg(Width::Bits64, Reg::R10),
+        load_imm(Reg::R10, 5),
+        load(Size::B, Reg::R10, Reg::R1, 0),
     ];
     for insn in table {
         assert!(rt; code_of(&rt, rt.alloc(), insn) == 22, "{insn:?}");
@@ -122,25 +123,25 @@ fn code_22_writes_r10(rt: HostRuntime) {
 fn code_23_arithmetic_on_a_pointer(rt: HostRuntime) {
     let alloc = rt.alloc();
     for op in OPS {
-        let by = Insn::Alu(op, Width::Bits64, Reg::R1, Operand::Reg(Reg::R10));
+        let by = alu(op, Width::Bits64, Reg::R1, Operand::Reg(Reg::R10));
         assert!(rt; code_of(&rt, alloc, by) == 23, "{by:?}");
-        let low = Insn::Alu(op, Width::Bits32, Reg::R1, Operand::Imm(1));
+        let low = alu(op, Width::Bits32, Reg::R1, Operand::Imm(1));
         assert!(rt; code_of(&rt, alloc, low) == 23, "{low:?}");
         let moves = matches!(op, AluOp::Add | AluOp::Sub);
-        let wide = Insn::Alu(op, Width::Bits64, Reg::R1, Operand::Imm(1));
+        let wide = alu(op, Width::Bits64, Reg::R1, Operand::Imm(1));
         assert!(rt; (code_of(&rt, alloc, wide) == 0) == moves, "{wide:?}");
         assert!(rt; (code_of(&rt, alloc, wide) == 23) != moves, "{wide:?}");
     }
     for width in WIDTHS {
-        let neg = Insn::Neg(width, Reg::R1);
+        let neg = neg(width, Reg::R1);
         assert!(rt; code_of(&rt, alloc, neg) == 23, "{neg:?}");
     }
-    let low = Insn::Alu(AluOp::Mov, Width::Bits32, Reg::R0, Operand::Reg(Reg::R10));
+    let low = alu(AluOp::Mov, Width::Bits32, Reg::R0, Operand::Reg(Reg::R10));
     assert!(rt; code_of(&rt, alloc, low) == 23);
     // A pointer as the second operand of a number.
     let second = [
         mov(Reg::R2, 8),
-        alu(AluOp::Add, Reg::R2, Operand::Reg(Reg::R10)),
+        alu64(AluOp::Add, Reg::R2, Operand::Reg(Reg::R10)),
         Insn::Exit,
     ];
     assert!(rt; told(&rt, alloc, &second) == (1, 23));
@@ -150,10 +151,10 @@ fn code_23_arithmetic_on_a_pointer(rt: HostRuntime) {
 fn code_24_pointer_stored(rt: HostRuntime) {
     for size in [Size::B, Size::H, Size::W, Size::Dw] {
         for from in [Reg::R1, Reg::R10] {
-            let insn = Insn::Store(size, Reg::R10, -8, from);
+            let insn = store(size, Reg::R10, from, -8);
             assert!(rt; code_of(&rt, rt.alloc(), insn) == 24, "{insn:?}");
             // It is lower than what the place is told.
-            let record = Insn::Store(size, Reg::R1, 0, from);
+            let record = store(size, Reg::R1, from, 0);
             assert!(rt; code_of(&rt, rt.alloc(), record) == 24, "{record:?}");
         }
     }
@@ -172,7 +173,7 @@ fn code_25_outside_the_stack(rt: HostRuntime) {
             mov(Reg::R2, 0),
             copy(Reg::R3, Reg::R10),
             add(Reg::R3, place),
-            Insn::Call(1),
+            call(1),
             Insn::Exit,
         ];
         assert!(rt; told(&rt, alloc, &insns) == (slot, code), "{place}");
@@ -183,7 +184,7 @@ fn code_25_outside_the_stack(rt: HostRuntime) {
 fn code_26_unwritten_stack_byte(rt: HostRuntime) {
     let alloc = rt.alloc();
     assert!(rt; code_of(&rt, alloc, load_byte(-1)) == 26);
-    let half = Insn::StoreImm(Size::W, Reg::R10, -8, 5);
+    let half = store_imm(Size::W, Reg::R10, -8, 5);
     let loads = [
         (-8, Size::W, 3, 0),
         (-8, Size::Dw, 1, 26),
@@ -191,11 +192,7 @@ fn code_26_unwritten_stack_byte(rt: HostRuntime) {
         (-6, Size::H, 3, 0),
     ];
     for (offset, size, slot, code) in loads {
-        let insns = [
-            half,
-            Insn::Load(size, Reg::R0, Reg::R10, offset),
-            Insn::Exit,
-        ];
+        let insns = [half, load(size, Reg::R0, Reg::R10, offset), Insn::Exit];
         assert!(rt;
             told(&rt, alloc, &insns) == (slot, code),
             "{offset} {size:?}"
@@ -213,12 +210,12 @@ fn code_26_in_a_call(rt: HostRuntime) {
             copy(Reg::R3, Reg::R10),
             add(Reg::R3, -32),
             copy(Reg::R6, Reg::R3),
-            Insn::Call(helper),
+            call(helper),
             mov(Reg::R1, 0),
             mov(Reg::R2, 0),
             copy(Reg::R3, Reg::R6),
             store_byte(-33),
-            Insn::Call(2),
+            call(2),
             Insn::Exit,
         ];
         assert!(rt; told(&rt, rt.alloc(), &insns) == wanted, "{helper}");
@@ -237,7 +234,7 @@ fn code_27_outside_the_record(rt: HostRuntime) {
         (Size::Dw, -32768, 27),
     ];
     for (size, offset, code) in table {
-        let insn = Insn::Load(size, Reg::R0, Reg::R1, offset);
+        let insn = load(size, Reg::R0, Reg::R1, offset);
         assert!(rt; code_of(&rt, rt.alloc(), insn) == code, "{insn:?}");
     }
 }
@@ -246,13 +243,13 @@ fn code_27_outside_the_record(rt: HostRuntime) {
 fn code_28_writes_the_record(rt: HostRuntime) {
     for size in [Size::B, Size::H, Size::W, Size::Dw] {
         for offset in [0, 48, 80, -1] {
-            let insn = Insn::StoreImm(size, Reg::R1, offset, 0);
+            let insn = store_imm(size, Reg::R1, offset, 0);
             assert!(rt; code_of(&rt, rt.alloc(), insn) == 28, "{insn:?}");
         }
     }
     let stored = [
         mov(Reg::R2, 0),
-        Insn::Store(Size::Dw, Reg::R1, 0, Reg::R2),
+        store(Size::Dw, Reg::R1, Reg::R2, 0),
         Insn::Exit,
     ];
     assert!(rt; told(&rt, rt.alloc(), &stored) == (1, 28));
@@ -261,18 +258,18 @@ fn code_28_writes_the_record(rt: HostRuntime) {
 #[test]
 fn code_29_access_through_a_number(rt: HostRuntime) {
     let table = [
-        Insn::Load(Size::W, Reg::R0, Reg::R2, 0),
-        Insn::StoreImm(Size::H, Reg::R2, 0, 0),
-        Insn::Store(Size::B, Reg::R2, 0, Reg::R2),
+        load(Size::W, Reg::R0, Reg::R2, 0),
+        store_imm(Size::H, Reg::R2, 0, 0),
+        store(Size::B, Reg::R2, Reg::R2, 0),
     ];
     for insn in table {
-        let insns = [Insn::LoadImm(Reg::R2, 4096), insn, Insn::Exit];
+        let insns = [load_imm(Reg::R2, 4096), insn, Insn::Exit];
         assert!(rt; told(&rt, rt.alloc(), &insns) == (2, 29), "{insn:?}");
     }
     // What a pointer was before it was loaded doesn't count.
     let loaded = [
-        Insn::Load(Size::Dw, Reg::R1, Reg::R1, 0),
-        Insn::Load(Size::B, Reg::R0, Reg::R1, 0),
+        load(Size::Dw, Reg::R1, Reg::R1, 0),
+        load(Size::B, Reg::R0, Reg::R1, 0),
         Insn::Exit,
     ];
     assert!(rt; told(&rt, rt.alloc(), &loaded) == (1, 29));
@@ -281,12 +278,12 @@ fn code_29_access_through_a_number(rt: HostRuntime) {
 #[test]
 fn code_30_helper_not_declared(rt: HostRuntime) {
     for helper in [-1, 0, 5, 2147483647] {
-        let insns = [Insn::Call(helper), Insn::Exit];
+        let insns = [call(helper), Insn::Exit];
         assert!(rt; told(&rt, rt.alloc(), &insns) == (0, 30), "{helper}");
     }
     let starts = HelperTable::none().with(4).expect(&rt, "helper 4");
     for helper in 1..5 {
-        let insns = [Insn::Call(helper), Insn::Exit];
+        let insns = [call(helper), Insn::Exit];
         let wanted = if helper == 4 { (2, 0) } else { (0, 30) };
         assert!(rt;
             told_with(&rt, rt.alloc(), &insns, starts) == wanted,
@@ -303,31 +300,21 @@ fn code_31_argument_of_a_wrong_kind(rt: HostRuntime) {
         mov(Reg::R2, 0),
         copy(Reg::R3, Reg::R10),
         add(Reg::R3, -32),
-        Insn::Call(1),
+        call(1),
         Insn::Exit,
     ];
     assert!(rt; told(&rt, alloc, &row) == (3, 31));
-    let column = [
-        copy(Reg::R2, Reg::R1),
-        mov(Reg::R1, 0),
-        Insn::Call(3),
-        Insn::Exit,
-    ];
+    let column = [copy(Reg::R2, Reg::R1), mov(Reg::R1, 0), call(3), Insn::Exit];
     assert!(rt; told(&rt, alloc, &column) == (2, 31));
     let place = [
         copy(Reg::R3, Reg::R1),
         mov(Reg::R1, 0),
         mov(Reg::R2, 0),
-        Insn::Call(2),
+        call(2),
         Insn::Exit,
     ];
     assert!(rt; told(&rt, alloc, &place) == (3, 31));
-    let numbers = [
-        mov(Reg::R1, -1),
-        mov(Reg::R2, 99),
-        Insn::Call(3),
-        Insn::Exit,
-    ];
+    let numbers = [mov(Reg::R1, -1), mov(Reg::R2, 99), call(3), Insn::Exit];
     assert!(rt; told(&rt, alloc, &numbers) == (4, 0));
 }
 
@@ -336,7 +323,7 @@ fn code_32_backward_jump(rt: HostRuntime) {
     let alloc = rt.alloc();
     // Onto itself, the first slot, and before it.
     for offset in [-1, -2, -3, -32768] {
-        let insns = [mov(Reg::R0, 0), Insn::Jump(offset), Insn::Exit];
+        let insns = [mov(Reg::R0, 0), jump(offset), Insn::Exit];
         assert!(rt; told(&rt, alloc, &insns) == (1, 32), "{offset}");
         let branch = [mov(Reg::R0, 0), jump_if_zero(Reg::R0, offset), Insn::Exit];
         assert!(rt; told(&rt, alloc, &branch) == (1, 32), "{offset}");
@@ -347,7 +334,7 @@ fn code_32_backward_jump(rt: HostRuntime) {
 fn code_33_jump_outside(rt: HostRuntime) {
     let alloc = rt.alloc();
     for (offset, wanted) in [(0, (3, 0)), (1, (1, 33)), (32767, (1, 33))] {
-        let insns = [mov(Reg::R0, 0), Insn::Jump(offset), Insn::Exit];
+        let insns = [mov(Reg::R0, 0), jump(offset), Insn::Exit];
         assert!(rt; told(&rt, alloc, &insns) == wanted, "{offset}");
         let branch = [mov(Reg::R0, 0), jump_if_zero(Reg::R0, offset), Insn::Exit];
         assert!(rt; told(&rt, alloc, &branch) == wanted, "{offset}");
@@ -361,7 +348,7 @@ fn code_34_jump_into_a_pair(rt: HostRuntime) {
         let insns = [
             mov(Reg::R0, 0),
             jump_if_zero(Reg::R0, offset),
-            Insn::LoadImm(Reg::R2, 5),
+            load_imm(Reg::R2, 5),
             Insn::Exit,
         ];
         assert!(rt; told(&rt, alloc, &insns) == wanted, "{offset}");
@@ -371,9 +358,9 @@ fn code_34_jump_into_a_pair(rt: HostRuntime) {
 #[test]
 fn code_35_unreachable(rt: HostRuntime) {
     let alloc = rt.alloc();
-    let jumped = [mov(Reg::R0, 0), Insn::Jump(1), mov(Reg::R10, 0), Insn::Exit];
+    let jumped = [mov(Reg::R0, 0), jump(1), mov(Reg::R10, 0), Insn::Exit];
     assert!(rt; told(&rt, alloc, &jumped) == (2, 35));
-    let pair = [mov(Reg::R0, 0), Insn::Exit, Insn::LoadImm(Reg::R10, 5)];
+    let pair = [mov(Reg::R0, 0), Insn::Exit, load_imm(Reg::R10, 5)];
     assert!(rt; told(&rt, alloc, &pair) == (2, 35));
 }
 
@@ -382,11 +369,11 @@ fn code_36_falls_off_the_end(rt: HostRuntime) {
     let alloc = rt.alloc();
     let table = [
         mov(Reg::R0, 0),
-        Insn::Neg(Width::Bits64, Reg::R6),
-        Insn::Load(Size::B, Reg::R0, Reg::R1, 0),
+        neg(Width::Bits64, Reg::R6),
+        load(Size::B, Reg::R0, Reg::R1, 0),
         store_byte(-1),
-        Insn::Store(Size::B, Reg::R10, -1, Reg::R6),
-        Insn::Call(4),
+        store(Size::B, Reg::R10, Reg::R6, -1),
+        call(4),
     ];
     for insn in table {
         assert!(rt;
@@ -395,7 +382,7 @@ fn code_36_falls_off_the_end(rt: HostRuntime) {
         );
     }
     // The slot after a pair is the second after its first.
-    let pair = [mov(Reg::R6, 0), Insn::LoadImm(Reg::R0, 5)];
+    let pair = [mov(Reg::R6, 0), load_imm(Reg::R0, 5)];
     assert!(rt; told(&rt, alloc, &pair) == (1, 36));
     let branch = [mov(Reg::R6, 0), jump_if_zero(Reg::R6, 0)];
     assert!(rt; told(&rt, alloc, &branch) == (1, 33));
@@ -416,11 +403,11 @@ fn code_38_pointer_compared(rt: HostRuntime) {
     let alloc = rt.alloc();
     for cmp in CMPS {
         for width in WIDTHS {
-            let imm = Insn::JumpIf(cmp, width, Reg::R10, Operand::Imm(0), 0);
+            let imm = jump_if(cmp, width, Reg::R10, Operand::Imm(0), 0);
             assert!(rt; code_of(&rt, alloc, imm) == 38, "{imm:?}");
-            let reg = Insn::JumpIf(cmp, width, Reg::R1, Operand::Reg(Reg::R10), 0);
+            let reg = jump_if(cmp, width, Reg::R1, Operand::Reg(Reg::R10), 0);
             assert!(rt; code_of(&rt, alloc, reg) == 38, "{reg:?}");
-            let right = Insn::JumpIf(cmp, width, Reg::R0, Operand::Reg(Reg::R10), 0);
+            let right = jump_if(cmp, width, Reg::R0, Operand::Reg(Reg::R10), 0);
             let insns = [mov(Reg::R0, 0), right, Insn::Exit];
             assert!(rt; told(&rt, alloc, &insns) == (1, 38), "{right:?}");
         }

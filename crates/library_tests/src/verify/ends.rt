@@ -1,5 +1,6 @@
 //! Bytes at both ends of the stack and of the record, at every size, and far pointers.
-use crate::verify::{add, alu, copy, mov, told};
+use crate::insns::{load, store, store_imm};
+use crate::verify::{add, alu64, copy, mov, told};
 use pb_isa::{AluOp, Insn, Operand, Reg, Size};
 use std::alloc::Global;
 use std::process::Abort;
@@ -11,8 +12,8 @@ const SIZES: [(Size, u8); 4] = [(Size::B, 1), (Size::H, 2), (Size::W, 4), (Size:
 // The code of a store of this size at this distance from R10, then a load of the same bytes; 0 where both are accepted.
 fn on_stack(rt: &impl Abort, alloc: Global, size: Size, offset: i16) -> u8 {
     let insns = [
-        Insn::StoreImm(size, Reg::R10, offset, 5),
-        Insn::Load(size, Reg::R0, Reg::R10, offset),
+        store_imm(size, Reg::R10, offset, 5),
+        load(size, Reg::R0, Reg::R10, offset),
         Insn::Exit,
     ];
     told(rt, alloc, &insns).1
@@ -21,7 +22,7 @@ fn on_stack(rt: &impl Abort, alloc: Global, size: Size, offset: i16) -> u8 {
 fn stored(rt: &impl Abort, alloc: Global, size: Size, offset: i16) -> u8 {
     let insns = [
         mov(Reg::R0, 5),
-        Insn::Store(size, Reg::R10, offset, Reg::R0),
+        store(size, Reg::R10, Reg::R0, offset),
         Insn::Exit,
     ];
     told(rt, alloc, &insns).1
@@ -29,12 +30,12 @@ fn stored(rt: &impl Abort, alloc: Global, size: Size, offset: i16) -> u8 {
 
 // The code of a load where nothing is stored.
 fn loaded(rt: &impl Abort, alloc: Global, size: Size, offset: i16) -> u8 {
-    let insns = [Insn::Load(size, Reg::R0, Reg::R10, offset), Insn::Exit];
+    let insns = [load(size, Reg::R0, Reg::R10, offset), Insn::Exit];
     told(rt, alloc, &insns).1
 }
 
 fn on_record(rt: &impl Abort, alloc: Global, size: Size, offset: i16) -> u8 {
-    let insns = [Insn::Load(size, Reg::R0, Reg::R1, offset), Insn::Exit];
+    let insns = [load(size, Reg::R0, Reg::R1, offset), Insn::Exit];
     told(rt, alloc, &insns).1
 }
 
@@ -81,16 +82,16 @@ fn pointers_come_back(rt: HostRuntime) {
         copy(Reg::R2, Reg::R10),
         add(Reg::R2, 2147483647),
         add(Reg::R2, 2147483647),
-        alu(AluOp::Sub, Reg::R2, Operand::Imm(2147483647)),
-        alu(AluOp::Sub, Reg::R2, Operand::Imm(2147483647)),
-        Insn::StoreImm(Size::B, Reg::R2, -1, 5),
+        alu64(AluOp::Sub, Reg::R2, Operand::Imm(2147483647)),
+        alu64(AluOp::Sub, Reg::R2, Operand::Imm(2147483647)),
+        store_imm(Size::B, Reg::R2, -1, 5),
         mov(Reg::R0, 0),
         Insn::Exit,
     ];
     assert!(rt; told(&rt, rt.alloc(), &insns) == (8, 0));
     // Twice 2 ^ 31 up is no way back to where it was.
-    insns[1] = alu(AluOp::Sub, Reg::R2, Operand::Imm(-2147483648));
-    insns[2] = alu(AluOp::Sub, Reg::R2, Operand::Imm(-2147483648));
+    insns[1] = alu64(AluOp::Sub, Reg::R2, Operand::Imm(-2147483648));
+    insns[2] = alu64(AluOp::Sub, Reg::R2, Operand::Imm(-2147483648));
     insns[3] = add(Reg::R2, 0);
     insns[4] = add(Reg::R2, 0);
     assert!(rt; told(&rt, rt.alloc(), &insns) == (5, 25));

@@ -1,5 +1,6 @@
 //! Whole programs and their verdicts.
-use crate::verify::{add, alu, copy, jump_if_zero, load_byte, mov, store_byte, told, told_with};
+use crate::insns::{alu, call, jump, jump_if, load, load_imm, store, store_imm};
+use crate::verify::{add, alu64, copy, jump_if_zero, load_byte, mov, store_byte, told, told_with};
 use pb_helpers::HelperTable;
 use pb_isa::{AluOp, Cmp, Insn, Operand, Reg, Size, Width};
 use std::alloc::Global;
@@ -13,36 +14,36 @@ fn arithmetic_and_stores(rt: HostRuntime) {
     // mov64 r10, 0
     assert!(rt; told(&rt, alloc, &[mov(Reg::R10, 0), Insn::Exit]) == (0, 22));
     // mov32 r0, r1
-    let low = Insn::Alu(AluOp::Mov, Width::Bits32, Reg::R0, Operand::Reg(Reg::R1));
+    let low = alu(AluOp::Mov, Width::Bits32, Reg::R0, Operand::Reg(Reg::R1));
     assert!(rt; told(&rt, alloc, &[low, Insn::Exit]) == (0, 23));
     // stxdw [r10-8], r1
-    let pointer = Insn::Store(Size::Dw, Reg::R10, -8, Reg::R1);
+    let pointer = store(Size::Dw, Reg::R10, Reg::R1, -8);
     assert!(rt; told(&rt, alloc, &[pointer]) == (0, 24));
     // stb [r10-513], 0 and stb [r10-512], 0
     assert!(rt; told(&rt, alloc, &[store_byte(-513)]) == (0, 25));
     let lowest = [store_byte(-512), mov(Reg::R0, 0), Insn::Exit];
     assert!(rt; told(&rt, alloc, &lowest) == (3, 0));
     // stb [r1+0], 0
-    let record = Insn::StoreImm(Size::B, Reg::R1, 0, 0);
+    let record = store_imm(Size::B, Reg::R1, 0, 0);
     assert!(rt; told(&rt, alloc, &[record]) == (0, 28));
     // ldxb r0, [r2+0]
-    let number = Insn::Load(Size::B, Reg::R0, Reg::R2, 0);
+    let number = load(Size::B, Reg::R0, Reg::R2, 0);
     assert!(rt; told(&rt, alloc, &[mov(Reg::R2, 0), number]) == (1, 29));
 }
 
 #[test]
 fn calls_and_ends(rt: HostRuntime) {
     let alloc = rt.alloc();
-    assert!(rt; told(&rt, alloc, &[Insn::Call(5), Insn::Exit]) == (0, 30));
+    assert!(rt; told(&rt, alloc, &[call(5), Insn::Exit]) == (0, 30));
     let place = [
         mov(Reg::R1, 0),
         mov(Reg::R2, 0),
         mov(Reg::R3, 0),
-        Insn::Call(1),
+        call(1),
         Insn::Exit,
     ];
     assert!(rt; told(&rt, alloc, &place) == (3, 31));
-    assert!(rt; told(&rt, alloc, &[Insn::Jump(1), Insn::Exit]) == (0, 33));
+    assert!(rt; told(&rt, alloc, &[jump(1), Insn::Exit]) == (0, 33));
     let behind = [mov(Reg::R0, 0), Insn::Exit, Insn::Exit];
     assert!(rt; told(&rt, alloc, &behind) == (2, 35));
     assert!(rt; told(&rt, alloc, &[mov(Reg::R0, 0)]) == (0, 36));
@@ -57,13 +58,13 @@ fn registers_and_the_record(rt: HostRuntime) {
     // mov64 r6, r1
     assert!(rt; told(&rt, alloc, &[copy(Reg::R6, Reg::R1), Insn::Exit]) == (1, 21));
     // add64 r1, 80 and add64 r1, 79, then ldxb r0, [r1+0]
-    let load = Insn::Load(Size::B, Reg::R0, Reg::R1, 0);
+    let load = load(Size::B, Reg::R0, Reg::R1, 0);
     let beyond = [add(Reg::R1, 80), load, Insn::Exit];
     assert!(rt; told(&rt, alloc, &beyond) == (1, 27));
     let last = [add(Reg::R1, 79), load, Insn::Exit];
     assert!(rt; told(&rt, alloc, &last) == (3, 0));
     // jeq64 r1, r10, +0
-    let pointers = Insn::JumpIf(Cmp::Eq, Width::Bits64, Reg::R1, Operand::Reg(Reg::R10), 0);
+    let pointers = jump_if(Cmp::Eq, Width::Bits64, Reg::R1, Operand::Reg(Reg::R10), 0);
     let compared = [pointers, mov(Reg::R0, 0), Insn::Exit];
     assert!(rt; told(&rt, alloc, &compared) == (0, 38));
 }
@@ -71,12 +72,12 @@ fn registers_and_the_record(rt: HostRuntime) {
 #[test]
 fn jumps(rt: HostRuntime) {
     let alloc = rt.alloc();
-    assert!(rt; told(&rt, alloc, &[Insn::Jump(-1)]) == (0, 32));
-    let pair = [Insn::Jump(1), Insn::LoadImm(Reg::R0, 5), Insn::Exit];
+    assert!(rt; told(&rt, alloc, &[jump(-1)]) == (0, 32));
+    let pair = [jump(1), load_imm(Reg::R0, 5), Insn::Exit];
     assert!(rt; told(&rt, alloc, &pair) == (0, 34));
     // One of two ways to slot 3 leaves the byte unwritten.
     let ways = [
-        Insn::Load(Size::Dw, Reg::R2, Reg::R1, 0),
+        load(Size::Dw, Reg::R2, Reg::R1, 0),
         jump_if_zero(Reg::R2, 1),
         store_byte(-1),
         load_byte(-1),
@@ -88,7 +89,7 @@ fn jumps(rt: HostRuntime) {
 // Where a program is refused, or its slots and 0, that has the jump in slot 1, a pair in slots 2 and 3, and its exit in
 // slot 4.
 fn told_of(rt: &impl Abort, alloc: Global, jump: Insn) -> (u16, u8) {
-    let insns = [mov(Reg::R0, 0), jump, Insn::LoadImm(Reg::R2, 5), Insn::Exit];
+    let insns = [mov(Reg::R0, 0), jump, load_imm(Reg::R2, 5), Insn::Exit];
     told(rt, alloc, &insns)
 }
 
@@ -105,9 +106,9 @@ fn jumps_of_every_class(rt: HostRuntime) {
     ];
     for (offset, wanted) in table {
         for operand in [Operand::Imm(0), Operand::Reg(Reg::R0)] {
-            let narrow = Insn::JumpIf(Cmp::Eq, Width::Bits32, Reg::R0, operand, offset);
+            let narrow = jump_if(Cmp::Eq, Width::Bits32, Reg::R0, operand, offset);
             assert!(rt; told_of(&rt, alloc, narrow) == wanted, "{narrow:?}");
-            let wide = Insn::JumpIf(Cmp::Eq, Width::Bits64, Reg::R0, operand, offset);
+            let wide = jump_if(Cmp::Eq, Width::Bits64, Reg::R0, operand, offset);
             assert!(rt; told_of(&rt, alloc, wide) == wanted, "{wide:?}");
         }
     }
@@ -119,10 +120,7 @@ fn jumps_of_every_class(rt: HostRuntime) {
         (2, (2, 35)),
         (3, (1, 33)),
     ] {
-        assert!(rt;
-            told_of(&rt, alloc, Insn::Jump(offset)) == wanted,
-            "ja {offset}"
-        );
+        assert!(rt; told_of(&rt, alloc, jump(offset)) == wanted, "ja {offset}");
     }
 }
 
@@ -135,28 +133,98 @@ fn five_hundred_and_twelve_slots(rt: HostRuntime) {
     insns[255] = Insn::Exit;
     assert!(rt; told(&rt, rt.alloc(), &insns) == (256, 35));
     // A jump over all but the last.
-    insns[0] = Insn::Jump(510);
+    insns[0] = jump(510);
     insns[511] = copy(Reg::R0, Reg::R10);
     assert!(rt; told(&rt, rt.alloc(), &insns) == (1, 35));
 }
 
 // The observer that writes the changed value to column 1 of its row.
 const COPY: [Insn; 16] = [
-    Insn::Alu(AluOp::Mov, Width::Bits64, Reg::R6, Operand::Reg(Reg::R1)),
-    Insn::Load(Size::Dw, Reg::R2, Reg::R6, 48),
-    Insn::Store(Size::Dw, Reg::R10, -32, Reg::R2),
-    Insn::Load(Size::Dw, Reg::R2, Reg::R6, 56),
-    Insn::Store(Size::Dw, Reg::R10, -24, Reg::R2),
-    Insn::Load(Size::Dw, Reg::R2, Reg::R6, 64),
-    Insn::Store(Size::Dw, Reg::R10, -16, Reg::R2),
-    Insn::Load(Size::Dw, Reg::R2, Reg::R6, 72),
-    Insn::Store(Size::Dw, Reg::R10, -8, Reg::R2),
-    Insn::Load(Size::Dw, Reg::R1, Reg::R6, 0),
-    Insn::Alu(AluOp::Mov, Width::Bits64, Reg::R2, Operand::Imm(1)),
-    Insn::Alu(AluOp::Mov, Width::Bits64, Reg::R3, Operand::Reg(Reg::R10)),
-    Insn::Alu(AluOp::Add, Width::Bits64, Reg::R3, Operand::Imm(-32)),
-    Insn::Call(2),
-    Insn::Alu(AluOp::Mov, Width::Bits64, Reg::R0, Operand::Imm(0)),
+    Insn::Alu {
+        op: AluOp::Mov,
+        width: Width::Bits64,
+        dst: Reg::R6,
+        src: Operand::Reg(Reg::R1),
+    },
+    Insn::Load {
+        size: Size::Dw,
+        dst: Reg::R2,
+        src: Reg::R6,
+        offset: 48,
+    },
+    Insn::Store {
+        size: Size::Dw,
+        dst: Reg::R10,
+        src: Reg::R2,
+        offset: -32,
+    },
+    Insn::Load {
+        size: Size::Dw,
+        dst: Reg::R2,
+        src: Reg::R6,
+        offset: 56,
+    },
+    Insn::Store {
+        size: Size::Dw,
+        dst: Reg::R10,
+        src: Reg::R2,
+        offset: -24,
+    },
+    Insn::Load {
+        size: Size::Dw,
+        dst: Reg::R2,
+        src: Reg::R6,
+        offset: 64,
+    },
+    Insn::Store {
+        size: Size::Dw,
+        dst: Reg::R10,
+        src: Reg::R2,
+        offset: -16,
+    },
+    Insn::Load {
+        size: Size::Dw,
+        dst: Reg::R2,
+        src: Reg::R6,
+        offset: 72,
+    },
+    Insn::Store {
+        size: Size::Dw,
+        dst: Reg::R10,
+        src: Reg::R2,
+        offset: -8,
+    },
+    Insn::Load {
+        size: Size::Dw,
+        dst: Reg::R1,
+        src: Reg::R6,
+        offset: 0,
+    },
+    Insn::Alu {
+        op: AluOp::Mov,
+        width: Width::Bits64,
+        dst: Reg::R2,
+        src: Operand::Imm(1),
+    },
+    Insn::Alu {
+        op: AluOp::Mov,
+        width: Width::Bits64,
+        dst: Reg::R3,
+        src: Operand::Reg(Reg::R10),
+    },
+    Insn::Alu {
+        op: AluOp::Add,
+        width: Width::Bits64,
+        dst: Reg::R3,
+        src: Operand::Imm(-32),
+    },
+    Insn::Call { imm: 2 },
+    Insn::Alu {
+        op: AluOp::Mov,
+        width: Width::Bits64,
+        dst: Reg::R0,
+        src: Operand::Imm(0),
+    },
     Insn::Exit,
 ];
 
@@ -167,9 +235,9 @@ fn an_observer_that_copies(rt: HostRuntime) {
     assert!(rt; told_with(&rt, rt.alloc(), &insns, writes) == (16, 0));
     assert!(rt; told_with(&rt, rt.alloc(), &insns, HelperTable::none()) == (13, 30));
     // One store less leaves eight bytes unwritten.
-    insns[8] = Insn::Store(Size::Dw, Reg::R10, -16, Reg::R2);
+    insns[8] = store(Size::Dw, Reg::R10, Reg::R2, -16);
     assert!(rt; told_with(&rt, rt.alloc(), &insns, writes) == (13, 26));
-    insns[8] = alu(AluOp::Add, Reg::R2, Operand::Reg(Reg::R6));
+    insns[8] = alu64(AluOp::Add, Reg::R2, Operand::Reg(Reg::R6));
     assert!(rt; told_with(&rt, rt.alloc(), &insns, writes) == (8, 23));
 }
 
@@ -177,11 +245,11 @@ fn an_observer_that_copies(rt: HostRuntime) {
 fn ways_that_meet(rt: HostRuntime) {
     // A pointer that has two distances is none, one that has the same twice stays.
     let mut insns = [
-        Insn::Load(Size::Dw, Reg::R2, Reg::R1, 0),
+        load(Size::Dw, Reg::R2, Reg::R1, 0),
         copy(Reg::R3, Reg::R10),
         jump_if_zero(Reg::R2, 1),
         add(Reg::R3, -8),
-        Insn::StoreImm(Size::B, Reg::R3, -1, 5),
+        store_imm(Size::B, Reg::R3, -1, 5),
         mov(Reg::R0, 0),
         Insn::Exit,
     ];

@@ -14,4 +14,4 @@ invariant-loop-vm l = record {
 }
 
 abbrev pub decreases-loop-vm : goal.decreases-loop-vm
-decreases-loop-vm l = slots l.vm.program - l.vm.taken
+decreases-loop-vm l = slots l.vm.program.insns - l.vm.taken

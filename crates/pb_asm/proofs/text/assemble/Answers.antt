@@ -1,6 +1,7 @@
 use Rattle.std.proofs.Common.{arith, ℕ, ◌≤◌, ◌<◌, length, subst}
-use Rattle.pb_isa.specs.Slots.{IsRefused}
-use Rattle.pb_asm.proofs.Slots.{never_refused}
+use Rattle.pb_isa.specs.Programs.{IsRefused}
+use Rattle.pb_isa.specs.declared.limits.TheConstants.{MAX_SLOTS}
+use Rattle.pb_asm.proofs.SlotCounts.{never_refused}
 use Rattle.pb_asm.proofs.text.assemble.Goals as goal
 
 pub unreachable-requires : goal.unreachable-requires
@@ -8,4 +9,4 @@ unreachable-requires c =
     let insns = c.in_ok-lines.lines.insns.items in
     let some : 0 < length insns = grind arith in
     let refused = subst (IsRefused insns) c.in-Err-NotInRange.field-0-is c.in-Err-NotInRange.ensures.err in
-    never_refused insns some (subst (λ (n : ℕ). n ≤ 512) c.in_ok-lines.lines.counted c.in_ok-lines.ensures.most) refused.1
+    never_refused insns some (subst (λ (n : ℕ). n ≤ MAX_SLOTS) c.in_ok-lines.lines.counted c.in_ok-lines.ensures.most) refused.1

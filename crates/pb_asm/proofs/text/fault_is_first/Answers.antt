@@ -1,4 +1,4 @@
-use Rattle.pb_asm.proofs.First.{first}
+use Rattle.pb_asm.proofs.FirstFault.{first}
 use Rattle.pb_asm.proofs.text.fault_is_first.Goals as goal
 
 pub returns : goal.returns

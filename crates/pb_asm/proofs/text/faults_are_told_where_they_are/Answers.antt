@@ -1,4 +1,4 @@
-use Rattle.pb_asm.proofs.Codes.{word_told, too_long_told, nothing_told}
+use Rattle.pb_asm.proofs.FaultsTold.{word_told, too_long_told, nothing_told}
 use Rattle.pb_asm.proofs.text.faults_are_told_where_they_are.Goals as goal
 
 pub returns-clause-word : goal.returns-clause-word

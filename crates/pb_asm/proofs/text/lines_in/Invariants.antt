@@ -1,9 +1,10 @@
-use Rattle.std.proofs.Common.{◌≡◌, ◌≤◌, [], drop, map}
-use Rattle.std.specs.Prelude.{◌==◌}
-use Rattle.std.specs.List.{slice_split, AllByRecursion}
+use Rattle.std.proofs.Common.{◌≡◌, ◌≤◌, [], drop}
+use Rattle.std.specs.List.{AllByRecursion}
 use Rattle.pb_isa.specs.Bounds.{Fits}
-use Rattle.pb_asm.specs.Texts.{lines_read}
+use Rattle.pb_isa.specs.declared.limits.TheConstants.{MAX_SLOTS}
+use Rattle.pb_base.specs.Reading.{lines_of, texts_of}
+use Rattle.pb_asm.specs.Texts.{insns_of_lines}
 use Rattle.pb_asm.proofs.text.lines_in.Given as goal
 
 abbrev pub invariant-loop-index : goal.invariant-loop-index
-invariant-loop-index l = (lines_read l.index l.read.insns.items (map (λ w. w.now) (drop l.index l.line-items)) ≡ lines_read 0 [] (slice_split (λ b. b == 10) l.text)) × (l.read.taken ≤ 512) × AllByRecursion Fits l.read.insns.items
+invariant-loop-index l = (insns_of_lines l.index l.read.insns.items (texts_of (drop l.index l.line-items)) ≡ insns_of_lines 0 [] (lines_of l.text)) × (l.read.taken ≤ MAX_SLOTS) × AllByRecursion Fits l.read.insns.items

@@ -1,4 +1,4 @@
-use Rattle.pb_asm.proofs.Readings.{text_is}
+use Rattle.pb_asm.proofs.OnlyListings.{text_is}
 use Rattle.pb_asm.proofs.text.only_listings_are_read.Goals as goal
 
 pub returns : goal.returns

@@ -1,4 +1,4 @@
-use Rattle.pb_decode.proofs.Whole.{only_program, only_fault}
+use Rattle.pb_decode.proofs.OneProgramOrFault.{only_program, only_fault}
 use Rattle.pb_decode.proofs.reading.decode.Goals as goal
 
 pub returns-clause-program : goal.returns-clause-program

@@ -1,5 +1,5 @@
-use Rattle.pb_decode.proofs.Lowest.{insn_clean}
-use Rattle.pb_decode.proofs.Whole.{either, not_both, one_program, one_fault}
+use Rattle.pb_decode.proofs.LowestCode.{insn_clean}
+use Rattle.pb_decode.proofs.OneProgramOrFault.{either, not_both, one_program, one_fault}
 use Rattle.pb_decode.proofs.reading.either_program_or_fault.Goals as goal
 
 pub returns-clause-either : goal.returns-clause-either

@@ -1,5 +1,5 @@
 use Rattle.std.proofs.Common.{arith, ◌<◌, length, refl}
-use Rattle.pb_decode.proofs.Whole.{one_more, fault_at}
+use Rattle.pb_decode.proofs.OneProgramOrFault.{one_more, fault_at}
 use Rattle.pb_decode.proofs.reading.insns_of.Goals as goal
 
 pub returns-in-Err-clause-err : goal.returns-in-Err-clause-err

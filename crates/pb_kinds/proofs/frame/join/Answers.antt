@@ -1,6 +1,6 @@
 use Rattle.std.proofs.Common.{rules}
 use Rattle.pb_kinds.specs.Frames.{join}
-use Rattle.pb_kinds.proofs.MeetOf.{join_is_meet}
+use Rattle.pb_kinds.proofs.JoinIsMeet.{join_is_meet}
 use Rattle.pb_kinds.proofs.frame.join.Goals as goal
 
 pub returns-clause-value : goal.returns-clause-value

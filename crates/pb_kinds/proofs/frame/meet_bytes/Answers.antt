@@ -1,5 +1,5 @@
 use Rattle.std.proofs.Common.{arith, ◌&&◌, false}
-use Rattle.pb_kinds.proofs.Both.{both_step}
+use Rattle.pb_kinds.proofs.Pointwise.{both_step}
 use Rattle.pb_kinds.proofs.frame.meet_bytes.Goals as goal
 
 pub loop-i-preserved : goal.loop-i-preserved

@@ -1,7 +1,7 @@
 use Rattle.std.proofs.Common.{arith}
 use Rattle.pb_kinds.specs.Frames.{meet}
 use Rattle.pb_kinds.specs.declared.frame.Kind.TheVariants.{Unset}
-use Rattle.pb_kinds.proofs.Both.{both_step}
+use Rattle.pb_kinds.proofs.Pointwise.{both_step}
 use Rattle.pb_kinds.proofs.frame.meet_kinds.Goals as goal
 
 pub loop-i-preserved : goal.loop-i-preserved

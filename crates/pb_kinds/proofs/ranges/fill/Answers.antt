@@ -1,5 +1,5 @@
 use Rattle.std.proofs.Common.{arith}
-use Rattle.pb_kinds.proofs.Filling.{fill_step}
+use Rattle.pb_kinds.proofs.FlagsFilled.{fill_step}
 use Rattle.pb_kinds.proofs.ranges.fill.Goals as goal
 
 pub loop-b-preserved : goal.loop-b-preserved

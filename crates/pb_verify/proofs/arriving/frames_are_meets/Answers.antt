@@ -1,4 +1,4 @@
-use Rattle.pb_verify.proofs.MeetOfWays.{frames_are_meets}
+use Rattle.pb_verify.proofs.FramesAreMeets.{frames_are_meets}
 use Rattle.pb_verify.proofs.arriving.frames_are_meets.Goals as goal
 
 pub returns : goal.returns

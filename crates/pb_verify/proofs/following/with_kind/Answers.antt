@@ -1,4 +1,4 @@
-use Rattle.pb_verify.proofs.Near.{within_kind}
+use Rattle.pb_verify.proofs.PointersWithin.{within_kind}
 use Rattle.pb_verify.proofs.following.with_kind.Goals as goal
 
 pub returns-clause-near : goal.returns-clause-near

@@ -1,4 +1,4 @@
-use Rattle.pb_verify.proofs.Rising.{codes_rise}
+use Rattle.pb_verify.proofs.CodesRise.{codes_rise}
 use Rattle.pb_verify.proofs.rules.codes_rise.Goals as goal
 
 pub returns : goal.returns

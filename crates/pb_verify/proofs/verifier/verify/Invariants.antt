@@ -5,7 +5,7 @@ use Rattle.pb_verify.proofs.verifier.verify.Given as goal
 
 abbrev pub invariant-loop-slot : goal.invariant-loop-slot
 invariant-loop-slot l = record {
-  outs : l.outs.items ≡ outs l.fn.program l.slot;
-  fine : (m : ℕ) → m < l.slot → faults l.fn.program l.fn.helpers m ≡ [];
+  outs : l.outs.items ≡ outs l.fn.program.insns l.slot;
+  fine : (m : ℕ) → m < l.slot → faults l.fn.program.insns l.fn.helpers m ≡ [];
   near : AllWithin (l.slot * 2147483648) l.outs.items;
 }

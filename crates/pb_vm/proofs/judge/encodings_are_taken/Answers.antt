@@ -1,4 +1,4 @@
-use Rattle.pb_vm.proofs.Back.{taken_back}
+use Rattle.pb_vm.proofs.EncodingsTaken.{taken_back}
 use Rattle.pb_vm.proofs.judge.encodings_are_taken.Goals as goal
 
 pub returns : goal.returns

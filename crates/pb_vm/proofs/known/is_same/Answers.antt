@@ -2,8 +2,8 @@ use Rattle.std.proofs.Common.{◌≡◌, sym, ◌∙◌, rules}
 use mir.Syntax.{w32}
 use mir.Val.{SFits}
 use Rattle.pb_isa.specs.Registers.{number}
-use Rattle.pb_vm.proofs.Lines.{mov_only}
-use Rattle.pb_vm.proofs.Same.{same_movs}
+use Rattle.pb_vm.proofs.StraightLines.{mov_only}
+use Rattle.pb_vm.proofs.SameInsns.{same_movs}
 use Rattle.pb_vm.proofs.known.is_same.Goals as goal
 
 pub returns-then-number : goal.returns-then-number

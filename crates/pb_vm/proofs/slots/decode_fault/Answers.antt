@@ -1,6 +1,6 @@
 use Rattle.std.proofs.Common.{length, sym, ◌∙◌}
 use Rattle.pb_vm.specs.Verdict.{code_in}
-use Rattle.pb_vm.proofs.Firsts.{told_here, goes_on}
+use Rattle.pb_vm.proofs.FirstSlotFault.{told_here, goes_on}
 use Rattle.pb_vm.proofs.slots.decode_fault.Goals as goal
 
 pub returns-in-Some : goal.returns-in-Some

@@ -1,0 +1,249 @@
+-- Of which lines and texts the codes of the first word, of the slots and of no instruction are told.
+use Rattle.std.proofs.Common.{◌≡◌, ◌≢◌, ℕ, suc, ◌+◌, ◌-◌, ◌^◌, ◌<◌, ◌⊎◌, ◌↔◌, ℤ, pos, neg_ℤ, Bool, true, false, cond, List, [], ◌∷◌, ◌++◌, map, take, Option, Some, None, Result, Ok, Err, refl, sym, ap, subst, ◌∙◌, arith, inl, inr}
+use Rattle.std.specs.Prelude.{◌==◌, nat_le, nat_lt, slice_index}
+use Rattle.std.specs.List.{slice_split, before_first, position_or_len}
+use Rattle.std.specs.Str.Parse.{digits_value}
+use Rattle.std.proofs.lemmas.Bool.{ltb-true, lt-ltb}
+use Rattle.pb_isa.specs.declared.insn.Insn.{Insn}
+use Rattle.pb_isa.specs.declared.insn.Insn.TheVariants as insn
+use Rattle.pb_isa.specs.declared.insn.Operand.{Operand}
+use Rattle.pb_isa.specs.declared.insn.Reg.{Reg}
+use Rattle.pb_isa.specs.Bounds.{Fits}
+use Rattle.pb_isa.specs.Slots.{slots}
+use Rattle.pb_isa.specs.declared.limits.TheConstants.{MAX_SLOTS}
+use Rattle.pb_asm.specs.declared.fault.Code.{Code}
+use Rattle.pb_asm.specs.declared.fault.Code.TheVariants as code
+use Rattle.pb_asm.specs.declared.names.Word.{Word}
+use Rattle.pb_asm.specs.declared.names.Word.TheVariants as word
+use Rattle.pb_asm.specs.Names.{name, words, word_named, reg_named}
+use Rattle.pb_base.specs.Reading.{◌>>=◌}
+use Rattle.std.specs.Prelude.{ok_or}
+use Rattle.pb_asm.specs.Cuts.{strip_prefix, strip_suffix, split_once}
+use Rattle.pb_base.specs.Reading.{is_numeral, numeral_upto, next_word, no_word}
+use Rattle.pb_asm.specs.Operands.{minus, plus, signed_or, imm_of_text, plus_or_fault, offset_of_text, reg_of_text, operand_of_text, base_and_offset, at_minus, at_plus, place_of_text, comma, last, alu_operands, load_imm_operands, load_operands, store_imm_operands, store_operands, jump_if_operands, operands, insn_of_words, line_of}
+use Rattle.pb_asm.specs.Listing.{insn_text}
+use Rattle.pb_base.specs.Reading.{is_skipped, ◌>>=◌}
+use Rattle.pb_asm.specs.Texts.{instruction_lines, with_insn_line, some_of, program_of_text, IsFirstFault, HasNone}
+use Rattle.pb_asm.proofs.NamesAndDigits.{word_back}
+use Rattle.pb_asm.proofs.ListingsReadBack.{line_back, insn_shown}
+use Rattle.pb_asm.proofs.FirstFault.{first}
+use Rattle.pb_asm.proofs.OnlyListings.{read, back}
+use Rattle.pb_asm.proofs.OneSpelling.{word_among, line_spelled}
+
+-- operands are told as of another form or out of range
+abbrev Tells : {A : Type 0} → Result A Code → Type 0
+Tells (Ok x) = Unit {0}
+Tells (Err code.Memory) = ⊥
+Tells (Err code.Word) = ⊥
+Tells (Err code.Form) = Unit {0}
+Tells (Err code.Range) = Unit {0}
+Tells (Err code.TooLong) = ⊥
+Tells (Err code.Nothing) = ⊥
+
+then_tells : {A B : Type 0} (r : Result A Code) (f : A → Result B Code) → Tells r → ((x : A) → Tells (f x)) → Tells (r >>= f)
+then_tells (Ok x) f h k = k x
+then_tells (Err code.Memory) f h k = h
+then_tells (Err code.Word) f h k = h
+then_tells (Err code.Form) f h k = h
+then_tells (Err code.Range) f h k = h
+then_tells (Err code.TooLong) f h k = h
+then_tells (Err code.Nothing) f h k = h
+
+if_tells : {A : Type 0} (b : Bool) (r s : Result A Code) → Tells r → Tells s → Tells (cond b r s)
+if_tells true r s h k = h
+if_tells false r s h k = k
+
+there_tells : {A : Type 0} (o : Option A) → Tells (ok_or o code.Form)
+there_tells None = tt
+there_tells (Some x) = tt
+
+number_tells : (greatest : ℕ) (text : List ℕ) → Tells (numeral_upto code.Form code.Range greatest text)
+number_tells greatest text = if_tells (is_numeral text) _ (Err code.Form) (if_tells (nat_le (digits_value 10 text) greatest) (Ok (digits_value 10 text)) (Err code.Range) tt tt) tt
+
+minus_tells : (greatest : ℕ) (text : List ℕ) → Tells (minus greatest text)
+unfolding minus
+minus_tells greatest text = then_tells (numeral_upto code.Form code.Range greatest text) _ (number_tells greatest text) (λ n. if_tells (n == 0) (Err code.Form) (Ok (neg_ℤ (pos n))) tt tt)
+
+plus_tells : (limit : ℕ) (text : List ℕ) → Tells (plus limit text)
+unfolding plus
+plus_tells limit text = then_tells (numeral_upto code.Form code.Range (limit - 1) text) _ (number_tells (limit - 1) text) (λ n. tt)
+
+signed_tells : (unsigned : Result ℤ Code) (limit : ℕ) (o : Option (List ℕ)) → Tells unsigned → Tells (signed_or unsigned limit o)
+signed_tells unsigned limit None h = h
+signed_tells unsigned limit (Some digits) h = minus_tells limit digits
+
+imm_tells : (text : List ℕ) → Tells (imm_of_text text)
+imm_tells text = signed_tells (plus (2 ^ 31) text) (2 ^ 31) (strip_prefix 45 text) (plus_tells (2 ^ 31) text)
+
+sign_tells : (o : Option (List ℕ)) → Tells (plus_or_fault o)
+sign_tells None = tt
+sign_tells (Some digits) = plus_tells (2 ^ 15) digits
+
+offset_tells : (text : List ℕ) → Tells (offset_of_text text)
+offset_tells text = signed_tells (plus_or_fault (strip_prefix 43 text)) (2 ^ 15) (strip_prefix 45 text) (sign_tells (strip_prefix 43 text))
+
+reg_tells : (text : List ℕ) → Tells (reg_of_text text)
+reg_tells text = there_tells (reg_named text)
+
+operand_tells : (text : List ℕ) → Tells (operand_of_text text)
+unfolding operand_of_text
+operand_tells text = if_tells (slice_index text 0 == 114) _ _ (then_tells (reg_of_text text) _ (reg_tells text) (λ r. tt)) (then_tells (imm_of_text text) _ (imm_tells text) (λ k. tt))
+
+based_tells : (register : List ℕ) (offset : Result ℤ Code) → Tells offset → Tells (base_and_offset register offset)
+unfolding base_and_offset
+based_tells register offset h = then_tells (reg_of_text register) _ (reg_tells register) (λ r. then_tells offset _ h (λ o. tt))
+
+at_minus_tells : (o : Option (List ℕ × List ℕ)) → Tells (at_minus o)
+at_minus_tells None = tt
+at_minus_tells (Some sides) = based_tells sides.0 (minus (2 ^ 15) sides.1) (minus_tells (2 ^ 15) sides.1)
+
+at_plus_tells : (text : List ℕ) (o : Option (List ℕ × List ℕ)) → Tells (at_plus text o)
+at_plus_tells text None = at_minus_tells (split_once 45 text)
+at_plus_tells text (Some sides) = based_tells sides.0 (plus (2 ^ 15) sides.1) (plus_tells (2 ^ 15) sides.1)
+
+place_tells : (text : List ℕ) → Tells (place_of_text text)
+unfolding place_of_text
+place_tells text = then_tells (ok_or (strip_prefix 91 text) code.Form) _ (there_tells (strip_prefix 91 text)) (λ front. then_tells (ok_or (strip_suffix 93 front) code.Form) _ (there_tells (strip_suffix 93 front)) (λ inner. at_plus_tells inner (split_once 43 inner)))
+
+field_tells : (texts : List (List ℕ)) → Tells (next_word code.Form texts)
+field_tells [] = tt
+field_tells (text ∷ texts) = tt
+
+ended_tells : (texts : List (List ℕ)) → Tells (no_word code.Form texts)
+ended_tells [] = tt
+ended_tells (text ∷ texts) = tt
+
+comma_tells : (texts : List (List ℕ)) → Tells (comma texts)
+unfolding comma
+comma_tells texts = then_tells (next_word code.Form texts) _ (field_tells texts) (λ first. then_tells (ok_or (strip_suffix 44 first.0) code.Form) _ (there_tells (strip_suffix 44 first.0)) (λ text. tt))
+
+last_tells : {A : Type 0} (read : List ℕ → Result A Code) (texts : List (List ℕ)) → ((text : List ℕ) → Tells (read text)) → Tells (last read texts)
+unfolding last
+last_tells read texts h = then_tells (next_word code.Form texts) _ (field_tells texts) (λ first. then_tells (read first.0) _ (h first.0) (λ x. then_tells (no_word code.Form first.1) _ (ended_tells first.1) (λ end. tt)))
+
+alu_tells : (make : Reg → Operand → Insn) (texts : List (List ℕ)) → Tells (alu_operands make texts)
+unfolding alu_operands
+alu_tells make texts = then_tells (comma texts) _ (comma_tells texts) (λ first. then_tells (reg_of_text first.0) _ (reg_tells first.0) (λ r. then_tells (last operand_of_text first.1) _ (last_tells operand_of_text first.1 operand_tells) (λ a. tt)))
+
+wide_tells : (texts : List (List ℕ)) → Tells (load_imm_operands texts)
+unfolding load_imm_operands
+wide_tells texts = then_tells (comma texts) _ (comma_tells texts) (λ first. then_tells (reg_of_text first.0) _ (reg_tells first.0) (λ r. then_tells (last (numeral_upto code.Form code.Range (2 ^ 64 - 1)) first.1) _ (last_tells (numeral_upto code.Form code.Range (2 ^ 64 - 1)) first.1 (number_tells (2 ^ 64 - 1))) (λ n. tt)))
+
+load_tells : (make : Reg → Reg → ℤ → Insn) (texts : List (List ℕ)) → Tells (load_operands make texts)
+unfolding load_operands
+load_tells make texts = then_tells (comma texts) _ (comma_tells texts) (λ first. then_tells (reg_of_text first.0) _ (reg_tells first.0) (λ r. then_tells (last place_of_text first.1) _ (last_tells place_of_text first.1 place_tells) (λ p. tt)))
+
+store_imm_tells : (make : Reg → ℤ → ℤ → Insn) (texts : List (List ℕ)) → Tells (store_imm_operands make texts)
+unfolding store_imm_operands
+store_imm_tells make texts = then_tells (comma texts) _ (comma_tells texts) (λ first. then_tells (place_of_text first.0) _ (place_tells first.0) (λ p. then_tells (last imm_of_text first.1) _ (last_tells imm_of_text first.1 imm_tells) (λ k. tt)))
+
+store_tells : (make : Reg → Reg → ℤ → Insn) (texts : List (List ℕ)) → Tells (store_operands make texts)
+unfolding store_operands
+store_tells make texts = then_tells (comma texts) _ (comma_tells texts) (λ first. then_tells (place_of_text first.0) _ (place_tells first.0) (λ p. then_tells (last reg_of_text first.1) _ (last_tells reg_of_text first.1 reg_tells) (λ r. tt)))
+
+jump_if_tells : (make : Reg → Operand → ℤ → Insn) (texts : List (List ℕ)) → Tells (jump_if_operands make texts)
+unfolding jump_if_operands
+jump_if_tells make texts = then_tells (comma texts) _ (comma_tells texts) (λ first. then_tells (reg_of_text first.0) _ (reg_tells first.0) (λ r. then_tells (comma first.1) _ (comma_tells first.1) (λ second. then_tells (operand_of_text second.0) _ (operand_tells second.0) (λ a. then_tells (last offset_of_text second.1) _ (last_tells offset_of_text second.1 offset_tells) (λ o. tt)))))
+
+operands_tell : (w : Word) (texts : List (List ℕ)) → Tells (operands w texts)
+operands_tell (word.Alu op w) texts = alu_tells (insn.Alu op w) texts
+operands_tell (word.Neg w) texts = then_tells (last reg_of_text texts) _ (last_tells reg_of_text texts reg_tells) (λ r. tt)
+operands_tell word.LoadImm texts = wide_tells texts
+operands_tell (word.Load z) texts = load_tells (insn.Load z) texts
+operands_tell (word.StoreImm z) texts = store_imm_tells (insn.StoreImm z) texts
+operands_tell (word.Store z) texts = store_tells (insn.Store z) texts
+operands_tell word.Jump texts = then_tells (last offset_of_text texts) _ (last_tells offset_of_text texts offset_tells) (λ o. tt)
+operands_tell (word.JumpIf c w) texts = jump_if_tells (insn.JumpIf c w) texts
+operands_tell word.Call texts = then_tells (last imm_of_text texts) _ (last_tells imm_of_text texts imm_tells) (λ k. tt)
+operands_tell word.Exit texts = then_tells (no_word code.Form texts) _ (ended_tells texts) (λ end. tt)
+
+-- ---- the first word
+
+abbrev blank : ℕ → Bool
+blank b = b == 32
+
+-- the words are the one before the first blank, and others
+first_step : (b : ℕ) (bs : List ℕ) (rest : List (List ℕ)) (t : Bool) → blank b ≡ t → slice_split blank bs ≡ before_first blank bs ∷ rest → (others : List (List ℕ)) × (slice_split blank (b ∷ bs) ≡ before_first blank (b ∷ bs) ∷ others)
+first_step b bs rest true is h = (slice_split blank bs, rw is refl)
+first_step b bs rest false is h =
+    let next : suc (position_or_len blank bs) ≡ 1 + position_or_len blank bs = omega arith in
+    (rest, rw (is, h) (ap (λ (k : ℕ). take k (b ∷ bs) ∷ rest) next))
+
+first_word : (line : List ℕ) → (others : List (List ℕ)) × (slice_split blank line ≡ before_first blank line ∷ others)
+first_word [] = ([], refl)
+first_word (b ∷ bs) = let h = first_word bs in first_step b bs h.0 (blank b) refl h.1
+
+named_cases : (text : List ℕ) (texts : List (List ℕ)) (o : Option Word) → word_named text ≡ o → (ok_or o code.Word >>= λ w. operands w texts) ≡ Err code.Word → (w : Word) → text ≢ name w
+named_cases text texts None is h w same = let no : None ≡ Some w = sym is ∙ ap word_named same ∙ word_back w in absurd cc
+named_cases text texts (Some v) is h w same = absurd (subst Tells h (operands_tell v texts))
+
+unnamed : (text : List ℕ) (o : Option Word) → word_named text ≡ o → ((w : Word) → text ≢ name w) → word_named text ≡ None
+unnamed text None is none = is
+unnamed text (Some w) is none = absurd (none w (word_among text words w is))
+
+words_word : (text : List ℕ) (texts : List (List ℕ)) → (insn_of_words (text ∷ texts) ≡ Err code.Word) ↔ ((w : Word) → text ≢ name w)
+unfolding insn_of_words
+words_word text texts = (named_cases text texts (word_named text) refl, λ none. ap (λ (o : Option Word). ok_or o code.Word >>= λ w. operands w texts) (unnamed text (word_named text) refl none))
+
+pub word_told : (line : List ℕ) → (line_of line ≡ Err code.Word) ↔ ((w : Word) → before_first (λ b. b == 32) line ≢ name w)
+word_told line =
+    let f = first_word line in
+    let e = words_word (before_first blank line) f.0 in
+    (λ h. e.0 (ap insn_of_words (sym f.1) ∙ h), λ h. ap insn_of_words f.1 ∙ e.1 h)
+
+-- ---- the slots
+
+words_short : (texts : List (List ℕ)) (o : Option Word) → (ok_or o code.Word >>= λ w. operands w texts) ≡ Err code.TooLong → ⊥
+words_short texts None h = absurd cc
+words_short texts (Some w) h = subst Tells h (operands_tell w texts)
+
+line_short : (texts : List (List ℕ)) → insn_of_words texts ≡ Err code.TooLong → ⊥
+unfolding insn_of_words
+line_short [] h = absurd cc
+line_short (text ∷ texts) h = words_short texts (word_named text) h
+
+abbrev PastEnd : List Insn → List ℕ → Type 0
+PastEnd front line = (i : Insn) × (line ≡ insn_text i) × Fits i × (MAX_SLOTS < slots (front ++ i ∷ []))
+
+slots_past : (front p : List Insn) (b : Bool) → cond b (Err code.TooLong) (Ok p) ≡ Err code.TooLong → b ≡ true
+slots_past front p true h = refl
+slots_past front p false h = absurd cc
+
+abbrev failed : (A : Type 0) → Code → Result A Code
+failed A c = Err c
+
+same_code : (A : Type 0) (c d : Code) → failed A c ≡ failed A d → c ≡ d
+same_code A c d h = cc
+
+moved : (A B : Type 0) (c d : Code) → failed A c ≡ failed A d → failed B c ≡ failed B d
+moved A B c d h = ap (failed B) (same_code A c d h)
+
+read_past : (front : List Insn) (line : List ℕ) (r : Result Insn Code) → line_of line ≡ r → (r >>= λ i. cond (nat_lt MAX_SLOTS (slots (front ++ i ∷ []))) (Err code.TooLong) (Ok (front ++ i ∷ []))) ≡ Err code.TooLong → PastEnd front line
+read_past front line (Err c) is h = absurd (line_short (slice_split blank line) (is ∙ moved (List Insn) Insn c code.TooLong h))
+read_past front line (Ok i) is h =
+    let s = line_spelled line i is in
+    (i, s.0, s.1, ltb-true _ _ (slots_past front (front ++ i ∷ []) (nat_lt MAX_SLOTS (slots (front ++ i ∷ []))) h))
+
+shown_past : (front : List Insn) (line : List ℕ) (b : Bool) → cond b (Ok front) (line_of line >>= λ i. cond (nat_lt MAX_SLOTS (slots (front ++ i ∷ []))) (Err code.TooLong) (Ok (front ++ i ∷ []))) ≡ Err code.TooLong → PastEnd front line
+shown_past front line true h = absurd cc
+shown_past front line false h = read_past front line (line_of line) refl h
+
+past_told : (front : List Insn) (line : List ℕ) → PastEnd front line → with_insn_line front line ≡ Err code.TooLong
+unfolding with_insn_line
+past_told front line h = ap (with_insn_line front) h.1 ∙ rw (insn_shown h.0, line_back h.0 h.2, lt-ltb _ _ h.3) refl
+
+pub too_long_told : (front : List Insn) (line : List ℕ) → (with_insn_line front line ≡ Err code.TooLong) ↔ ((i : Insn) × (line ≡ insn_text i) × Fits i × (MAX_SLOTS < slots (front ++ i ∷ [])))
+unfolding with_insn_line
+too_long_told front line = (shown_past front line (is_skipped line), past_told front line)
+
+-- ---- no instruction
+
+has_none : (text : List ℕ) → IsFirstFault text 0 84 ⊎ HasNone text 0 84 → instruction_lines text ≡ []
+has_none text (inl f) = let k = f.number in let no : ⊥ = omega (arith, k) in absurd no
+has_none text (inr f) = let r = read 0 [] [] (slice_split (λ b. b == 10) text) f.read (omega arith) in r.lines ∙ ap (map insn_text) (sym r.whole)
+
+none_told : (text : List ℕ) → instruction_lines text ≡ [] → program_of_text text ≡ Err (0, 84)
+none_told text h = ap (λ (r : Result (List Insn) (ℕ × ℕ)). r >>= some_of) (back 0 (slice_split (λ b. b == 10) text) [] [] h tt (omega arith))
+
+pub nothing_told : (text : List ℕ) → (program_of_text text ≡ Err (0, 84)) ↔ (instruction_lines text ≡ [])
+nothing_told text = (λ h. has_none text (first text 0 84 h), none_told text)

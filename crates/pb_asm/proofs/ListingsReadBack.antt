@@ -1,0 +1,342 @@
+-- A listing is read as its program.
+use Rattle.std.proofs.Common.{◌≡◌, ℕ, zero, suc, ◌+◌, ◌-◌, ◌^◌, ◌<◌, ◌≤◌, ℤ, pos, negsuc, Bool, true, false, cond, List, [], ◌∷◌, ◌++◌, length, map, Option, Some, None, Result, Ok, refl, sym, ap, subst, ◌∙◌, append_assoc, arith}
+use Rattle.std.specs.Prelude.{◌==◌, ◌&&◌, nat_le, nat_lt, codes, slice_index, FitsSigned}
+use Rattle.std.specs.Char.{is_ascii_digit}
+use Rattle.std.specs.Int.{w16, w32}
+use Rattle.std.specs.List.{slice_split, list_all, AllByRecursion}
+use Rattle.std.specs.Fmt.{decimal, signed_decimal}
+use Rattle.std.specs.Str.Parse.{digits_value}
+use Rattle.std.proofs.lemmas.Bool.{le-leb, le-ltb, leb-true}
+use Rattle.std.proofs.lemmas.Fmt.{digits_decimal, digits_value-decimal, decimal_nonempty, first_decimal, decimal_digit}
+use Rattle.std.proofs.lemmas.List.{length-append, append-nil}
+use Rattle.pb_isa.specs.declared.insn.Insn.{Insn}
+use Rattle.pb_isa.specs.declared.insn.Insn.TheVariants as insn
+use Rattle.pb_isa.specs.declared.insn.Operand.{Operand}
+use Rattle.pb_isa.specs.declared.insn.Operand.TheVariants as operand
+use Rattle.pb_isa.specs.declared.insn.Reg.{Reg}
+use Rattle.pb_isa.specs.declared.insn.Reg.TheVariants.{R0, R1, R2, R3, R4, R5, R6, R7, R8, R9, R10}
+use Rattle.pb_isa.specs.Bounds.{OperandFits, Fits}
+use Rattle.pb_isa.specs.Slots.{places_of, layout, slots}
+use Rattle.pb_isa.specs.Programs.{ProgramOf, IsProgram}
+use Rattle.pb_isa.specs.declared.limits.TheConstants.{MAX_SLOTS}
+use Rattle.pb_asm.specs.declared.fault.Code.{Code}
+use Rattle.pb_asm.specs.declared.fault.Code.TheVariants as code
+use Rattle.pb_asm.specs.declared.names.Word.{Word}
+use Rattle.pb_asm.specs.declared.names.Word.TheVariants as word
+use Rattle.pb_asm.specs.Names.{name, words, reg_name, word_named}
+use Rattle.pb_base.specs.Reading.{◌>>=◌}
+use Rattle.std.specs.Prelude.{ok_or}
+use Rattle.pb_asm.specs.Cuts.{strip_prefix, strip_suffix, split_once}
+use Rattle.pb_base.specs.Reading.{is_numeral, numeral_upto}
+use Rattle.pb_asm.specs.Operands.{minus, plus, imm_of_text, offset_of_text, reg_of_text, operand_of_text, base_and_offset, at_minus, at_plus, place_of_text, comma, last, alu_operands, load_imm_operands, load_operands, store_imm_operands, store_operands, jump_if_operands, operands, insn_of_words, line_of}
+use Rattle.pb_asm.specs.Listing.{operand_text, offset_text, place_text, insn_text, listing}
+use Rattle.pb_base.specs.Reading.{is_skipped, ◌>>=◌, numbered}
+use Rattle.pb_asm.specs.Codes.{asm_code}
+use Rattle.pb_asm.specs.Texts.{with_insn_line, insns_of_lines, some_of, program_of_text}
+use Rattle.pb_asm.proofs.Numerals.{own}
+use Rattle.pb_asm.proofs.TextCuts.{before_there}
+use Rattle.pb_asm.proofs.NamesAndDigits.{above, above_append, above_less, cut_there, cut_none, around_there, around_none, reg_above, name_above, word_back, reg_back, decimal_above, first_is_digit}
+
+-- ---- numbers
+
+not_empty : (n : ℕ) → 0 < n → (n == 0) ≡ false
+not_empty n h = grind arith
+
+tests : (a b c d : Bool) → a ≡ false → (b && c) ≡ false → d ≡ true → cond a false (cond (b && c) false d) ≡ true
+tests a b c d p q r = rw (p, q, r) refl
+
+-- a zero stands alone
+no_zero : (n : ℕ) → n < 2 ^ 64 → ((slice_index (decimal n) 0 == 48) && nat_lt 1 (length (decimal n))) ≡ false
+no_zero zero lt = ap (λ (ds : List ℕ). (slice_index ds 0 == 48) && nat_lt 1 (length ds)) (decimal_digit 0 (omega arith))
+no_zero (suc n) lt =
+    let f = first_decimal (suc n) (omega arith) lt in
+    let e : (slice_index (decimal (suc n)) 0 == 48) ≡ false = grind (arith, f) in
+    rw e refl
+
+number_is : (n : ℕ) → n < 2 ^ 64 → is_numeral (decimal n) ≡ true
+number_is n lt = tests (length (decimal n) == 0) (slice_index (decimal n) 0 == 48) (nat_lt 1 (length (decimal n))) (list_all is_ascii_digit (decimal n)) (not_empty _ (decimal_nonempty n lt)) (no_zero n lt) (digits_decimal own n lt)
+
+pub number_back : (greatest n : ℕ) → n ≤ greatest → n < 2 ^ 64 → numeral_upto code.Form code.Range greatest (decimal n) ≡ Ok n
+number_back greatest n le lt =
+    let v : digits_value 10 (decimal n) ≡ n = digits_value-decimal own n lt in
+    let e : nat_le (digits_value 10 (decimal n)) greatest ≡ true = le-leb _ _ (omega (arith, v, le)) in
+    rw (number_is n lt, e) (ap Ok v)
+
+minus_back : (greatest n : ℕ) → suc n ≤ greatest → suc n < 2 ^ 64 → minus greatest (decimal (suc n)) ≡ Ok (negsuc n)
+unfolding minus
+minus_back greatest n le lt = let e : (suc n == 0) ≡ false = grind arith in rw (number_back greatest (suc n) le lt, e) refl
+
+plus_back : (limit n : ℕ) → n < limit → n < 2 ^ 64 → plus limit (decimal n) ≡ Ok (pos n)
+unfolding plus
+plus_back limit n le lt = rw (number_back (limit - 1) n (omega (arith, le)) lt) refl
+
+front_cases : (c x : ℕ) (xs : List ℕ) → c < 48 → (b : Bool) → nat_le 48 x ≡ b → cond b (above 48 xs) false ≡ true → strip_prefix c (x ∷ xs) ≡ None
+front_cases c x xs lt true is h = let q = leb-true 48 x is in let e : (x == c) ≡ false = grind (arith, q, lt) in rw e refl
+front_cases c x xs lt false is h = absurd cc
+
+pub no_front : (c : ℕ) (xs : List ℕ) → c < 48 → above 48 xs ≡ true → strip_prefix c xs ≡ None
+no_front c [] lt h = refl
+no_front c (x ∷ xs) lt h = front_cases c x xs lt (nat_le 48 x) refl h
+
+imm_back : (k : ℤ) → FitsSigned w32 k → imm_of_text (signed_decimal k) ≡ Ok k
+imm_back (pos n) fits =
+    let lt : n < 2 ^ 31 = fits.sfits in
+    let big : n < 2 ^ 64 = omega (arith, lt) in
+    rw (no_front 45 (decimal n) (omega arith) (decimal_above n big)) (plus_back (2 ^ 31) n lt big)
+imm_back (negsuc n) fits =
+    let lt : n < 2 ^ 31 = fits.sfits in
+    minus_back (2 ^ 31) n (omega (arith, lt)) (omega (arith, lt))
+
+offset_back : (o : ℤ) → FitsSigned w16 o → offset_of_text (offset_text o) ≡ Ok o
+offset_back (pos n) fits =
+    let lt : n < 2 ^ 15 = fits.sfits in
+    plus_back (2 ^ 15) n lt (omega (arith, lt))
+offset_back (negsuc n) fits =
+    let lt : n < 2 ^ 15 = fits.sfits in
+    minus_back (2 ^ 15) n (omega (arith, lt)) (omega (arith, lt))
+
+-- ---- registers, operands, places
+
+pub reg_read : (r : Reg) → reg_of_text (reg_name r) ≡ Ok r
+reg_read r = ap (λ (o : Option Reg). ok_or o code.Form) (reg_back r)
+
+first_letter : (r : Reg) → (slice_index (reg_name r) 0 == 114) ≡ true
+first_letter R0 = refl
+first_letter R1 = refl
+first_letter R2 = refl
+first_letter R3 = refl
+first_letter R4 = refl
+first_letter R5 = refl
+first_letter R6 = refl
+first_letter R7 = refl
+first_letter R8 = refl
+first_letter R9 = refl
+first_letter R10 = refl
+
+is_r : (r : Reg) → (slice_index (reg_name r) 0 == 114) ≡ true
+is_r r = first_letter r
+
+not_r : (k : ℤ) → FitsSigned w32 k → (slice_index (signed_decimal k) 0 == 114) ≡ false
+not_r (pos n) fits =
+    let lt : n < 2 ^ 31 = fits.sfits in
+    let f = first_is_digit n (omega (arith, lt)) in
+    let g = f.1 in
+    grind (arith, g)
+not_r (negsuc n) fits = refl
+
+pub operand_back : (a : Operand) → OperandFits a → operand_of_text (operand_text a) ≡ Ok a
+unfolding operand_of_text
+operand_back (operand.Imm k) fits = rw (not_r k fits, imm_back k fits) refl
+operand_back (operand.Reg r) fits = rw (is_r r, reg_read r) refl
+
+based_back : (b : Reg) (o : ℤ) (read : Result ℤ Code) → read ≡ Ok o → base_and_offset (reg_name b) read ≡ Ok (b, o)
+unfolding base_and_offset
+based_back b o read h = rw (reg_read b, h) refl
+
+-- what stands between the brackets
+inside : (b : Reg) (o : ℤ) → FitsSigned w16 o → at_plus (reg_name b ++ offset_text o) (split_once 43 (reg_name b ++ offset_text o)) ≡ Ok (b, o)
+inside b (pos n) fits =
+    let lt : n < 2 ^ 15 = fits.sfits in
+    ap (at_plus (reg_name b ++ 43 ∷ decimal n)) (around_there 43 48 (reg_name b) (decimal n) (omega arith) (reg_above b))
+    ∙ based_back b (pos n) (plus (2 ^ 15) (decimal n)) (plus_back (2 ^ 15) n lt (omega (arith, lt)))
+inside b (negsuc n) fits =
+    let lt : n < 2 ^ 15 = fits.sfits in
+    let big : suc n < 2 ^ 64 = omega (arith, lt) in
+    let whole : above 44 (reg_name b ++ 45 ∷ decimal (suc n)) ≡ true = above_append 44 (reg_name b) (45 ∷ decimal (suc n)) (above_less 44 48 (reg_name b) (omega arith) (reg_above b)) (above_less 44 48 (decimal (suc n)) (omega arith) (decimal_above (suc n) big)) in
+    ap (at_plus (reg_name b ++ 45 ∷ decimal (suc n))) (around_none 43 44 (reg_name b ++ 45 ∷ decimal (suc n)) (omega arith) whole)
+    ∙ ap at_minus (around_there 45 48 (reg_name b) (decimal (suc n)) (omega arith) (reg_above b))
+    ∙ based_back b (negsuc n) (minus (2 ^ 15) (decimal (suc n))) (minus_back (2 ^ 15) n (omega (arith, lt)) big)
+
+pub place_back : (b : Reg) (o : ℤ) → FitsSigned w16 o → place_of_text (place_text b o) ≡ Ok (b, o)
+unfolding place_of_text
+place_back b o fits =
+    let grouped : reg_name b ++ (offset_text o ++ 93 ∷ []) ≡ (reg_name b ++ offset_text o) ++ 93 ∷ [] = sym (append_assoc (reg_name b) (offset_text o) (93 ∷ [])) in
+    let e : strip_suffix 93 (reg_name b ++ (offset_text o ++ 93 ∷ [])) ≡ Some (reg_name b ++ offset_text o) = ap (strip_suffix 93) grouped ∙ before_there 93 (reg_name b ++ offset_text o) in
+    ap (λ (x : Option (List ℕ)). ok_or x code.Form >>= λ inner. at_plus inner (split_once 43 inner)) e ∙ inside b o fits
+
+-- ---- the words of a line
+
+pub reg_line : (r : Reg) → above 33 (reg_name r) ≡ true
+reg_line r = above_less 33 48 (reg_name r) (omega arith) (reg_above r)
+
+decimal_line : (n : ℕ) → n < 2 ^ 64 → above 33 (decimal n) ≡ true
+decimal_line n lt = above_less 33 48 (decimal n) (omega arith) (decimal_above n lt)
+
+signed_line : (k : ℤ) → FitsSigned w32 k → above 33 (signed_decimal k) ≡ true
+signed_line (pos n) fits = let lt : n < 2 ^ 31 = fits.sfits in decimal_line n (omega (arith, lt))
+signed_line (negsuc n) fits = let lt : n < 2 ^ 31 = fits.sfits in decimal_line (suc n) (omega (arith, lt))
+
+offset_line : (o : ℤ) → FitsSigned w16 o → above 33 (offset_text o) ≡ true
+offset_line (pos n) fits = let lt : n < 2 ^ 15 = fits.sfits in decimal_line n (omega (arith, lt))
+offset_line (negsuc n) fits = let lt : n < 2 ^ 15 = fits.sfits in decimal_line (suc n) (omega (arith, lt))
+
+pub operand_line : (a : Operand) → OperandFits a → above 33 (operand_text a) ≡ true
+operand_line (operand.Imm k) fits = signed_line k fits
+operand_line (operand.Reg r) fits = reg_line r
+
+pub place_line : (b : Reg) (o : ℤ) → FitsSigned w16 o → above 33 (place_text b o) ≡ true
+place_line b o fits = above_append 33 (reg_name b) (offset_text o ++ 93 ∷ []) (reg_line b) (above_append 33 (offset_text o) (93 ∷ []) (offset_line o fits) refl)
+
+abbrev pub blanks : List ℕ → List (List ℕ)
+blanks text = slice_split (λ b. b == 32) text
+
+pub comma_cut : (x y : List ℕ) → above 33 x ≡ true → blanks (x ++ (codes ", " ++ y)) ≡ (x ++ 44 ∷ []) ∷ blanks y
+comma_cut x y h =
+    let grouped : x ++ (codes ", " ++ y) ≡ (x ++ 44 ∷ []) ++ 32 ∷ y = sym (append_assoc x (44 ∷ []) (32 ∷ y)) in
+    ap blanks grouped ∙ cut_there 32 33 (x ++ 44 ∷ []) y (omega arith) (above_append 33 x (44 ∷ []) h refl)
+
+pub name_cut : (w : Word) (y : List ℕ) → blanks (name w ++ (codes " " ++ y)) ≡ name w ∷ blanks y
+name_cut w y = cut_there 32 48 (name w) y (omega arith) (name_above w)
+
+pub last_cut : (x : List ℕ) → above 33 x ≡ true → blanks x ≡ x ∷ []
+last_cut x h = cut_none 32 33 x (omega arith) h
+
+-- a first word and one operand
+one_word : (w : Word) (x : List ℕ) → above 33 x ≡ true → blanks (name w ++ (codes " " ++ x)) ≡ name w ∷ x ∷ []
+one_word w x h = name_cut w x ∙ ap (λ (ws : List (List ℕ)). name w ∷ ws) (last_cut x h)
+
+-- and two
+two_words : (w : Word) (x y : List ℕ) → above 33 x ≡ true → above 33 y ≡ true → blanks (name w ++ (codes " " ++ (x ++ (codes ", " ++ y)))) ≡ name w ∷ (x ++ 44 ∷ []) ∷ y ∷ []
+two_words w x y h k = name_cut w (x ++ (codes ", " ++ y)) ∙ ap (λ (ws : List (List ℕ)). name w ∷ ws) (comma_cut x y h ∙ ap (λ (ws : List (List ℕ)). (x ++ 44 ∷ []) ∷ ws) (last_cut y k))
+
+three_words : (w : Word) (x y z : List ℕ) → above 33 x ≡ true → above 33 y ≡ true → above 33 z ≡ true
+    → blanks (name w ++ (codes " " ++ (x ++ (codes ", " ++ (y ++ (codes ", " ++ z)))))) ≡ name w ∷ (x ++ 44 ∷ []) ∷ (y ++ 44 ∷ []) ∷ z ∷ []
+three_words w x y z h k l =
+    name_cut w (x ++ (codes ", " ++ (y ++ (codes ", " ++ z)))) ∙ ap (λ (ws : List (List ℕ)). name w ∷ ws) (comma_cut x (y ++ (codes ", " ++ z)) h
+    ∙ ap (λ (ws : List (List ℕ)). (x ++ 44 ∷ []) ∷ ws) (comma_cut y z k ∙ ap (λ (ws : List (List ℕ)). (y ++ 44 ∷ []) ∷ ws) (last_cut z l)))
+
+pub first_read : (w : Word) (texts : List (List ℕ)) → insn_of_words (name w ∷ texts) ≡ operands w texts
+unfolding insn_of_words
+first_read w texts = rw (word_back w) refl
+
+pub comma_read : (x : List ℕ) (texts : List (List ℕ)) → comma ((x ++ 44 ∷ []) ∷ texts) ≡ Ok (x, texts)
+unfolding comma
+comma_read x texts = rw (before_there 44 x) refl
+
+last_read : {A : Type 0} (read : List ℕ → Result A Code) (x : List ℕ) (a : A) → read x ≡ Ok a → last read (x ∷ []) ≡ Ok a
+unfolding last
+last_read read x a h = rw h refl
+
+pub line_back : (i : Insn) → Fits i → line_of (insn_text i) ≡ Ok i
+unfolding alu_operands load_imm_operands load_operands store_imm_operands store_operands jump_if_operands
+line_back (insn.Alu op w d a) fits =
+    ap insn_of_words (two_words (word.Alu op w) (reg_name d) (operand_text a) (reg_line d) (operand_line a fits)) ∙ first_read (word.Alu op w) _
+    ∙ rw (comma_read (reg_name d) (operand_text a ∷ []), reg_read d, last_read operand_of_text (operand_text a) a (operand_back a fits)) refl
+line_back (insn.Neg w d) fits =
+    ap insn_of_words (one_word (word.Neg w) (reg_name d) (reg_line d)) ∙ first_read (word.Neg w) _
+    ∙ rw (last_read reg_of_text (reg_name d) d (reg_read d)) refl
+line_back (insn.LoadImm d v) fits =
+    ap insn_of_words (two_words word.LoadImm (reg_name d) (decimal v) (reg_line d) (decimal_line v fits)) ∙ first_read word.LoadImm _
+    ∙ rw (comma_read (reg_name d) (decimal v ∷ []), reg_read d, last_read (numeral_upto code.Form code.Range (2 ^ 64 - 1)) (decimal v) v (number_back (2 ^ 64 - 1) v (omega (arith, fits)) fits)) refl
+line_back (insn.Load z d b o) fits =
+    ap insn_of_words (two_words (word.Load z) (reg_name d) (place_text b o) (reg_line d) (place_line b o fits)) ∙ first_read (word.Load z) _
+    ∙ rw (comma_read (reg_name d) (place_text b o ∷ []), reg_read d, last_read place_of_text (place_text b o) (b, o) (place_back b o fits)) refl
+line_back (insn.StoreImm z b o k) fits =
+    ap insn_of_words (two_words (word.StoreImm z) (place_text b o) (signed_decimal k) (place_line b o fits.0) (signed_line k fits.1)) ∙ first_read (word.StoreImm z) _
+    ∙ rw (comma_read (place_text b o) (signed_decimal k ∷ []), place_back b o fits.0, last_read imm_of_text (signed_decimal k) k (imm_back k fits.1)) refl
+line_back (insn.Store z b s o) fits =
+    ap insn_of_words (two_words (word.Store z) (place_text b o) (reg_name s) (place_line b o fits) (reg_line s)) ∙ first_read (word.Store z) _
+    ∙ rw (comma_read (place_text b o) (reg_name s ∷ []), place_back b o fits, last_read reg_of_text (reg_name s) s (reg_read s)) refl
+line_back (insn.Jump o) fits =
+    ap insn_of_words (one_word word.Jump (offset_text o) (offset_line o fits)) ∙ first_read word.Jump _
+    ∙ rw (last_read offset_of_text (offset_text o) o (offset_back o fits)) refl
+line_back (insn.JumpIf c w d a o) fits =
+    ap insn_of_words (three_words (word.JumpIf c w) (reg_name d) (operand_text a) (offset_text o) (reg_line d) (operand_line a fits.0) (offset_line o fits.1)) ∙ first_read (word.JumpIf c w) _
+    ∙ rw (comma_read (reg_name d) ((operand_text a ++ 44 ∷ []) ∷ offset_text o ∷ []), reg_read d, comma_read (operand_text a) (offset_text o ∷ []), operand_back a fits.0, last_read offset_of_text (offset_text o) o (offset_back o fits.1)) refl
+line_back (insn.Call k) fits =
+    ap insn_of_words (one_word word.Call (signed_decimal k) (signed_line k fits)) ∙ first_read word.Call _
+    ∙ rw (last_read imm_of_text (signed_decimal k) k (imm_back k fits)) refl
+line_back insn.Exit fits = ap insn_of_words (cut_none 32 48 (name word.Exit) (omega arith) (name_above word.Exit)) ∙ first_read word.Exit []
+
+-- ---- the lines of a listing
+
+name_nil : (w : Word) (xs : List ℕ) → name w ≡ xs → 0 < length xs
+unfolding words
+name_nil w [] e = let h : word_named [] ≡ Some w = sym (ap word_named e) ∙ word_back w in absurd cc
+name_nil w (x ∷ xs) e = omega arith
+
+shown_cases : (x : ℕ) (xs ys : List ℕ) (b : Bool) → nat_le 48 x ≡ b → cond b (above 48 xs) false ≡ true → is_skipped ((x ∷ xs) ++ ys) ≡ false
+shown_cases x xs ys true is h = let q = leb-true 48 x is in let e : (x == 35) ≡ false = grind (arith, q) in let f : (length (x ∷ (xs ++ ys)) == 0) ≡ false = grind arith in rw (f, e) refl
+shown_cases x xs ys false is h = absurd cc
+
+shown : (xs ys : List ℕ) → 0 < length xs → above 48 xs ≡ true → is_skipped (xs ++ ys) ≡ false
+shown [] ys some h = let no : ⊥ = omega (arith, some) in absurd no
+shown (x ∷ xs) ys some h = shown_cases x xs ys (nat_le 48 x) refl h
+
+pub name_shown : (w : Word) (ys : List ℕ) → is_skipped (name w ++ ys) ≡ false
+name_shown w ys = shown (name w) ys (name_nil w (name w) refl) (name_above w)
+
+pub insn_shown : (i : Insn) → is_skipped (insn_text i) ≡ false
+insn_shown (insn.Alu op w d a) = name_shown (word.Alu op w) (codes " " ++ (reg_name d ++ (codes ", " ++ operand_text a)))
+insn_shown (insn.Neg w d) = name_shown (word.Neg w) (codes " " ++ reg_name d)
+insn_shown (insn.LoadImm d v) = name_shown word.LoadImm (codes " " ++ (reg_name d ++ (codes ", " ++ decimal v)))
+insn_shown (insn.Load z d b o) = name_shown (word.Load z) (codes " " ++ (reg_name d ++ (codes ", " ++ place_text b o)))
+insn_shown (insn.StoreImm z b o k) = name_shown (word.StoreImm z) (codes " " ++ (place_text b o ++ (codes ", " ++ signed_decimal k)))
+insn_shown (insn.Store z b s o) = name_shown (word.Store z) (codes " " ++ (place_text b o ++ (codes ", " ++ reg_name s)))
+insn_shown (insn.Jump o) = name_shown word.Jump (codes " " ++ offset_text o)
+insn_shown (insn.JumpIf c w d a o) = name_shown (word.JumpIf c w) (codes " " ++ (reg_name d ++ (codes ", " ++ (operand_text a ++ (codes ", " ++ offset_text o)))))
+insn_shown (insn.Call k) = name_shown word.Call (codes " " ++ signed_decimal k)
+insn_shown insn.Exit = name_shown word.Exit []
+
+-- no newline in a line
+with_name : (w : Word) (x : List ℕ) → above 32 x ≡ true → above 32 (name w ++ (codes " " ++ x)) ≡ true
+with_name w x h = above_append 32 (name w) (codes " " ++ x) (above_less 32 48 (name w) (omega arith) (name_above w)) h
+
+less : (x : List ℕ) → above 33 x ≡ true → above 32 x ≡ true
+less x h = above_less 32 33 x (omega arith) h
+
+with_comma : (x y : List ℕ) → above 33 x ≡ true → above 32 y ≡ true → above 32 (x ++ (codes ", " ++ y)) ≡ true
+with_comma x y h k = above_append 32 x (codes ", " ++ y) (less x h) k
+
+insn_above : (i : Insn) → Fits i → above 32 (insn_text i) ≡ true
+insn_above (insn.Alu op w d a) fits = with_name (word.Alu op w) (reg_name d ++ (codes ", " ++ operand_text a)) (with_comma (reg_name d) (operand_text a) (reg_line d) (less (operand_text a) (operand_line a fits)))
+insn_above (insn.Neg w d) fits = with_name (word.Neg w) (reg_name d) (less (reg_name d) (reg_line d))
+insn_above (insn.LoadImm d v) fits = with_name word.LoadImm (reg_name d ++ (codes ", " ++ decimal v)) (with_comma (reg_name d) (decimal v) (reg_line d) (less (decimal v) (decimal_line v fits)))
+insn_above (insn.Load z d b o) fits = with_name (word.Load z) (reg_name d ++ (codes ", " ++ place_text b o)) (with_comma (reg_name d) (place_text b o) (reg_line d) (less (place_text b o) (place_line b o fits)))
+insn_above (insn.StoreImm z b o k) fits = with_name (word.StoreImm z) (place_text b o ++ (codes ", " ++ signed_decimal k)) (with_comma (place_text b o) (signed_decimal k) (place_line b o fits.0) (less (signed_decimal k) (signed_line k fits.1)))
+insn_above (insn.Store z b s o) fits = with_name (word.Store z) (place_text b o ++ (codes ", " ++ reg_name s)) (with_comma (place_text b o) (reg_name s) (place_line b o fits) (less (reg_name s) (reg_line s)))
+insn_above (insn.Jump o) fits = with_name word.Jump (offset_text o) (less (offset_text o) (offset_line o fits))
+insn_above (insn.JumpIf c w d a o) fits = with_name (word.JumpIf c w) (reg_name d ++ (codes ", " ++ (operand_text a ++ (codes ", " ++ offset_text o)))) (with_comma (reg_name d) (operand_text a ++ (codes ", " ++ offset_text o)) (reg_line d) (with_comma (operand_text a) (offset_text o) (operand_line a fits.0) (less (offset_text o) (offset_line o fits.1))))
+insn_above (insn.Call k) fits = with_name word.Call (signed_decimal k) (less (signed_decimal k) (signed_line k fits))
+insn_above insn.Exit fits = above_less 32 48 (name word.Exit) (omega arith) (name_above word.Exit)
+
+abbrev newlines : List ℕ → List (List ℕ)
+newlines text = slice_split (λ b. b == 10) text
+
+lines_cut : (p : List Insn) → AllByRecursion Fits p → newlines (listing p) ≡ map insn_text p ++ [] ∷ []
+lines_cut [] fits = refl
+lines_cut (i ∷ p) fits =
+    ap newlines (append_assoc (insn_text i) (10 ∷ []) (listing p)) ∙ cut_there 10 32 (insn_text i) (listing p) (omega arith) (insn_above i fits.0)
+    ∙ ap (λ (ls : List (List ℕ)). insn_text i ∷ ls) (lines_cut p fits.1)
+
+-- ---- and of a text
+
+pub slots_append : (p q : List Insn) → slots (p ++ q) ≡ slots p + slots q
+slots_append [] q = omega arith
+slots_append (i ∷ p) q =
+    let a = length-append (places_of i) (layout (p ++ q)) in let b = length-append (places_of i) (layout p) in let h = slots_append p q in
+    omega (arith, a, b, h)
+
+pub added : (before : List Insn) (i : Insn) → Fits i → slots (before ++ i ∷ []) ≤ MAX_SLOTS → with_insn_line before (insn_text i) ≡ Ok (before ++ i ∷ [])
+unfolding with_insn_line
+added before i fits most = rw (insn_shown i, line_back i fits, le-ltb MAX_SLOTS (slots (before ++ i ∷ [])) most) refl
+
+read_on : (n : ℕ) (before p : List Insn) → AllByRecursion Fits p → slots (before ++ p) ≤ MAX_SLOTS → insns_of_lines n before (map insn_text p ++ [] ∷ []) ≡ Ok (before ++ p)
+unfolding with_insn_line
+read_on n before [] fits most = ap Ok (sym (append-nil before))
+read_on n before (i ∷ p) fits most =
+    let grouped : (before ++ i ∷ []) ++ p ≡ before ++ i ∷ p = append_assoc before (i ∷ []) p in
+    let a = slots_append (before ++ i ∷ []) p in
+    let whole : slots ((before ++ i ∷ []) ++ p) ≤ MAX_SLOTS = subst (λ (q : List Insn). slots q ≤ MAX_SLOTS) (sym grouped) most in
+    let one_more : slots (before ++ i ∷ []) ≤ MAX_SLOTS = omega (arith, a, whole) in
+    ap (λ (r : Result (List Insn) Code). (numbered asm_code n r >>= λ q. insns_of_lines (n + 1) q (map insn_text p ++ [] ∷ []))) (added before i fits.0 one_more)
+    ∙ read_on (n + 1) (before ++ i ∷ []) p fits.1 whole ∙ ap Ok grouped
+
+pub some_there : (is : List Insn) → 0 < slots is → some_of is ≡ Ok (record { insns = is })
+some_there [] some = let no : ⊥ = omega (arith, some) in absurd no
+some_there (i ∷ p) some = refl
+
+pub listing_back : (p : ProgramOf) → IsProgram p → AllByRecursion Fits p.insns → program_of_text (listing p.insns) ≡ Ok p
+listing_back p is fits =
+    ap (λ (ls : List (List ℕ)). insns_of_lines 0 [] ls >>= some_of) (lines_cut p.insns fits)
+    ∙ ap (λ (r : Result (List Insn) (ℕ × ℕ)). r >>= some_of) (read_on 0 [] p.insns fits is.most) ∙ some_there p.insns is.some

@@ -1,0 +1,410 @@
+-- What is read as an operand, a line or a text is written as the listing writes it.
+use Rattle.std.proofs.Common.{◌≡◌, ℕ, zero, suc, ◌-◌, ◌^◌, ◌<◌, ◌≤◌, ◌↔◌, ℤ, pos, negsuc, neg_ℤ, Bool, true, false, cond, List, [], ◌∷◌, ◌++◌, length, Option, Some, None, Result, Ok, Err, refl, sym, ap, subst, ◌∙◌, append_assoc, arith, inl, inr}
+use Rattle.std.specs.Prelude.{◌==◌, ◌&&◌, nat_le, nat_lt, codes, slice_index, FitsSigned}
+use Rattle.std.specs.Int.{w16, w32}
+use Rattle.std.specs.List.{slice_split, join_with_byte, position_or_len, before_first, after_first}
+use Rattle.std.specs.Fmt.{decimal, signed_decimal}
+use Rattle.std.specs.Str.{bytes_eq}
+use Rattle.std.specs.Str.Parse.{digits_value}
+use Rattle.std.proofs.lemmas.Bool.{eqb-true, leb-true, ltb-true, cases_lt}
+use Rattle.std.proofs.lemmas.Fmt.{decimal-digits_value}
+use Rattle.std.proofs.lemmas.List.Sums.{split_at_first, passes_at_first}
+use Rattle.std.proofs.lemmas.List.Splits.{join_with_byte-slice_split}
+use Rattle.std.proofs.lemmas.Slice.Eq.{bytes_eq-Decides}
+use Rattle.pb_isa.specs.declared.insn.Insn.{Insn}
+use Rattle.pb_isa.specs.declared.insn.Insn.TheVariants as insn
+use Rattle.pb_isa.specs.declared.insn.Operand.{Operand}
+use Rattle.pb_isa.specs.declared.insn.Operand.TheVariants as operand
+use Rattle.pb_isa.specs.declared.insn.Reg.{Reg}
+use Rattle.pb_isa.specs.declared.insn.AluOp.{AluOp}
+use Rattle.pb_isa.specs.declared.insn.Cmp.{Cmp}
+use Rattle.pb_isa.specs.declared.insn.Width.{Width}
+use Rattle.pb_isa.specs.declared.insn.Size.{Size}
+use Rattle.pb_isa.specs.Bounds.{OperandFits, Fits}
+use Rattle.pb_asm.specs.declared.fault.Code.{Code}
+use Rattle.pb_asm.specs.declared.fault.Code.TheVariants as code
+use Rattle.pb_asm.specs.declared.names.Word.{Word}
+use Rattle.pb_asm.specs.declared.names.Word.TheVariants as word
+use Rattle.pb_asm.specs.Names.{name, words, registers, word_in, word_named, reg_name, reg_in, reg_named}
+use Rattle.pb_base.specs.Reading.{◌>>=◌}
+use Rattle.std.specs.Prelude.{ok_or}
+use Rattle.pb_asm.specs.Cuts.{strip_prefix, strip_suffix, split_once}
+use Rattle.pb_base.specs.Reading.{is_numeral, numeral_upto, no_word}
+use Rattle.pb_asm.specs.Operands.{minus, plus, signed_or, imm_of_text, plus_or_fault, offset_of_text, reg_of_text, operand_of_text, base_and_offset, at_minus, at_plus, place_of_text, comma, last, alu_operands, load_imm_operands, load_operands, store_imm_operands, store_operands, jump_if_operands, map_insn, operands, insn_of_words, line_of}
+use Rattle.pb_asm.specs.Listing.{operand_text, offset_text, place_text, insn_text}
+use Rattle.pb_asm.proofs.Numerals.{own, digits_in}
+use Rattle.pb_asm.proofs.TextCuts.{split_end}
+use Rattle.pb_asm.proofs.ListingsReadBack.{line_back}
+
+-- ---- what a reading that ended well has read
+
+pub then_ok : {A B : Type 0} (r : Result A Code) (f : A → Result B Code) (y : B) → r >>= f ≡ Ok y → (x : A) × (r ≡ Ok x) × (f x ≡ Ok y)
+then_ok (Ok x) f y h = (x, refl, h)
+then_ok (Err e) f y h = absurd cc
+
+pub ok_is : {A : Type 0} (x y : A) (r : Result A Code) → r ≡ Ok x → r ≡ Ok y → x ≡ y
+ok_is x y r g h = cc
+
+some_is : {A : Type 0} (x y : A) (o : Option A) → o ≡ Some x → o ≡ Some y → x ≡ y
+some_is x y o g h = cc
+
+if_ok : {A : Type 0} (b : Bool) (r : Result A Code) (e : Code) (x : A) → cond b r (Err e) ≡ Ok x → (b ≡ true) × (r ≡ Ok x)
+if_ok true r e x h = (refl, h)
+if_ok false r e x h = absurd cc
+
+pub else_ok : {A : Type 0} (b : Bool) (r : Result A Code) (e : Code) (x : A) → cond b (Err e) r ≡ Ok x → (b ≡ false) × (r ≡ Ok x)
+else_ok true r e x h = absurd cc
+else_ok false r e x h = (refl, h)
+
+there_ok : {A : Type 0} (o : Option A) (e : Code) (x : A) → ok_or o e ≡ Ok x → o ≡ Some x
+there_ok None e x h = absurd cc
+there_ok (Some y) e x h = ap Some (ok_is y x (Ok y) refl h)
+
+if_some : {A : Type 0} (b : Bool) (x y : A) → cond b (Some x) None ≡ Some y → (b ≡ true) × (x ≡ y)
+if_some true x y h = (refl, some_is x y (Some x) refl h)
+if_some false x y h = absurd cc
+
+-- ---- cuts
+
+behind_if : (c b : ℕ) (bs rest : List ℕ) → (b ≡ c) × (bs ≡ rest) → b ∷ bs ≡ c ∷ rest
+behind_if c b bs rest h = ap (λ (x : ℕ). x ∷ bs) h.0 ∙ ap (λ (xs : List ℕ). c ∷ xs) h.1
+
+behind_whole : (c : ℕ) (text rest : List ℕ) → strip_prefix c text ≡ Some rest → text ≡ c ∷ rest
+behind_whole c [] rest h = absurd cc
+behind_whole c (b ∷ bs) rest h = let p = if_some (b == c) bs rest h in behind_if c b bs rest (eqb-true b c p.0, p.1)
+
+before_whole : (c : ℕ) (text front : List ℕ) → 0 < c → strip_suffix c text ≡ Some front → text ≡ front ++ c ∷ []
+before_whole c text front some h =
+    let p = if_some (slice_index text (length text - 1) == c) _ front h in
+    split_end c text some (eqb-true _ c p.0) ∙ ap (λ (xs : List ℕ). xs ++ c ∷ []) p.1
+
+around_whole : (c : ℕ) (text : List ℕ) (sides : List ℕ × List ℕ) → split_once c text ≡ Some sides → text ≡ sides.0 ++ c ∷ sides.1
+around_whole c text sides h =
+    let p = if_some (nat_lt (position_or_len (λ b. b == c) text) (length text)) (before_first (λ b. b == c) text, after_first (λ b. b == c) text) sides h in
+    let lt : position_or_len (λ b. b == c) text < length text = ltb-true _ _ p.0 in
+    split_at_first (λ b. b == c) text 0 lt
+    ∙ ap (λ (b : ℕ). before_first (λ b. b == c) text ++ b ∷ after_first (λ b. b == c) text) (eqb-true _ c (passes_at_first (λ b. b == c) text 0 lt))
+    ∙ ap (λ (s : List ℕ × List ℕ). s.0 ++ c ∷ s.1) p.1
+
+-- ---- numbers
+
+zero_alone : (x m : ℕ) → ((x == 48) && nat_lt 1 m) ≡ false → 0 < m → x ≡ 48 → m ≡ 1
+zero_alone x m h some e =
+    elim (cases_lt 1 m) [
+      | inl many ↦ let no : ⊥ = grind (arith, h, many, e) in absurd no
+      | inr few ↦ omega (arith, few, some)
+    ]
+
+number_is : (greatest n : ℕ) (text : List ℕ) → greatest < 2 ^ 64 → numeral_upto code.Form code.Range greatest text ≡ Ok n → (text ≡ decimal n) × (n ≤ greatest)
+number_is greatest n text lt h =
+    let p = if_ok (is_numeral text) _ code.Form n h in
+    let q = if_ok (nat_le (digits_value 10 text) greatest) (Ok (digits_value 10 text)) code.Range n p.1 in
+    let d = digits_in text p.0 in
+    let e : digits_value 10 text ≡ n = ok_is _ n (Ok (digits_value 10 text)) refl q.1 in
+    let le : digits_value 10 text ≤ greatest = leb-true _ _ q.0 in
+    let s : decimal (digits_value 10 text) ≡ text = decimal-digits_value own text d.0 d.2 (zero_alone (slice_index text 0) (length text) d.1 d.2) (omega (arith, le, lt)) in
+    (sym s ∙ ap decimal e, omega (arith, le, e))
+
+minus_is : (greatest : ℕ) (text : List ℕ) (z : ℤ) → greatest < 2 ^ 64 → minus greatest text ≡ Ok z → (n : ℕ) × (z ≡ negsuc n) × (text ≡ decimal (suc n)) × (n < greatest)
+unfolding minus
+minus_is greatest text z lt h =
+    let p = then_ok (numeral_upto code.Form code.Range greatest text) _ z h in
+    let q = number_is greatest p.0 text lt p.1 in
+    below greatest p.0 text z q p.2
+  where
+    below : (greatest m : ℕ) (text : List ℕ) (z : ℤ) → (text ≡ decimal m) × (m ≤ greatest) → cond (m == 0) (Err code.Form) (Ok (neg_ℤ (pos m))) ≡ Ok z → (n : ℕ) × (z ≡ negsuc n) × (text ≡ decimal (suc n)) × (n < greatest)
+    below greatest zero text z q h = absurd cc
+    below greatest (suc n) text z q h =
+        let p = else_ok (suc n == 0) (Ok (negsuc n)) code.Form z h in
+        let le = q.1 in
+        (n, sym (ok_is (negsuc n) z (Ok (negsuc n)) refl p.1), q.0, omega (arith, le))
+
+plus_is : (limit : ℕ) (text : List ℕ) (z : ℤ) → limit < 2 ^ 64 → plus limit text ≡ Ok z → (n : ℕ) × (z ≡ pos n) × (text ≡ decimal n) × (n ≤ limit - 1)
+unfolding plus
+plus_is limit text z lt h =
+    let p = then_ok (numeral_upto code.Form code.Range (limit - 1) text) _ z h in
+    let q = number_is (limit - 1) p.0 text (omega (arith, lt)) p.1 in
+    (p.0, sym (ok_is (pos p.0) z (Ok (pos p.0)) refl p.2), q.0, q.1)
+
+-- ---- signed numbers
+
+abbrev Immediate : List ℕ → ℤ → Type 0
+Immediate text k = (text ≡ signed_decimal k) × FitsSigned w32 k
+
+negative_imm : (text : List ℕ) (k : ℤ) (n : ℕ) → (k ≡ negsuc n) × (text ≡ decimal (suc n)) × (n < 2 ^ 31) → Immediate (45 ∷ text) k
+negative_imm text k n h = subst (Immediate (45 ∷ text)) (sym h.0) (ap (λ (ds : List ℕ). 45 ∷ ds) h.1, record { sfits = h.2 })
+
+natural_imm : (text : List ℕ) (k : ℤ) (n : ℕ) → (k ≡ pos n) × (text ≡ decimal n) × (n ≤ 2 ^ 31 - 1) → Immediate text k
+natural_imm text k n h = let le = h.2 in subst (Immediate text) (sym h.0) (h.1, record { sfits = omega (arith, le) })
+
+imm_cases : (text : List ℕ) (k : ℤ) (o : Option (List ℕ)) → strip_prefix 45 text ≡ o → signed_or (plus (2 ^ 31) text) (2 ^ 31) o ≡ Ok k → Immediate text k
+imm_cases text k (Some digits) is h =
+    let m = minus_is (2 ^ 31) digits k (omega arith) h in
+    subst (λ (t : List ℕ). Immediate t k) (sym (behind_whole 45 text digits is)) (negative_imm digits k m.0 (m.1, m.2, m.3))
+imm_cases text k None is h =
+    let m = plus_is (2 ^ 31) text k (omega arith) h in
+    natural_imm text k m.0 (m.1, m.2, m.3)
+
+imm_is : (text : List ℕ) (k : ℤ) → imm_of_text text ≡ Ok k → Immediate text k
+imm_is text k h = imm_cases text k (strip_prefix 45 text) refl h
+
+abbrev Offset : List ℕ → ℤ → Type 0
+Offset text o = (text ≡ offset_text o) × FitsSigned w16 o
+
+negative_offset : (text : List ℕ) (o : ℤ) (n : ℕ) → (o ≡ negsuc n) × (text ≡ decimal (suc n)) × (n < 2 ^ 15) → Offset (45 ∷ text) o
+negative_offset text o n h = subst (Offset (45 ∷ text)) (sym h.0) (ap (λ (ds : List ℕ). 45 ∷ ds) h.1, record { sfits = h.2 })
+
+natural_offset : (text : List ℕ) (o : ℤ) (n : ℕ) → (o ≡ pos n) × (text ≡ decimal n) × (n ≤ 2 ^ 15 - 1) → Offset (43 ∷ text) o
+natural_offset text o n h = let le = h.2 in subst (Offset (43 ∷ text)) (sym h.0) (ap (λ (ds : List ℕ). 43 ∷ ds) h.1, record { sfits = omega (arith, le) })
+
+minus_offset : (digits : List ℕ) (o : ℤ) → minus (2 ^ 15) digits ≡ Ok o → Offset (45 ∷ digits) o
+minus_offset digits o h = let m = minus_is (2 ^ 15) digits o (omega arith) h in negative_offset digits o m.0 (m.1, m.2, m.3)
+
+plus_offset : (digits : List ℕ) (o : ℤ) → plus (2 ^ 15) digits ≡ Ok o → Offset (43 ∷ digits) o
+plus_offset digits o h = let m = plus_is (2 ^ 15) digits o (omega arith) h in natural_offset digits o m.0 (m.1, m.2, m.3)
+
+sign_cases : (text : List ℕ) (o : ℤ) (p : Option (List ℕ)) → strip_prefix 43 text ≡ p → plus_or_fault p ≡ Ok o → Offset text o
+sign_cases text o (Some digits) is h = subst (λ (t : List ℕ). Offset t o) (sym (behind_whole 43 text digits is)) (plus_offset digits o h)
+sign_cases text o None is h = absurd cc
+
+offset_cases : (text : List ℕ) (o : ℤ) (p : Option (List ℕ)) → strip_prefix 45 text ≡ p → signed_or (plus_or_fault (strip_prefix 43 text)) (2 ^ 15) p ≡ Ok o → Offset text o
+offset_cases text o (Some digits) is h = subst (λ (t : List ℕ). Offset t o) (sym (behind_whole 45 text digits is)) (minus_offset digits o h)
+offset_cases text o None is h = sign_cases text o (strip_prefix 43 text) refl h
+
+offset_is : (text : List ℕ) (o : ℤ) → offset_of_text text ≡ Ok o → Offset text o
+offset_is text o h = offset_cases text o (strip_prefix 45 text) refl h
+
+-- ---- names
+
+found : {A : Type 0} (text : List ℕ) (called : A → List ℕ) (x y : A) (rest : Option A) (b : Bool) → bytes_eq text (called x) ≡ b → cond b (Some x) rest ≡ Some y → (rest ≡ Some y → text ≡ called y) → text ≡ called y
+found text called x y rest true is h others = (bytes_eq-Decides text (called x)).0 is ∙ ap called (some_is x y (Some x) refl h)
+found text called x y rest false is h others = others h
+
+reg_among : (text : List ℕ) (rs : List Reg) (r : Reg) → reg_in text rs ≡ Some r → text ≡ reg_name r
+reg_among text [] r h = absurd cc
+reg_among text (s ∷ rs) r h = found text reg_name s r (reg_in text rs) (bytes_eq text (reg_name s)) refl h (reg_among text rs r)
+
+reg_is : (text : List ℕ) (r : Reg) → reg_of_text text ≡ Ok r → text ≡ reg_name r
+reg_is text r h = reg_among text registers r (there_ok (reg_named text) code.Form r h)
+
+pub word_among : (text : List ℕ) (ws : List Word) (w : Word) → word_in text ws ≡ Some w → text ≡ name w
+word_among text [] w h = absurd cc
+word_among text (v ∷ ws) w h = found text name v w (word_in text ws) (bytes_eq text (name v)) refl h (word_among text ws w)
+
+word_is : (text : List ℕ) (c : Code) (w : Word) → ok_or (word_named text) c ≡ Ok w → text ≡ name w
+word_is text c w h = word_among text words w (there_ok (word_named text) c w h)
+
+-- ---- operands and places
+
+abbrev Either : List ℕ → Operand → Type 0
+Either text a = (text ≡ operand_text a) × OperandFits a
+
+operand_is : (text : List ℕ) (a : Operand) → operand_of_text text ≡ Ok a → Either text a
+unfolding operand_of_text
+operand_is text a h = sort (slice_index text 0 == 114) h
+  where
+    sort : (b : Bool) → cond b (reg_of_text text >>= λ r. Ok (operand.Reg r)) (imm_of_text text >>= λ k. Ok (operand.Imm k)) ≡ Ok a → Either text a
+    sort true h =
+        let p = then_ok (reg_of_text text) (λ r. Ok (operand.Reg r)) a h in
+        subst (Either text) (ok_is (operand.Reg p.0) a (Ok (operand.Reg p.0)) refl p.2) (reg_is text p.0 p.1, tt)
+    sort false h =
+        let p = then_ok (imm_of_text text) (λ k. Ok (operand.Imm k)) a h in
+        subst (Either text) (ok_is (operand.Imm p.0) a (Ok (operand.Imm p.0)) refl p.2) (imm_is text p.0 p.1)
+
+abbrev Place : List ℕ → Reg × ℤ → Type 0
+Place text p = (text ≡ reg_name p.0 ++ offset_text p.1) × FitsSigned w16 p.1
+
+based_is : (register digits : List ℕ) (c : ℕ) (offset : Result ℤ Code) (p : Reg × ℤ) → base_and_offset register offset ≡ Ok p → ((o : ℤ) → offset ≡ Ok o → Offset (c ∷ digits) o) → Place (register ++ c ∷ digits) p
+unfolding base_and_offset
+based_is register digits c offset p h read =
+    let a = then_ok (reg_of_text register) _ p h in
+    let b = then_ok offset _ p a.2 in
+    let o = read b.0 b.1 in
+    subst (Place (register ++ c ∷ digits)) (ok_is (a.0, b.0) p (Ok (a.0, b.0)) refl b.2)
+    (ap (λ (t : List ℕ). t ++ c ∷ digits) (reg_is register a.0 a.1) ∙ ap (λ (t : List ℕ). reg_name a.0 ++ t) o.0, o.1)
+
+minus_cases : (text : List ℕ) (p : Reg × ℤ) (o : Option (List ℕ × List ℕ)) → split_once 45 text ≡ o → at_minus o ≡ Ok p → Place text p
+minus_cases text p (Some sides) is h = subst (λ (t : List ℕ). Place t p) (sym (around_whole 45 text sides is)) (based_is sides.0 sides.1 45 (minus (2 ^ 15) sides.1) p h (minus_offset sides.1))
+minus_cases text p None is h = absurd cc
+
+plus_cases : (text : List ℕ) (p : Reg × ℤ) (o : Option (List ℕ × List ℕ)) → split_once 43 text ≡ o → at_plus text o ≡ Ok p → Place text p
+plus_cases text p (Some sides) is h = subst (λ (t : List ℕ). Place t p) (sym (around_whole 43 text sides is)) (based_is sides.0 sides.1 43 (plus (2 ^ 15) sides.1) p h (plus_offset sides.1))
+plus_cases text p None is h = minus_cases text p (split_once 45 text) refl h
+
+place_is : (text : List ℕ) (p : Reg × ℤ) → place_of_text text ≡ Ok p → (text ≡ place_text p.0 p.1) × FitsSigned w16 p.1
+unfolding place_of_text
+place_is text p h =
+    let a = then_ok (ok_or (strip_prefix 91 text) code.Form) _ p h in
+    let b = then_ok (ok_or (strip_suffix 93 a.0) code.Form) _ p a.2 in
+    let c = plus_cases b.0 p (split_once 43 b.0) refl b.2 in (
+      behind_whole 91 text a.0 (there_ok _ code.Form a.0 a.1)
+          ∙ ap (λ (t : List ℕ). 91 ∷ t) (before_whole 93 a.0 b.0 (omega arith) (there_ok _ code.Form b.0 b.1) ∙ ap (λ (t : List ℕ). t ++ 93 ∷ []) c.0 ∙ append_assoc (reg_name p.0) (offset_text p.1) (93 ∷ [])),
+      c.1,
+    )
+
+-- ---- the words of a line
+
+comma_is : (texts : List (List ℕ)) (p : List ℕ × List (List ℕ)) → comma texts ≡ Ok p → texts ≡ (p.0 ++ 44 ∷ []) ∷ p.1
+unfolding comma
+comma_is [] p h = absurd cc
+comma_is (text ∷ texts) p h =
+    let a = then_ok (ok_or (strip_suffix 44 text) code.Form) _ p h in
+    ap (λ (t : List ℕ). t ∷ texts) (before_whole 44 text a.0 (omega arith) (there_ok _ code.Form a.0 a.1))
+    ∙ ap (λ (q : List ℕ × List (List ℕ)). (q.0 ++ 44 ∷ []) ∷ q.1) (ok_is (a.0, texts) p (Ok (a.0, texts)) refl a.2)
+
+last_is : {A : Type 0} (read : List ℕ → Result A Code) (texts : List (List ℕ)) (x : A) → last read texts ≡ Ok x → (text : List ℕ) × (texts ≡ text ∷ []) × (read text ≡ Ok x)
+unfolding last
+last_is read [] x h = absurd cc
+last_is read (text ∷ []) x h =
+    let a = then_ok (read text) _ x h in
+    (text, refl, a.1 ∙ a.2)
+last_is read (text ∷ more ∷ texts) x h =
+    let a = then_ok (read text) _ x h in
+    absurd cc
+
+-- a first word and one operand, two, and three
+one_there : (w : Word) (texts : List (List ℕ)) (x y : List ℕ) → texts ≡ x ∷ [] → x ≡ y → join_with_byte 32 (name w ∷ texts) ≡ name w ++ (codes " " ++ y)
+one_there w texts x y is same = ap (λ (ws : List (List ℕ)). join_with_byte 32 (name w ∷ ws)) is ∙ ap (λ (t : List ℕ). name w ++ 32 ∷ t) same
+
+two_there : (w : Word) (texts : List (List ℕ)) (first : List ℕ × List (List ℕ)) (y u v : List ℕ) → comma texts ≡ Ok first → first.1 ≡ y ∷ [] → first.0 ≡ u → y ≡ v
+    → join_with_byte 32 (name w ∷ texts) ≡ name w ++ (codes " " ++ (u ++ (codes ", " ++ v)))
+two_there w texts first y u v begins ends same_u same_v =
+    ap (λ (ws : List (List ℕ)). join_with_byte 32 (name w ∷ ws)) (comma_is texts first begins ∙ ap (λ (ws : List (List ℕ)). (first.0 ++ 44 ∷ []) ∷ ws) ends)
+    ∙ ap (λ (t : List ℕ). name w ++ 32 ∷ t) (append_assoc first.0 (44 ∷ []) (32 ∷ y) ∙ ap (λ (t : List ℕ). t ++ 44 ∷ 32 ∷ y) same_u ∙ ap (λ (t : List ℕ). u ++ 44 ∷ 32 ∷ t) same_v)
+
+three_there : (w : Word) (texts : List (List ℕ)) (first second : List ℕ × List (List ℕ)) (z t u v : List ℕ) → comma texts ≡ Ok first → comma first.1 ≡ Ok second → second.1 ≡ z ∷ [] → first.0 ≡ t → second.0 ≡ u → z ≡ v
+    → join_with_byte 32 (name w ∷ texts) ≡ name w ++ (codes " " ++ (t ++ (codes ", " ++ (u ++ (codes ", " ++ v)))))
+three_there w texts first second z t u v begins goes ends same_t same_u same_v =
+    ap (λ (ws : List (List ℕ)). join_with_byte 32 (name w ∷ ws)) (comma_is texts first begins ∙ ap (λ (ws : List (List ℕ)). (first.0 ++ 44 ∷ []) ∷ ws) (comma_is first.1 second goes ∙ ap (λ (ws : List (List ℕ)). (second.0 ++ 44 ∷ []) ∷ ws) ends))
+    ∙ ap (λ (r : List ℕ). name w ++ 32 ∷ r) (append_assoc first.0 (44 ∷ []) (32 ∷ ((second.0 ++ 44 ∷ []) ++ 32 ∷ z)) ∙ ap (λ (r : List ℕ). r ++ 44 ∷ 32 ∷ ((second.0 ++ 44 ∷ []) ++ 32 ∷ z)) same_t
+    ∙ ap (λ (r : List ℕ). t ++ 44 ∷ 32 ∷ r) (append_assoc second.0 (44 ∷ []) (32 ∷ z) ∙ ap (λ (r : List ℕ). r ++ 44 ∷ 32 ∷ z) same_u ∙ ap (λ (r : List ℕ). u ++ 44 ∷ 32 ∷ r) same_v))
+
+-- a line of these words is the instruction's
+abbrev Written : Word → List (List ℕ) → Insn → Type 0
+Written w texts i = (join_with_byte 32 (name w ∷ texts) ≡ insn_text i) × Fits i
+
+alu_is : (op : AluOp) (w : Width) (texts : List (List ℕ)) (i : Insn) → alu_operands (insn.Alu op w) texts ≡ Ok i → Written (word.Alu op w) texts i
+unfolding alu_operands
+alu_is op w texts i h =
+    let a = then_ok (comma texts) _ i h in
+    let b = then_ok (reg_of_text a.0.0) _ i a.2 in
+    let c = then_ok (last operand_of_text a.0.1) _ i b.2 in
+    let d = last_is operand_of_text a.0.1 c.0 c.1 in
+    let e = operand_is d.0 c.0 d.2 in
+    subst (Written (word.Alu op w) texts) (ok_is (insn.Alu op w b.0 c.0) i (Ok (insn.Alu op w b.0 c.0)) refl c.2)
+    (two_there (word.Alu op w) texts a.0 d.0 (reg_name b.0) (operand_text c.0) a.1 d.1 (reg_is a.0.0 b.0 b.1) e.0, e.1)
+
+wide_is : (texts : List (List ℕ)) (i : Insn) → load_imm_operands texts ≡ Ok i → Written word.LoadImm texts i
+unfolding load_imm_operands
+wide_is texts i h =
+    let a = then_ok (comma texts) _ i h in
+    let b = then_ok (reg_of_text a.0.0) _ i a.2 in
+    let c = then_ok (last (numeral_upto code.Form code.Range (2 ^ 64 - 1)) a.0.1) _ i b.2 in
+    let d = last_is (numeral_upto code.Form code.Range (2 ^ 64 - 1)) a.0.1 c.0 c.1 in
+    let e = number_is (2 ^ 64 - 1) c.0 d.0 (omega arith) d.2 in
+    let le = e.1 in
+    subst (Written word.LoadImm texts) (ok_is (insn.LoadImm b.0 c.0) i (Ok (insn.LoadImm b.0 c.0)) refl c.2)
+    (two_there word.LoadImm texts a.0 d.0 (reg_name b.0) (decimal c.0) a.1 d.1 (reg_is a.0.0 b.0 b.1) e.0, omega (arith, le))
+
+load_is : (z : Size) (texts : List (List ℕ)) (i : Insn) → load_operands (insn.Load z) texts ≡ Ok i → Written (word.Load z) texts i
+unfolding load_operands
+load_is z texts i h =
+    let a = then_ok (comma texts) _ i h in
+    let b = then_ok (reg_of_text a.0.0) _ i a.2 in
+    let c = then_ok (last place_of_text a.0.1) _ i b.2 in
+    let d = last_is place_of_text a.0.1 c.0 c.1 in
+    let e = place_is d.0 c.0 d.2 in
+    subst (Written (word.Load z) texts) (ok_is (insn.Load z b.0 c.0.0 c.0.1) i (Ok (insn.Load z b.0 c.0.0 c.0.1)) refl c.2)
+    (two_there (word.Load z) texts a.0 d.0 (reg_name b.0) (place_text c.0.0 c.0.1) a.1 d.1 (reg_is a.0.0 b.0 b.1) e.0, e.1)
+
+store_imm_is : (z : Size) (texts : List (List ℕ)) (i : Insn) → store_imm_operands (insn.StoreImm z) texts ≡ Ok i → Written (word.StoreImm z) texts i
+unfolding store_imm_operands
+store_imm_is z texts i h =
+    let a = then_ok (comma texts) _ i h in
+    let b = then_ok (place_of_text a.0.0) _ i a.2 in
+    let c = then_ok (last imm_of_text a.0.1) _ i b.2 in
+    let d = last_is imm_of_text a.0.1 c.0 c.1 in
+    let p = place_is a.0.0 b.0 b.1 in
+    let e = imm_is d.0 c.0 d.2 in
+    subst (Written (word.StoreImm z) texts) (ok_is (insn.StoreImm z b.0.0 b.0.1 c.0) i (Ok (insn.StoreImm z b.0.0 b.0.1 c.0)) refl c.2)
+    (two_there (word.StoreImm z) texts a.0 d.0 (place_text b.0.0 b.0.1) (signed_decimal c.0) a.1 d.1 p.0 e.0, (p.1, e.1))
+
+store_is : (z : Size) (texts : List (List ℕ)) (i : Insn) → store_operands (insn.Store z) texts ≡ Ok i → Written (word.Store z) texts i
+unfolding store_operands
+store_is z texts i h =
+    let a = then_ok (comma texts) _ i h in
+    let b = then_ok (place_of_text a.0.0) _ i a.2 in
+    let c = then_ok (last reg_of_text a.0.1) _ i b.2 in
+    let d = last_is reg_of_text a.0.1 c.0 c.1 in
+    let p = place_is a.0.0 b.0 b.1 in
+    subst (Written (word.Store z) texts) (ok_is (insn.Store z b.0.0 c.0 b.0.1) i (Ok (insn.Store z b.0.0 c.0 b.0.1)) refl c.2)
+    (two_there (word.Store z) texts a.0 d.0 (place_text b.0.0 b.0.1) (reg_name c.0) a.1 d.1 p.0 (reg_is d.0 c.0 d.2), p.1)
+
+jump_if_is : (c : Cmp) (w : Width) (texts : List (List ℕ)) (i : Insn) → jump_if_operands (insn.JumpIf c w) texts ≡ Ok i → Written (word.JumpIf c w) texts i
+unfolding jump_if_operands
+jump_if_is c w texts i h =
+    let a = then_ok (comma texts) _ i h in
+    let b = then_ok (reg_of_text a.0.0) _ i a.2 in
+    let k = then_ok (comma a.0.1) _ i b.2 in
+    let l = then_ok (operand_of_text k.0.0) _ i k.2 in
+    let m = then_ok (last offset_of_text k.0.1) _ i l.2 in
+    let d = last_is offset_of_text k.0.1 m.0 m.1 in
+    let e = operand_is k.0.0 l.0 l.1 in
+    let o = offset_is d.0 m.0 d.2 in
+    subst (Written (word.JumpIf c w) texts) (ok_is (insn.JumpIf c w b.0 l.0 m.0) i (Ok (insn.JumpIf c w b.0 l.0 m.0)) refl m.2)
+    (three_there (word.JumpIf c w) texts a.0 k.0 d.0 (reg_name b.0) (operand_text l.0) (offset_text m.0) a.1 k.1 d.1 (reg_is a.0.0 b.0 b.1) e.0 o.0, (e.1, o.1))
+
+neg_is : (w : Width) (texts : List (List ℕ)) (i : Insn) → map_insn (insn.Neg w) (last reg_of_text texts) ≡ Ok i → Written (word.Neg w) texts i
+neg_is w texts i h =
+    let a = then_ok (last reg_of_text texts) _ i h in
+    let d = last_is reg_of_text texts a.0 a.1 in
+    subst (Written (word.Neg w) texts) (ok_is (insn.Neg w a.0) i (Ok (insn.Neg w a.0)) refl a.2)
+    (one_there (word.Neg w) texts d.0 (reg_name a.0) d.1 (reg_is d.0 a.0 d.2), tt)
+
+jump_is : (texts : List (List ℕ)) (i : Insn) → map_insn insn.Jump (last offset_of_text texts) ≡ Ok i → Written word.Jump texts i
+jump_is texts i h =
+    let a = then_ok (last offset_of_text texts) _ i h in
+    let d = last_is offset_of_text texts a.0 a.1 in
+    let o = offset_is d.0 a.0 d.2 in
+    subst (Written word.Jump texts) (ok_is (insn.Jump a.0) i (Ok (insn.Jump a.0)) refl a.2)
+    (one_there word.Jump texts d.0 (offset_text a.0) d.1 o.0, o.1)
+
+call_is : (texts : List (List ℕ)) (i : Insn) → map_insn insn.Call (last imm_of_text texts) ≡ Ok i → Written word.Call texts i
+call_is texts i h =
+    let a = then_ok (last imm_of_text texts) _ i h in
+    let d = last_is imm_of_text texts a.0 a.1 in
+    let k = imm_is d.0 a.0 d.2 in
+    subst (Written word.Call texts) (ok_is (insn.Call a.0) i (Ok (insn.Call a.0)) refl a.2)
+    (one_there word.Call texts d.0 (signed_decimal a.0) d.1 k.0, k.1)
+
+exit_is : (texts : List (List ℕ)) (i : Insn) → map_insn (λ _. insn.Exit) (no_word code.Form texts) ≡ Ok i → Written word.Exit texts i
+exit_is [] i h = subst (Written word.Exit []) (ok_is insn.Exit i (Ok insn.Exit) refl h) (refl, tt)
+exit_is (text ∷ texts) i h = absurd cc
+
+operands_are : (w : Word) (texts : List (List ℕ)) (i : Insn) → operands w texts ≡ Ok i → Written w texts i
+operands_are (word.Alu op w) texts i h = alu_is op w texts i h
+operands_are (word.Neg w) texts i h = neg_is w texts i h
+operands_are word.LoadImm texts i h = wide_is texts i h
+operands_are (word.Load z) texts i h = load_is z texts i h
+operands_are (word.StoreImm z) texts i h = store_imm_is z texts i h
+operands_are (word.Store z) texts i h = store_is z texts i h
+operands_are word.Jump texts i h = jump_is texts i h
+operands_are (word.JumpIf c w) texts i h = jump_if_is c w texts i h
+operands_are word.Call texts i h = call_is texts i h
+operands_are word.Exit texts i h = exit_is texts i h
+
+words_are : (texts : List (List ℕ)) (i : Insn) → insn_of_words texts ≡ Ok i → (join_with_byte 32 texts ≡ insn_text i) × Fits i
+unfolding insn_of_words
+words_are [] i h = absurd cc
+words_are (text ∷ texts) i h =
+    let a = then_ok (ok_or (word_named text) _) _ i h in
+    let b = operands_are a.0 texts i a.2 in
+    (ap (λ (t : List ℕ). join_with_byte 32 (t ∷ texts)) (word_is text _ a.0 a.1) ∙ b.0, b.1)
+
+pub line_spelled : (line : List ℕ) (i : Insn) → line_of line ≡ Ok i → (line ≡ insn_text i) × Fits i
+line_spelled line i h =
+    let a = words_are (slice_split (λ b. b == 32) line) i h in
+    (sym (join_with_byte-slice_split 32 line) ∙ a.0, a.1)
+
+pub line_is : (line : List ℕ) (i : Insn) → (line_of line ≡ Ok i) ↔ ((line ≡ insn_text i) × Fits i)
+line_is line i = (line_spelled line i, λ h. ap line_of h.0 ∙ line_back i h.1)

@@ -1,5 +1,0 @@
-use Rattle.pb_asm.proofs.Cutting.{behind_is}
-use Rattle.pb_asm.proofs.cuts.behind.Goals as goal
-
-pub returns : goal.returns
-returns c = behind_is c.args.c c.args.text.now c.strip_prefix.result c.strip_prefix.ensures.cases c.requires.ascii

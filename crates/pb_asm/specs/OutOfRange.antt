@@ -1,0 +1,85 @@
+-- Lines that are an instruction's, but that one number goes beyond its field.
+use Rattle.std.specs.Prelude.{◌≡◌, ◌⊎◌, ◌<◌, ℕ, ◌-◌, ◌^◌, ℤ, List, [], ◌∷◌, ◌++◌, codes, true, FitsSigned}
+use Rattle.std.specs.Int.{w16}
+use Rattle.std.specs.Str.Parse.{digits_value}
+use Rattle.pb_base.specs.Reading.{is_numeral}
+use Rattle.pb_isa.specs.declared.insn.AluOp.{AluOp}
+use Rattle.pb_isa.specs.declared.insn.Cmp.{Cmp}
+use Rattle.pb_isa.specs.declared.insn.Width.{Width}
+use Rattle.pb_isa.specs.declared.insn.Size.{Size}
+use Rattle.pb_isa.specs.declared.insn.Operand.{Operand}
+use Rattle.pb_isa.specs.declared.insn.Reg.{Reg}
+use Rattle.pb_isa.specs.Bounds.{OperandFits}
+use Rattle.pb_asm.specs.declared.names.Word.TheVariants as word
+use Rattle.pb_asm.specs.Names.{name, reg_name}
+use Rattle.pb_asm.specs.Listing.{operand_text, place_text}
+
+-- digits of any length, with no zero before another, whose value is above this
+pub record IsAbove (most : ℕ) (digits : List ℕ) : Type 0 where
+  pub numeral : is_numeral digits ≡ true
+  pub above : most < digits_value 10 digits
+
+-- the same behind this sign
+abbrev pub IsSignedAbove : ℕ → ℕ → List ℕ → Type 0
+IsSignedAbove sign most text = (digits : List ℕ) × (text ≡ sign ∷ digits) × IsAbove most digits
+
+-- above 2 ^ 31 - 1, or with a minus below - 2 ^ 31
+abbrev pub IsImmBeyond : List ℕ → Type 0
+IsImmBeyond text = IsAbove (2 ^ 31 - 1) text ⊎ IsSignedAbove 45 (2 ^ 31) text
+
+-- with a plus above 2 ^ 15 - 1, or with a minus below - 2 ^ 15
+abbrev pub IsOffsetBeyond : List ℕ → Type 0
+IsOffsetBeyond text = IsSignedAbove 43 (2 ^ 15 - 1) text ⊎ IsSignedAbove 45 (2 ^ 15) text
+
+-- which number of which instruction, with all that stands before it
+pub data NumberPlace : Type 0 where
+  AluImm : AluOp → Width → Reg → NumberPlace
+  LoadImmImm : Reg → NumberPlace
+  LoadOffset : Size → Reg → Reg → NumberPlace
+  StoreImmOffset : Size → Reg → NumberPlace
+  StoreImmImm : Size → Reg → ℤ → NumberPlace
+  StoreOffset : Size → Reg → NumberPlace
+  JumpOffset : NumberPlace
+  JumpIfImm : Cmp → Width → Reg → NumberPlace
+  JumpIfOffset : Cmp → Width → Reg → Operand → NumberPlace
+  CallImm : NumberPlace
+
+-- a register and this text in brackets
+abbrev pub place_with : Reg → List ℕ → List ℕ
+place_with base number = 91 ∷ (reg_name base ++ (number ++ codes "]"))
+
+-- the line up to the number and the sign that ends its word, as a listing has it; then the rest
+abbrev pub line_with : NumberPlace → List ℕ → List ℕ → List ℕ
+line_with (AluImm op w dst) number rest = name (word.Alu op w) ++ (codes " " ++ (reg_name dst ++ (codes ", " ++ (number ++ rest))))
+line_with (LoadImmImm dst) number rest = name word.LoadImm ++ (codes " " ++ (reg_name dst ++ (codes ", " ++ (number ++ rest))))
+line_with (LoadOffset z dst src) number rest = name (word.Load z) ++ (codes " " ++ (reg_name dst ++ (codes ", " ++ (place_with src number ++ rest))))
+line_with (StoreImmOffset z dst) number rest = name (word.StoreImm z) ++ (codes " " ++ ((place_with dst number ++ codes ",") ++ rest))
+line_with (StoreImmImm z dst offset) number rest = name (word.StoreImm z) ++ (codes " " ++ (place_text dst offset ++ (codes ", " ++ (number ++ rest))))
+line_with (StoreOffset z dst) number rest = name (word.Store z) ++ (codes " " ++ ((place_with dst number ++ codes ",") ++ rest))
+line_with JumpOffset number rest = name word.Jump ++ (codes " " ++ (number ++ rest))
+line_with (JumpIfImm c w dst) number rest = name (word.JumpIf c w) ++ (codes " " ++ (reg_name dst ++ (codes ", " ++ ((number ++ codes ",") ++ rest))))
+line_with (JumpIfOffset c w dst src) number rest = name (word.JumpIf c w) ++ (codes " " ++ (reg_name dst ++ (codes ", " ++ (operand_text src ++ (codes ", " ++ (number ++ rest))))))
+line_with CallImm number rest = name word.Call ++ (codes " " ++ (number ++ rest))
+
+-- the numbers before it fit their fields
+abbrev pub FitsBefore : NumberPlace → Type 0
+FitsBefore (StoreImmImm z dst offset) = FitsSigned w16 offset
+FitsBefore (JumpIfOffset c w dst src) = OperandFits src
+FitsBefore _ = Unit {0}
+
+-- a number of the form that is wanted there goes beyond the field
+abbrev pub IsBeyond : NumberPlace → List ℕ → Type 0
+IsBeyond (AluImm op w dst) number = IsImmBeyond number
+IsBeyond (LoadImmImm dst) number = IsAbove (2 ^ 64 - 1) number
+IsBeyond (LoadOffset z dst src) number = IsOffsetBeyond number
+IsBeyond (StoreImmOffset z dst) number = IsOffsetBeyond number
+IsBeyond (StoreImmImm z dst offset) number = IsImmBeyond number
+IsBeyond (StoreOffset z dst) number = IsOffsetBeyond number
+IsBeyond JumpOffset number = IsOffsetBeyond number
+IsBeyond (JumpIfImm c w dst) number = IsImmBeyond number
+IsBeyond (JumpIfOffset c w dst src) number = IsOffsetBeyond number
+IsBeyond CallImm number = IsImmBeyond number
+
+-- the line ends here, or a blank comes and then anything
+abbrev pub EndsWord : List ℕ → Type 0
+EndsWord rest = (rest ≡ []) ⊎ ((more : List ℕ) × (rest ≡ 32 ∷ more))

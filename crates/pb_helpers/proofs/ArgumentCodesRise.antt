@@ -1,0 +1,65 @@
+use Rattle.std.proofs.Common.{ℕ, ◌≤◌, Bool, true, false, not, List, [], ◌∷◌, ◌++◌, arith}
+use Rattle.std.specs.Prelude.{if◌then◌else◌, Option, Some, None}
+use Rattle.pb_isa.specs.Helpers.{Helper, Read, Write, Delete, Start}
+use Rattle.pb_kinds.specs.declared.frame.Kind.{Kind}
+use Rattle.pb_kinds.specs.declared.frame.Kind.TheVariants.{Unset, Number, Stack, Record}
+use Rattle.pb_kinds.specs.declared.frame.Frame.{Frame}
+use Rattle.pb_kinds.specs.Frames.{kind_of, is_unset}
+use Rattle.pb_kinds.specs.Ranges.{in_stack, are_written}
+use Rattle.pb_helpers.specs.declared.code.Code.{Code}
+use Rattle.pb_helpers.specs.declared.code.Code.TheVariants.{ReadsUnset, OutsideStack, UnwrittenByte, WrongArgument}
+use Rattle.pb_helpers.specs.Codes.{code_number, when, CodesRiseWithin}
+use Rattle.pb_helpers.specs.Arguments.{unset, stack_writes, filled_bytes, taken_bytes, is_cell, call_rules}
+
+from_lower : (a b c : ℕ) (cs : List Code) → a ≤ b → CodesRiseWithin b c cs → CodesRiseWithin a c cs
+from_lower a b c [] l h = omega arith
+from_lower a b c (x ∷ xs) l h = (omega (arith, h.0), h.1)
+
+joined : (a b c : ℕ) (xs ys : List Code) → CodesRiseWithin a b xs → CodesRiseWithin b c ys → CodesRiseWithin a c (xs ++ ys)
+joined a b c [] ys h k = from_lower a b c ys h k
+joined a b c (x ∷ xs) ys h k = (h.0, joined (code_number x) b c xs ys h.1 k)
+
+one : (a : ℕ) (t : Bool) (c : Code) → a ≤ code_number c → CodesRiseWithin a (code_number c) (when t c)
+one a true c l = (l, omega arith)
+one a false c l = l
+
+read_or_outside : (t u : Bool) → CodesRiseWithin 21 26 (if t then when u UnwrittenByte else OutsideStack ∷ [])
+read_or_outside true u = one 21 u UnwrittenByte (omega arith)
+read_or_outside false u = (omega arith, omega arith)
+
+to_higher : (a b c : ℕ) (cs : List Code) → b ≤ c → CodesRiseWithin a b cs → CodesRiseWithin a c cs
+to_higher a b c [] l h = omega arith
+to_higher a b c (x ∷ xs) l h = (h.0, to_higher (code_number x) b c xs l h.1)
+
+filled : (k : Kind) → CodesRiseWithin 21 26 (filled_bytes k)
+filled Unset = omega arith
+filled Number = omega arith
+filled (Stack k) = to_higher 21 25 26 (stack_writes k 32) (omega arith) (one 21 (not (in_stack k 32)) OutsideStack (omega arith))
+filled (Record k) = omega arith
+
+taken : (f : Frame) (k : Kind) → CodesRiseWithin 21 26 (taken_bytes f k)
+taken f Unset = omega arith
+taken f Number = omega arith
+taken f (Stack k) = read_or_outside (in_stack k 32) (not (are_written f k 32))
+taken f (Record k) = omega arith
+
+reads : (f : Frame) (r : ℕ) → CodesRiseWithin 21 21 (unset f r)
+reads f r = one 21 (is_unset (kind_of f r)) ReadsUnset (omega arith)
+
+wrong : (t : Bool) → CodesRiseWithin 26 31 (when t WrongArgument)
+wrong t = one 26 t WrongArgument (omega arith)
+
+with_place : (f : Frame) (cs : List Code) (t : Bool) → CodesRiseWithin 21 26 cs → CodesRiseWithin 21 31 (unset f 1 ++ unset f 2 ++ unset f 3 ++ cs ++ when t WrongArgument)
+with_place f cs t h =
+    joined 21 26 31 (unset f 1 ++ unset f 2 ++ unset f 3 ++ cs) (when t WrongArgument)
+    (joined 21 21 26 (unset f 1 ++ unset f 2 ++ unset f 3) cs
+    (joined 21 21 21 (unset f 1 ++ unset f 2) (unset f 3) (joined 21 21 21 (unset f 1) (unset f 2) (reads f 1) (reads f 2)) (reads f 3)) h)
+    (wrong t)
+
+pub codes_rise : (f : Frame) (h : Option Helper) → CodesRiseWithin 21 31 (call_rules f h)
+codes_rise f None = (omega arith, omega arith)
+codes_rise f (Some Read) = with_place f (filled_bytes (kind_of f 3)) _ (filled (kind_of f 3))
+codes_rise f (Some Write) = with_place f (taken_bytes f (kind_of f 3)) _ (taken f (kind_of f 3))
+codes_rise f (Some Delete) =
+    joined 21 26 31 (unset f 1 ++ unset f 2) _ (to_higher 21 21 26 (unset f 1 ++ unset f 2) (omega arith) (joined 21 21 21 (unset f 1) (unset f 2) (reads f 1) (reads f 2))) (wrong (not (is_cell f)))
+codes_rise f (Some Start) = omega arith

@@ -1,8 +1,0 @@
-use Rattle.std.proofs.Common.{◌≡◌, List, [], ◌∷◌, ◌++◌, refl}
-use Rattle.std.specs.Option.{option_or}
-use Rattle.pb_helpers.specs.declared.code.Code.{Code}
-use Rattle.pb_helpers.specs.Codes.{lowest}
-
-pub lowest_append : (xs ys : List Code) → lowest (xs ++ ys) ≡ option_or (lowest xs) (lowest ys)
-lowest_append [] ys = refl
-lowest_append (x ∷ xs) ys = refl

@@ -1,0 +1,94 @@
+use Rattle.std.proofs.Common.{◌≡◌, ℕ, zero, suc, Bool, true, false, ◌&&◌, List, [], ◌∷◌, get_or, refl, sym, ap, ◌∙◌, arith}
+use Rattle.std.specs.Prelude.{if◌then◌else◌, ◌≢◌}
+use Rattle.std.proofs.lemmas.Bool.Decides.{Decides-int_eq}
+use Rattle.std.proofs.Math.Bool.{and-false}
+use Rattle.pb_kinds.specs.declared.frame.Kind.{Kind}
+use Rattle.pb_kinds.specs.declared.frame.Kind.TheVariants.{Unset, Number, Stack, Record}
+use Rattle.pb_kinds.specs.declared.frame.Frame.{Frame}
+use Rattle.pb_kinds.specs.Frames.{has_byte, same_kind, meet, meet_kinds, meet_bytes, join}
+use Rattle.pb_kinds.specs.Meet.{IsMeet}
+
+same_means_equal : (a b : Kind) → same_kind a b ≡ true → a ≡ b
+same_means_equal Unset Unset h = refl
+same_means_equal Number Number h = refl
+same_means_equal (Stack k) (Stack m) h = ap Stack ((Decides-int_eq k m).0 h)
+same_means_equal (Record k) (Record m) h = ap Record ((Decides-int_eq k m).0 h)
+same_means_equal Unset Number h = grind arith
+same_means_equal Unset (Stack m) h = grind arith
+same_means_equal Unset (Record m) h = grind arith
+same_means_equal Number Unset h = grind arith
+same_means_equal Number (Stack m) h = grind arith
+same_means_equal Number (Record m) h = grind arith
+same_means_equal (Stack k) Unset h = grind arith
+same_means_equal (Stack k) Number h = grind arith
+same_means_equal (Stack k) (Record m) h = grind arith
+same_means_equal (Record k) Unset h = grind arith
+same_means_equal (Record k) Number h = grind arith
+same_means_equal (Record k) (Stack m) h = grind arith
+
+is_same : (a : Kind) → same_kind a a ≡ true
+is_same Unset = refl
+is_same Number = refl
+is_same (Stack k) = (Decides-int_eq k k).1 refl
+is_same (Record k) = (Decides-int_eq k k).1 refl
+
+meet_self : (a : Kind) → meet a a ≡ a
+meet_self a = rw (is_same a) refl
+
+meet_unset : (a : Kind) → meet a Unset ≡ Unset
+meet_unset Unset = refl
+meet_unset Number = refl
+meet_unset (Stack k) = refl
+meet_unset (Record k) = refl
+
+-- where the meet says something, both kinds are it
+by_test : (t : Bool) (a b k : Kind) → (t ≡ true → a ≡ b) → (if t then a else Unset) ≡ k → k ≢ Unset → (a ≡ k) × (b ≡ k)
+by_test true a b k same e set = (e, sym (same refl) ∙ e)
+by_test false a b k same e set = absurd (set (sym e))
+
+meet_known : (a b k : Kind) → meet a b ≡ k → k ≢ Unset → (a ≡ k) × (b ≡ k)
+meet_known a b k = by_test (same_kind a b) a b k (same_means_equal a b)
+
+unset_meet : (a : Kind) → meet Unset a ≡ Unset
+unset_meet Unset = refl
+unset_meet Number = refl
+unset_meet (Stack k) = refl
+unset_meet (Record k) = refl
+
+kind_at : (ks ms : List Kind) (r : ℕ) → get_or (meet_kinds ks ms) r Unset ≡ meet (get_or ks r Unset) (get_or ms r Unset)
+kind_at [] [] r = refl
+kind_at [] (m ∷ ms) r = sym (unset_meet (get_or (m ∷ ms) r Unset))
+kind_at (k ∷ ks) [] r = sym (meet_unset (get_or (k ∷ ks) r Unset))
+kind_at (k ∷ ks) (m ∷ ms) zero = refl
+kind_at (k ∷ ks) (m ∷ ms) (suc r) = kind_at ks ms r
+
+byte_at : (w v : List Bool) (i : ℕ) → get_or (meet_bytes w v) i false ≡ (get_or w i false && get_or v i false)
+byte_at [] [] i = refl
+byte_at [] (y ∷ v) i = refl
+byte_at (x ∷ w) [] i = sym (and-false (get_or (x ∷ w) i false))
+byte_at (x ∷ w) (y ∷ v) zero = refl
+byte_at (x ∷ w) (y ∷ v) (suc i) = byte_at w v i
+
+known_both : (ks ms : List Kind) (r : ℕ) (k : Kind) → k ≢ Unset → get_or (meet_kinds ks ms) r Unset ≡ k → (get_or ks r Unset ≡ k) × (get_or ms r Unset ≡ k)
+known_both ks ms r k set e = meet_known (get_or ks r Unset) (get_or ms r Unset) k (sym (kind_at ks ms r) ∙ e) set
+
+known_joined : (ks ms : List Kind) (r : ℕ) (k : Kind) → get_or ks r Unset ≡ k → get_or ms r Unset ≡ k → get_or (meet_kinds ks ms) r Unset ≡ k
+known_joined ks ms r k e f = kind_at ks ms r ∙ rw (e, f) (meet_self k)
+
+both_true : (x y : Bool) → (x && y) ≡ true → (x ≡ true) × (y ≡ true)
+both_true true true h = (refl, refl)
+both_true true false h = grind arith
+both_true false y h = grind arith
+
+pub join_is_meet : (a b : Frame) → IsMeet a b (join a b)
+unfolding join
+join_is_meet a b = record {
+  kinds = λ r k. (
+    (λ h. let e = known_both a.kinds b.kinds r k h.set h.kind in (record { kind = e.0; set = h.set }, record { kind = e.1; set = h.set })),
+    (λ h. record { kind = known_joined a.kinds b.kinds r k h.0.kind h.1.kind; set = h.0.set }),
+  );
+  bytes = λ i. (
+    (λ h. both_true (has_byte a i) (has_byte b i) (sym (byte_at a.written b.written i) ∙ h)),
+    (λ h. byte_at a.written b.written i ∙ rw (h.0, h.1) refl),
+  );
+}

@@ -1,0 +1,154 @@
+use Rattle.std.proofs.Common.{ℕ, ◌+◌, ◌≤◌, Bool, true, false, List, [], ◌∷◌, ◌++◌, arith}
+use Rattle.std.specs.Prelude.{if◌then◌else◌, ℤ, pos, negsuc, nat_eq, nat_le, is_none}
+use Rattle.pb_isa.specs.declared.insn.Insn.{Insn}
+use Rattle.pb_isa.specs.declared.insn.Insn.TheVariants.{Alu, Neg, LoadImm, Load, StoreImm, Store, Jump, JumpIf, Call, Exit}
+use Rattle.pb_isa.specs.declared.insn.AluOp.{AluOp}
+use Rattle.pb_isa.specs.declared.insn.AluOp.TheVariants.{Add, Sub, Mul, Div, Or, And, Lsh, Rsh, Mod, Xor, Mov, Arsh}
+use Rattle.pb_isa.specs.declared.insn.Width.{Width}
+use Rattle.pb_isa.specs.declared.insn.Width.TheVariants.{Bits32, Bits64}
+use Rattle.pb_isa.specs.declared.insn.Operand.{Operand}
+use Rattle.pb_isa.specs.declared.insn.Operand.TheVariants as operands
+use Rattle.pb_isa.specs.declared.insn.Reg.{Reg}
+use Rattle.pb_isa.specs.Registers.{number}
+use Rattle.pb_isa.specs.Slots.{slots, insn_at}
+use Rattle.pb_isa.specs.Helpers.{HelperSet, declared_helper}
+use Rattle.pb_kinds.specs.declared.frame.Kind.{Kind}
+use Rattle.pb_kinds.specs.declared.frame.Kind.TheVariants.{Unset, Number, Stack, Record}
+use Rattle.pb_kinds.specs.declared.frame.Frame.{Frame}
+use Rattle.pb_kinds.specs.Frames.{kind_of, is_unset, is_pointer}
+use Rattle.pb_helpers.specs.declared.code.Code.{Code}
+use Rattle.pb_helpers.specs.declared.code.Code.TheVariants.{ReadsUnset, WritesR10, PointerArithmetic, PointerStored, OutsideStack, UnwrittenByte, OutsideRecord, JumpOutside, JumpIntoPair, FallsOff, ExitsWithPointer, PointerCompared}
+use Rattle.pb_helpers.specs.Codes.{code_number, when, CodesRiseWithin}
+use Rattle.pb_helpers.specs.Arguments.{unset, call_rules, ArgumentCodesRise}
+use Rattle.pb_verify.specs.Rules.{at, reads, sets, reads_operand, on_pointer, bytes_of, falls, numeric_rules, mov_rules, add_rules, alu_rules, loads, stores, load_rules, store_imm_rules, store_rules, jump_rules, jump_if_rules, insn_rules}
+
+-- ---- lists of codes that rise
+
+from_lower : (a b c : ℕ) (cs : List Code) → a ≤ b → CodesRiseWithin b c cs → CodesRiseWithin a c cs
+from_lower a b c [] l h = omega arith
+from_lower a b c (x ∷ xs) l h = (omega (arith, h.0), h.1)
+
+to_higher : (a b c : ℕ) (cs : List Code) → b ≤ c → CodesRiseWithin a b cs → CodesRiseWithin a c cs
+to_higher a b c [] l h = omega arith
+to_higher a b c (x ∷ xs) l h = (h.0, to_higher (code_number x) b c xs l h.1)
+
+joined : (a b c : ℕ) (xs ys : List Code) → CodesRiseWithin a b xs → CodesRiseWithin b c ys → CodesRiseWithin a c (xs ++ ys)
+joined a b c [] ys h k = from_lower a b c ys h k
+joined a b c (x ∷ xs) ys h k = (h.0, joined (code_number x) b c xs ys h.1 k)
+
+one : (a b : ℕ) (t : Bool) (c : Code) → a ≤ code_number c → code_number c ≤ b → CodesRiseWithin a b (when t c)
+one a b true c l m = (l, m)
+one a b false c l m = omega arith
+
+one_of_two : (a b : ℕ) (t u : Bool) (c d : Code) → a ≤ code_number c → code_number c ≤ b → a ≤ code_number d → code_number d ≤ b → CodesRiseWithin a b (if t then when u c else d ∷ [])
+one_of_two a b true u c d l m k n = one a b u c l m
+one_of_two a b false u c d l m k n = (k, n)
+
+-- ---- parts of rules
+
+set : (f : Frame) (r : ℕ) → CodesRiseWithin 21 21 (unset f r)
+set f r = one 21 21 (is_unset (kind_of f r)) ReadsUnset (omega arith) (omega arith)
+
+reads_rise : (f : Frame) (r : Reg) → CodesRiseWithin 21 21 (reads f r)
+reads_rise f r = set f (number r)
+
+operand_rises : (f : Frame) (x : Operand) → CodesRiseWithin 21 21 (reads_operand f x)
+operand_rises f (operands.Imm k) = omega arith
+operand_rises f (operands.Reg r) = reads_rise f r
+
+sets_rise : (d : Reg) → CodesRiseWithin 21 22 (sets d)
+sets_rise d = one 21 22 (nat_eq (number d) 10) WritesR10 (omega arith) (omega arith)
+
+falls_rise : (p : List Insn) (m : ℕ) → CodesRiseWithin 34 36 (falls p m)
+falls_rise p m = one 34 36 (nat_eq m (slots p)) FallsOff (omega arith) (omega arith)
+
+with_falls : (p : List Insn) (m : ℕ) (cs : List Code) → CodesRiseWithin 21 34 cs → CodesRiseWithin 21 38 (cs ++ falls p m)
+with_falls p m cs h = to_higher 21 36 38 (cs ++ falls p m) (omega arith) (joined 21 34 36 cs (falls p m) h (falls_rise p m))
+
+numeric_rises : (f : Frame) (d : Reg) (x : Operand) → CodesRiseWithin 21 34 (numeric_rules f d x)
+numeric_rises f d x =
+    joined 21 22 34 (reads f d ++ reads_operand f x ++ sets d) (when (on_pointer f d x) PointerArithmetic)
+    (joined 21 21 22 (reads f d ++ reads_operand f x) (sets d) (joined 21 21 21 (reads f d) (reads_operand f x) (reads_rise f d) (operand_rises f x)) (sets_rise d))
+    (one 22 34 (on_pointer f d x) PointerArithmetic (omega arith) (omega arith))
+
+read_and_set : (f : Frame) (r d : Reg) → CodesRiseWithin 21 22 (reads f r ++ sets d)
+read_and_set f r d = joined 21 21 22 (reads f r) (sets d) (reads_rise f r) (sets_rise d)
+
+mov_rises : (f : Frame) (w : Width) (d : Reg) (x : Operand) → CodesRiseWithin 21 34 (mov_rules f w d x)
+mov_rises f Bits64 d (operands.Imm k) = to_higher 21 22 34 (sets d) (omega arith) (sets_rise d)
+mov_rises f Bits32 d (operands.Imm k) = to_higher 21 22 34 (sets d) (omega arith) (sets_rise d)
+mov_rises f Bits64 d (operands.Reg r) = to_higher 21 22 34 (reads f r ++ sets d) (omega arith) (read_and_set f r d)
+mov_rises f Bits32 d (operands.Reg r) =
+    joined 21 22 34 (reads f r ++ sets d) (when (is_pointer (at f r)) PointerArithmetic) (read_and_set f r d)
+    (one 22 34 (is_pointer (at f r)) PointerArithmetic (omega arith) (omega arith))
+
+add_rises : (f : Frame) (w : Width) (d : Reg) (x : Operand) → CodesRiseWithin 21 34 (add_rules f w d x)
+add_rises f Bits64 d (operands.Imm k) = to_higher 21 22 34 (reads f d ++ sets d) (omega arith) (read_and_set f d d)
+add_rises f Bits64 d (operands.Reg r) = numeric_rises f d (operands.Reg r)
+add_rises f Bits32 d x = numeric_rises f d x
+
+alu_rises : (f : Frame) (op : AluOp) (w : Width) (d : Reg) (x : Operand) → CodesRiseWithin 21 34 (alu_rules f op w d x)
+alu_rises f Mov w d x = mov_rises f w d x
+alu_rises f Add w d x = add_rises f w d x
+alu_rises f Sub w d x = add_rises f w d x
+alu_rises f Mul w d x = numeric_rises f d x
+alu_rises f Div w d x = numeric_rises f d x
+alu_rises f Or w d x = numeric_rises f d x
+alu_rises f And w d x = numeric_rises f d x
+alu_rises f Lsh w d x = numeric_rises f d x
+alu_rises f Rsh w d x = numeric_rises f d x
+alu_rises f Mod w d x = numeric_rises f d x
+alu_rises f Xor w d x = numeric_rises f d x
+alu_rises f Arsh w d x = numeric_rises f d x
+
+loads_rise : (f : Frame) (k : Kind) (o : ℤ) (n : ℕ) → CodesRiseWithin 22 34 (loads f k o n)
+loads_rise f Unset o n = omega arith
+loads_rise f Number o n = (omega arith, omega arith)
+loads_rise f (Stack k) o n = one_of_two 22 34 _ _ UnwrittenByte OutsideStack (omega arith) (omega arith) (omega arith) (omega arith)
+loads_rise f (Record k) o n = one 22 34 _ OutsideRecord (omega arith) (omega arith)
+
+stores_rise : (k : Kind) (o : ℤ) (n : ℕ) → CodesRiseWithin 24 34 (stores k o n)
+stores_rise Unset o n = omega arith
+stores_rise Number o n = (omega arith, omega arith)
+stores_rise (Stack k) o n = one 24 34 _ OutsideStack (omega arith) (omega arith)
+stores_rise (Record k) o n = (omega arith, omega arith)
+
+jumps_rise : (p : List Insn) (n : ℕ) (o : ℤ) → CodesRiseWithin 21 34 (jump_rules p n o)
+jumps_rise p n (negsuc z) = (omega arith, omega arith)
+jumps_rise p n (pos z) = outside_or_pair (nat_le (slots p) (n + 1 + z)) (is_none (insn_at p (n + 1 + z)))
+  where
+    outside_or_pair : (t u : Bool) → CodesRiseWithin 21 34 (if t then JumpOutside ∷ [] else when u JumpIntoPair)
+    outside_or_pair true u = (omega arith, omega arith)
+    outside_or_pair false u = one 21 34 u JumpIntoPair (omega arith) (omega arith)
+
+compared : (p : List Insn) (n : ℕ) (f : Frame) (d : Reg) (x : Operand) (o : ℤ) → CodesRiseWithin 21 38 (jump_if_rules p n f d x o)
+compared p n f d x o =
+    joined 21 36 38 (reads f d ++ reads_operand f x ++ jump_rules p n o ++ falls p (n + 1)) (when (on_pointer f d x) PointerCompared)
+    (joined 21 34 36 (reads f d ++ reads_operand f x ++ jump_rules p n o) (falls p (n + 1))
+    (joined 21 21 34 (reads f d ++ reads_operand f x) (jump_rules p n o) (joined 21 21 21 (reads f d) (reads_operand f x) (reads_rise f d) (operand_rises f x)) (jumps_rise p n o))
+    (falls_rise p (n + 1)))
+    (one 36 38 (on_pointer f d x) PointerCompared (omega arith) (omega arith))
+
+-- ---- the rules
+
+pub codes_rise : ArgumentCodesRise → (p : List Insn) (h : HelperSet) (n : ℕ) (f : Frame) (i : Insn) → CodesRiseWithin 21 38 (insn_rules p h n f i)
+codes_rise calls p h n f (Alu op w d x) = with_falls p (n + 1) (alu_rules f op w d x) (alu_rises f op w d x)
+codes_rise calls p h n f (Neg w d) = with_falls p (n + 1) (numeric_rules f d (operands.Imm (pos 0))) (numeric_rises f d (operands.Imm (pos 0)))
+codes_rise calls p h n f (LoadImm d v) = with_falls p (n + 2) (sets d) (to_higher 21 22 34 (sets d) (omega arith) (sets_rise d))
+codes_rise calls p h n f (Load z d r o) =
+    with_falls p (n + 1) (load_rules f z d r o) (joined 21 22 34 (reads f r ++ sets d) (loads f (at f r) o (bytes_of z)) (read_and_set f r d) (loads_rise f (at f r) o (bytes_of z)))
+codes_rise calls p h n f (StoreImm z d o k) =
+    with_falls p (n + 1) (store_imm_rules f z d o)
+    (joined 21 21 34 (reads f d) (stores (at f d) o (bytes_of z)) (reads_rise f d) (from_lower 21 24 34 (stores (at f d) o (bytes_of z)) (omega arith) (stores_rise (at f d) o (bytes_of z))))
+codes_rise calls p h n f (Store z d r o) =
+    with_falls p (n + 1) (store_rules f z d r o)
+    (joined 21 24 34 (reads f d ++ reads f r ++ when (is_pointer (at f r)) PointerStored) (stores (at f d) o (bytes_of z))
+    (joined 21 21 24 (reads f d ++ reads f r) (when (is_pointer (at f r)) PointerStored) (joined 21 21 21 (reads f d) (reads f r) (reads_rise f d) (reads_rise f r))
+    (one 21 24 (is_pointer (at f r)) PointerStored (omega arith) (omega arith)))
+    (stores_rise (at f d) o (bytes_of z)))
+codes_rise calls p h n f (Jump o) = to_higher 21 34 38 (jump_rules p n o) (omega arith) (jumps_rise p n o)
+codes_rise calls p h n f (JumpIf c w d x o) = compared p n f d x o
+codes_rise calls p h n f (Call k) = with_falls p (n + 1) (call_rules f (declared_helper h k)) (to_higher 21 31 34 (call_rules f (declared_helper h k)) (omega arith) (calls f (declared_helper h k)))
+codes_rise calls p h n f Exit =
+    joined 21 21 38 (unset f 0) (when (is_pointer (kind_of f 0)) ExitsWithPointer) (set f 0)
+    (one 21 38 (is_pointer (kind_of f 0)) ExitsWithPointer (omega arith) (omega arith))

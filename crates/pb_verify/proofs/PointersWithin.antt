@@ -1,0 +1,102 @@
+use Rattle.std.proofs.Common.{◌≡◌, ℕ, zero, suc, ◌+◌, ◌≤◌, Bool, true, false, cond, List, [], ◌∷◌, ◌++◌, Option, Some, None, set, get_or, arith, nat_eq}
+use Rattle.pb_isa.specs.declared.insn.Insn.{Insn}
+use Rattle.pb_isa.specs.declared.insn.Reg.{Reg}
+use Rattle.pb_isa.specs.Registers.{number}
+use Rattle.pb_isa.specs.Slots.{insn_at}
+use Rattle.pb_kinds.specs.declared.frame.Kind.{Kind}
+use Rattle.pb_kinds.specs.declared.frame.Kind.TheVariants.{Unset, Number, Stack, Record}
+use Rattle.pb_kinds.specs.declared.frame.Frame.{Frame}
+use Rattle.pb_kinds.specs.Frames.{kind_of, pointwise, meet, same_kind, join, entry_frame}
+use Rattle.pb_verify.specs.Following.{with_kind, leads}
+use Rattle.pb_verify.specs.Arriving.{merge, if_leads, gather, frame_before, has_slot}
+use Rattle.pb_verify.specs.Within.{IsNear, IsWithin, IsWithinIf, AllWithin}
+
+pub near_more : (a b : ℕ) (k : Kind) → a ≤ b → IsNear a k → IsNear b k
+near_more a b Unset l h = tt
+near_more a b Number l h = tt
+near_more a b (Stack k) l h = omega arith
+near_more a b (Record k) l h = omega arith
+
+pub within_more : (a b : ℕ) (f : Frame) → a ≤ b → IsWithin a f → IsWithin b f
+within_more a b f l h = record { each = λ r. near_more a b (kind_of f r) l (h.each r) }
+
+near_set : (b : ℕ) (ks : List Kind) (i : ℕ) (k : Kind) → ((r : ℕ) → IsNear b (get_or ks r Unset)) → IsNear b k → (r : ℕ) → IsNear b (get_or (set ks i k) r Unset)
+near_set b [] i k h n r = h r
+near_set b (x ∷ ks) zero k h n zero = n
+near_set b (x ∷ ks) zero k h n (suc r) = h (suc r)
+near_set b (x ∷ ks) (suc i) k h n zero = h zero
+near_set b (x ∷ ks) (suc i) k h n (suc r) = near_set b ks i k (λ j. h (suc j)) n r
+
+pub within_kind : (b : ℕ) (f : Frame) (r : Reg) (k : Kind) → IsWithin b f → IsNear b k → IsWithin b (with_kind f r k)
+within_kind b f r k h n = record { each = near_set b f.kinds (number r) k h.each n }
+
+abbrev EachNear : ℕ → List Kind → Type 0
+EachNear b [] = Unit {0}
+EachNear b (k ∷ ks) = IsNear b k × EachNear b ks
+
+near_each : (b : ℕ) (ks : List Kind) → EachNear b ks → (r : ℕ) → IsNear b (get_or ks r Unset)
+near_each b [] h r = tt
+near_each b (k ∷ ks) h zero = h.0
+near_each b (k ∷ ks) h (suc r) = near_each b ks h.1 r
+
+near_meet : (b : ℕ) (t : Bool) (k : Kind) → IsNear b k → IsNear b (cond t k Unset)
+near_meet b true k h = h
+near_meet b false k h = tt
+
+near_both : (b : ℕ) (ks ms : List Kind) → ((r : ℕ) → IsNear b (get_or ks r Unset)) → (r : ℕ) → IsNear b (get_or (pointwise meet ks ms) r Unset)
+near_both b [] ms h r = tt
+near_both b (k ∷ ks) [] h r = tt
+near_both b (k ∷ ks) (m ∷ ms) h zero = near_meet b (same_kind k m) k (h zero)
+near_both b (k ∷ ks) (m ∷ ms) h (suc r) = near_both b ks ms (λ j. h (suc j)) r
+
+within_join : (b : ℕ) (f g : Frame) → IsWithin b f → IsWithin b (join f g)
+unfolding join
+within_join b f g h = record { each = near_both b f.kinds g.kinds h.each }
+
+within_entry : (b : ℕ) → IsWithin b entry_frame
+unfolding entry_frame
+within_entry b = record {
+  each = near_each b entry_frame.kinds (tt, (omega arith, (tt, (tt, (tt, (tt, (tt, (tt, (tt, (tt, (omega arith, tt)))))))))));
+}
+
+within_merge : (b : ℕ) (f g : Option Frame) → IsWithinIf b f → IsWithinIf b g → IsWithinIf b (merge f g)
+within_merge b None g h k = k
+within_merge b (Some f) None h k = h
+within_merge b (Some f) (Some g) h k = within_join b f g h
+
+within_cond : (b : ℕ) (t : Bool) (f : Option Frame) → IsWithinIf b f → IsWithinIf b (cond t f None)
+within_cond b true f h = h
+within_cond b false f h = tt
+
+within_sent : (b : ℕ) (i : Option Insn) (m n : ℕ) (f : Option Frame) → IsWithinIf b f → IsWithinIf b (if_leads i m n f)
+within_sent b None m n f h = tt
+within_sent b (Some i) m n f h = within_cond b (has_slot (leads m i) n) f h
+
+within_gathered : (p : List Insn) (b n m : ℕ) (known : Option Frame) (fs : List (Option Frame)) → IsWithinIf b known → ((k : ℕ) → IsWithinIf b (get_or fs k None)) → IsWithinIf b (gather p n m known fs)
+within_gathered p b n m known [] h all = h
+within_gathered p b n m known (f ∷ fs) h all =
+    within_gathered p b n (m + 1) _ fs (within_merge b known _ h (within_sent b (insn_at p m) m n f (all zero))) (λ k. all (suc k))
+
+within_choice : (b : ℕ) (t : Bool) (f g : Option Frame) → IsWithinIf b f → IsWithinIf b g → IsWithinIf b (cond t f g)
+within_choice b true f g h k = h
+within_choice b false f g h k = k
+
+pub within_arriving : (p : List Insn) (b n : ℕ) (fs : List (Option Frame)) → AllWithin b fs → IsWithinIf b (frame_before p n fs)
+within_arriving p b n fs h =
+    within_choice b (nat_eq n 0) (Some entry_frame) (gather p n 0 None fs) (within_entry b) (within_gathered p b n 0 None fs tt h.every)
+
+pub within_if_more : (a b : ℕ) (f : Option Frame) → a ≤ b → IsWithinIf a f → IsWithinIf b f
+within_if_more a b None l h = tt
+within_if_more a b (Some f) l h = record { each = λ r. near_more a b (kind_of f r) l (h.each r) }
+
+all_push : (b : ℕ) (fs : List (Option Frame)) (f : Option Frame) → ((k : ℕ) → IsWithinIf b (get_or fs k None)) → IsWithinIf b f → (k : ℕ) → IsWithinIf b (get_or (fs ++ f ∷ []) k None)
+all_push b [] f h n zero = n
+all_push b [] f h n (suc k) = tt
+all_push b (g ∷ gs) f h n zero = h zero
+all_push b (g ∷ gs) f h n (suc k) = all_push b gs f (λ j. h (suc j)) n k
+
+pub within_push : (a b : ℕ) (fs : List (Option Frame)) (f : Option Frame) → a ≤ b → AllWithin a fs → IsWithinIf b f → AllWithin b (fs ++ f ∷ [])
+within_push a b fs f l h n = record { every = all_push b fs f (λ k. within_if_more a b (get_or fs k None) l (h.every k)) n }
+
+pub none_within : (fs : List (Option Frame)) → fs ≡ [] → AllWithin 0 fs
+none_within fs e = rw e (record { every = λ k. tt })
