@@ -67,7 +67,7 @@ history_on observers j k ms ns h e rising = record {
   rising = rising;
 }
 
-pub made : (text : List ℕ) (before : SharedOf) (seat : ℕ) (batches : List Writes) (after : SharedOf) → before.journal ≡ [] → script_of text ≡ Ok batches → Works before seat batches after → Made text after
+pub made : (text : List ℕ) (before : SharedOf) (seat : ℕ) (batches : List Writes) (after : SharedOf) → before.journal ≡ [] → script_of text ≡ Ok batches → Works before seat batches after → Made text before.state.clock after
 made text before seat batches after empty read w =
     let c = w.changes in
     let r = w.rounds in
@@ -85,9 +85,11 @@ made text before seat batches after empty read w =
       scripts = scripts_are seat before.state.clock batches;
       writes = writes_are seat before.state.clock batches;
       seat = seat;
+      next = refl;
+      clean = r.clean;
       done = subst (λ os. AreDone observers after.journal seat (due os batches) r.runs) (sym r.observers) r.done;
     }
 
-pub ended : (text : List ℕ) (before after : SharedOf) (old now : Option (List ℕ)) (failed : Bool) (e : ReportFault) → Made text after → Reports after old now failed (Err e) → Runs text before after old now failed (Err (of_report e))
+pub ended : (text : List ℕ) (before after : SharedOf) (old now : Option (List ℕ)) (failed : Bool) (e : ReportFault) → Made text before.state.clock after → Reports after old now failed (Err e) → Runs text before after old now failed (Err (of_report e))
 ended text before after old now failed ends.Output m r = (m, r.0, r.1)
 ended text before after old now failed ends.NoMemory m r = r
