@@ -59,6 +59,10 @@ pub record Made (text : List ℕ) (clock : ℕ) (shared : SharedOf) : Type 0 whe
   pub clean : IsClean shared.state
   pub done : AreDone shared.state.observers shared.journal seat (due shared.state.observers batches) runs
 
+-- the script is read as changes
+abbrev pub IsScript : List ℕ → Type 0
+IsScript text = (batches : List Writes) × (script_of text ≡ Ok batches)
+
 -- the script was not read
 abbrev pub IsUnread : List ℕ → RunFault → Type 0
 IsUnread text (faults.Script f) = script_of text ≡ Err (f.line, f.code)
@@ -69,7 +73,7 @@ IsUnread text _ = ⊥
 abbrev pub Runs : List ℕ → SharedOf → SharedOf → Option (List ℕ) → Option (List ℕ) → Bool → Result (Unit {0}) RunFault → Type 0
 Runs text before after old now failed (Ok _) = Made text before.state.clock after × Wrote after old now × (failed ≡ false)
 Runs text before after old now failed (Err (faults.Script f)) = (script_of text ≡ Err (f.line, f.code)) × (after ≡ before) × (now ≡ old) × (failed ≡ false)
-Runs text before after old now failed (Err (faults.Refused n)) = IsEnd after (faults.Refused n) × (now ≡ old) × (failed ≡ false)
+Runs text before after old now failed (Err (faults.Refused n)) = IsScript text × IsEnd after (faults.Refused n) × (now ≡ old) × (failed ≡ false)
 Runs text before after old now failed (Err faults.Output) = Made text before.state.clock after × Began after old now × (failed ≡ true)
 Runs text before after old now failed (Err faults.NoMemory) = (now ≡ old) × (failed ≡ false)
 Runs text before after old now failed (Err (faults.Manifest f)) = ⊥
