@@ -20,6 +20,7 @@ goes_on a p b q c r g h = record {
   opened = h.opened ∙ g.opened;
   limit = h.limit ∙ g.limit;
   seats = h.seats ∙ g.seats;
+  observers = h.observers ∙ g.observers;
 }
 
 pub no_changes : (s : SharedOf) (seat : ℕ) → IsClean s.state → Changes s seat [] s

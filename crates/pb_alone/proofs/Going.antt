@@ -45,8 +45,8 @@ pub stage0 : (s : SharedOf) (q : SeatOf) → AtStage s q s q s.state []
 stage0 s q = record { state_is = refl; journal = sym (append_nil s.journal); told = sym (append_nil q.received); number = refl; opened = refl; limit = refl }
 
 module _ (s0 : SharedOf) (q0 : SeatOf) (s : SharedOf) (q : SeatOf) (state : StateOf) (more : List Received) (at : AtStage s0 q0 s q state more) where
-  pub goes : state.seats ≡ s0.state.seats → Goes s0 q0 s q
-  goes seats = record {
+  pub goes : state.seats ≡ s0.state.seats → state.observers ≡ s0.state.observers → Goes s0 q0 s q
+  goes seats observers = record {
     more = more;
     journal = at.journal;
     received = at.told;
@@ -54,6 +54,7 @@ module _ (s0 : SharedOf) (q0 : SeatOf) (s : SharedOf) (q : SeatOf) (state : Stat
     opened = at.opened;
     limit = at.limit;
     seats = ap (λ (z : StateOf). z.seats) at.state_is ∙ seats;
+    observers = ap (λ (z : StateOf). z.observers) at.state_is ∙ observers;
   }
 
   pub next : (step : Step) (answer : Answer) (s' : SharedOf) (q' : SeatOf) (a : Answer) (state' : StateOf) → Calls s q step answer s' q'

@@ -52,7 +52,7 @@ module _ (s0 : SharedOf) (q0 : SeatOf) (o : ℕ) (row : Row) (ob : ObserverOf) (
   t3-is b1 b2 = stages.t3 z seat o row ob there x ack x_is ack_is b1 b2
 
   pub goes0 : Goes s0 q0 s0 q0
-  goes0 = goes s0 q0 s0 q0 z [] (stage0 s0 q0) refl
+  goes0 = goes s0 q0 s0 q0 z [] (stage0 s0 q0) refl refl
 
   pub end0 : (f : RunFault) → IsRefusedBy s0 q0.number (Begin (works.Run o row)) f → IsEnd s0 f
   end0 f = end_if_out s0 q0 s0 q0 z [] (stage0 s0 q0) (Begin (works.Run o row)) f (stages.begin_refused z seat o row ob there x ack x_is ack_is seated)
@@ -71,7 +71,7 @@ module _ (s0 : SharedOf) (q0 : SeatOf) (o : ℕ) (row : Row) (ob : ObserverOf) (
     at1 = next s0 q0 s0 q0 z [] (stage0 s0 q0) (Begin (works.Run o row)) ans1 s1 q1 (At (ts a)) z1 c1 (stages.begins z seat o row ob there x ack x_is ack_is ans1 s1.state)
 
     pub goes1 : Goes s0 q0 s1 q1
-    goes1 = goes s0 q0 s1 q1 z1 e1 at1 refl
+    goes1 = goes s0 q0 s1 q1 z1 e1 at1 refl refl
 
     module _ (start : Ts) (is : ans1 ≡ At start) where
       pub start_is : start ≡ ts a
@@ -101,7 +101,7 @@ module _ (s0 : SharedOf) (q0 : SeatOf) (o : ℕ) (row : Row) (ob : ObserverOf) (
         seen1 = (stages.reads z1 seat a (stages.t1 z seat o row ob there x ack x_is ack_is) x (stages.own1 z seat o row ob there x ack x_is ack_is) clean.unlocked b1 s2.state case2).0
 
         pub goes2 : Goes s0 q0 s2 q2
-        goes2 = goes s0 q0 s2 q2 z2 e2 at2 refl
+        goes2 = goes s0 q0 s2 q2 z2 e2 at2 refl refl
 
         pub end2 : (f : RunFault) → IsRefusedBy s2 q2.number (Read start ack) f → IsEnd s2 f
         end2 f h = end_if_none s0 q0 s2 q2 z2 e2 at2 (Read (ts a) ack) f (stages.ack_refused z seat o row ob there x ack x_is ack_is seated b1) (subst (λ n. IsRefusedBy s2 q2.number (Read n ack) f) start_is h)
@@ -118,7 +118,7 @@ module _ (s0 : SharedOf) (q0 : SeatOf) (o : ℕ) (row : Row) (ob : ObserverOf) (
               (λ m. (refl, (stages.reads z2 seat a (stages.t2 z seat o row ob there x ack x_is ack_is b1) ack (stages.own2 z seat o row ob there x ack x_is ack_is b1) clean.unlocked b2 s3.state m).1))
 
           pub goes3 : Goes s0 q0 s3 q3
-          goes3 = goes s0 q0 s3 q3 z3 e3 at3 refl
+          goes3 = goes s0 q0 s3 q3 z3 e3 at3 refl refl
 
           module _ (v : Version) (saw : b1 ≡ found_answer v) (newer : (acknowledged_in b2).0 < v.commit.0) (f : Meant) (run : f ≡ plain_run ob.program (record_of x v (acknowledged_in b2).0) start.0 f.result) where
             abbrev pub t7-is : TransactionOf
@@ -150,7 +150,7 @@ module _ (s0 : SharedOf) (q0 : SeatOf) (o : ℕ) (row : Row) (ob : ObserverOf) (
               at4 = next s0 q0 s3 q3 z3 e3 at3 declare ans4 s4 q4 Done z4 (subst (λ n. Calls s3 q3 (Declare n (declared.Run o f)) ans4 s4 q4) start_is c4) (stages.declares z seat o row ob there x ack x_is ack_is b1 b2 f ans4 s4.state)
 
               pub goes4 : Goes s0 q0 s4 q4
-              goes4 = goes s0 q0 s4 q4 z4 e4 at4 refl
+              goes4 = goes s0 q0 s4 q4 z4 e4 at4 refl refl
 
               pub own4 : IsOwn z4 seat a t4
               own4 = stages.own4 z seat o row ob there x ack x_is ack_is b1 b2 f
@@ -175,7 +175,7 @@ module _ (s0 : SharedOf) (q0 : SeatOf) (o : ℕ) (row : Row) (ob : ObserverOf) (
                 at5 = next s0 q0 s4 q4 z4 e4 at4 (Prewrite (ts a) ack) ans5 s5 q5 Done z5 (subst (λ n. Calls s4 q4 (Prewrite n ack) ans5 s5 q5) start_is c5) (ends.prewrites z4 seat a ack (contents.Stamp (ts a)) t4 own4 refl refl alone refl refl clean.unlocked past ans5 s5.state)
 
                 pub goes5 : Goes s0 q0 s5 q5
-                goes5 = goes s0 q0 s5 q5 z5 e5 at5 refl
+                goes5 = goes s0 q0 s5 q5 z5 e5 at5 refl refl
 
                 pub end5 : (g : RunFault) → IsRefusedBy s5 q5.number (Stamp start) g → IsEnd s5 g
                 end5 g h = end_if_out s0 q0 s5 q5 z5 e5 at5 (Stamp (ts a)) g (ends.stamp_refused z4 seat a ack (contents.Stamp (ts a)) t4 own4 refl refl alone refl refl seated) (subst (λ n. IsRefusedBy s5 q5.number (Stamp n) g) start_is h)
@@ -191,7 +191,7 @@ module _ (s0 : SharedOf) (q0 : SeatOf) (o : ℕ) (row : Row) (ob : ObserverOf) (
                   at6 = next s0 q0 s5 q5 z5 e5 at5 (Stamp (ts a)) ans6 s6 q6 (At (ts (a + 1))) z6 (subst (λ n. Calls s5 q5 (Stamp n) ans6 s6 q6) start_is c6) (ends.stamps z4 seat a ack (contents.Stamp (ts a)) t4 own4 refl refl alone refl refl ans6 s6.state)
 
                   pub goes6 : Goes s0 q0 s6 q6
-                  goes6 = goes s0 q0 s6 q6 z6 e6 at6 refl
+                  goes6 = goes s0 q0 s6 q6 z6 e6 at6 refl refl
 
                   pub end6 : (g : RunFault) → IsRefusedBy s6 q6.number (CommitPrimary start) g → IsEnd s6 g
                   end6 g h = end_if_none s0 q0 s6 q6 z6 e6 at6 (CommitPrimary (ts a)) g (ends.commit_refused z4 seat a ack (contents.Stamp (ts a)) t4 own4 refl refl alone refl refl seated) (subst (λ n. IsRefusedBy s6 q6.number (CommitPrimary n) g) start_is h)
@@ -207,7 +207,7 @@ module _ (s0 : SharedOf) (q0 : SeatOf) (o : ℕ) (row : Row) (ob : ObserverOf) (
                     at7 = next s0 q0 s6 q6 z6 e6 at6 (CommitPrimary (ts a)) ans7 s7 q7 Committed z7 (subst (λ n. Calls s6 q6 (CommitPrimary n) ans7 s7 q7) start_is c7) (ends.commits z4 seat a ack (contents.Stamp (ts a)) t4 own4 refl refl alone refl refl ans7 s7.state)
 
                     pub goes7 : Goes s0 q0 s7 q7
-                    goes7 = goes s0 q0 s7 q7 z7 e7 at7 refl
+                    goes7 = goes s0 q0 s7 q7 z7 e7 at7 refl refl
 
                     pub clean7 : IsClean s7.state
                     clean7 = subst IsClean (sym at7.state_is) (ends.clean_after z4 seat a ack (contents.Stamp (ts a)) t4 own4 refl refl alone refl refl clean.unlocked past)

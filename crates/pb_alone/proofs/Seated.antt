@@ -49,4 +49,5 @@ goes_on_seated s q s' q' (p ∷ ps) empty are some here g =
       opened = g.opened;
       limit = g.limit;
       count = g.seats;
+      observers = g.observers;
     }

@@ -40,7 +40,7 @@ module _ (s0 : SharedOf) (q0 : SeatOf) (batch : Writes) (x : Cell) (first : prim
   a = s0.state.clock + 1
 
   pub goes0 : Goes s0 q0 s0 q0
-  goes0 = goes s0 q0 s0 q0 s0.state [] (stage0 s0 q0) refl
+  goes0 = goes s0 q0 s0 q0 s0.state [] (stage0 s0 q0) refl refl
 
   pub end0 : (f : RunFault) → IsRefusedBy s0 q0.number (Begin works.Script) f → IsEnd s0 f
   end0 f = end_if_out s0 q0 s0 q0 s0.state [] (stage0 s0 q0) (Begin works.Script) f (stages.begin_refused s0.state q0.number x k seated)
@@ -56,7 +56,7 @@ module _ (s0 : SharedOf) (q0 : SeatOf) (batch : Writes) (x : Cell) (first : prim
     at1 = next s0 q0 s0 q0 s0.state [] (stage0 s0 q0) (Begin works.Script) ans1 s1 q1 (At (ts a)) (stages.s1 s0.state q0.number x k) c1 (stages.begins s0.state q0.number x k ans1 s1.state)
 
     pub goes1 : Goes s0 q0 s1 q1
-    goes1 = goes s0 q0 s1 q1 (stages.s1 s0.state q0.number x k) e1 at1 refl
+    goes1 = goes s0 q0 s1 q1 (stages.s1 s0.state q0.number x k) e1 at1 refl refl
 
     module _ (start : Ts) (is : ans1 ≡ At start) (what : Declared) (what_is : what ≡ declared.Script batch) where
       start_is : start ≡ ts a
@@ -82,7 +82,7 @@ module _ (s0 : SharedOf) (q0 : SeatOf) (batch : Writes) (x : Cell) (first : prim
         at2 = next s0 q0 s1 q1 (stages.s1 s0.state q0.number x k) e1 at1 declare ans2 s2 q2 Done (stages.s2 s0.state q0.number x k) (subst (λ step. Calls s1 q1 step ans2 s2 q2) declare_is c2) (stages.declares s0.state q0.number x k ans2 s2.state)
 
         pub goes2 : Goes s0 q0 s2 q2
-        goes2 = goes s0 q0 s2 q2 (stages.s2 s0.state q0.number x k) e2 at2 refl
+        goes2 = goes s0 q0 s2 q2 (stages.s2 s0.state q0.number x k) e2 at2 refl refl
 
         pub end2 : (f : RunFault) → IsRefusedBy s2 q2.number (Prewrite start x) f → IsEnd s2 f
         end2 f h = end_if_none s0 q0 s2 q2 (stages.s2 s0.state q0.number x k) e2 at2 (Prewrite (ts a) x) f (stages.prewrite_refused s0.state q0.number x k seated) (subst (λ n. IsRefusedBy s2 q2.number (Prewrite n x) f) start_is h)
@@ -95,7 +95,7 @@ module _ (s0 : SharedOf) (q0 : SeatOf) (batch : Writes) (x : Cell) (first : prim
           at3 = next s0 q0 s2 q2 (stages.s2 s0.state q0.number x k) e2 at2 (Prewrite (ts a) x) ans3 s3 q3 Done (stages.s3 s0.state q0.number x k) (subst (λ n. Calls s2 q2 (Prewrite n x) ans3 s3 q3) start_is c3) (stages.prewrites s0.state q0.number x k clean ans3 s3.state)
 
           pub goes3 : Goes s0 q0 s3 q3
-          goes3 = goes s0 q0 s3 q3 (stages.s3 s0.state q0.number x k) e3 at3 refl
+          goes3 = goes s0 q0 s3 q3 (stages.s3 s0.state q0.number x k) e3 at3 refl refl
 
           pub end3 : (f : RunFault) → IsRefusedBy s3 q3.number (Stamp start) f → IsEnd s3 f
           end3 f h = end_if_out s0 q0 s3 q3 (stages.s3 s0.state q0.number x k) e3 at3 (Stamp (ts a)) f (stages.stamp_refused s0.state q0.number x k seated) (subst (λ n. IsRefusedBy s3 q3.number (Stamp n) f) start_is h)
@@ -108,7 +108,7 @@ module _ (s0 : SharedOf) (q0 : SeatOf) (batch : Writes) (x : Cell) (first : prim
             at4 = next s0 q0 s3 q3 (stages.s3 s0.state q0.number x k) e3 at3 (Stamp (ts a)) ans4 s4 q4 (At (ts (a + 1))) (stages.s4 s0.state q0.number x k) (subst (λ n. Calls s3 q3 (Stamp n) ans4 s4 q4) start_is c4) (stages.stamps s0.state q0.number x k ans4 s4.state)
 
             pub goes4 : Goes s0 q0 s4 q4
-            goes4 = goes s0 q0 s4 q4 (stages.s4 s0.state q0.number x k) e4 at4 refl
+            goes4 = goes s0 q0 s4 q4 (stages.s4 s0.state q0.number x k) e4 at4 refl refl
 
             pub end4 : (f : RunFault) → IsRefusedBy s4 q4.number (CommitPrimary start) f → IsEnd s4 f
             end4 f h = end_if_none s0 q0 s4 q4 (stages.s4 s0.state q0.number x k) e4 at4 (CommitPrimary (ts a)) f (stages.commit_refused s0.state q0.number x k seated) (subst (λ n. IsRefusedBy s4 q4.number (CommitPrimary n) f) start_is h)
@@ -121,7 +121,7 @@ module _ (s0 : SharedOf) (q0 : SeatOf) (batch : Writes) (x : Cell) (first : prim
               at5 = next s0 q0 s4 q4 (stages.s4 s0.state q0.number x k) e4 at4 (CommitPrimary (ts a)) ans5 s5 q5 Committed (stages.s5 s0.state q0.number x k) (subst (λ n. Calls s4 q4 (CommitPrimary n) ans5 s5 q5) start_is c5) (stages.commits s0.state q0.number x k ans5 s5.state)
 
               pub goes5 : Goes s0 q0 s5 q5
-              goes5 = goes s0 q0 s5 q5 (stages.s5 s0.state q0.number x k) e5 at5 refl
+              goes5 = goes s0 q0 s5 q5 (stages.s5 s0.state q0.number x k) e5 at5 refl refl
 
               two_more : a + 1 ≡ s0.state.clock + 2
               two_more = omega arith

@@ -1,5 +1,5 @@
 -- A whole script made on a fresh table.
-use Rattle.std.proofs.Common.{◌≡◌, ℕ, ◌+◌, ◌*◌, ◌≤◌, inl, inr, arith, suc, length, map, refl, ◌∷◌, Bool, List, [], ◌++◌, Option, Some, None, Ok, Err, sym, ap, subst, ◌∙◌}
+use Rattle.std.proofs.Common.{◌≡◌, ℕ, ◌+◌, ◌*◌, ◌≤◌, inl, inr, arith, suc, length, map, refl, ◌∷◌, Bool, false, List, [], ◌++◌, Option, Some, None, Ok, Err, sym, ap, subst, ◌∙◌}
 use Rattle.std.specs.List.{All, flat_map}
 use Rattle.std.specs.FinMap as finite
 use Rattle.pb_base.specs.Batch.{Writes}
@@ -24,8 +24,10 @@ use Rattle.pb_texts.specs.Scripts.{IsSmallBatch}
 use Rattle.pb_alone.specs.declared.fault.ReportFault.{ReportFault}
 use Rattle.pb_alone.specs.declared.fault.ReportFault.TheVariants as ends
 use Rattle.pb_alone.specs.Alone.{IsClean, IsSmall, change_entries, changes_from}
-use Rattle.pb_alone.specs.Faults.{of_report}
-use Rattle.pb_alone.specs.Runs.{Made, Reports, Runs}
+use Rattle.pb_alone.specs.declared.fault.RunFault.{RunFault}
+use Rattle.pb_alone.specs.declared.fault.RunFault.TheVariants as faults
+use Rattle.pb_alone.specs.Faults.{IsEnd, of_report}
+use Rattle.pb_alone.specs.Runs.{IsScript, Made, Reports, Runs}
 use Rattle.pb_alone.proofs.Blocks.{history, writes_are}
 
 nothing_in : (x : Slot) → finite.get (opening [] 0 0).entries x ≡ None
@@ -67,7 +69,7 @@ history_on observers j k ms ns h e rising = record {
   rising = rising;
 }
 
-pub made : (text : List ℕ) (before : SharedOf) (seat : ℕ) (batches : List Writes) (after : SharedOf) → before.journal ≡ [] → script_of text ≡ Ok batches → Works before seat batches after → Made text after
+pub made : (text : List ℕ) (before : SharedOf) (seat : ℕ) (batches : List Writes) (after : SharedOf) → before.journal ≡ [] → script_of text ≡ Ok batches → Works before seat batches after → Made text before.state.clock after
 made text before seat batches after empty read w =
     let c = w.changes in
     let r = w.rounds in
@@ -85,9 +87,18 @@ made text before seat batches after empty read w =
       scripts = scripts_are seat before.state.clock batches;
       writes = writes_are seat before.state.clock batches;
       seat = seat;
+      next = refl;
+      clean = r.clean;
       done = subst (λ os. AreDone observers after.journal seat (due os batches) r.runs) (sym r.observers) r.done;
     }
 
-pub ended : (text : List ℕ) (before after : SharedOf) (old now : Option (List ℕ)) (failed : Bool) (e : ReportFault) → Made text after → Reports after old now failed (Err e) → Runs text before after old now failed (Err (of_report e))
+pub stopped : (text : List ℕ) (before after : SharedOf) (old now : Option (List ℕ)) (failed : Bool) (f : RunFault) → IsScript text → IsEnd after f → now ≡ old → failed ≡ false → Runs text before after old now failed (Err f)
+stopped text before after old now failed (faults.Refused n) s e same un = (s, e, same, un)
+stopped text before after old now failed faults.NoMemory s e same un = (same, un)
+stopped text before after old now failed (faults.Manifest m) s e same un = absurd e
+stopped text before after old now failed (faults.Script m) s e same un = absurd e
+stopped text before after old now failed faults.Output s e same un = absurd e
+
+pub ended : (text : List ℕ) (before after : SharedOf) (old now : Option (List ℕ)) (failed : Bool) (e : ReportFault) → Made text before.state.clock after → Reports after old now failed (Err e) → Runs text before after old now failed (Err (of_report e))
 ended text before after old now failed ends.Output m r = (m, r.0, r.1)
 ended text before after old now failed ends.NoMemory m r = r

@@ -58,6 +58,7 @@ pub record Goes (old : SharedOf) (seat : SeatOf) (new : SharedOf) (told : SeatOf
   pub opened : new.opened ≡ old.opened
   pub limit : new.limit ≡ old.limit
   pub seats : new.state.seats ≡ old.state.seats
+  pub observers : new.state.observers ≡ old.state.observers
 
 -- these changes were made
 pub record Changes (old : SharedOf) (seat : ℕ) (batches : List Writes) (new : SharedOf) : Type 0 where

@@ -2,7 +2,7 @@
 use Rattle.std.specs.Prelude.{◌≡◌, ℕ, ◌⊎◌, length, Some}
 use Rattle.pb_steps.specs.declared.step.Step.{Step}
 use Rattle.pb_base.specs.declared.refusal.Reason.{Reason}
-use Rattle.pb_base.specs.declared.refusal.Reason.TheVariants.{OutOfTimestamps, JournalFull}
+use Rattle.pb_base.specs.declared.refusal.Reason.TheVariants.{NoMemory, OutOfTimestamps, JournalFull}
 use Rattle.pb_base.specs.Reasons.{reason_code}
 use Rattle.pb_core.specs.Calls.{SharedOf, call_reason}
 use Rattle.pb_alone.specs.declared.fault.RunFault.{RunFault}
@@ -10,10 +10,10 @@ use Rattle.pb_alone.specs.declared.fault.RunFault.TheVariants as faults
 use Rattle.pb_alone.specs.declared.fault.ReportFault.{ReportFault}
 use Rattle.pb_alone.specs.declared.fault.ReportFault.TheVariants as ends
 
--- a step was refused by this number, or by memory
+-- a step was refused by this number; or by memory, and then no other reason applies
 abbrev pub IsRefusedBy : SharedOf → ℕ → Step → RunFault → Type 0
 IsRefusedBy shared seat step (faults.Refused n) = (why : Reason) × (call_reason shared seat step ≡ Some why) × (n ≡ reason_code why)
-IsRefusedBy shared seat step faults.NoMemory = Unit {0}
+IsRefusedBy shared seat step faults.NoMemory = (why : Reason) → call_reason shared seat step ≡ Some why → reason_code why ≡ reason_code NoMemory
 IsRefusedBy shared seat step _ = ⊥
 
 -- the timestamps or the journal came to their end, or memory did

@@ -13,6 +13,7 @@ use Rattle.pb_alone.specs.declared.fault.RunFault.{RunFault}
 use Rattle.pb_alone.specs.declared.fault.RunFault.TheVariants as faults
 use Rattle.pb_alone.specs.declared.fault.ReportFault.{ReportFault}
 use Rattle.pb_alone.specs.declared.fault.ReportFault.TheVariants as ends
+use Rattle.pb_alone.specs.Alone.{IsClean, changes_from}
 use Rattle.pb_alone.specs.Committed.{IsNewestIn}
 use Rattle.pb_alone.specs.Tallies.{runs_in}
 use Rattle.pb_steps.specs.declared.step.Work.TheVariants as works
@@ -44,8 +45,8 @@ Reports shared old now failed (Err ends.NoMemory) = (now ≡ old) × (failed ≡
 
 -- The committed transactions of the journal are the script's batches in order, each once, and then runs of observers: for
 -- each changed cell, by row and column, one of each observer of its column, but where the journal shows that there was
--- nothing to run for.
-pub record Made (text : List ℕ) (shared : SharedOf) : Type 0 where
+-- nothing to run for. Each change took the next two timestamps, from the clock on, and no lock stands.
+pub record Made (text : List ℕ) (clock : ℕ) (shared : SharedOf) : Type 0 where
   pub batches : List Writes
   pub read : script_of text ≡ Ok batches
   pub changes : List Member
@@ -54,7 +55,13 @@ pub record Made (text : List ℕ) (shared : SharedOf) : Type 0 where
   pub scripts : map (λ m. m.work) changes ≡ map (λ b. works.Script) batches
   pub writes : map (λ m. m.writes) changes ≡ batches
   pub seat : ℕ
+  pub next : changes ≡ changes_from seat clock batches
+  pub clean : IsClean shared.state
   pub done : AreDone shared.state.observers shared.journal seat (due shared.state.observers batches) runs
+
+-- the script is read as changes
+abbrev pub IsScript : List ℕ → Type 0
+IsScript text = (batches : List Writes) × (script_of text ≡ Ok batches)
 
 -- the script was not read
 abbrev pub IsUnread : List ℕ → RunFault → Type 0
@@ -64,16 +71,17 @@ IsUnread text _ = ⊥
 
 -- how a run from one table to another ended, and what the sink had taken and has taken
 abbrev pub Runs : List ℕ → SharedOf → SharedOf → Option (List ℕ) → Option (List ℕ) → Bool → Result (Unit {0}) RunFault → Type 0
-Runs text before after old now failed (Ok _) = Made text after × Wrote after old now × (failed ≡ false)
+Runs text before after old now failed (Ok _) = Made text before.state.clock after × Wrote after old now × (failed ≡ false)
 Runs text before after old now failed (Err (faults.Script f)) = (script_of text ≡ Err (f.line, f.code)) × (after ≡ before) × (now ≡ old) × (failed ≡ false)
-Runs text before after old now failed (Err (faults.Refused n)) = IsEnd after (faults.Refused n) × (now ≡ old) × (failed ≡ false)
-Runs text before after old now failed (Err faults.Output) = Made text after × Began after old now × (failed ≡ true)
+Runs text before after old now failed (Err (faults.Refused n)) = IsScript text × IsEnd after (faults.Refused n) × (now ≡ old) × (failed ≡ false)
+Runs text before after old now failed (Err faults.Output) = Made text before.state.clock after × Began after old now × (failed ≡ true)
 Runs text before after old now failed (Err faults.NoMemory) = (now ≡ old) × (failed ≡ false)
 Runs text before after old now failed (Err (faults.Manifest f)) = ⊥
 
--- the table is as opened but for its journal and state, and these are all its seats
+-- the table has its observers, clock as opened and limit as before, and these are all its seats
 pub record KeepsSeats (before after : SharedOf) (seats : List SeatOf) : Type 0 where
   pub seated : AreSeats after seats
   pub opened : after.opened ≡ before.opened
   pub limit : after.limit ≡ before.limit
   pub count : after.state.seats ≡ before.state.seats
+  pub observers : after.state.observers ≡ before.state.observers

@@ -4,6 +4,7 @@ use Rattle.pb_steps.specs.Observers.{ObserverOf}
 use Rattle.pb_steps.specs.State.{opening}
 use Rattle.pb_base.specs.declared.limits.TheConstants.{MAX_ENTRIES}
 use Rattle.pb_core.specs.Calls.{SharedOf}
+use Rattle.pb_history.specs.Journals.{IsLegal}
 use Rattle.pb_registry.specs.declared.code.Code.{Code}
 use Rattle.pb_registry.specs.declared.manifest.RegistryFault.{RegistryFault}
 use Rattle.pb_registry.specs.Judging.{told}
@@ -30,11 +31,13 @@ pub record IsRead (manifest : List ℕ) (observers : List ObserverOf) : Type 0 w
 abbrev pub fresh : List ObserverOf → ℕ → SharedOf
 fresh observers last = record { journal = []; state = opening observers 1 last; opened = last; limit = MAX_ENTRIES }
 
--- the manifest was read as observers, and the script ran so on a fresh table with exactly them
+-- The manifest was read as observers, and the script ran so on a fresh table with exactly them. The journal of the run is
+-- legal from the table as opened with these observers, one seat and the clock at `last`, and leads to the state reported.
 pub record RanOn (manifest script : List ℕ) (last : ℕ) (old now : Option (List ℕ)) (failed : Bool) (result : Result (Unit {0}) RunFault) : Type 0 where
   pub observers : List ObserverOf
   pub judged : IsRead manifest observers
   pub after : SharedOf
+  pub legal : IsLegal observers 1 last after.journal after.state
   pub runs : Runs script (fresh observers last) after old now failed result
 
 -- the manifest is at fault, and this tells how

@@ -67,6 +67,8 @@ pub fn run_texts<T: Tablet, S: Sink>(
     match Shared::open(alloc, table, observers, 1, last, MAX_ENTRIES) {
         Ok((shared, seats)) => {
             let (shared, _seats, outcome) = run_alone(alloc, script, shared, seats, sink);
+            // For the proof: the journal is legal, and leads to the state that the report is of.
+            let _ = shared.journal();
             shared.close();
             outcome
         }

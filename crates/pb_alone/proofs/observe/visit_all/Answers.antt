@@ -9,7 +9,7 @@ use Rattle.pb_alone.proofs.observe.visit_all.Goals as goal
 
 pub loop-place-init : goal.loop-place-init
 loop-place-init g c = record {
-  goes = goes c.args.shared.now c.args.seat.now c.args.shared.now c.args.seat.now c.args.shared.now.state [] (stage0 c.args.shared.now c.args.seat.now) refl;
+  goes = goes c.args.shared.now c.args.seat.now c.args.shared.now c.args.seat.now c.args.shared.now.state [] (stage0 c.args.shared.now c.args.seat.now) refl refl;
   rounds = no_rounds c.args.shared.now c.args.seat.now.number c.requires.clean;
 }
 

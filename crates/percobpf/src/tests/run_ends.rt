@@ -1,0 +1,169 @@
+//! How a run ends early: by a step that is refused, or by the fault of a text.
+ghost use Rattle.std.specs.Prelude.{◌≡◌, ◌≤◌, false};
+
+use super::{Boxed, Sheet};
+use crate::end_all;
+use pb_alone::{RunFault, run_alone, run_texts};
+use pb_base::{NoMemory, Row, Ts};
+use pb_core::{OpenRefused, Shared};
+use pb_memtablet::ListTablet;
+use pb_store::{Table, Tablet};
+use std::alloc::Global;
+use std::rt::HostRuntime;
+
+// The number of a fault, and 0 where there is none.
+fn number_of(outcome: Result<(), RunFault>) -> u8 {
+    match outcome {
+        Ok(()) => 0,
+        Err(RunFault::Manifest(fault)) => fault.code,
+        Err(RunFault::Script(fault)) => fault.code,
+        Err(RunFault::Refused(number)) => number,
+        Err(RunFault::Output) => 2,
+        Err(RunFault::NoMemory) => 1,
+    }
+}
+
+fn sheet(alloc: Global) -> Sheet
+    ensures { result.failed ≡ false }
+{
+    Sheet {
+        bytes: Vec::new(alloc),
+        left: usize::MAX,
+        fails: true,
+        failed: false,
+    }
+}
+
+// How a script's run without observers ends on a table of these tablets.
+fn end_alone<T: Tablet>(
+    rt: &HostRuntime,
+    parts: Vec<(Row, T)>,
+    script: &str,
+    last: Ts,
+    limit: usize,
+) -> u8
+    requires { limit ≤ 1000000 }
+{
+    match Table::new(parts) {
+        Ok(table) => match Shared::open(rt.alloc(), table, Vec::new(rt.alloc()), 1, last, limit) {
+            Ok((shared, seats)) => {
+                let mut sheet = sheet(rt.alloc());
+                let (shared, _seats, outcome) = run_alone(
+                    rt.alloc(),
+                    script,
+                    shared,
+                    seats,
+                    &mut sheet,
+                );
+                shared.close();
+                number_of(outcome)
+            }
+            Err(
+                OpenRefused {
+                    table,
+                    observers: _,
+                    code: _,
+                },
+            ) => {
+                table.close();
+                1
+            }
+        },
+        Err((parts, _)) => {
+            end_all(parts);
+            1
+        }
+    }
+}
+
+// How a run of two texts ends on a table of these tablets.
+fn end_of_texts<T: Tablet>(
+    rt: &HostRuntime,
+    parts: Vec<(Row, T)>,
+    manifest: &str,
+    script: &str,
+) -> u8 {
+    match Table::new(parts) {
+        Ok(table) => {
+            let mut sheet = sheet(rt.alloc());
+            number_of(run_texts(rt.alloc(), manifest, script, table, Ts(0), &mut sheet))
+        }
+        Err((parts, _)) => {
+            end_all(parts);
+            1
+        }
+    }
+}
+
+fn one_tablet(alloc: Global) -> Result<Vec<(Row, Boxed)>, NoMemory> {
+    let mut parts: Vec<(Row, Boxed)> = Vec::new(alloc);
+    parts.push((Row(0), Box::new(alloc, ListTablet::new(alloc))?))?;
+    Ok(parts)
+}
+
+#[test]
+fn a_refused_step_ends_a_run(rt: HostRuntime) -> Result<(), NoMemory> {
+    let one = "put 7 0 2a\n";
+    let table = [
+        // A change takes two timestamps.
+        (one, u64::MAX, 100, 40),
+        (one, u64::MAX - 1, 100, 40),
+        (one, u64::MAX - 2, 100, 0),
+        ("", u64::MAX, 100, 0),
+        // It makes five entries.
+        (one, 0, 0, 44),
+        (one, 0, 4, 44),
+        (one, 0, 5, 0),
+        ("put 7 0 2a\ndel 7 0\n", 0, 5, 44),
+        ("", 0, 0, 0),
+        // The script's own fault comes first.
+        ("x", u64::MAX, 100, 70),
+        ("x", 0, 0, 70),
+        // The number that is lower is told.
+        (one, u64::MAX, 0, 40),
+    ];
+    for (script, last, limit, wanted) in table {
+        let parts = one_tablet(rt.alloc())?;
+        let number = end_alone(&rt, parts, script, Ts(last), limit);
+        assert!(rt; number == wanted, "{script} {last} {limit}");
+    }
+    Ok(())
+}
+
+// A manifest with so many observers.
+fn manifest_of(alloc: Global, count: usize) -> Result<String, NoMemory> {
+    let observer = "{\"name\":\"watch\",\"column\":0,\"helpers\":[],\"code\":\"\"}";
+    let mut text = String::from_str(alloc, "{\"profile\":1,\"observers\":[")?;
+    for place in 0..count {
+        if place > 0 {
+            text.push_str(",")?;
+        }
+        text.push_str(observer)?;
+    }
+    text.push_str("]}")?;
+    Ok(text)
+}
+
+#[test]
+fn texts_too_long_end_a_run(rt: HostRuntime) -> Result<(), NoMemory> {
+    let many = manifest_of(rt.alloc(), 33)?;
+    let mut long = String::new(rt.alloc());
+    for _ in 0..10_001u32 {
+        long.push_str("del 0 0\n")?;
+    }
+    let none = "{\"profile\":1,\"observers\":[]}";
+    let table = [
+        (many.as_str(), "", 52),
+        (none, long.as_str(), 75),
+        (many.as_str(), long.as_str(), 52),
+        (none, "", 0),
+    ];
+    for (manifest, script, wanted) in table {
+        let parts = one_tablet(rt.alloc())?;
+        assert!(rt;
+            end_of_texts(&rt, parts, manifest, script) == wanted,
+            "{wanted}"
+        );
+    }
+    Ok(())
+}
