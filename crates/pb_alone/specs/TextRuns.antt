@@ -15,15 +15,15 @@ use Rattle.pb_alone.specs.declared.fault.RunFault.TheVariants as faults
 use Rattle.pb_alone.specs.Runs.{Runs}
 
 -- an observer of a manifest, as a table has it
-abbrev pub observer_of : registry.ObserverOf → ObserverOf
+abbrev pub observer_of : registry.UploadOf → ObserverOf
 observer_of o = record { name = o.name; column = o.column; program = o.program }
 
-abbrev pub observers_of : List registry.ObserverOf → List ObserverOf
+abbrev pub observers_of : List registry.UploadOf → List ObserverOf
 observers_of os = map observer_of os
 
 -- the manifest is read as these observers
 pub record IsRead (manifest : List ℕ) (observers : List ObserverOf) : Type 0 where
-  pub uploaded : List registry.ObserverOf
+  pub uploaded : List registry.UploadOf
   pub judged : manifest_of manifest ≡ Ok uploaded
   pub taken : observers ≡ observers_of uploaded
 

@@ -29,10 +29,10 @@ primary_in [] = None
 primary_in (w ∷ ws) = Some w.0
 
 -- a value or a deletion
-abbrev pub is_plain : Content → Bool
-is_plain (Value v) = true
-is_plain Deleted = true
-is_plain (Stamp t) = false
+abbrev pub is_unstamped : Content → Bool
+is_unstamped (Value v) = true
+is_unstamped Deleted = true
+is_unstamped (Stamp t) = false
 
 -- no cell is named twice
 abbrev pub are_distinct : Writes → Bool
@@ -41,4 +41,4 @@ are_distinct (w ∷ ws) = is_none (content_in ws w.0) && are_distinct ws
 
 -- 1 to 16 distinct cells, none with a stamp
 abbrev pub is_batch : Writes → Bool
-is_batch ws = nat_lt 0 (length ws) && nat_le (length ws) MAX_CELLS && list_all (λ w. is_plain w.1) ws && are_distinct ws
+is_batch ws = nat_lt 0 (length ws) && nat_le (length ws) MAX_CELLS && list_all (λ w. is_unstamped w.1) ws && are_distinct ws

@@ -22,6 +22,6 @@ abbrev pub refusal_by : Reason → Refusal
 refusal_by r = record { 0 = reason_code r }
 
 -- this refusal tells that reason, which there is
-abbrev pub IsRefusal : Option Reason → Refusal → Type 0
-IsRefusal None r = ⊥
-IsRefusal (Some why) r = r ≡ refusal_by why
+abbrev pub TellsReason : Option Reason → Refusal → Type 0
+TellsReason None r = ⊥
+TellsReason (Some why) r = r ≡ refusal_by why

@@ -1,7 +1,7 @@
 //! What a script transaction writes.
 ghost use Rattle.std.specs.Prelude.{◌≡◌};
 ghost use Rattle.std.specs.List.{list_all};
-ghost use Rattle.pb_base.specs.Batch.{writes_of, content_in, is_plain, are_distinct};
+ghost use Rattle.pb_base.specs.Batch.{writes_of, content_in, is_unstamped, are_distinct};
 
 use crate::cell::Cell;
 use crate::content::Content;
@@ -44,7 +44,7 @@ fn content_in(writes: &[(Row, Column, Content)], cell: Cell) -> Option<Content>
 }
 
 fn is_plain(content: Content) -> bool
-    ensures { result ≡ is_plain content }
+    ensures { result ≡ is_unstamped content }
 {
     match content {
         Content::Value(_) => true,
@@ -54,7 +54,7 @@ fn is_plain(content: Content) -> bool
 }
 
 fn are_plain(writes: &[(Row, Column, Content)]) -> bool
-    ensures { result ≡ list_all (λ w. is_plain w.1) (writes_of writes.now) }
+    ensures { result ≡ list_all (λ w. is_unstamped w.1) (writes_of writes.now) }
 {
     for write in writes {
         if !is_plain(write.2) {

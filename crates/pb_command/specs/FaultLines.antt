@@ -35,12 +35,12 @@ fault_line faults.Output = codes "cannot write the output\n"
 fault_line faults.NoMemory = codes "no memory\n"
 
 -- the text was written whole, or a beginning of it where a write failed
-abbrev pub Says : List ℕ → Option (List ℕ) → Option (List ℕ) → Bool → Type 0
-Says text old now failed = (Appends old now text × (failed ≡ false)) ⊎ (AppendsPart old now text × (failed ≡ true))
+abbrev pub SaysLine : List ℕ → Option (List ℕ) → Option (List ℕ) → Bool → Type 0
+SaysLine text old now failed = (Appends old now text × (failed ≡ false)) ⊎ (AppendsPart old now text × (failed ≡ true))
 
 -- the fault's line was told, or that there is no memory for it
 abbrev pub Tells : Fault → Option (List ℕ) → Option (List ℕ) → Bool → Type 0
-Tells f old now failed = Says (fault_line f) old now failed ⊎ Says (codes "no memory\n") old now failed
+Tells f old now failed = SaysLine (fault_line f) old now failed ⊎ SaysLine (codes "no memory\n") old now failed
 
 -- nothing was told
 abbrev pub IsQuiet : Option (List ℕ) → Option (List ℕ) → Bool → Type 0

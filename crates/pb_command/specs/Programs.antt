@@ -48,7 +48,7 @@ pub record Unwritten (before after : Held) (input output : Text) : Type 0 where
 pub record IsFaultyText (held : Option (List ℕ)) (line code : ℕ) : Type 0 where
   pub text : List ℕ
   pub text_held : IsKnownAs held text
-  pub fault : program_of text ≡ Err (line, code)
+  pub fault : program_of_text text ≡ Err (line, code)
 
 -- the bytes that the path holds are no text
 pub record IsNoText (held : Option (List ℕ)) (path : Text) (f : Fault) : Type 0 where
@@ -138,5 +138,5 @@ IsTextFault f faults.NoMemory = Unit {0}
 IsTextFault f _ = ⊥
 
 -- memory was refused
-abbrev pub IsNoMemory : Fault → Type 0
-IsNoMemory f = f ≡ faults.NoMemory
+abbrev pub IsMemoryFault : Fault → Type 0
+IsMemoryFault f = f ≡ faults.NoMemory

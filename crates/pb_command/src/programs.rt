@@ -4,7 +4,7 @@ ghost use Rattle.std.specs.Prelude.{◌≡◌, true, false, IfOk, IfErr, string_
 ghost use Rattle.pb_texts.specs.Sinks.{AppendsPart};
 ghost use Rattle.pb_command.specs.declared.fault.Fault.TheVariants as faults;
 ghost use Rattle.pb_command.specs.PathFaults.{IsUnreadAt};
-ghost use Rattle.pb_command.specs.Programs.{IsNoProgramText, IsTextFault, IsNoMemory};
+ghost use Rattle.pb_command.specs.Programs.{IsNoProgramText, IsTextFault, IsMemoryFault};
 ghost use Rattle.pb_command.specs.declared.answer.Verdict.TheVariants as verdicts;
 ghost use Rattle.pb_command.specs.Programs.{Assembles, AsmLeaves, Lists, Checks, AnswerLeaves, refusal_line, acceptance_line};
 
@@ -78,7 +78,7 @@ fn refusal_line(alloc: Global, refused: Refused) -> Result<String, AllocError>
 // A refusal, and the line that tells it.
 fn refusal_of<'a>(alloc: Global, refused: Refused) -> Result<Answer, Fault<'a>>
     ensures told { IfOk result (λ a. (a.verdict ≡ verdicts.Refused) × (string_bytes a.text ≡ refusal_line refused.slot refused.code)) }
-    ensures fault { IfErr result IsNoMemory }
+    ensures fault { IfErr result IsMemoryFault }
 {
     let text = refusal_line(alloc, refused)?;
     Ok(Answer {
@@ -90,7 +90,7 @@ fn refusal_of<'a>(alloc: Global, refused: Refused) -> Result<Answer, Fault<'a>>
 // The listing of bytes, or where they are refused.
 fn listing_of<'a>(alloc: Global, bytes: &[u8]) -> Result<Answer, Fault<'a>>
     ensures told { IfOk result (λ a. Lists bytes.now a.verdict (string_bytes a.text)) }
-    ensures fault { IfErr result IsNoMemory }
+    ensures fault { IfErr result IsMemoryFault }
 {
     match decode(alloc, bytes) {
         Ok(program) => {
@@ -108,7 +108,7 @@ fn listing_of<'a>(alloc: Global, bytes: &[u8]) -> Result<Answer, Fault<'a>>
 // That a program is accepted, and the line that tells it.
 fn acceptance_of<'a>(alloc: Global, slots: usize) -> Result<Answer, Fault<'a>>
     ensures told { IfOk result (λ a. (a.verdict ≡ verdicts.Accepted) × (string_bytes a.text ≡ acceptance_line slots)) }
-    ensures fault { IfErr result IsNoMemory }
+    ensures fault { IfErr result IsMemoryFault }
 {
     let text = format!(in alloc; "accepted {slots} slots\n")?;
     Ok(Answer {
@@ -120,7 +120,7 @@ fn acceptance_of<'a>(alloc: Global, slots: usize) -> Result<Answer, Fault<'a>>
 // Whether the program of these bytes is accepted with all helpers, or where bytes or program are refused.
 fn verdict_of<'a>(alloc: Global, bytes: &[u8]) -> Result<Answer, Fault<'a>>
     ensures told { IfOk result (λ a. Checks bytes.now a.verdict (string_bytes a.text)) }
-    ensures fault { IfErr result IsNoMemory }
+    ensures fault { IfErr result IsMemoryFault }
 {
     let program = match decode(alloc, bytes) {
         Ok(program) => program,

@@ -13,7 +13,7 @@ use Rattle.pb_base.specs.Cell.{cell_cmp, cell_cmp_total}
 use Rattle.pb_store.specs.declared.slot.Slot.{Slot}
 use Rattle.pb_store.specs.declared.slot.Sort.{Sort}
 use Rattle.pb_store.specs.declared.slot.Item.{Item}
-use Rattle.pb_store.specs.Slot.{slot_cmp, slot_cmp_total, slot_cmp-IsAntisymmetric, place_of}
+use Rattle.pb_store.specs.Slot.{slot_cmp, slot_cmp_total, slot_cmp-IsAntisymmetric, sort_rank}
 use Rattle.pb_store.specs.Contents.{slot_at, IsOfSort, IsNewest, IsNextMark, ComesAfter}
 use Rattle.pb_memtablet.specs.Places.{IsGap, IsCut}
 use Rattle.pb_memtablet.specs.Listed.{EntryList, MarkList, AllOfSort}
@@ -22,8 +22,8 @@ use Rattle.pb_memtablet.proofs.Spots.{find-found, find-gap, found_self, cut_abov
 -- slots of one cell and sort go by timestamp
 by_ts : (cell : Cell) (sort : Sort) (t u : ℕ) → slot_cmp (slot_at cell sort t) (slot_at cell sort u) ≡ nat_cmp t u
 by_ts cell sort t u =
-    ap (λ r. ordering_then r (ordering_then (nat_cmp (place_of sort) (place_of sort)) (nat_cmp t u))) (tied_itself cell_cmp_total cell)
-    ∙ ap (λ r. ordering_then r (nat_cmp t u)) (tied_itself nat_cmp_total (place_of sort))
+    ap (λ r. ordering_then r (ordering_then (nat_cmp (sort_rank sort) (sort_rank sort)) (nat_cmp t u))) (tied_itself cell_cmp_total cell)
+    ∙ ap (λ r. ordering_then r (nat_cmp t u)) (tied_itself nat_cmp_total (sort_rank sort))
 
 -- what is above the highest slot is above those up to it
 up_to : (cell : Cell) (sort : Sort) (t high : ℕ) (x : Slot) → t ≤ high → slot_cmp (slot_at cell sort high) x ≡ Less → slot_cmp (slot_at cell sort t) x ≡ Less
@@ -49,9 +49,9 @@ after_apart Greater b c d n e = refl
 -- a slot of another cell or sort that is not above one of these is below them all
 apart : (x : Slot) (cell : Cell) (sort : Sort) (high t : ℕ) → slot_cmp (slot_at cell sort high) x ≢ Less → (x.cell ≡ cell → x.sort ≡ sort → ⊥) → slot_cmp (slot_at cell sort t) x ≡ Greater
 apart x cell sort high t above other =
-    after_apart (cell_cmp cell x.cell) (nat_cmp (place_of sort) (place_of x.sort)) _ _ above (λ p q.
+    after_apart (cell_cmp cell x.cell) (nat_cmp (sort_rank sort) (sort_rank x.sort)) _ _ above (λ p q.
     let tie : slot_cmp (slot_at cell sort x.ts.0) x ≡ Equal =
-    ap (λ r. ordering_then r (ordering_then (nat_cmp (place_of sort) (place_of x.sort)) (nat_cmp x.ts.0 x.ts.0))) p
+    ap (λ r. ordering_then r (ordering_then (nat_cmp (sort_rank sort) (sort_rank x.sort)) (nat_cmp x.ts.0 x.ts.0))) p
     ∙ ap (λ r. ordering_then r (nat_cmp x.ts.0 x.ts.0)) q
     ∙ tied_itself nat_cmp_total x.ts.0 in
     let one = slot_cmp-IsAntisymmetric (slot_at cell sort x.ts.0) x tie in

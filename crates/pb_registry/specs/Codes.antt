@@ -1,5 +1,5 @@
 -- How the codes of a manifest's faults are told.
-use Rattle.std.specs.Prelude.{ℕ, Option, Some, None}
+use Rattle.std.specs.Prelude.{ℕ, Bool, true, false, Option, Some, None}
 use Rattle.pb_base.specs.declared.refusal.Refused.{Refused}
 use Rattle.pb_registry.specs.declared.code.Code.{Code}
 use Rattle.pb_registry.specs.declared.code.Code.TheVariants.{Memory, Text, Form, TooMany, LeftOut, Name, Column, Digits, Program}
@@ -16,17 +16,22 @@ number_of Digits = 55
 number_of (Program r) = 56
 
 -- a fault of the whole has no place
-abbrev pub place_of : Code → Option ℕ
-place_of Memory = None
-place_of Text = None
-place_of Form = None
-place_of TooMany = None
-place_of LeftOut = None
-place_of Name = Some 0
-place_of Column = Some 0
-place_of Digits = Some 0
-place_of (Program r) = Some 0
+abbrev pub observer_place_of : Code → Option ℕ
+observer_place_of Memory = None
+observer_place_of Text = None
+observer_place_of Form = None
+observer_place_of TooMany = None
+observer_place_of LeftOut = None
+observer_place_of Name = Some 0
+observer_place_of Column = Some 0
+observer_place_of Digits = Some 0
+observer_place_of (Program r) = Some 0
 
 abbrev pub refusal_of : Code → Option Refused
 refusal_of (Program r) = Some r
 refusal_of c = None
+
+-- the code of want of memory
+abbrev pub is_memory : Code → Bool
+is_memory Memory = true
+is_memory _ = false

@@ -1,5 +1,4 @@
 pub mod Codes
-pub mod Reading
 pub mod Observers
 pub mod Uploads
 pub mod Manifests

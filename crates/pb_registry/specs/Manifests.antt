@@ -13,8 +13,8 @@ use Rattle.pb_vm.specs.Encoding.{program_of}
 use Rattle.pb_vm.specs.Verdict.{refusal}
 use Rattle.pb_registry.specs.declared.code.Code.{Code}
 use Rattle.pb_registry.specs.declared.code.Code.TheVariants.{Text, Form, TooMany, LeftOut, Name, Column, Digits, Program}
-use Rattle.pb_registry.specs.Reading.{◌>>=◌}
-use Rattle.pb_registry.specs.Observers.{ObserverOf}
+use Rattle.pb_base.specs.Reading.{◌>>=◌}
+use Rattle.pb_registry.specs.Observers.{UploadOf}
 
 abbrev pub members_count : Members → ℕ
 members_count no_members = 0
@@ -32,8 +32,8 @@ member_count d = count_in (as_object d)
 abbrev pub number_in : Data → Option ℕ
 number_in d = option_and_then as_u64 (as_number d)
 
-abbrev pub is_number : Data → Bool
-is_number d = is_some (number_in d)
+abbrev pub is_json_number : Data → Bool
+is_json_number d = is_some (number_in d)
 
 abbrev pub number_at : List ℕ → Data → Option ℕ
 number_at name d = option_and_then number_in (get name d)
@@ -60,7 +60,7 @@ all_in p None = false
 all_in p (Some ds) = all_items p ds
 
 abbrev pub has_numbers : List ℕ → Data → Bool
-has_numbers name d = all_in is_number (items_at name d)
+has_numbers name d = all_in is_json_number (items_at name d)
 
 abbrev pub is_some_item : Option Items → Bool
 is_some_item None = false
@@ -127,7 +127,7 @@ abbrev pub program_in : List ℕ → Result AcceptedOf Code
 program_in bytes = judged bytes (refusal bytes)
 
 -- name, column, digits and program are read in this order, so the fault that is told has the lowest code
-unfoldable pub observer_in : Data → Result ObserverOf Code
+unfoldable pub observer_in : Data → Result UploadOf Code
 observer_in d = do
   name ← name_in (text_at (codes "name") d)
   column ← column_in (number_at (codes "column") d)
@@ -135,20 +135,20 @@ observer_in d = do
   program ← program_in bytes
   Ok (record { name = name; column = column; program = program })
 
-abbrev pub one : ObserverOf → List ObserverOf
+abbrev pub one : UploadOf → List UploadOf
 one o = o ∷ []
 
-abbrev pub first_in : Items → Result (List ObserverOf) Code
+abbrev pub first_in : Items → Result (List UploadOf) Code
 first_in no_items = Ok []
 first_in (item d ds) = observer_in d >>= (λ o. Ok (one o))
 
-abbrev pub registry_in : Data → Result (List ObserverOf) Code
+abbrev pub registry_in : Data → Result (List UploadOf) Code
 registry_in d = whole_in (observers_in d) >>= first_in
 
-abbrev pub read_in : Option Data → Result (List ObserverOf) Code
+abbrev pub read_in : Option Data → Result (List UploadOf) Code
 read_in None = Err Text
 read_in (Some d) = registry_in d
 
 -- the observers of a manifest, or its fault
-abbrev pub manifest_of : List ℕ → Result (List ObserverOf) Code
+abbrev pub manifest_of : List ℕ → Result (List UploadOf) Code
 manifest_of text = read_in (read text)

@@ -4,17 +4,17 @@ use Rattle.std.specs.Coded.{Coded, code_by, coded×, coded_ℕ, coded_list}
 use Rattle.pb_vm.specs.Accepted.{AcceptedOf, accepted_code}
 
 -- its name's bytes, the column that it observes, and its program
-pub record ObserverOf : Type 0 where
+pub record UploadOf : Type 0 where
   pub name : List ℕ
   pub column : ℕ
   pub program : AcceptedOf
 
-abbrev pub observer_code : Coded ObserverOf
-observer_code =
+abbrev pub upload_code : Coded UploadOf
+upload_code =
     code_by (List ℕ × (ℕ × AcceptedOf)) (coded× (coded_list coded_ℕ) (coded× coded_ℕ accepted_code))
     (λ o. (o.name, (o.column, o.program)))
     (λ p. record { name = p.0; column = p.1.0; program = p.1.1 })
     (λ _. refl)
 
-abbrev pub observers_code : Coded (List ObserverOf)
-observers_code = coded_list observer_code
+abbrev pub observers_code : Coded (List UploadOf)
+observers_code = coded_list upload_code

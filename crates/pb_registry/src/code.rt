@@ -1,6 +1,6 @@
 //! Why a manifest is refused.
 ghost use Rattle.std.specs.Prelude.{◌≡◌};
-ghost use Rattle.pb_registry.specs.Codes.{number_of, place_of, refusal_of};
+ghost use Rattle.pb_registry.specs.Codes.{number_of, observer_place_of, refusal_of};
 
 use pb_base::Refused;
 
@@ -47,7 +47,7 @@ impl Code {
 
     /// The observer that it is told of.
     pub fn place(self) -> Option<u8>
-        ensures { result ≡ place_of self }
+        ensures { result ≡ observer_place_of self }
     {
         match self {
             Code::Memory | Code::Text | Code::Form | Code::TooMany | Code::LeftOut => None,

@@ -3,8 +3,9 @@ ghost use Rattle.std.specs.Prelude.{◌≡◌, ◌≢◌, not, is_some, Some, No
 ghost use Rattle.serde_json.specs.Data.{Data};
 ghost use Rattle.serde_json.specs.Read.{read};
 ghost use Rattle.serde_json.specs.View.{view, items_view};
-ghost use Rattle.pb_registry.specs.Manifests.{member_count, number_at, items_at, text_at, has_text, has_numbers, has_helpers, all_items, is_number, is_observer, observers_in, leaves_out, whole_in};
-ghost use Rattle.pb_registry.specs.Reading.{Gives};
+ghost use Rattle.pb_registry.specs.Manifests.{member_count, number_at, items_at, text_at, has_text, has_numbers, has_helpers, all_items, is_json_number, is_observer, observers_in, leaves_out, whole_in};
+ghost use Rattle.pb_base.specs.Reading.{Gives};
+ghost use Rattle.pb_registry.specs.Codes.{is_memory};
 ghost use Rattle.pb_registry.specs.declared.code.Code.TheVariants.{Memory, Text};
 
 use crate::code::Code;
@@ -62,7 +63,7 @@ fn items_at<'a>(value: &'a Value, name: &str) -> Option<&'a Vec<Value>>
 }
 
 fn are_numbers(items: &[Value]) -> bool
-    ensures { result ≡ all_items is_number (items_view items.now) }
+    ensures { result ≡ all_items is_json_number (items_view items.now) }
 {
     for item in items {
         if !item.is_u64() {
@@ -141,7 +142,7 @@ fn leaves_out(items: &[Value]) -> bool
 
 /// The observers of a manifest: one without helpers, or none.
 pub fn whole_in(value: &Value) -> Result<&[Value], Code>
-    ensures { Gives (λ vs. items_view vs.now) result (whole_in (observers_in (view value.now))) }
+    ensures { Gives is_memory (λ vs. items_view vs.now) result (whole_in (observers_in (view value.now))) }
 {
     let Some(observers) = observers_in(value) else {
         return Err(Code::Form);

@@ -2,8 +2,9 @@
 ghost use Rattle.std.specs.Prelude.{◌≡◌};
 ghost use Rattle.serde_json.specs.View.{view};
 ghost use Rattle.pb_registry.specs.Manifests.{manifest_of, registry_in};
-ghost use Rattle.pb_registry.specs.Judging.{Judges, told, of_parts};
-ghost use Rattle.pb_registry.specs.Reading.{Gives};
+ghost use Rattle.pb_registry.specs.Judging.{IsJudged, told, of_parts};
+ghost use Rattle.pb_base.specs.Reading.{Gives};
+ghost use Rattle.pb_registry.specs.Codes.{is_memory};
 
 use crate::code::Code;
 use crate::form::{value_of, whole_in};
@@ -23,15 +24,15 @@ pub struct Registry {
 
 impl Model for Registry {
     ghost use Rattle.std.specs.Prelude.{List};
-    ghost use Rattle.pb_registry.specs.Observers.{ObserverOf, observers_code};
+    ghost use Rattle.pb_registry.specs.Observers.{UploadOf, observers_code};
 
-    ghost Value = { List ObserverOf };
+    ghost Value = { List UploadOf };
 
     ghost coded = { observers_code };
 
-    ghost use Rattle.pb_registry.specs.Uploads.{observers_of};
+    ghost use Rattle.pb_registry.specs.Uploads.{uploads_of};
 
-    ghost view = { λ r. observers_of r.observer };
+    ghost view = { λ r. uploads_of r.observer };
 }
 
 /// Why a manifest is refused: the number of the observer where it is one's fault, the code, and for code 56 where its
@@ -80,7 +81,7 @@ fn told(code: Code) -> RegistryFault
 }
 
 fn read(alloc: Global, text: &str) -> Result<Registry, Code>
-    ensures { Gives (λ r. r) result (manifest_of text.now) }
+    ensures { Gives is_memory (λ r. r) result (manifest_of text.now) }
 {
     let value = value_of(alloc, text)?;
     match whole_in(&value)? {
@@ -99,7 +100,7 @@ impl Registry {
     /// object with exactly `name`, `column`, `helpers`, an array of numbers, and `code`, a text. A number is written with
     /// digits alone, and is below 2^64.
     pub fn from_json(alloc: Global, text: &str) -> Result<Registry, RegistryFault>
-        ensures { Judges result (manifest_of text.now) }
+        ensures { IsJudged result (manifest_of text.now) }
     {
         match read(alloc, text) {
             Ok(registry) => Ok(registry),

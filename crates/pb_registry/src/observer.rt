@@ -4,8 +4,9 @@ ghost use Rattle.std.specs.List.{list_all, list_any};
 ghost use Rattle.std.specs.Char.{is_ascii_uppercase};
 ghost use Rattle.serde_json.specs.View.{view};
 ghost use Rattle.pb_registry.specs.Manifests.{is_name_letter, is_name, name_in, column_in, bytes_in, program_in, observer_in, text_at, number_at};
-ghost use Rattle.pb_registry.specs.Uploads.{observer_of};
-ghost use Rattle.pb_registry.specs.Reading.{Gives};
+ghost use Rattle.pb_registry.specs.Uploads.{upload_of};
+ghost use Rattle.pb_base.specs.Reading.{Gives};
+ghost use Rattle.pb_registry.specs.Codes.{is_memory};
 
 use crate::code::Code;
 use crate::form::{number_at, text_at};
@@ -42,7 +43,7 @@ fn is_name(name: &str) -> bool
 }
 
 fn name_in(value: &Value) -> Result<&str, Code>
-    ensures { Gives (λ s. s.now) result (name_in (text_at (codes "name") (view value.now))) }
+    ensures { Gives is_memory (λ s. s.now) result (name_in (text_at (codes "name") (view value.now))) }
 {
     let Some(name) = text_at(value, "name") else {
         return Err(Code::Form);
@@ -55,7 +56,7 @@ fn name_in(value: &Value) -> Result<&str, Code>
 }
 
 fn column_in(value: &Value) -> Result<Column, Code>
-    ensures { Gives (λ n. n) result (column_in (number_at (codes "column") (view value.now))) }
+    ensures { Gives is_memory (λ n. n) result (column_in (number_at (codes "column") (view value.now))) }
 {
     let Some(number) = number_at(value, "column") else {
         return Err(Code::Form);
@@ -76,7 +77,7 @@ fn has_upper(digits: &[u8]) -> bool
 }
 
 fn bytes_in(alloc: Global, value: &Value) -> Result<Vec<u8>, Code>
-    ensures { Gives (λ v. v.items) result (bytes_in (text_at (codes "code") (view value.now))) }
+    ensures { Gives is_memory (λ v. v.items) result (bytes_in (text_at (codes "code") (view value.now))) }
 {
     let Some(digits) = text_at(value, "code") else {
         return Err(Code::Form);
@@ -92,7 +93,7 @@ fn bytes_in(alloc: Global, value: &Value) -> Result<Vec<u8>, Code>
 }
 
 fn program_in(alloc: Global, bytes: &[u8]) -> Result<Accepted, Code>
-    ensures { Gives (λ a. a) result (program_in bytes.now) }
+    ensures { Gives is_memory (λ a. a) result (program_in bytes.now) }
 {
     match accept(alloc, bytes) {
         Ok(program) => Ok(program),
@@ -102,7 +103,7 @@ fn program_in(alloc: Global, bytes: &[u8]) -> Result<Accepted, Code>
 }
 
 fn copy_of(alloc: Global, text: &str) -> Result<String, Code>
-    ensures { Gives string_bytes result (Ok text.now) }
+    ensures { Gives is_memory string_bytes result (Ok text.now) }
 {
     match String::from_str(alloc, text) {
         Ok(copy) => Ok(copy),
@@ -113,7 +114,7 @@ fn copy_of(alloc: Global, text: &str) -> Result<String, Code>
 /// Reads an observer. The fault that is told has the lowest code.
 #[tactic(auto, unfolding(crate::specs::Manifests::observer_in))]
 pub fn observer_in(alloc: Global, value: &Value) -> Result<Uploaded, Code>
-    ensures { Gives observer_of result (observer_in (view value.now)) }
+    ensures { Gives is_memory upload_of result (observer_in (view value.now)) }
 {
     let name = name_in(value)?;
     let column = column_in(value)?;

@@ -11,7 +11,7 @@ use Rattle.pb_store.specs.declared.slot.Slot.{Slot}
 use Rattle.pb_store.specs.declared.slot.Item.{Item}
 use Rattle.pb_store.specs.declared.slot.Edit.{Edit}
 use Rattle.pb_store.specs.declared.slot.Edit.TheVariants.{Put, Erase, Mark, Unmark}
-use Rattle.pb_store.specs.Slot.{place_of, slot_cmp, slot_cmp_total, slot_cmp-IsAntisymmetric}
+use Rattle.pb_store.specs.Slot.{sort_rank, slot_cmp, slot_cmp_total, slot_cmp-IsAntisymmetric}
 use Rattle.pb_store.specs.Contents.{Contents, Entries, Marks, is_nothing, after_edit, after_edits, edit_row, AreOfRow}
 use Rattle.pb_store.specs.Tiles.{Tile, AreTiled, BeginAtZero, IsTiling, IsPlace, all_entries, all_marks, all_nothing, joined}
 use Rattle.pb_store.proofs.Halves.{Half, Kept, all_of, get-all_of, entries-all_of, all_of-replace_same, from_entries-inserted, from_entries-removed, Kept-inserted, Kept-removed, Kept-replace_same, still_below}
@@ -29,7 +29,7 @@ pub cells_by_row : (x y : Cell) → (row_of x).0 < (row_of y).0 → cell_cmp x y
 cells_by_row x y lt = ap (λ r. ordering_then r (ordering_then (nat_cmp (column_of x) (column_of y)) (nat_cmp (rank_of x) (rank_of y)))) (sym (nat_cmp_is (row_of x).0 (row_of y).0 Less lt))
 
 slots_by_row : (x y : Slot) → (row_of x.cell).0 < (row_of y.cell).0 → slot_cmp x y ≡ Less
-slots_by_row x y lt = ap (λ r. ordering_then r (ordering_then (nat_cmp (place_of x.sort) (place_of y.sort)) (nat_cmp x.ts.0 y.ts.0))) (cells_by_row x.cell y.cell lt)
+slots_by_row x y lt = ap (λ r. ordering_then r (ordering_then (nat_cmp (sort_rank x.sort) (sort_rank y.sort)) (nat_cmp x.ts.0 y.ts.0))) (cells_by_row x.cell y.cell lt)
 
 abbrev entry_half : Half slot_cmp Item
 entry_half = record { total = slot_cmp_total; exact = slot_cmp-IsAntisymmetric; row = λ q. (row_of q.cell).0; by_row = slots_by_row; part = λ c. c.entries }

@@ -13,18 +13,18 @@ use Rattle.pb_store.specs.declared.slot.Slot.{Slot}
 use Rattle.pb_store.specs.declared.slot.Sort as sort
 use Rattle.pb_store.specs.declared.slot.Sort.TheVariants.{Data, Lock, Write}
 
-abbrev pub place_of : sort.Sort → ℕ
-place_of Data = 0
-place_of Lock = 1
-place_of Write = 2
+abbrev pub sort_rank : sort.Sort → ℕ
+sort_rank Data = 0
+sort_rank Lock = 1
+sort_rank Write = 2
 
 abbrev pub slot_cmp : Slot → Slot → Ordering
-slot_cmp = then_cmp (on (λ s. s.cell) cell_cmp) (then_cmp (on (λ s. place_of s.sort) nat_cmp) (on (λ s. s.ts.0) nat_cmp))
+slot_cmp = then_cmp (on (λ s. s.cell) cell_cmp) (then_cmp (on (λ s. sort_rank s.sort) nat_cmp) (on (λ s. s.ts.0) nat_cmp))
 
 pub slot_cmp_total : IsTotalOrder slot_cmp
-slot_cmp_total = then_total (on_total (λ s. s.cell) cell_cmp_total) (then_total (on_total (λ s. place_of s.sort) nat_cmp_total) (on_total (λ s. s.ts.0) nat_cmp_total))
+slot_cmp_total = then_total (on_total (λ s. s.cell) cell_cmp_total) (then_total (on_total (λ s. sort_rank s.sort) nat_cmp_total) (on_total (λ s. s.ts.0) nat_cmp_total))
 
-same_sort : (x y : sort.Sort) → place_of x ≡ place_of y → x ≡ y
+same_sort : (x y : sort.Sort) → sort_rank x ≡ sort_rank y → x ≡ y
 same_sort Data Data e = refl
 same_sort Data Lock e = absurd (omega arith)
 same_sort Data Write e = absurd (omega arith)
@@ -50,13 +50,13 @@ sort_at zero = Data
 sort_at (suc zero) = Lock
 sort_at (suc (suc n)) = Write
 
-pub sort_at-place_of : (s : sort.Sort) → sort_at (place_of s) ≡ s
-sort_at-place_of Data = refl
-sort_at-place_of Lock = refl
-sort_at-place_of Write = refl
+pub sort_at-sort_rank : (s : sort.Sort) → sort_at (sort_rank s) ≡ s
+sort_at-sort_rank Data = refl
+sort_at-sort_rank Lock = refl
+sort_at-sort_rank Write = refl
 
 abbrev coded_sort : Coded sort.Sort
-coded_sort = code_by ℕ coded_ℕ place_of sort_at sort_at-place_of
+coded_sort = code_by ℕ coded_ℕ sort_rank sort_at sort_at-sort_rank
 
 abbrev coded_ts : Coded Ts
 coded_ts = code_by ℕ coded_ℕ (λ t. t.0) (λ n. record { 0 = n }) (λ _. refl)

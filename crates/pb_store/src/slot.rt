@@ -40,10 +40,10 @@ pub enum Edit {
 }
 
 impl Sort {
-    ghost use Rattle.pb_store.specs.Slot.{place_of};
+    ghost use Rattle.pb_store.specs.Slot.{sort_rank};
 
     fn place(self) -> u8
-        ensures { result ≡ place_of self }
+        ensures { result ≡ sort_rank self }
     {
         match self {
             Sort::Data => 0,

@@ -4,7 +4,7 @@ ghost use Rattle.std.specs.FinMap as map;
 ghost use Rattle.pb_store.specs.Contents.{nothing, is_nothing, after_edits, AreEdits, IsOfSort, IsNewest, IsNextMark};
 ghost use Rattle.pb_store.specs.TableOf.{TableOf, firsts_of};
 ghost use Rattle.pb_store.specs.Tiles.{tiles_of, IsPlace, IsStart, IsTiling, rise_from_zero, all_nothing, table_reason, all_entries, joined};
-ghost use Rattle.pb_base.specs.Reasons.{IsRefusal};
+ghost use Rattle.pb_base.specs.Reasons.{TellsReason};
 
 use crate::slot::{Edit, Item, Slot, Sort};
 use crate::tablet::Tablet;
@@ -129,7 +129,7 @@ impl<T: Tablet> Table<T> {
         ensures firsts { IfOk result (λ table. table.firsts ≡ firsts_of parts.items) }
         ensures accepted { OnOk result (table_reason (tiles_of T.contents parts.items) ≡ None) }
         ensures handed_back { IfErr result (λ e. e.0 ≡ parts) }
-        ensures refused { IfErr result (λ e. IsRefusal (table_reason (tiles_of T.contents parts.items)) e.1) }
+        ensures refused { IfErr result (λ e. TellsReason (table_reason (tiles_of T.contents parts.items)) e.1) }
     {
         if parts.is_empty() {
             return Err((parts, Reason::NoTablet.refusal()));

@@ -10,11 +10,11 @@ use Rattle.pb_base.specs.Cell.{cell_cmp, cell_cmp_total}
 use Rattle.pb_base.specs.declared.cell.Cell.{Cell}
 use Rattle.pb_base.specs.declared.content.Content.{Content}
 use Rattle.pb_base.specs.declared.content.Content.TheVariants.{Value, Deleted}
-use Rattle.pb_base.specs.Batch.{Writes, content_in, is_plain, are_distinct, is_batch}
+use Rattle.pb_base.specs.Batch.{Writes, content_in, is_unstamped, are_distinct, is_batch}
 use Rattle.pb_texts.specs.declared.script.code.Code.{Code}
 use Rattle.pb_texts.specs.declared.script.code.Code.TheVariants.{Second, Twice, Seventeenth}
-use Rattle.pb_texts.specs.Reading.{◌>>=◌}
-use Rattle.pb_texts.specs.Turns.{and_then, in_turn}
+use Rattle.pb_base.specs.Reading.{◌>>=◌}
+use Rattle.pb_base.specs.Reading.{◌>>=◌, in_turn}
 use Rattle.pb_texts.specs.ScriptWords.{put_of, del_of, write_of, operation, cell_at, field, content_of, ended}
 use Rattle.pb_texts.specs.ScriptLines.{cut, with_operation, batch_of}
 
@@ -29,23 +29,23 @@ pub chosen : {A : Type 0} (b : Bool) (x y z : A) → cond b x y ≡ z → ((b �
 chosen true x y z h = inl (refl, h)
 chosen false x y z h = inr (refl, h)
 
-plain_put : (words : List (List ℕ)) (w : Cell × Content) → put_of words ≡ Ok w → is_plain w.1 ≡ true
+plain_put : (words : List (List ℕ)) (w : Cell × Content) → put_of words ≡ Ok w → is_unstamped w.1 ≡ true
 unfolding put_of
 plain_put words w h =
     let a = bind_ok (cell_at words) _ w h in
     let b = bind_ok (field a.0.1) _ w a.2 in
     let c = bind_ok (content_of b.0.0) _ w b.2 in
     let d = bind_ok (ended b.0.1) _ w c.2 in
-    sym (ap (λ (p : Cell × Content). is_plain p.1) (ok_same {E = Code} (a.0.0, Value c.0) w d.2))
+    sym (ap (λ (p : Cell × Content). is_unstamped p.1) (ok_same {E = Code} (a.0.0, Value c.0) w d.2))
 
-plain_del : (words : List (List ℕ)) (w : Cell × Content) → del_of words ≡ Ok w → is_plain w.1 ≡ true
+plain_del : (words : List (List ℕ)) (w : Cell × Content) → del_of words ≡ Ok w → is_unstamped w.1 ≡ true
 unfolding del_of
 plain_del words w h =
     let a = bind_ok (cell_at words) _ w h in
     let d = bind_ok (ended a.0.1) _ w a.2 in
-    sym (ap (λ (p : Cell × Content). is_plain p.1) (ok_same {E = Code} (a.0.0, Deleted) w d.2))
+    sym (ap (λ (p : Cell × Content). is_unstamped p.1) (ok_same {E = Code} (a.0.0, Deleted) w d.2))
 
-plain_write : (words : List (List ℕ)) (w : Cell × Content) → write_of words ≡ Ok w → is_plain w.1 ≡ true
+plain_write : (words : List (List ℕ)) (w : Cell × Content) → write_of words ≡ Ok w → is_unstamped w.1 ≡ true
 unfolding write_of
 plain_write words w h =
     let a = bind_ok (field words) _ w h in
@@ -84,17 +84,17 @@ distinct_more (v ∷ vs) w d n =
           rw (lack_more vs w v.0 (none_of (content_in vs v.0) p.0) apart, distinct_more vs w p.1 there.1) refl
     ]
 
-plain_more : (ws : Writes) (w : Cell × Content) → list_all (λ v. is_plain v.1) ws ≡ true → is_plain w.1 ≡ true → list_all (λ v. is_plain v.1) (ws ++ w ∷ []) ≡ true
+plain_more : (ws : Writes) (w : Cell × Content) → list_all (λ v. is_unstamped v.1) ws ≡ true → is_unstamped w.1 ≡ true → list_all (λ v. is_unstamped v.1) (ws ++ w ∷ []) ≡ true
 plain_more [] w h p = rw p refl
-plain_more (v ∷ vs) w h p = let q = and_parts (is_plain v.1) (list_all (λ v. is_plain v.1) vs) h in rw (q.0, plain_more vs w q.1 p) refl
+plain_more (v ∷ vs) w h p = let q = and_parts (is_unstamped v.1) (list_all (λ v. is_unstamped v.1) vs) h in rw (q.0, plain_more vs w q.1 p) refl
 
 -- a batch, or nothing yet
 pub record IsOpen (ws : Writes) : Type 0 where
   pub few : length ws ≤ 16
-  pub plain : list_all (λ w. is_plain w.1) ws ≡ true
+  pub plain : list_all (λ w. is_unstamped w.1) ws ≡ true
   pub distinct : are_distinct ws ≡ true
 
-grown : (ws : Writes) (w : Cell × Content) → IsOpen ws → length ws < 16 → is_plain w.1 ≡ true → content_in ws w.0 ≡ None → IsOpen (ws ++ w ∷ []) × (0 < length (ws ++ w ∷ []))
+grown : (ws : Writes) (w : Cell × Content) → IsOpen ws → length ws < 16 → is_unstamped w.1 ≡ true → content_in ws w.0 ≡ None → IsOpen (ws ++ w ∷ []) × (0 < length (ws ++ w ∷ []))
 grown ws w o lt p n =
     (record { few = simp length-append (omega arith); plain = plain_more ws w o.plain p; distinct = distinct_more ws w o.distinct n }, simp length-append (omega arith))
 
@@ -116,7 +116,7 @@ open_more before after text o h =
 
 -- ---- operations in turn
 
-turn_open : (before after : Writes) (r : Result Writes Code) (more : Writes → Result Writes Code) → ((s : Writes) → r ≡ Ok s → more s ≡ Ok after → IsOpen after × (0 < length after)) → and_then r more ≡ Ok after → IsOpen after × (0 < length after)
+turn_open : (before after : Writes) (r : Result Writes Code) (more : Writes → Result Writes Code) → ((s : Writes) → r ≡ Ok s → more s ≡ Ok after → IsOpen after × (0 < length after)) → (r >>= more) ≡ Ok after → IsOpen after × (0 < length after)
 turn_open before after (Ok s) more f h = f s refl h
 turn_open before after (Err e) more f h = absurd cc
 

@@ -3,8 +3,8 @@ use Rattle.hex.specs.Hex.{decode_of}
 use Rattle.pb_base.specs.Batch.{Writes}
 use Rattle.pb_texts.specs.declared.script.code.Code.{Code}
 use Rattle.pb_texts.specs.declared.script.code.Code.TheVariants.{Memory, Form, Range, Hex, Twice, Seventeenth, TooMany, Second}
-use Rattle.pb_texts.specs.Reading.{◌>>=◌}
-use Rattle.pb_texts.specs.Turns.{and_then, in_turn}
+use Rattle.pb_base.specs.Reading.{◌>>=◌}
+use Rattle.pb_base.specs.Reading.{◌>>=◌, in_turn}
 use Rattle.pb_texts.specs.ScriptWords.{number_upto, padded, content_of, field, cell_at, ended, put_of, del_of, write_of, operation}
 use Rattle.pb_texts.specs.ScriptLines.{Batches, with_operation, batch_of, with_line, cut}
 
@@ -89,7 +89,7 @@ in_line : (n : ℕ) (before : Writes) (texts : List (List ℕ)) → IsByText (in
 in_line n before [] = good _
 in_line n before (t ∷ ts) = and_more (with_operation before t) (one_more before t) (λ s. in_line (n + 1) s ts)
   where
-    and_more : {f : Writes → Result Writes Code} (r : Result Writes Code) → IsByText r → ((s : Writes) → IsByText (f s)) → IsByText (and_then r f)
+    and_more : {f : Writes → Result Writes Code} (r : Result Writes Code) → IsByText r → ((s : Writes) → IsByText (f s)) → IsByText (r >>= f)
     and_more (Ok s) g h = h s
     and_more (Err e) g h = g
 

@@ -3,15 +3,16 @@ use Rattle.std.specs.Prelude.{◌==◌}
 use Rattle.std.specs.List.{slice_split}
 use Rattle.pb_texts.specs.declared.script.code.Code.{Code}
 use Rattle.pb_texts.specs.Codes.{script_code}
-use Rattle.pb_texts.specs.Turns.{and_then, in_turn}
-use Rattle.pb_texts.specs.ScriptLines.{Batches, with_line, numbered, script_of}
+use Rattle.pb_base.specs.Reading.{◌>>=◌, in_turn}
+use Rattle.pb_texts.specs.ScriptLines.{Batches, with_line, script_of}
+use Rattle.pb_base.specs.Reading.{numbered}
 use Rattle.pb_texts.specs.Scripts.{StopsAt}
 use Rattle.pb_texts.specs.FirstFault.{IsFirst}
 use Rattle.pb_texts.proofs.ByText.{not_memory}
 
 -- the first step, and what holds of those after it
 onward : {S A E : Type 0} (step : ℕ → S → A → Result S E) (n : ℕ) (s : S) (x : A) (xs : List A) (e : E) (r : Result S E) → ((t : S) → in_turn step (n + 1) t xs ≡ Err e → IsFirst step (n + 1) t xs e)
-    → step n s x ≡ r → and_then r (λ t. in_turn step (n + 1) t xs) ≡ Err e → IsFirst step n s (x ∷ xs) e
+    → step n s x ≡ r → (r >>= λ t. in_turn step (n + 1) t xs) ≡ Err e → IsFirst step n s (x ∷ xs) e
 onward step n s x xs e (Err d) others is h =
     let k : n + 0 ≡ n = omega arith in
     record { front = []; here = x; after = xs; before = s; parts = refl; read = refl; fault = rw k (is ∙ h) }
@@ -27,7 +28,7 @@ first_fault step n s (x ∷ xs) e h = onward step n s x xs e (step n s x) (λ t.
 err_is : (p q : ℕ × ℕ) (b c : Result Batches (ℕ × ℕ)) → b ≡ Err p → c ≡ Err q → b ≡ c → p ≡ q
 err_is p q b c x y e = cc
 
-numbered_err : (n line code : ℕ) (r : Result Batches Code) → numbered n r ≡ Err (line, code) → (cause : Code) × (r ≡ Err cause) × (line ≡ n + 1) × (code ≡ script_code cause)
+numbered_err : (n line code : ℕ) (r : Result Batches Code) → numbered script_code n r ≡ Err (line, code) → (cause : Code) × (r ≡ Err cause) × (line ≡ n + 1) × (code ≡ script_code cause)
 numbered_err n line code (Ok b) h = absurd cc
 numbered_err n line code (Err c) h =
     let e : (n + 1, script_code c) ≡ (line, code) = err_is (n + 1, script_code c) (line, code) _ _ refl refl h in
@@ -35,6 +36,6 @@ numbered_err n line code (Err c) h =
 
 pub stops : (text : List ℕ) (line code : ℕ) → script_of text ≡ Err (line, code) → StopsAt text line code
 stops text line code h =
-    let f = first_fault (λ n before l. numbered n (with_line before l)) 0 [] (slice_split (λ b. b == 10) text) (line, code) h in
+    let f = first_fault (λ n before l. numbered script_code n (with_line before l)) 0 [] (slice_split (λ b. b == 10) text) (line, code) h in
     let g = numbered_err (0 + length f.front) line code (with_line f.before f.here) f.fault in
     record { front = f.front; here = f.here; after = f.after; before = f.before; cause = g.0; parts = f.parts; read = f.read; fault = g.1; number = omega (arith, g.2); told = g.3; by_text = not_memory f.before f.here g.0 g.1 }

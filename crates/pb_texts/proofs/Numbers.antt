@@ -6,7 +6,8 @@ use Rattle.std.specs.Str.Parse.{digits_value, ParsesUnsigned}
 use Rattle.std.proofs.lemmas.Bool.{eqb-false, lt-leb, cases_lt}
 use Rattle.std.proofs.lemmas.Str.Parse.{IsNumeralModel, IsDigitsTest, numerals_by_value, parse_digits}
 use Rattle.pb_texts.specs.declared.script.code.Code.TheVariants.{Range}
-use Rattle.pb_texts.specs.ScriptWords.{is_number, number_upto}
+use Rattle.pb_texts.specs.ScriptWords.{number_upto}
+use Rattle.pb_base.specs.Reading.{is_numeral}
 
 tells : IsDigitsTest (λ ds. list_all is_ascii_digit ds ≡ true)
 tells = search rules
@@ -23,15 +24,15 @@ both_fail true b x h = absurd cc
 both_fail false true x h = absurd cc
 both_fail false false x h = (refl, h)
 
-digits_in : (w : List ℕ) → is_number w ≡ true → (list_all is_ascii_digit w ≡ true) × (0 < length w)
+digits_in : (w : List ℕ) → is_numeral w ≡ true → (list_all is_ascii_digit w ≡ true) × (0 < length w)
 digits_in w h =
     let a = both_fail (length w == 0) ((slice_index w 0 == 48) && nat_lt 1 (length w)) (list_all is_ascii_digit w) h in
     (a.1, not_zero (length w) a.0)
 
-pub value_is : (E : Type 0) (w : List ℕ) (x : ℕ) → is_number w ≡ true → ParsesUnsigned {E = E} 64 10 w (Ok x) → digits_value 10 w ≡ x
+pub value_is : (E : Type 0) (w : List ℕ) (x : ℕ) → is_numeral w ≡ true → ParsesUnsigned {E = E} 64 10 w (Ok x) → digits_value 10 w ≡ x
 value_is E w x h p = sym (parse_digits own {E = E} 64 w (Ok x) p (digits_in w h).0).1
 
-pub none_fits : (E : Type 0) (greatest : ℕ) (w : List ℕ) (e : E) → greatest < 2 ^ 64 → is_number w ≡ true → ParsesUnsigned {E = E} 64 10 w (Err e) → number_upto greatest w ≡ Err Range
+pub none_fits : (E : Type 0) (greatest : ℕ) (w : List ℕ) (e : E) → greatest < 2 ^ 64 → is_numeral w ≡ true → ParsesUnsigned {E = E} 64 10 w (Err e) → number_upto greatest w ≡ Err Range
 none_fits E greatest w e lt h p =
     let d = digits_in w h in
     let no = parse_digits own {E = E} 64 w (Err e) p d.0 in

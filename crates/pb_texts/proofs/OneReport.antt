@@ -13,9 +13,9 @@ use Rattle.pb_base.specs.declared.cell.Cell.TheVariants.{Data, Ack}
 use Rattle.pb_base.specs.Cell.{cell_cmp, cell_cmp_total, cell_cmp-IsAntisymmetric}
 use Rattle.pb_texts.specs.declared.report.lines.Newest.{Newest}
 use Rattle.pb_texts.specs.declared.report.newest.Put.{Put}
-use Rattle.pb_texts.specs.ReportLines.{Runs, cell_lines, run_lines, last_line}
+use Rattle.pb_texts.specs.ReportLines.{Tallies, cell_lines, run_lines, last_line}
 use Rattle.pb_texts.proofs.Newests.{told_by}
-use Rattle.pb_texts.specs.Reports.{IsNewest, IsTold, IsReportOf, IsReport, AreApart}
+use Rattle.pb_texts.specs.Reports.{IsNewestPut, IsTold, IsReportOf, IsReport, AreApart}
 
 abbrev Entries : Type 0
 Entries = List (Cell × Newest)
@@ -53,19 +53,19 @@ told_one newest one (Data row column) r s g h = one (Data row column) r s g h
 told_one newest one (Ack observer row column) r s g h = g ∙ sym h
 
 -- where one thing is newest at each cell, there is one report
-pub same_report : (newest : Cell → Option Newest → Type 0) (runs : Runs) (marks locks : ℕ) (s t : List ℕ) → IsOne newest → IsReportOf newest runs marks locks s → IsReportOf newest runs marks locks t → s ≡ t
+pub same_report : (newest : Cell → Option Newest → Type 0) (runs : Tallies) (marks locks : ℕ) (s t : List ℕ) → IsOne newest → IsReportOf newest runs marks locks s → IsReportOf newest runs marks locks t → s ≡ t
 same_report newest runs marks locks s t one g h =
     let e : g.entries ≡ h.entries = same_by_lookup g.entries h.entries g.rising h.rising (λ x. told_one newest one x _ _ (g.told x) (h.told x)) in
     g.lines ∙ ap (λ (es : Entries). cell_lines es ++ (run_lines runs ++ last_line marks locks)) e ∙ sym h.lines
 
 -- what is newest may be said in other words
-pub said_by : (M N : Cell → Option Newest → Type 0) (runs : Runs) (marks locks : ℕ) (text : List ℕ) → ((x : Cell) (r : Option Newest) → M x r → N x r) → IsReportOf M runs marks locks text → IsReportOf N runs marks locks text
+pub said_by : (M N : Cell → Option Newest → Type 0) (runs : Tallies) (marks locks : ℕ) (text : List ℕ) → ((x : Cell) (r : Option Newest) → M x r → N x r) → IsReportOf M runs marks locks text → IsReportOf N runs marks locks text
 said_by M N runs marks locks text f h = record { entries = h.entries; rising = h.rising; told = λ x. told_by M N x _ (f x _) (h.told x); lines = h.lines }
 
 same_number : (a b : ℕ) → a ≤ b → b ≤ a → a ≡ b
 same_number a b g h = omega arith
 
-one_newest : (puts : List Put) → AreApart puts → IsOne (IsNewest puts)
+one_newest : (puts : List Put) → AreApart puts → IsOne (IsNewestPut puts)
 one_newest puts apart x None None g h = refl
 one_newest puts apart x None (Some n) g h = absurd (g _ h.0 refl)
 one_newest puts apart x (Some m) None g h = absurd (h _ g.0 refl)
@@ -75,5 +75,5 @@ one_newest puts apart x (Some m) (Some n) g h =
     let e = apart (record { cell = x; commit = m.commit; content = m.content }) (record { cell = x; commit = n.commit; content = n.content }) g.0 h.0 refl commits in
     ap (λ (p : Put). Some (record { commit = p.commit; content = p.content })) e
 
-pub one : (puts : List Put) (runs : Runs) (marks locks : ℕ) (s t : List ℕ) → AreApart puts → IsReport puts runs marks locks s → IsReport puts runs marks locks t → s ≡ t
-one puts runs marks locks s t apart g h = same_report (IsNewest puts) runs marks locks s t (one_newest puts apart) g h
+pub one : (puts : List Put) (runs : Tallies) (marks locks : ℕ) (s t : List ℕ) → AreApart puts → IsReport puts runs marks locks s → IsReport puts runs marks locks t → s ≡ t
+one puts runs marks locks s t apart g h = same_report (IsNewestPut puts) runs marks locks s t (one_newest puts apart) g h

@@ -5,11 +5,13 @@ use Rattle.std.specs.List.{slice_split}
 use Rattle.std.proofs.lemmas.Bool.{leb-false}
 use Rattle.std.proofs.lemmas.List.Elements.{All-nil, All-push}
 use Rattle.pb_base.specs.Batch.{Writes}
+use Rattle.pb_texts.specs.Codes.{script_code}
 use Rattle.pb_texts.specs.declared.script.code.Code.{Code}
 use Rattle.pb_texts.specs.declared.script.code.Code.TheVariants.{Second}
-use Rattle.pb_texts.specs.Turns.{and_then, in_turn}
+use Rattle.pb_base.specs.Reading.{◌>>=◌, in_turn}
 use Rattle.pb_texts.specs.ScriptWords.{operation}
-use Rattle.pb_texts.specs.ScriptLines.{Batches, with_operation, batch_of, with_line, is_skipped, numbered, script_of}
+use Rattle.pb_texts.specs.ScriptLines.{Batches, with_operation, batch_of, with_line, script_of}
+use Rattle.pb_base.specs.Reading.{is_skipped, numbered}
 use Rattle.pb_texts.specs.Scripts.{IsSmallBatch, AreSmallBatches}
 use Rattle.pb_texts.proofs.Batches.{bind_ok, ok_same, chosen, cut_some, line_is_batch}
 
@@ -29,10 +31,10 @@ no_second batch text one = rw one refl
 behind : (n : ℕ) (batch after : Writes) (texts : List (List ℕ)) → length batch ≡ 1 → in_turn (λ _. with_operation) n batch texts ≡ Ok after → length after ≡ 1
 behind n batch after [] one h = sym (ap length (ok_same {E = Code} batch after h)) ∙ one
 behind n batch after (t ∷ ts) one h =
-    let e : and_then (with_operation batch t) (λ s. in_turn (λ _. with_operation) (n + 1) s ts) ≡ Err Second = rw (no_second batch t one) refl in
+    let e : (with_operation batch t >>= λ s. in_turn (λ _. with_operation) (n + 1) s ts) ≡ Err Second = rw (no_second batch t one) refl in
     absurd cc
 
-turned : (text : List ℕ) (texts : List (List ℕ)) (batch : Writes) (r : Result Writes Code) → with_operation [] text ≡ r → and_then r (λ s. in_turn (λ _. with_operation) 1 s texts) ≡ Ok batch → length batch ≡ 1
+turned : (text : List ℕ) (texts : List (List ℕ)) (batch : Writes) (r : Result Writes Code) → with_operation [] text ≡ r → (r >>= λ s. in_turn (λ _. with_operation) 1 s texts) ≡ Ok batch → length batch ≡ 1
 turned text texts batch (Err e) is h = absurd cc
 turned text texts batch (Ok s) is h = behind 1 s batch texts (first_one text s is) h
 
@@ -55,16 +57,16 @@ next_line before after line small h =
           ]
     ]
 
-next_numbered : (n : ℕ) (r : Result Batches Code) (after : Batches) → numbered n r ≡ Ok after → r ≡ Ok after
+next_numbered : (n : ℕ) (r : Result Batches Code) (after : Batches) → numbered script_code n r ≡ Ok after → r ≡ Ok after
 next_numbered n (Ok b) after h = ap Ok (ok_same {E = ℕ × ℕ} b after h)
 next_numbered n (Err c) after h = absurd cc
 
 abbrev step : ℕ → Batches → List ℕ → Result Batches (ℕ × ℕ)
-step n before line = numbered n (with_line before line)
+step n before line = numbered script_code n (with_line before line)
 
 -- the first line, and what holds of those after it
 line_small : (n : ℕ) (before after : Batches) (l : List ℕ) (ls : List (List ℕ)) → AreSmallBatches before → (r : Result Batches (ℕ × ℕ)) → step n before l ≡ r
-    → ((t : Batches) → AreSmallBatches t → in_turn step (n + 1) t ls ≡ Ok after → AreSmallBatches after) → and_then r (λ t. in_turn step (n + 1) t ls) ≡ Ok after → AreSmallBatches after
+    → ((t : Batches) → AreSmallBatches t → in_turn step (n + 1) t ls ≡ Ok after → AreSmallBatches after) → (r >>= λ t. in_turn step (n + 1) t ls) ≡ Ok after → AreSmallBatches after
 line_small n before after l ls small (Err e) is others h = absurd cc
 line_small n before after l ls small (Ok t) is others h = others t (next_line before t l small (next_numbered n (with_line before l) t is)) h
 

@@ -1,5 +1,5 @@
 use Rattle.std.proofs.Common.{◌≡◌, ℕ, ◌+◌, ◌<◌, List, ◌∷◌, length, get_or, drop, map, Result, Ok, Err, refl, sym, ◌∙◌, add-one, drop-cons}
-use Rattle.pb_texts.specs.Turns.{in_turn}
+use Rattle.pb_base.specs.Reading.{in_turn}
 
 -- the loop has come to i, with s; total is what the whole gives
 pub goes_on : {S A B E : Type 0} (step : ℕ → S → B → Result S E) (v : A → B) (xs : List A) (d : A) (i : ℕ) (s t : S) (total : Result S E) → i < length xs → step i s (v (get_or xs i d)) ≡ Ok t

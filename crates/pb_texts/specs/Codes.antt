@@ -1,5 +1,5 @@
 -- The numbers by which faults are told.
-use Rattle.std.specs.Prelude.{ℕ}
+use Rattle.std.specs.Prelude.{ℕ, Bool, true, false}
 use Rattle.pb_texts.specs.declared.script.code.Code as script
 use Rattle.pb_texts.specs.declared.script.code.Code.TheVariants as script_codes
 
@@ -12,3 +12,8 @@ script_code script_codes.Twice = 73
 script_code script_codes.Seventeenth = 74
 script_code script_codes.TooMany = 75
 script_code script_codes.Second = 76
+
+-- the code of want of memory
+abbrev pub is_memory : script.Code → Bool
+is_memory script_codes.Memory = true
+is_memory _ = false

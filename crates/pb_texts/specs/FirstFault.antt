@@ -1,6 +1,6 @@
 -- The first fault of things taken in turn.
 use Rattle.std.specs.Prelude.{◌≡◌, ℕ, ◌+◌, List, ◌∷◌, ◌++◌, length, Result, Ok, Err}
-use Rattle.pb_texts.specs.Turns.{in_turn}
+use Rattle.pb_base.specs.Reading.{in_turn}
 
 -- the things in front are read, as before, and the next is at fault after them
 pub record IsFirst {S A E : Type 0} (step : ℕ → S → A → Result S E) (n : ℕ) (s : S) (xs : List A) (e : E) : Type 0 where

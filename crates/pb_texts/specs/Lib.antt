@@ -1,6 +1,4 @@
 pub mod Codes
-pub mod Reading
-pub mod Turns
 pub mod FirstFault
 pub mod ScriptWords
 pub mod ScriptLines

@@ -27,13 +27,13 @@ abbrev pub cell_lines : List (Cell × Newest) → List ℕ
 cell_lines es = flat_map (λ e. cell_line e.0 e.1) es
 
 -- names of observers, each with the number of its committed runs
-abbrev pub Runs : Type 0
-Runs = List (List ℕ × ℕ)
+abbrev pub Tallies : Type 0
+Tallies = List (List ℕ × ℕ)
 
 abbrev pub run_line : List ℕ × ℕ → List ℕ
 run_line r = codes "runs " ++ (r.0 ++ (codes " " ++ (decimal r.1 ++ codes "\n")))
 
-abbrev pub run_lines : Runs → List ℕ
+abbrev pub run_lines : Tallies → List ℕ
 run_lines runs = flat_map run_line runs
 
 abbrev pub last_line : ℕ → ℕ → List ℕ

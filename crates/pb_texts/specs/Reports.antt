@@ -9,12 +9,12 @@ use Rattle.pb_base.specs.declared.cell.Cell.TheVariants.{Data, Ack}
 use Rattle.pb_base.specs.Cell.{cell_cmp}
 use Rattle.pb_texts.specs.declared.report.lines.Newest.{Newest}
 use Rattle.pb_texts.specs.declared.report.newest.Put.{Put}
-use Rattle.pb_texts.specs.ReportLines.{Runs, cell_lines, run_lines, last_line}
+use Rattle.pb_texts.specs.ReportLines.{Tallies, cell_lines, run_lines, last_line}
 
 -- what is newest at a cell: of its committed writes the one with the greatest commit, and nothing where it has none
-abbrev pub IsNewest : List Put → Cell → Option Newest → Type 0
-IsNewest puts x None = (p : Put) → Contains puts p → p.cell ≢ x
-IsNewest puts x (Some n) = Contains puts (record { cell = x; commit = n.commit; content = n.content }) × ((p : Put) → Contains puts p → p.cell ≡ x → p.commit.0 ≤ n.commit.0)
+abbrev pub IsNewestPut : List Put → Cell → Option Newest → Type 0
+IsNewestPut puts x None = (p : Put) → Contains puts p → p.cell ≢ x
+IsNewestPut puts x (Some n) = Contains puts (record { cell = x; commit = n.commit; content = n.content }) × ((p : Put) → Contains puts p → p.cell ≡ x → p.commit.0 ≤ n.commit.0)
 
 -- what is told of a cell: what is newest at a data cell, and of an acknowledgment nothing
 abbrev pub IsTold : (Cell → Option Newest → Type 0) → Cell → Option Newest → Type 0
@@ -23,15 +23,15 @@ IsTold newest (Ack observer row column) r = r ≡ None
 
 -- The text for what is newest at each cell: a line for each data cell that has a write, by row and column, a line for
 -- each observer, and the last line.
-pub record IsReportOf (newest : Cell → Option Newest → Type 0) (runs : Runs) (marks locks : ℕ) (text : List ℕ) : Type 0 where
+pub record IsReportOf (newest : Cell → Option Newest → Type 0) (runs : Tallies) (marks locks : ℕ) (text : List ℕ) : Type 0 where
   pub entries : List (Cell × Newest)
   pub rising : IsStrictlySortedBy cell_cmp (map (λ e. e.0) entries)
   pub told : (x : Cell) → IsTold newest x (lookup (tree.is_at (cell_cmp x)) entries)
   pub lines : text ≡ cell_lines entries ++ (run_lines runs ++ last_line marks locks)
 
 -- the report of committed writes
-abbrev pub IsReport : List Put → Runs → ℕ → ℕ → List ℕ → Type 0
-IsReport puts runs marks locks text = IsReportOf (IsNewest puts) runs marks locks text
+abbrev pub IsReport : List Put → Tallies → ℕ → ℕ → List ℕ → Type 0
+IsReport puts runs marks locks text = IsReportOf (IsNewestPut puts) runs marks locks text
 
 -- no cell has two writes of one commit
 abbrev pub AreApart : List Put → Type 0

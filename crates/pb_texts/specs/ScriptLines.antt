@@ -1,12 +1,12 @@
 -- A line, and a text of lines.
 use Rattle.std.specs.Prelude.{ℕ, ◌+◌, Bool, ◌&&◌, ◌||◌, ◌==◌, nat_le, nat_lt, if◌then◌else◌, is_some, List, [], ◌∷◌, ◌++◌, length, slice_index, Result, Ok, Err}
-use Rattle.std.specs.List.{slice_split, onto_first}
+use Rattle.std.specs.List.{onto_first}
+use Rattle.pb_base.specs.declared.limits.TheConstants.{MAX_CELLS, MAX_CHANGES}
 use Rattle.pb_base.specs.Batch.{Writes, content_in}
 use Rattle.pb_texts.specs.declared.script.code.Code.{Code}
 use Rattle.pb_texts.specs.declared.script.code.Code.TheVariants.{Twice, Seventeenth, TooMany, Second}
 use Rattle.pb_texts.specs.Codes.{script_code}
-use Rattle.pb_texts.specs.Reading.{◌>>=◌}
-use Rattle.pb_texts.specs.Turns.{in_turn}
+use Rattle.pb_base.specs.Reading.{◌>>=◌, in_turn, is_skipped, lines_of, numbered}
 use Rattle.pb_texts.specs.ScriptWords.{operation}
 
 -- what stands between joints, each of them `; `
@@ -19,15 +19,11 @@ cut (b ∷ c ∷ bs) = if (b == 59) && (c == 32) then [] ∷ cut bs else onto_fi
 unfoldable pub with_operation : Writes → List ℕ → Result Writes Code
 with_operation before text = if nat_lt 0 (length before) then Err Second else do
   w ← operation text
-  if is_some (content_in before w.0) then Err Twice else if nat_le 16 (length before) then Err Seventeenth else Ok (before ++ w ∷ [])
+  if is_some (content_in before w.0) then Err Twice else if nat_le MAX_CELLS (length before) then Err Seventeenth else Ok (before ++ w ∷ [])
 
 -- one transaction
 abbrev pub batch_of : List ℕ → Result Writes Code
 batch_of line = in_turn (λ _. with_operation) 0 [] (cut line)
-
--- empty, or a remark
-abbrev pub is_skipped : List ℕ → Bool
-is_skipped line = (length line == 0) || (slice_index line 0 == 35)
 
 abbrev pub Batches : Type 0
 Batches = List Writes
@@ -36,16 +32,11 @@ Batches = List Writes
 unfoldable pub with_line : Batches → List ℕ → Result Batches Code
 with_line before line = if is_skipped line then Ok before else do
   batch ← batch_of line
-  if nat_le 10000 (length before) then Err TooMany else Ok (before ++ batch ∷ [])
-
--- a fault as it is told: the line, from 1, and the code's number
-abbrev pub numbered : ℕ → Result Batches Code → Result Batches (ℕ × ℕ)
-numbered n (Ok batches) = Ok batches
-numbered n (Err code) = Err (n + 1, script_code code)
+  if nat_le MAX_CHANGES (length before) then Err TooMany else Ok (before ++ batch ∷ [])
 
 abbrev pub lines_read : List (List ℕ) → Result Batches (ℕ × ℕ)
-lines_read ls = in_turn (λ n before line. numbered n (with_line before line)) 0 [] ls
+lines_read ls = in_turn (λ n before line. numbered script_code n (with_line before line)) 0 [] ls
 
 -- the transactions of a text, or the line and the code of its fault
 abbrev pub script_of : List ℕ → Result Batches (ℕ × ℕ)
-script_of text = lines_read (slice_split (λ b. b == 10) text)
+script_of text = lines_read (lines_of text)

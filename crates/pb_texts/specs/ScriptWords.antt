@@ -12,19 +12,15 @@ use Rattle.pb_base.specs.declared.content.Content.{Content}
 use Rattle.pb_base.specs.declared.content.Content.TheVariants.{Value, Deleted}
 use Rattle.pb_texts.specs.declared.script.code.Code.{Code}
 use Rattle.pb_texts.specs.declared.script.code.Code.TheVariants.{Form, Range, Hex}
-use Rattle.pb_texts.specs.Reading.{◌>>=◌}
+use Rattle.pb_base.specs.Reading.{◌>>=◌, numeral_upto}
 
 -- texts without where they lie in memory
 abbrev pub plain : List (Bor (List ℕ)) → List (List ℕ)
 plain ws = map (λ w. w.now) ws
 
--- some digits, with no zero before another
-abbrev pub is_number : List ℕ → Bool
-is_number word = if length word == 0 then false else if (slice_index word 0 == 48) && nat_lt 1 (length word) then false else list_all is_ascii_digit word
-
 -- a number of any length, at most this
 abbrev pub number_upto : ℕ → List ℕ → Result ℕ Code
-number_upto greatest word = if is_number word then (if nat_le (digits_value 10 word) greatest then Ok (digits_value 10 word) else Err Range) else Err Form
+number_upto greatest word = numeral_upto Form Range greatest word
 
 -- 32 bytes: those that were read, and zeros
 abbrev pub padded : {E : Type 0} → Result (List ℕ) E → Result (List ℕ) Code

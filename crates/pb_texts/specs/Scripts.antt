@@ -2,6 +2,7 @@
 use Rattle.std.specs.Prelude.{◌≡◌, ◌≢◌, ℕ, ◌+◌, ◌≤◌, ◌==◌, ◌⊎◌, true, List, ◌∷◌, ◌++◌, length, Result, Ok, Err}
 use Rattle.std.specs.Global.{Vec}
 use Rattle.std.specs.List.{slice_split, All}
+use Rattle.pb_base.specs.declared.limits.TheConstants.{MAX_CHANGES}
 use Rattle.pb_base.specs.Batch.{Writes, is_batch}
 use Rattle.pb_base.specs.declared.batch.Batch.{Batch}
 use Rattle.pb_texts.specs.declared.script.code.Code.{Code}
@@ -37,4 +38,4 @@ abbrev pub IsSmallBatch : Writes → Type 0
 IsSmallBatch batch = (is_batch batch ≡ true) × (length batch ≡ 1)
 
 abbrev pub AreSmallBatches : Batches → Type 0
-AreSmallBatches batches = (length batches ≤ 10000) × All IsSmallBatch batches
+AreSmallBatches batches = (length batches ≤ MAX_CHANGES) × All IsSmallBatch batches

@@ -5,7 +5,7 @@ mod tally;
 
 ghost use Rattle.std.specs.Prelude.{◌≡◌, ℕ, List, [], IfOk, string_bytes};
 ghost use Rattle.pb_texts.specs.Reports.{IsReport, AreApart};
-ghost use Rattle.pb_texts.specs.ReportLines.{Runs};
+ghost use Rattle.pb_texts.specs.ReportLines.{Tallies};
 ghost use Rattle.pb_texts.specs.declared.report.newest.Put.{Put};
 
 use crate::report::lines::last_line;
@@ -38,5 +38,5 @@ pub fn report_of(
 
 /// Where no cell has two writes of one commit, there is only one report.
 pub fn one_report()
-    ensures { (puts : List Put) (runs : Runs) (marks locks : ℕ) (s t : List ℕ) → AreApart puts → IsReport puts runs marks locks s → IsReport puts runs marks locks t → s ≡ t }
+    ensures { (puts : List Put) (runs : Tallies) (marks locks : ℕ) (s t : List ℕ) → AreApart puts → IsReport puts runs marks locks s → IsReport puts runs marks locks t → s ≡ t }
 {}

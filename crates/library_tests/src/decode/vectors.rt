@@ -4,8 +4,8 @@
 //! `llvm-mc -triple bpfel -mcpu=v3 -show-encoding in.s`, where `in.s` has the words beside each row, one a line; the eight
 //! bytes that it prints for a line are the row's number, the first byte highest, and the sixteen for the 64-bit immediate
 //! are two such numbers. One table would be too large to prove its test, so that there is one for each kind of instruction.
-use crate::insns::{alu, call, jump, jump_if, load, load_imm, neg, store, store_imm};
 use crate::decode::{bytes_of, is_pair};
+use crate::insns::{alu, call, jump, jump_if, load, load_imm, neg, store, store_imm};
 use pb_isa::Operand::{Imm, Reg};
 use pb_isa::Reg::{R1, R2, R3, R9, R10};
 use pb_isa::Width::{Bits32, Bits64};

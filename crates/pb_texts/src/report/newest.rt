@@ -3,7 +3,7 @@ ghost use Rattle.std.specs.BTreeMap as tree;
 ghost use Rattle.std.specs.Prelude.{◌≡◌, ◌&&◌, IfOk, string_bytes};
 ghost use Rattle.pb_base.specs.Cell.{cell_cmp};
 ghost use Rattle.pb_texts.specs.ReportLines.{cell_lines};
-ghost use Rattle.pb_texts.specs.Reports.{IsNewest, IsTold, is_data, is_later};
+ghost use Rattle.pb_texts.specs.Reports.{IsNewestPut, IsTold, is_data, is_later};
 ghost use Rattle.pb_texts.specs.declared.report.lines.Newest.{Newest};
 
 use crate::report::lines::{Newest, cell_line};
@@ -46,7 +46,7 @@ fn is_told(table: &BTreeMap<Cell, Newest>, put: &Put) -> bool
 
 /// The newest of each data cell.
 pub fn newest_of(alloc: Global, puts: &[Put]) -> Result<BTreeMap<Cell, Newest>, AllocError>
-    ensures told { IfOk result (λ m. (x : Cell) → IsTold (IsNewest puts.now) x (tree.get cell_cmp m x)) }
+    ensures told { IfOk result (λ m. (x : Cell) → IsTold (IsNewestPut puts.now) x (tree.get cell_cmp m x)) }
     ensures rising { IfOk result (λ m. tree.IsOrdered cell_cmp m) }
 {
     let mut table = BTreeMap::new(alloc);

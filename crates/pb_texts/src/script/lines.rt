@@ -3,15 +3,17 @@ ghost use Rattle.std.specs.Prelude.{◌≡◌, ◌≢◌, ◌==◌, ◌+◌, ◌
 ghost use Rattle.std.specs.List.{slice_split};
 ghost use Rattle.pb_base.specs.Batch.{Writes, writes_of, content_in, is_batch};
 ghost use Rattle.pb_texts.specs.Codes.{script_code};
-ghost use Rattle.pb_texts.specs.Reading.{Gives};
+ghost use Rattle.pb_base.specs.Reading.{Gives};
+ghost use Rattle.pb_texts.specs.Codes.{is_memory};
 ghost use Rattle.pb_texts.specs.ScriptWords.{plain};
-ghost use Rattle.pb_texts.specs.ScriptLines.{Batches, cut, with_operation, batch_of, is_skipped, with_line, script_of};
+ghost use Rattle.pb_texts.specs.ScriptLines.{Batches, cut, with_operation, batch_of, with_line, script_of};
+ghost use Rattle.pb_base.specs.Reading.{is_skipped};
 ghost use Rattle.pb_texts.specs.Scripts.{Reads, StopsAt, AreSmallBatches};
 ghost use Rattle.pb_texts.specs.declared.script.code.Code.TheVariants.{Memory};
 
 use crate::script::code::Code;
 use crate::script::words::{Change, operation};
-use pb_base::{Batch, Cell};
+use pb_base::{Batch, Cell, MAX_CHANGES};
 use std::alloc::{AllocError, Global};
 use thiserror::Error;
 
@@ -44,7 +46,7 @@ fn names(writes: &[Change], cell: Cell) -> bool
 // Takes one more operation of a line. Until lines of several are taken, a second one is refused unread.
 #[tactic(auto, unfolding(crate::specs::ScriptLines::with_operation))]
 fn add(alloc: Global, writes: &mut Vec<Change>, text: &str) -> Result<(), Code>
-    ensures { Gives (λ _. writes_of writes.new.items) result (with_operation (writes_of writes.old.items) text.now) }
+    ensures { Gives is_memory (λ _. writes_of writes.new.items) result (with_operation (writes_of writes.old.items) text.now) }
 {
     if !writes.is_empty() {
         return Err(Code::Second);
@@ -61,7 +63,7 @@ fn add(alloc: Global, writes: &mut Vec<Change>, text: &str) -> Result<(), Code>
 }
 
 fn writes_in(alloc: Global, line: &str) -> Result<Vec<Change>, Code>
-    ensures { Gives (λ v. writes_of v.items) result (batch_of line.now) }
+    ensures { Gives is_memory (λ v. writes_of v.items) result (batch_of line.now) }
 {
     let parts = cut(alloc, line)?;
     let mut writes = Vec::new(alloc);
@@ -72,7 +74,7 @@ fn writes_in(alloc: Global, line: &str) -> Result<Vec<Change>, Code>
 }
 
 fn batch_of(alloc: Global, line: &str) -> Result<Batch, Code>
-    ensures { Gives (λ b. b) result (batch_of line.now) }
+    ensures { Gives is_memory (λ b. b) result (batch_of line.now) }
 {
     match Batch::new(writes_in(alloc, line)?) {
         Ok(batch) => Ok(batch),
@@ -91,13 +93,13 @@ fn is_skipped(line: &str) -> bool
 // Adds what one line says.
 #[tactic(auto, unfolding(crate::specs::ScriptLines::with_line))]
 fn add_line(alloc: Global, batches: &mut Vec<Batch>, line: &str) -> Result<(), Code>
-    ensures { Gives (λ _. batches.new.items) result (with_line batches.old.items line.now) }
+    ensures { Gives is_memory (λ _. batches.new.items) result (with_line batches.old.items line.now) }
 {
     if is_skipped(line) {
         return Ok(());
     }
     let batch = batch_of(alloc, line)?;
-    if batches.len() >= 10_000 {
+    if batches.len() >= MAX_CHANGES {
         return Err(Code::TooMany);
     }
     batches.push(batch)?;

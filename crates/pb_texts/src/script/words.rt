@@ -3,8 +3,10 @@ ghost use Rattle.std.specs.Prelude.{◌≡◌, ◌==◌, ◌<◌, ◌≤◌, map
 ghost use Rattle.std.specs.Char.{is_ascii_digit, is_ascii_uppercase};
 ghost use Rattle.std.specs.List.{slice_split, list_all, list_any};
 ghost use Rattle.pb_base.specs.declared.cell.Cell.TheVariants.{Data};
-ghost use Rattle.pb_texts.specs.Reading.{Gives};
-ghost use Rattle.pb_texts.specs.ScriptWords.{is_number, number_upto, content_of, field, plain, cell_at, ended, put_of, del_of, write_of, operation};
+ghost use Rattle.pb_base.specs.Reading.{Gives};
+ghost use Rattle.pb_texts.specs.Codes.{is_memory};
+ghost use Rattle.pb_texts.specs.ScriptWords.{number_upto, content_of, field, plain, cell_at, ended, put_of, del_of, write_of, operation};
+ghost use Rattle.pb_base.specs.Reading.{is_numeral};
 
 use crate::script::code::Code;
 use pb_base::{Column, Content, Row, Value};
@@ -39,8 +41,8 @@ fn all_digits(digits: &[u8]) -> bool
 }
 
 // Digits without a leading zero.
-fn is_number(word: &str) -> bool
-    ensures { result ≡ is_number word.now }
+fn is_numeral(word: &str) -> bool
+    ensures { result ≡ is_numeral word.now }
 {
     let digits = word.as_bytes();
     if digits.is_empty() {
@@ -54,10 +56,10 @@ fn is_number(word: &str) -> bool
 
 // A number, at most this.
 fn number_upto(greatest: u64, word: &str) -> Result<u64, Code>
-    ensures value { Gives (λ n. n) result (number_upto greatest word.now) }
+    ensures value { Gives is_memory (λ n. n) result (number_upto greatest word.now) }
     ensures bound { IfOk result (λ n. n ≤ greatest) }
 {
-    if !is_number(word) {
+    if !is_numeral(word) {
         return Err(Code::Form);
     }
     let Ok(number) = word.parse::<u64>() else {
@@ -79,7 +81,7 @@ fn has_upper(digits: &[u8]) -> bool
 
 // Up to 32 bytes in lower-case hexadecimal digits, followed by zeros.
 fn content_of(word: &str) -> Result<Value, Code>
-    ensures { Gives (λ b. b) result (content_of word.now) }
+    ensures { Gives is_memory (λ b. b) result (content_of word.now) }
 {
     let digits = word.as_bytes();
     if digits.is_empty() || digits.len() > 64 || has_upper(digits) {
@@ -95,7 +97,7 @@ fn content_of(word: &str) -> Result<Value, Code>
 
 // The next word, and those after it.
 fn field<'a, 'b>(words: &'b [&'a str]) -> Result<(&'a str, &'b [&'a str]), Code>
-    ensures { Gives (λ x. (x.0.now, plain x.1.now)) result (field (plain words.now)) }
+    ensures { Gives is_memory (λ x. (x.0.now, plain x.1.now)) result (field (plain words.now)) }
 {
     match words {
         [] => Err(Code::Form),
@@ -106,7 +108,7 @@ fn field<'a, 'b>(words: &'b [&'a str]) -> Result<(&'a str, &'b [&'a str]), Code>
 // A row and a column, and the words after them.
 #[tactic(auto, unfolding(crate::specs::ScriptWords::cell_at))]
 fn cell_at<'a, 'b>(words: &'b [&'a str]) -> Result<(Place, &'b [&'a str]), Code>
-    ensures value { Gives (λ x. (Data (record { 0 = x.0.row }) x.0.column, plain x.1.now)) result (cell_at (plain words.now)) }
+    ensures value { Gives is_memory (λ x. (Data (record { 0 = x.0.row }) x.0.column, plain x.1.now)) result (cell_at (plain words.now)) }
     ensures bound { IfOk result (λ x. x.0.column < 16) }
 {
     let (word, words) = field(words)?;
@@ -118,7 +120,7 @@ fn cell_at<'a, 'b>(words: &'b [&'a str]) -> Result<(Place, &'b [&'a str]), Code>
 
 // No word is left.
 fn ended(words: &[&str]) -> Result<(), Code>
-    ensures { Gives (λ x. x) result (ended (plain words.now)) }
+    ensures { Gives is_memory (λ x. x) result (ended (plain words.now)) }
 {
     if words.is_empty() {
         Ok(())
@@ -129,7 +131,7 @@ fn ended(words: &[&str]) -> Result<(), Code>
 
 #[tactic(auto, unfolding(crate::specs::ScriptWords::put_of))]
 fn put_of(words: &[&str]) -> Result<Change, Code>
-    ensures { Gives (λ w. (Data w.0 w.1, w.2)) result (put_of (plain words.now)) }
+    ensures { Gives is_memory (λ w. (Data w.0 w.1, w.2)) result (put_of (plain words.now)) }
 {
     let (place, words) = cell_at(words)?;
     let (word, words) = field(words)?;
@@ -140,7 +142,7 @@ fn put_of(words: &[&str]) -> Result<Change, Code>
 
 #[tactic(auto, unfolding(crate::specs::ScriptWords::del_of))]
 fn del_of(words: &[&str]) -> Result<Change, Code>
-    ensures { Gives (λ w. (Data w.0 w.1, w.2)) result (del_of (plain words.now)) }
+    ensures { Gives is_memory (λ w. (Data w.0 w.1, w.2)) result (del_of (plain words.now)) }
 {
     let (place, words) = cell_at(words)?;
     ended(words)?;
@@ -149,7 +151,7 @@ fn del_of(words: &[&str]) -> Result<Change, Code>
 
 #[tactic(auto, unfolding(crate::specs::ScriptWords::write_of))]
 fn write_of(words: &[&str]) -> Result<Change, Code>
-    ensures { Gives (λ w. (Data w.0 w.1, w.2)) result (write_of (plain words.now)) }
+    ensures { Gives is_memory (λ w. (Data w.0 w.1, w.2)) result (write_of (plain words.now)) }
 {
     let (verb, words) = field(words)?;
     match verb {
@@ -168,7 +170,7 @@ fn words_of(alloc: Global, text: &str) -> Result<Vec<&str>, AllocError>
 
 /// One operation.
 pub fn operation(alloc: Global, text: &str) -> Result<Change, Code>
-    ensures { Gives (λ w. (Data w.0 w.1, w.2)) result (operation text.now) }
+    ensures { Gives is_memory (λ w. (Data w.0 w.1, w.2)) result (operation text.now) }
 {
     write_of(&words_of(alloc, text)?)
 }

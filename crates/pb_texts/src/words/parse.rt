@@ -66,7 +66,9 @@ fn texts_program<'a>(alloc: Global) -> Result<Command<'a>, AllocError>
     let run = run_command(alloc)?;
     let asm = asm_command(alloc)?;
     let bare = Command::new(alloc, "percobpf").subcommand_required(true);
-    let bare = bare.about("A table of cells with snapshot transactions, and BPF observers that run on its changes");
+    let bare = bare.about(
+        "A table of cells with snapshot transactions, and BPF observers that run on its changes",
+    );
     bare.subcommand(run)?.subcommand(asm)
 }
 

@@ -5,14 +5,14 @@ use Rattle.pb_steps.specs.Readings.{lock_count}
 use Rattle.pb_core.specs.Calls.{SharedOf}
 use Rattle.pb_texts.specs.declared.report.newest.Put.{Put}
 use Rattle.pb_texts.specs.Reports.{IsReport}
-use Rattle.pb_texts.specs.ReportLines.{Runs}
+use Rattle.pb_texts.specs.ReportLines.{Tallies}
 use Rattle.pb_alone.specs.Tallies.{runs_in}
 use Rattle.pb_alone.specs.Committed.{Gathers}
 use Rattle.pb_alone.specs.Runs.{IsReportIn}
 use Rattle.pb_alone.proofs.Told.{report_in}
 use Rattle.pb_alone.proofs.output.text_of.Goals as goal
 
-if_report : (s : SharedOf) (puts : List Put) (marks locks : ℕ) (runs : Runs) (r : Result (String Global) NoMemory) → Gathers s.state.observers s.journal puts → runs ≡ runs_in s → marks ≡ map.len s.state.marks → locks ≡ lock_count s.state.entries
+if_report : (s : SharedOf) (puts : List Put) (marks locks : ℕ) (runs : Tallies) (r : Result (String Global) NoMemory) → Gathers s.state.observers s.journal puts → runs ≡ runs_in s → marks ≡ map.len s.state.marks → locks ≡ lock_count s.state.entries
     → IfOk r (λ t. IsReport puts runs marks locks (string_bytes t)) → IfOk r (λ t. IsReportIn s (string_bytes t))
 if_report s puts marks locks runs (Ok t) g rs ms ls h = report_in s.state.observers s.journal puts _ _ _ (string_bytes t) g (subst (λ r. IsReport puts r (map.len s.state.marks) (lock_count s.state.entries) (string_bytes t)) rs (subst (λ m. IsReport puts runs m (lock_count s.state.entries) (string_bytes t)) ms (subst (λ l. IsReport puts runs marks l (string_bytes t)) ls h)))
 if_report s puts marks locks runs (Err e) g rs ms ls h = tt

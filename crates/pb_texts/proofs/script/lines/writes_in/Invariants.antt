@@ -1,6 +1,6 @@
 use Rattle.std.proofs.Common.{◌≡◌, drop, map}
 use Rattle.pb_base.specs.Batch.{writes_of}
-use Rattle.pb_texts.specs.Turns.{in_turn}
+use Rattle.pb_base.specs.Reading.{in_turn}
 use Rattle.pb_texts.specs.ScriptLines.{with_operation, batch_of}
 use Rattle.pb_texts.proofs.script.lines.writes_in.Given as goal
 
