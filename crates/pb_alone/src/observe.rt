@@ -33,6 +33,7 @@ fn finished_of(
             Moved::Asks(_) => unreachable!(),
             Moved::Ended(_) => break,
         }
+        // For the proof: that it took no more instructions than there are slots, so that it ends.
         let _ = vm.taken();
     }
     let finished = vm.finish();
@@ -95,6 +96,7 @@ pub fn visit<T: Tablet>(
     ensures ok { OnOk result (Visits shared.old seat.old.number number row shared.new) }
     ensures err { IfErr result (IsEnd shared.new) }
 {
+    // For the proof: what the journal tells of its history, here and at each end.
     let _ = shared.journal();
     let (program, column) = observer_of(shared, number)?;
     let cell = Cell::Data(row, column);

@@ -13,7 +13,7 @@ use crate::due::due_of;
 use crate::fault::RunFault;
 use crate::observe::visit_all;
 use crate::output::report;
-use pb_base::{Batch, Sink};
+use pb_base::{Batch, Reason, Sink};
 use pb_core::{Seat, Shared};
 use pb_store::Tablet;
 use pb_texts::{parse_script, reads_small_batches};
@@ -27,7 +27,7 @@ fn read(alloc: Global, text: &str) -> Result<Vec<Batch>, RunFault>
     match parse_script(alloc, text) {
         Ok(batches) => Ok(batches),
         Err(fault) => {
-            if fault.code == 1 {
+            if fault.code == Reason::NoMemory.code() {
                 Err(RunFault::NoMemory)
             } else {
                 Err(RunFault::Script(fault))

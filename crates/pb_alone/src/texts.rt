@@ -7,7 +7,7 @@ ghost use Rattle.pb_alone.specs.TextRuns.{RunsTexts, IsBadManifest, IsRead};
 use crate::fault::RunFault;
 use crate::observers::observers_of;
 use crate::run::run_alone;
-use pb_base::{MAX_ENTRIES, Sink, Ts};
+use pb_base::{MAX_ENTRIES, Reason, Sink, Ts};
 use pb_core::{OpenRefused, Shared};
 use pb_registry::Registry;
 use pb_state::Observer;
@@ -22,7 +22,7 @@ fn read(alloc: Global, manifest: &str) -> Result<Registry, RunFault>
     match Registry::from_json(alloc, manifest) {
         Ok(registry) => Ok(registry),
         Err(fault) => {
-            if fault.code == 1 {
+            if fault.code == Reason::NoMemory.code() {
                 Err(RunFault::NoMemory)
             } else {
                 Err(RunFault::Manifest(fault))

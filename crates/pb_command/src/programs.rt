@@ -13,7 +13,7 @@ use crate::fault::Fault;
 use crate::paths::{PathFault, Paths};
 use crate::reading::{bytes_at, text_of};
 use pb_asm::{AsmFault, assemble, disassemble};
-use pb_base::{Refused, Sink};
+use pb_base::{Reason, Refused, Sink};
 use pb_decode::{DecodeFault, decode, encode};
 use pb_helpers::HelperTable;
 use pb_texts::write_all;
@@ -24,7 +24,7 @@ use std::alloc::{AllocError, Global};
 fn text_fault<'a>(fault: AsmFault) -> Fault<'a>
     ensures { IsTextFault fault result }
 {
-    if fault.code == 1 {
+    if fault.code == Reason::NoMemory.code() {
         Fault::NoMemory
     } else {
         Fault::Text(fault)
