@@ -12,7 +12,7 @@ use Rattle.pb_steps.specs.declared.step.Declared.TheVariants as declared
 use Rattle.pb_steps.specs.declared.step.Step.{Step}
 use Rattle.pb_steps.specs.declared.step.Step.TheVariants.{Begin, Read, Declare, Prewrite, Stamp, CommitPrimary}
 use Rattle.pb_steps.specs.declared.step.Answer.{Answer}
-use Rattle.pb_steps.specs.declared.step.Answer.TheVariants.{At, Found, Done, Committed}
+use Rattle.pb_steps.specs.declared.step.Answer.TheVariants.{At, Done, Committed}
 use Rattle.pb_steps.specs.declared.phase.Phase.TheVariants as phases
 use Rattle.pb_steps.specs.State.{StateOf, TransactionOf}
 use Rattle.pb_steps.specs.Observers.{ObserverOf, observed_cell, acknowledgment}

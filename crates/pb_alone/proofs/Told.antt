@@ -1,5 +1,5 @@
--- The report of the gathered writes is the report of the journal.
-use Rattle.std.proofs.Common.{ℕ, List, Option, None, Some, refl}
+-- The report of the gathered writes is the report of the table.
+use Rattle.std.proofs.Common.{ℕ, ◌+◌, ◌≤◌, List, [], ◌∷◌, ◌++◌, length, Option, None, Some, refl, subst, arith}
 use Rattle.pb_base.specs.declared.cell.Cell.{Cell}
 use Rattle.pb_base.specs.declared.cell.Cell.TheVariants.{Data, Ack}
 use Rattle.pb_history.specs.declared.entry.Entry.{Entry}
@@ -9,15 +9,37 @@ use Rattle.pb_base.specs.declared.names.Row.{Row}
 use Rattle.pb_steps.specs.Observers.{ObserverOf}
 use Rattle.pb_texts.specs.ReportLines.{Tallies}
 use Rattle.pb_texts.specs.Reports.{IsNewestPut, IsTold, IsReport, IsReportOf}
-use Rattle.pb_alone.specs.Committed.{IsNewestIn, Gathers}
+use Rattle.pb_alone.specs.Committed.{AreSeen, Gathers, IsSeenAt}
+use Rattle.pb_alone.specs.Tallies.{AreTallies, IsTally}
 
-newest_in : (observers : List ObserverOf) (journal : List Entry) (puts : List Put) → Gathers observers journal puts → (row : Row) (column : ℕ) (r : Option Newest) → IsNewestPut puts (Data row column) r → IsNewestIn observers journal (Data row column) r
-newest_in observers journal puts g row column None h = λ commit content w. h _ (g.whole row column commit content w) refl
-newest_in observers journal puts g row column (Some n) h = (g.sound _ h.0, λ commit content w. h.1 _ (g.whole row column commit content w) refl)
+module _ (observers : List ObserverOf) (journal : List Entry) (clock : ℕ) (puts : List Put) (g : Gathers observers journal puts) (low : AreSeen observers journal clock) where
+  seen_in : (row : Row) (column : ℕ) (r : Option Newest) → IsNewestPut puts (Data row column) r → IsSeenAt observers journal clock (Data row column) r
+  seen_in row column None h = λ m content i w. absurd (h _ (g.whole row column m.commit content (record { m = m; in_history = i; commit_is = refl; writes = w })) refl)
+  seen_in row column (Some n) h =
+      let it = g.sound _ h.0 in (
+        it.m.start,
+        record {
+          m = it.m;
+          in_history = it.in_history;
+          start_is = refl;
+          commit_is = it.commit_is;
+          writes = it.writes;
+          seen = subst (λ c. c ≤ clock) it.commit_is (low it.m it.in_history);
+          greatest = λ m content i w le. h.1 _ (g.whole row column m.commit content (record { m = m; in_history = i; commit_is = refl; writes = w })) refl;
+        },
+      )
 
-told_in : (observers : List ObserverOf) (journal : List Entry) (puts : List Put) → Gathers observers journal puts → (x : Cell) (r : Option Newest) → IsTold (IsNewestPut puts) x r → IsTold (IsNewestIn observers journal) x r
-told_in observers journal puts g (Data row column) r h = newest_in observers journal puts g row column r h
-told_in observers journal puts g (Ack observer row column) r h = h
+  told_in : (x : Cell) (r : Option Newest) → IsTold (IsNewestPut puts) x r → IsTold (IsSeenAt observers journal clock) x r
+  told_in (Data row column) r h = seen_in row column r h
+  told_in (Ack observer row column) r h = h
 
-pub report_in : (observers : List ObserverOf) (journal : List Entry) (puts : List Put) (runs : Tallies) (marks locks : ℕ) (text : List ℕ) → Gathers observers journal puts → IsReport puts runs marks locks text → IsReportOf (IsNewestIn observers journal) runs marks locks text
-report_in observers journal puts runs marks locks text g h = record { entries = h.entries; rising = h.rising; told = λ x. told_in observers journal puts g x _ (h.told x); lines = h.lines }
+  pub report_in : (runs : Tallies) (marks locks : ℕ) (text : List ℕ) → IsReport puts runs marks locks text → IsReportOf (IsSeenAt observers journal clock) runs marks locks text
+  report_in runs marks locks text h = record { entries = h.entries; rising = h.rising; told = λ x. told_in x _ (h.told x); lines = h.lines }
+
+-- one observer more
+pub tallies_push : (observers : List ObserverOf) (journal : List Entry) (o : ℕ) (xs : List ObserverOf) (rs : Tallies) (x : ObserverOf) (r : List ℕ × ℕ)
+    → AreTallies observers journal o xs rs → IsTally observers journal (o + length xs) x r → AreTallies observers journal o (xs ++ x ∷ []) (rs ++ r ∷ [])
+tallies_push observers journal o [] [] x r a t = (subst (λ n. IsTally observers journal n x r) (omega arith) t, refl)
+tallies_push observers journal o [] (q ∷ rs) x r a t = cc
+tallies_push observers journal o (y ∷ ys) [] x r a t = absurd a
+tallies_push observers journal o (y ∷ ys) (q ∷ rs) x r a t = (a.0, tallies_push observers journal (o + 1) ys rs x r a.1 (subst (λ n. IsTally observers journal n x r) (omega arith) t))

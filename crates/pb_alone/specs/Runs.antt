@@ -7,6 +7,7 @@ use Rattle.pb_steps.specs.Readings.{lock_count}
 use Rattle.pb_core.specs.Calls.{SharedOf, SeatOf, AreSeats}
 use Rattle.pb_history.specs.History.{Member, IsHistory}
 use Rattle.pb_texts.specs.ScriptLines.{script_of}
+use Rattle.pb_texts.specs.ReportLines.{Tallies}
 use Rattle.pb_texts.specs.Reports.{IsReportOf}
 use Rattle.pb_texts.specs.Sinks.{AppendsPart}
 use Rattle.pb_alone.specs.declared.fault.RunFault.{RunFault}
@@ -14,16 +15,19 @@ use Rattle.pb_alone.specs.declared.fault.RunFault.TheVariants as faults
 use Rattle.pb_alone.specs.declared.fault.ReportFault.{ReportFault}
 use Rattle.pb_alone.specs.declared.fault.ReportFault.TheVariants as ends
 use Rattle.pb_alone.specs.Alone.{IsClean, changes_from}
-use Rattle.pb_alone.specs.Committed.{IsNewestIn}
-use Rattle.pb_alone.specs.Tallies.{runs_in}
+use Rattle.pb_alone.specs.Committed.{IsSeenAt}
+use Rattle.pb_alone.specs.Tallies.{AreTallies}
 use Rattle.pb_steps.specs.declared.step.Work.TheVariants as works
 use Rattle.pb_alone.specs.Faults.{IsEnd}
 use Rattle.pb_alone.specs.Due.{due}
 use Rattle.pb_alone.specs.Rounds.{AreDone}
 
--- the report of the journal, with the runs of each observer, and the marks and locks that stand
-abbrev pub IsReportIn : SharedOf → List ℕ → Type 0
-IsReportIn shared text = IsReportOf (IsNewestIn shared.state.observers shared.journal) (runs_in shared) (finite.len shared.state.marks) (lock_count shared.state.entries) text
+-- The report of a table: what the snapshot at its clock has of each data cell, how many runs of each observer are
+-- committed, and the marks and locks that stand.
+pub record IsReportIn (shared : SharedOf) (text : List ℕ) : Type 0 where
+  pub runs : Tallies
+  pub tallied : AreTallies shared.state.observers shared.journal 0 shared.state.observers runs
+  pub reported : IsReportOf (IsSeenAt shared.state.observers shared.journal shared.state.clock) runs (finite.len shared.state.marks) (lock_count shared.state.entries) text
 
 -- the report was written
 pub record Wrote (shared : SharedOf) (old now : Option (List ℕ)) : Type 0 where

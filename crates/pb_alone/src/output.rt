@@ -1,7 +1,7 @@
 //! The report of a table.
 ghost use Rattle.std.specs.Prelude.{◌≡◌, ◌++◌, ◌∷◌, [], IfOk, map, string_bytes, true, false};
 ghost use Rattle.pb_alone.specs.Puts.{put_by, puts_by, AreTold};
-ghost use Rattle.pb_alone.specs.Committed.{Gathers};
+ghost use Rattle.pb_alone.specs.Committed.{AreSeen, Gathers};
 ghost use Rattle.pb_base.specs.Batch.{is_batch};
 ghost use Rattle.pb_alone.specs.Runs.{IsReportIn, Reports};
 
@@ -55,7 +55,8 @@ fn add_entry<T: Tablet>(
 
 // The committed writes of a table to data cells.
 fn puts_of<T: Tablet>(alloc: Global, shared: &Shared<T>) -> Result<Vec<Put>, NoMemory>
-    ensures { IfOk result (λ v. Gathers shared.now.state.observers shared.now.journal v.items) }
+    ensures gathered { IfOk result (λ v. Gathers shared.now.state.observers shared.now.journal v.items) }
+    ensures seen { AreSeen shared.now.state.observers shared.now.journal shared.now.state.clock }
 {
     let mut puts = Vec::new(alloc);
     for entry in shared.journal() {

@@ -1,6 +1,7 @@
 //! How often each observer ran.
 ghost use Rattle.std.specs.Prelude.{◌≡◌, IfOk, string_bytes};
-ghost use Rattle.pb_alone.specs.Tallies.{is_committed, is_run_of, run_count, runs_in};
+ghost use Rattle.pb_alone.specs.Tallies.{AreTallies, IsTally};
+ghost use Rattle.pb_history.specs.RunCounts.{IsRunCount, begins_committed_run, is_committed};
 
 use pb_base::NoMemory;
 use pb_core::{Answer, Entry, Observer, Phase, Shared, Step, Work};
@@ -15,8 +16,8 @@ fn is_committed(phase: Option<Phase>) -> bool
 }
 
 // Whether the entry begins a run of the observer that is committed.
-fn is_run_of<T: Tablet>(shared: &Shared<T>, number: usize, entry: &Entry) -> bool
-    ensures { result ≡ is_run_of shared.now.state number entry.now }
+fn begins_committed_run<T: Tablet>(shared: &Shared<T>, number: usize, entry: &Entry) -> bool
+    ensures { result ≡ begins_committed_run shared.now.state number entry.now.step entry.now.answer }
 {
     let Step::Begin(Work::Run(observer, _)) = &entry.step else {
         return false;
@@ -28,11 +29,11 @@ fn is_run_of<T: Tablet>(shared: &Shared<T>, number: usize, entry: &Entry) -> boo
 }
 
 fn run_count<T: Tablet>(shared: &Shared<T>, number: usize) -> usize
-    ensures { result ≡ run_count shared.now number }
+    ensures { IsRunCount shared.now.state.observers shared.now.journal number result }
 {
     let mut count = 0;
     for entry in shared.journal() {
-        if is_run_of(shared, number, entry) {
+        if begins_committed_run(shared, number, entry) {
             count += 1;
         }
     }
@@ -45,7 +46,7 @@ fn tally_of<T: Tablet>(
     number: usize,
     observer: &Observer,
 ) -> Result<Tally, NoMemory>
-    ensures { IfOk result (λ t. t ≡ (observer.now.name, run_count shared.now number)) }
+    ensures { IfOk result (λ t. IsTally shared.now.state.observers shared.now.journal number observer.now t) }
 {
     let name = String::from_str(alloc, observer.name.as_str())?;
     let runs = run_count(shared, number);
@@ -57,7 +58,7 @@ pub(crate) fn tallies_of<T: Tablet>(
     alloc: Global,
     shared: &Shared<T>,
 ) -> Result<Vec<Tally>, NoMemory>
-    ensures { IfOk result (λ v. v.items ≡ runs_in shared.now) }
+    ensures { IfOk result (λ v. AreTallies shared.now.state.observers shared.now.journal 0 shared.now.state.observers v.items) }
 {
     let mut tallies = Vec::new(alloc);
     let observers = shared.observers();

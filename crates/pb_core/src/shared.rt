@@ -4,7 +4,10 @@ ghost use Rattle.pb_core.specs.Calls.{IsFresh, IsBlank};
 
 use crate::seat::{Book, Seat};
 use pb_base::{MAX_ENTRIES, MAX_OBSERVERS, MAX_SEATS, NoMemory, Reason, Refusal, Ts};
-use pb_history::{Entry, Received, histories_are_told, reads_are_told, runs_are_told};
+use pb_history::{
+    Entry, Received, histories_are_told, reads_are_told, runs_are_counted, runs_are_told,
+    timestamps_rise,
+};
 use pb_state::State;
 use pb_steps::{Answer, Observer, Phase, Step};
 use pb_store::{Table, Tablet};
@@ -136,6 +139,8 @@ impl<T: Tablet> Shared<T> {
     ghost use Rattle.pb_history.specs.History.{TellsHistory};
     ghost use Rattle.pb_history.specs.ReadsTold.{TellsReads};
     ghost use Rattle.pb_history.specs.RunsTold.{TellsRuns};
+    ghost use Rattle.pb_history.specs.RunCounts.{TellsRunCounts};
+    ghost use Rattle.pb_history.specs.Timestamps.{TellsTimestamps};
     ghost use Rattle.pb_base.specs.Reasons.{reason_code};
 
     /// Opens a table for these observers and as many seats, with `last` the last timestamp given out so far and room for
@@ -213,10 +218,14 @@ impl<T: Tablet> Shared<T> {
         ensures history { TellsHistory self.now.journal self.now.state }
         ensures reads { TellsReads self.now.state.observers self.now.state.seats self.now.opened self.now.journal }
         ensures runs { TellsRuns self.now.journal self.now.state }
+        ensures counts { TellsRunCounts self.now.journal self.now.state }
+        ensures timestamps { TellsTimestamps self.now.opened self.now.journal self.now.state }
     {
         histories_are_told();
         reads_are_told();
         runs_are_told();
+        runs_are_counted();
+        timestamps_rise();
         &self.journal
     }
 

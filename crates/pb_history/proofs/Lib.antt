@@ -2,3 +2,5 @@ pub mod Agreement
 pub mod StepsAgree
 pub mod HistoryTold
 pub mod RunsTold
+pub mod TimestampsRise
+pub mod RunsCounted

@@ -15,7 +15,7 @@ use Rattle.pb_steps.specs.declared.step.Answer.TheVariants.{Found, Absent}
 use Rattle.pb_base.specs.declared.names.Ts.{Ts}
 use Rattle.pb_vm.specs.Record.{record_of}
 use Rattle.pb_steps.specs.State.{StateOf, opening, cells_of}
-use Rattle.pb_steps.specs.Observers.{ObserverOf, observed_cell, acknowledgment}
+use Rattle.pb_steps.specs.Observers.{ObserverOf, observed_cell}
 use Rattle.pb_steps.specs.Declarations.{IsKnown, IsItsRun, MayDeclare, plain_run}
 use Rattle.pb_steps.specs.Phases.{is_reading}
 use Rattle.pb_steps.specs.Reads.{found_answer, version_in, acknowledged_in}

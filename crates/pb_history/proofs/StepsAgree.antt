@@ -17,7 +17,7 @@ use Rattle.pb_steps.specs.State.{StateOf, TransactionOf, opening, new_transactio
 use Rattle.pb_steps.specs.Observers.{ObserverOf}
 use Rattle.pb_steps.specs.Declarations.{MayDeclare}
 use Rattle.pb_steps.specs.Reasons.{IsOwn}
-use Rattle.pb_steps.specs.Steps.{step_reason, StepCase}
+use Rattle.pb_steps.specs.Steps.{StepCase}
 use Rattle.pb_steps.specs.Phases.{is_reading, is_declared}
 use Rattle.pb_steps.specs.Read.{with_read}
 use Rattle.pb_steps.specs.Begin.{Begins}

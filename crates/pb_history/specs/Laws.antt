@@ -7,6 +7,8 @@ use Rattle.pb_history.specs.Journals.{IsLegal}
 use Rattle.pb_history.specs.History.{TellsHistory}
 use Rattle.pb_history.specs.ReadsTold.{TellsReads}
 use Rattle.pb_history.specs.RunsTold.{TellsRuns}
+use Rattle.pb_history.specs.Timestamps.{TellsTimestamps}
+use Rattle.pb_history.specs.RunCounts.{TellsRunCounts}
 
 abbrev pub HistoriesAreTold : Type 0
 HistoriesAreTold = (observers : List ObserverOf) (seats clock : ℕ) (journal : List Entry) (state : StateOf) → IsLegal observers seats clock journal state → TellsHistory journal state
@@ -16,3 +18,9 @@ ReadsAreTold = (observers : List ObserverOf) (seats clock : ℕ) (journal : List
 
 abbrev pub RunsAreTold : Type 0
 RunsAreTold = (observers : List ObserverOf) (seats clock : ℕ) (journal : List Entry) (state : StateOf) → IsLegal observers seats clock journal state → TellsRuns journal state
+
+abbrev pub TimestampsRise : Type 0
+TimestampsRise = (observers : List ObserverOf) (seats clock : ℕ) (journal : List Entry) (state : StateOf) → IsLegal observers seats clock journal state → TellsTimestamps clock journal state
+
+abbrev pub RunsAreCounted : Type 0
+RunsAreCounted = (observers : List ObserverOf) (seats clock : ℕ) (journal : List Entry) (state : StateOf) → IsLegal observers seats clock journal state → TellsRunCounts journal state

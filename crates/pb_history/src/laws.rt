@@ -1,5 +1,5 @@
 //! What every legal journal tells.
-ghost use Rattle.pb_history.specs.Laws.{HistoriesAreTold, ReadsAreTold, RunsAreTold};
+ghost use Rattle.pb_history.specs.Laws.{HistoriesAreTold, ReadsAreTold, RunsAreCounted, RunsAreTold, TimestampsRise};
 
 /// The committed transactions of a legal journal are those of the state that it leads to.
 pub fn histories_are_told()
@@ -15,4 +15,15 @@ pub fn reads_are_told()
 /// stamp, and then what its program means on the record of what it read.
 pub fn runs_are_told()
     ensures { RunsAreTold }
+{}
+
+/// The starts and commits of a legal journal rise, from above the clock as opened up to that of the state.
+pub fn timestamps_rise()
+    ensures { TimestampsRise }
+{}
+
+/// Of each observer, a legal journal has as many committed runs as it has entries that begin one which the state has as
+/// committed.
+pub fn runs_are_counted()
+    ensures { RunsAreCounted }
 {}

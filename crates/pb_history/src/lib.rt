@@ -5,4 +5,6 @@ mod entry;
 mod laws;
 
 pub use entry::{Entry, Received};
-pub use laws::{histories_are_told, reads_are_told, runs_are_told};
+pub use laws::{
+    histories_are_told, reads_are_told, runs_are_counted, runs_are_told, timestamps_rise,
+};

@@ -19,8 +19,8 @@ loop-entry-preserved g c =
       told = subst (AllTold state) (sym whole) (told_on state (take i es) c.entry-item.result c.loop-entry.invariant.told c.in_ok-add_entry.ensures.told);
     }
 
-pub returns : goal.returns
-returns g c =
+pub returns-clause-gathered : goal.returns-clause-gathered
+returns-clause-gathered g c =
     let es = c.journal-entry-items.result.now in
     let state = c.args.shared.now.state in
     let all : take c.loop-entry.entry-index es ≡ c.args.shared.now.journal = take_all c.loop-entry.entry-index es c.loop-entry-test.false ∙ c.journal-entry-items.ensures.entries in

@@ -1,0 +1,69 @@
+-- The timestamps of a legal journal rise.
+use Rattle.std.proofs.Common.{inl, inr, ◌≡◌, ℕ, ◌<◌, ◌≤◌, List, [], ◌∷◌, ap, subst, arith}
+use Rattle.pb_base.specs.declared.names.Ts.{Ts}
+use Rattle.pb_steps.specs.declared.step.Step.{Step}
+use Rattle.pb_steps.specs.declared.step.Step.TheVariants.{Begin, Read, Declare, Prewrite, Stamp, CommitPrimary}
+use Rattle.pb_steps.specs.declared.step.Answer.{Answer}
+use Rattle.pb_steps.specs.declared.step.Answer.TheVariants.{At, Locked, Found, Absent, Done, Conflict, Committed, Lost}
+use Rattle.pb_steps.specs.State.{StateOf, opening}
+use Rattle.pb_steps.specs.Observers.{ObserverOf}
+use Rattle.pb_steps.specs.Steps.{StepCase}
+use Rattle.pb_history.specs.declared.entry.Entry.{Entry}
+use Rattle.pb_history.specs.Journals.{JournalLeads, IsLegal}
+use Rattle.pb_history.specs.History.{Has}
+use Rattle.pb_history.specs.Timestamps.{with_timestamp, timestamps, AreRising, TellsTimestamps}
+
+module _ (old : StateOf) (seat : ℕ) (new : StateOf) (high : ℕ) (ts : List ℕ) (rest : AreRising new.clock high ts) where
+  -- a step that leaves the clock
+  same : new.clock ≡ old.clock → AreRising old.clock high ts
+  same clock = subst (λ n. AreRising n high ts) clock rest
+
+  -- a step that takes a fresh timestamp
+  next : (n : ℕ) → new.clock ≡ n → old.clock < n → AreRising old.clock high (n ∷ ts)
+  next n clock low = (low, subst (λ k. AreRising k high ts) clock rest)
+
+  case_rises : (step : Step) (answer : Answer) → StepCase old seat step answer new → AreRising old.clock high (with_timestamp step answer ts)
+  case_rises (Begin work) (At s) m = let fresh = m.fresh in next s.0 (ap (λ (z : StateOf). z.clock) m.new_is) (omega (arith, fresh))
+  case_rises (Read s x) (Locked start primary) m = same (ap (λ (z : StateOf). z.clock) m.new_is)
+  case_rises (Read s x) (Found start commit content) m = same (ap (λ (z : StateOf). z.clock) m.new_is)
+  case_rises (Read s x) Absent m = same (ap (λ (z : StateOf). z.clock) m.new_is)
+  case_rises (Declare s what) Done m = same (ap (λ (z : StateOf). z.clock) m.new_is)
+  case_rises (Prewrite s x) Done m = same (ap (λ (z : StateOf). z.clock) m.new_is)
+  case_rises (Prewrite s x) Conflict m = same (ap (λ (z : StateOf). z.clock) m.new_is)
+  case_rises (Stamp s) (At c) m = let fresh = m.fresh in next c.0 (ap (λ (z : StateOf). z.clock) m.new_is) (omega (arith, fresh))
+  case_rises (CommitPrimary s) Committed m = same (ap (λ (z : StateOf). z.clock) m.new_is)
+  case_rises (CommitPrimary s) Lost m = same (ap (λ (z : StateOf). z.clock) m.new_is)
+  case_rises _ _ m = absurd m
+
+run_rises : (old : StateOf) (es : List Entry) (new : StateOf) → JournalLeads old es new → AreRising old.clock new.clock (timestamps es)
+run_rises old [] new r = let clock : new.clock ≡ old.clock = ap (λ (z : StateOf). z.clock) r in omega (arith, clock)
+run_rises old (e ∷ es) new r = case_rises old e.seat r.0 new.clock (timestamps es) (run_rises r.0 es new r.2) e.step e.answer r.1.taken
+
+-- ---- what rising timestamps tell
+
+pub at_most : (low high : ℕ) (ts : List ℕ) → AreRising low high ts → low ≤ high
+at_most low high [] r = r
+at_most low high (t ∷ ts) r = let le = at_most t high ts r.1 in let lt = r.0 in omega (arith, le, lt)
+
+pub lower : (low to high : ℕ) (ts : List ℕ) → low ≤ to → AreRising to high ts → AreRising low high ts
+lower low to high [] le r = omega (arith, le, r)
+lower low to high (t ∷ ts) le r = let lt = r.0 in (omega (arith, le, lt), r.1)
+
+-- those after an entry
+pub behind : (low high : ℕ) (step : Step) (answer : Answer) (ts : List ℕ) → AreRising low high (with_timestamp step answer ts) → AreRising low high ts
+behind low high (Begin work) (At s) ts r = let lt = r.0 in lower low s.0 high ts (omega (arith, lt)) r.1
+behind low high (Stamp s) (At c) ts r = let lt = r.0 in lower low c.0 high ts (omega (arith, lt)) r.1
+behind low high _ _ ts r = r
+
+commit_at_most : (low high seat : ℕ) (s c : Ts) (es : List Entry) → Has es (record { seat = seat; step = Stamp s; answer = At c }) → AreRising low high (timestamps es) → c.0 ≤ high
+commit_at_most low high seat s c [] has r = absurd has
+commit_at_most low high seat s c (e ∷ es) (inl q) r = at_most c.0 high (timestamps es) (subst (λ (d : Entry). AreRising low high (with_timestamp d.step d.answer (timestamps es))) q r).1
+commit_at_most low high seat s c (e ∷ es) (inr has) r = commit_at_most low high seat s c es has (behind low high e.step e.answer (timestamps es) r)
+
+pub tells_timestamps : (observers : List ObserverOf) (seats clock : ℕ) (journal : List Entry) (state : StateOf) → IsLegal observers seats clock journal state → TellsTimestamps clock journal state
+tells_timestamps observers seats clock journal state l =
+    let rising = run_rises (opening observers seats clock) journal state l.run in
+    record {
+      rising = rising;
+      commits = λ m h. commit_at_most clock state.clock m.seat (record { 0 = m.start }) (record { 0 = m.commit }) journal h.stamped rising;
+    }

@@ -1,0 +1,48 @@
+-- How many runs of an observer are committed.
+use Rattle.std.specs.Prelude.{◌≡◌, ℕ, ◌<◌, ◌==◌, ◌&&◌, Bool, true, false, count_by, List, [], ◌∷◌, length, Option, Some}
+use Rattle.pb_base.specs.declared.names.Row.{Row}
+use Rattle.pb_steps.specs.declared.step.Work.TheVariants as works
+use Rattle.pb_steps.specs.declared.step.Step.{Step}
+use Rattle.pb_steps.specs.declared.step.Step.TheVariants.{Begin}
+use Rattle.pb_steps.specs.declared.step.Answer.{Answer}
+use Rattle.pb_steps.specs.declared.step.Answer.TheVariants.{At}
+use Rattle.pb_steps.specs.declared.phase.Phase.{Phase}
+use Rattle.pb_steps.specs.declared.phase.Phase.TheVariants as phases
+use Rattle.pb_steps.specs.State.{StateOf, phase_in}
+use Rattle.pb_steps.specs.Observers.{ObserverOf}
+use Rattle.pb_history.specs.declared.entry.Entry.{Entry}
+use Rattle.pb_history.specs.History.{Has, Member, InHistory}
+
+-- a run of this observer, on some row
+abbrev pub IsRunOf : Member → ℕ → Type 0
+IsRunOf m o = (row : Row) × (m.work ≡ works.Run o row)
+
+-- each starts above the one before
+abbrev pub StartsRise : ℕ → List Member → Type 0
+StartsRise low [] = Unit {0}
+StartsRise low (m ∷ ms) = (low < m.start) × StartsRise m.start ms
+
+-- so many committed transactions are runs of the observer: here they are by their starts, each once
+pub record IsRunCount (observers : List ObserverOf) (journal : List Entry) (o n : ℕ) : Type 0 where
+  pub ms : List Member
+  pub count : length ms ≡ n
+  pub each : (m : Member) → Has ms m → InHistory observers journal m × IsRunOf m o
+  pub whole : (m : Member) → InHistory observers journal m → IsRunOf m o → Has ms m
+  pub rising : StartsRise 0 ms
+
+abbrev pub is_committed : Option Phase → Bool
+is_committed (Some (phases.Committed c)) = true
+is_committed _ = false
+
+-- a run of the observer began, and the state has it as committed
+abbrev pub begins_committed_run : StateOf → ℕ → Step → Answer → Bool
+begins_committed_run state o (Begin (works.Run p row)) (At s) = (p == o) && is_committed (phase_in state s.0)
+begins_committed_run state o _ _ = false
+
+-- the count by entries that begin such runs
+abbrev pub run_count : StateOf → ℕ → List Entry → ℕ
+run_count state o journal = count_by (λ e. begins_committed_run state o e.step e.answer) journal
+
+-- is the count of the history
+abbrev pub TellsRunCounts : List Entry → StateOf → Type 0
+TellsRunCounts journal state = (o : ℕ) → IsRunCount state.observers journal o (run_count state o journal)
