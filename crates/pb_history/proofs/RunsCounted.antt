@@ -17,7 +17,7 @@ use Rattle.pb_history.specs.declared.entry.Entry.{Entry}
 use Rattle.pb_history.specs.Journals.{IsLegal}
 use Rattle.pb_history.specs.History.{Has, Member, InHistory, TellsHistory}
 use Rattle.pb_history.specs.Timestamps.{with_timestamp, timestamps, AreRising}
-use Rattle.pb_history.specs.RunCounts.{IsRunOf, StartsRise, is_committed, begins_committed_run, run_count, TellsRunCounts}
+use Rattle.pb_history.specs.RunCounts.{IsRunOf, RiseByStart, is_committed, begins_committed_run, run_count, TellsRunCounts}
 use Rattle.pb_history.proofs.Agreement.{ts, got, Agrees}
 use Rattle.pb_history.proofs.StepsAgree.{legal_agrees}
 use Rattle.pb_history.proofs.HistoryTold.{tells}
@@ -47,7 +47,7 @@ same_time c d h p q = let k : ts c ≡ ts d = cc in ap (λ (t : Ts). t.0) k
 same_answer : (c d : ℕ) (a : Answer) → a ≡ At (ts c) → a ≡ At (ts d) → c ≡ d
 same_answer c d a p q = let k : ts c ≡ ts d = cc in ap (λ (t : Ts). t.0) k
 
-lower_starts : (low to : ℕ) (ms : List Member) → low ≤ to → StartsRise to ms → StartsRise low ms
+lower_starts : (low to : ℕ) (ms : List Member) → low ≤ to → RiseByStart to ms → RiseByStart low ms
 lower_starts low to [] le r = tt
 lower_starts low to (m ∷ ms) le r = let lt = r.0 in (omega (arith, le, lt), r.1)
 
@@ -101,7 +101,7 @@ module _ (journal : List Entry) (state : StateOf) (a : Agrees journal state) (hi
     count : length ms ≡ run_count state o es
     each : (m : Member) → Has ms m → InHistory state.observers journal m × IsRunOf m o
     whole : (m : Member) → InHistory state.observers journal m → IsRunOf m o → Has es (record { seat = m.seat; step = Begin m.work; answer = At (ts m.start) }) → Has ms m
-    rising : StartsRise low ms
+    rising : RiseByStart low ms
 
   by_first : (e : Entry) (es : List Entry) → run_count state o (e ∷ es) ≡ cond (begins_committed_run state o e.step e.answer) 1 0 + run_count state o es
   by_first e es = sum_by-cons (λ d. cond (begins_committed_run state o d.step d.answer) 1 0) e es

@@ -18,9 +18,9 @@ abbrev pub IsRunOf : Member → ℕ → Type 0
 IsRunOf m o = (row : Row) × (m.work ≡ works.Run o row)
 
 -- each starts above the one before
-abbrev pub StartsRise : ℕ → List Member → Type 0
-StartsRise low [] = Unit {0}
-StartsRise low (m ∷ ms) = (low < m.start) × StartsRise m.start ms
+abbrev pub RiseByStart : ℕ → List Member → Type 0
+RiseByStart low [] = Unit {0}
+RiseByStart low (m ∷ ms) = (low < m.start) × RiseByStart m.start ms
 
 -- so many committed transactions are runs of the observer: here they are by their starts, each once
 pub record IsRunCount (observers : List ObserverOf) (journal : List Entry) (o n : ℕ) : Type 0 where
@@ -28,7 +28,7 @@ pub record IsRunCount (observers : List ObserverOf) (journal : List Entry) (o n 
   pub count : length ms ≡ n
   pub each : (m : Member) → Has ms m → InHistory observers journal m × IsRunOf m o
   pub whole : (m : Member) → InHistory observers journal m → IsRunOf m o → Has ms m
-  pub rising : StartsRise 0 ms
+  pub rising : RiseByStart 0 ms
 
 abbrev pub is_committed : Option Phase → Bool
 is_committed (Some (phases.Committed c)) = true
