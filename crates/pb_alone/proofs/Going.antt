@@ -1,5 +1,5 @@
 -- A table on its way through a change.
-use Rattle.std.proofs.Common.{◌≡◌, ◌⊎◌, inl, inr, Bool, true, false, List, [], ◌∷◌, ◌++◌, length, map, Some, None, refl, sym, ap, subst, ◌∙◌}
+use Rattle.std.proofs.Common.{◌≡◌, ℕ, ◌⊎◌, inl, inr, Bool, true, false, List, [], ◌∷◌, ◌++◌, length, map, Some, None, refl, sym, ap, subst, ◌∙◌}
 use Rattle.std.specs.Prelude.{◌==◌}
 use Rattle.std.proofs.lemmas.Bool.{eqb-true}
 use Rattle.pb_base.specs.declared.refusal.Reason.{Reason}
@@ -10,12 +10,15 @@ use Rattle.pb_steps.specs.declared.step.Answer.{Answer}
 use Rattle.pb_steps.specs.State.{StateOf}
 use Rattle.pb_steps.specs.Reasons.{is_out, first_reason}
 use Rattle.pb_steps.specs.Steps.{step_reason, StepCase}
+use Rattle.pb_steps.specs.declared.step.Work.{Work}
+use Rattle.pb_history.specs.declared.entry.Entry.{Entry}
 use Rattle.pb_history.specs.declared.entry.Received.{Received}
 use Rattle.pb_core.specs.Calls.{SharedOf, SeatOf, Calls, or_full, call_reason}
 use Rattle.pb_alone.specs.declared.fault.RunFault.{RunFault}
 use Rattle.pb_alone.specs.declared.fault.RunFault.TheVariants as faults
 use Rattle.pb_alone.specs.Alone.{Goes, entry}
-use Rattle.pb_alone.specs.Faults.{IsRefusedBy, IsEnd}
+use Rattle.pb_alone.specs.Faults.{IsRefusedBy}
+use Rattle.pb_alone.specs.Stops.{works_in, answers_in, is_over, takes_timestamp, BeginsWith, HasBegun, IsAtEnd, HasStopped, StopsIn}
 
 -- ---- lists
 
@@ -89,22 +92,34 @@ module _ (s0 : SharedOf) (q0 : SeatOf) (s : SharedOf) (q : SeatOf) (state : Stat
   out_or_full true false why e = inl (cc, refl)
   out_or_full false full why e = inr (full_is full why e)
 
-  pub end_if_none : (step : Step) (f : RunFault) → step_reason state q0.number step ≡ None → IsRefusedBy s q.number step f → IsEnd s f
-  end_if_none step (faults.Refused n) none e =
-      let p = full_is (length s.journal == s.limit) e.0 (ap (λ r. or_full r (length s.journal == s.limit)) (sym none) ∙ refused_here step e.0 e.1) in
-      inr (e.2 ∙ ap reason_code p.0, eqb-true _ _ p.1)
-  end_if_none step faults.NoMemory none e = tt
-  end_if_none step (faults.Manifest m) none e = e
-  end_if_none step (faults.Script m) none e = e
-  end_if_none step faults.Output none e = e
+  -- ---- what was begun, and where it stopped
 
-  pub end_if_out : (step : Step) (f : RunFault) → step_reason state q0.number step ≡ first_reason ((OutOfTimestamps, is_out state) ∷ []) → IsRefusedBy s q.number step f → IsEnd s f
-  end_if_out step (faults.Refused n) why e =
-      elim (out_or_full (is_out state) (length s.journal == s.limit) e.0 (ap (λ r. or_full r (length s.journal == s.limit)) (sym why) ∙ refused_here step e.0 e.1)) [
-        | inl p ↦ inl (e.2 ∙ ap reason_code p.0, ap (λ (z : StateOf). z.clock) at.state_is ∙ eqb-true _ _ p.1)
-        | inr p ↦ inr (e.2 ∙ ap reason_code p.0, eqb-true _ _ p.1)
-      ]
-  end_if_out step faults.NoMemory why e = tt
-  end_if_out step (faults.Manifest m) why e = e
-  end_if_out step (faults.Script m) why e = e
-  end_if_out step faults.Output why e = e
+  abbrev entries : List Entry
+  entries = map (λ r. entry q0.number r.step r.answer) more
+
+  pub begun : (ws : List Work) → works_in entries ≡ ws → HasBegun s0 ws s
+  begun ws e = record { more = entries; journal = at.journal; works_are = e }
+
+  module _ (w : Work) (begins : BeginsWith w entries) (goes_on : is_over (answers_in entries) ≡ false) where
+    stops : (code : ℕ) → IsAtEnd s entries code → HasStopped s0 (w ∷ []) s code
+    stops code end = record { before = []; rest = entries; journal = at.journal; work = w; later = []; works_are = refl; begins = begins; goes_on = goes_on; at_end = end }
+
+    pub end_if_none : (step : Step) (f : RunFault) → step_reason state q0.number step ≡ None → IsRefusedBy s q.number step f → StopsIn s0 (w ∷ []) s f
+    end_if_none step (faults.Refused n) none e =
+        let p = full_is (length s.journal == s.limit) e.0 (ap (λ r. or_full r (length s.journal == s.limit)) (sym none) ∙ refused_here step e.0 e.1) in
+        stops n (inr (e.2 ∙ ap reason_code p.0, eqb-true _ _ p.1))
+    end_if_none step faults.NoMemory none e = tt
+    end_if_none step (faults.Manifest m) none e = e
+    end_if_none step (faults.Script m) none e = e
+    end_if_none step faults.Output none e = e
+
+    pub end_if_out : (step : Step) (f : RunFault) → takes_timestamp entries ≡ true → step_reason state q0.number step ≡ first_reason ((OutOfTimestamps, is_out state) ∷ []) → IsRefusedBy s q.number step f → StopsIn s0 (w ∷ []) s f
+    end_if_out step (faults.Refused n) takes why e =
+        elim (out_or_full (is_out state) (length s.journal == s.limit) e.0 (ap (λ r. or_full r (length s.journal == s.limit)) (sym why) ∙ refused_here step e.0 e.1)) [
+          | inl p ↦ stops n (inl (e.2 ∙ ap reason_code p.0, ap (λ (z : StateOf). z.clock) at.state_is ∙ eqb-true _ _ p.1, takes))
+          | inr p ↦ stops n (inr (e.2 ∙ ap reason_code p.0, eqb-true _ _ p.1))
+        ]
+    end_if_out step faults.NoMemory takes why e = tt
+    end_if_out step (faults.Manifest m) takes why e = e
+    end_if_out step (faults.Script m) takes why e = e
+    end_if_out step faults.Output takes why e = e

@@ -12,6 +12,7 @@ pub mod OnTexts
 mod Ends
 mod RunStages
 pub mod RunUpto
+pub mod Stopping
 mod Extending
 pub mod RunVisit
 pub mod OneRound

@@ -14,6 +14,9 @@ use Rattle.pb_alone.specs.Alone.{IsClean, Goes, entry}
 use Rattle.pb_alone.specs.Visits.{Extends, IsCleanAt, Visits}
 use Rattle.pb_alone.specs.Rounds.{AreDone, RiseBetween, Rounds, AllBelow}
 use Rattle.pb_alone.specs.Due.{due_from, due_at}
+use Rattle.pb_alone.specs.Stops.{HasBegun, due_work}
+use Rattle.pb_alone.proofs.Going.{append_nil, map_append}
+use Rattle.pb_alone.proofs.Stopping.{none_begun, begun_on}
 
 -- ---- lists
 
@@ -30,10 +33,6 @@ pub has_which : {A : Type 0} (xs ys : List A) (z : A) → Has (xs ++ ys) z → H
 has_which [] ys z h = inr h
 has_which (x ∷ xs) ys z (inl e) = inl (inl e)
 has_which (x ∷ xs) ys z (inr h) = elim (has_which xs ys z h) [ inl k ↦ inl (inr k) | inr k ↦ inr k ]
-
-append_nil : {A : Type 0} (xs : List A) → xs ++ [] ≡ xs
-append_nil [] = refl
-append_nil (x ∷ xs) = ap (λ l. x ∷ l) (append_nil xs)
 
 drop_suc : {A : Type 0} (xs : List A) (i : ℕ) (x : A) → slice_get xs i ≡ Some x → drop i xs ≡ x ∷ drop (suc i) xs
 drop_suc [] zero x e = cc
@@ -104,6 +103,7 @@ pub no_rounds : (s : SharedOf) (seat : ℕ) → IsClean s.state → Rounds s sea
 no_rounds s seat clean = record {
   clean = clean;
   observers = refl;
+  begun = none_begun s;
   runs = [];
   history = record { each = λ n h. inl h; kept = λ n h. h; more = λ n h. absurd h };
   rise = omega arith;
@@ -117,11 +117,13 @@ pub one_round : (s : SharedOf) (seat : ℕ) (due : List (ℕ × Row)) (a : Share
 one_round s seat due a p d b q r g v =
     let os-is = v.observers in
     let before : Extends b.state.observers s.journal a.journal r.runs = subst (λ os. Extends os s.journal a.journal r.runs) (sym os-is) r.history in
+    let begun : HasBegun s (map due_work (due ++ d ∷ [])) b = subst (λ ws. HasBegun s ws b) (sym (map_append due_work due (d ∷ []))) (begun_on s (map due_work due) a (due_work d ∷ []) b r.begun v.begun) in
     let done : AreDone b.state.observers b.journal seat due r.runs = subst (λ os. AreDone os b.journal seat due r.runs) (sym os-is) (done_on a.state.observers a.journal b.journal seat due r.runs (grows a p b q g) r.done) in
     elim v.outcome [
       | inl ran ↦ record {
         clean = v.clean;
         observers = v.observers ∙ r.observers;
+        begun = begun;
         runs = r.runs ++ ran.m ∷ [];
         history = extends_on b.state.observers s.journal a.journal b.journal r.runs (ran.m ∷ []) before ran.history;
         rise = rise_push s.state.clock a.state.clock b.state.clock r.runs ran.m r.rise ran.later ran.upto;
@@ -130,6 +132,7 @@ one_round s seat due a p d b q r g v =
       | inr clean ↦ record {
         clean = v.clean;
         observers = v.observers ∙ r.observers;
+        begun = begun;
         runs = r.runs;
         history = subst (λ ms. Extends b.state.observers s.journal b.journal ms) (append_nil r.runs) (extends_on b.state.observers s.journal a.journal b.journal r.runs [] before clean.history);
         rise = widen s.state.clock a.state.clock b.state.clock r.runs r.rise v.clock;

@@ -1,5 +1,6 @@
 -- A run of an observer, call by call.
-use Rattle.std.proofs.Common.{◌≡◌, ℕ, ◌+◌, ◌<◌, List, [], ◌∷◌, ◌++◌, Some, None, slice_get, refl, sym, ap, subst, ◌∙◌, arith}
+use Rattle.std.proofs.Common.{◌≡◌, ℕ, ◌+◌, ◌<◌, false, not, ◌||◌, List, [], ◌∷◌, ◌++◌, Some, None, slice_get, refl, sym, ap, subst, ◌∙◌, arith}
+use Rattle.std.proofs.lemmas.Bool.{lt-ltb}
 use Rattle.pb_base.specs.declared.cell.Cell.{Cell}
 use Rattle.pb_base.specs.declared.names.Row.{Row}
 use Rattle.pb_base.specs.declared.names.Ts.{Ts}
@@ -25,7 +26,8 @@ use Rattle.pb_history.specs.declared.entry.Received.{Received}
 use Rattle.pb_core.specs.Calls.{SharedOf, SeatOf, Calls}
 use Rattle.pb_alone.specs.declared.fault.RunFault.{RunFault}
 use Rattle.pb_alone.specs.Alone.{IsClean, Goes, ts}
-use Rattle.pb_alone.specs.Faults.{IsRefusedBy, IsEnd}
+use Rattle.pb_alone.specs.Faults.{IsRefusedBy}
+use Rattle.pb_alone.specs.Stops.{StopsIn, is_over, has_committed}
 use Rattle.pb_alone.proofs.RunStages as stages
 use Rattle.pb_alone.proofs.RunStages.{IsSeen}
 use Rattle.pb_alone.proofs.Ends as ends
@@ -33,6 +35,11 @@ use Rattle.pb_alone.proofs.Going.{AtStage, stage0, next, goes, end_if_none, end_
 
 abbrev pub told : Step → Answer → Received
 told step answer = record { step = step; answer = answer }
+
+-- a run whose cell is newer than its acknowledgment goes on until it commits
+newer_goes_on : (s : Ts) (b1 b2 : Answer) (v : Version) (more : List Answer) → b1 ≡ found_answer v → (acknowledged_in b2).0 < v.commit.0 → has_committed more ≡ false → is_over (At s ∷ b1 ∷ b2 ∷ more) ≡ false
+newer_goes_on s b1 b2 v more saw newer none =
+    subst (λ b. is_over (At s ∷ b ∷ b2 ∷ more) ≡ false) (sym saw) (λ i. not (lt-ltb (acknowledged_in b2).0 v.commit.0 newer i) || none i)
 
 module _ (s0 : SharedOf) (q0 : SeatOf) (o : ℕ) (row : Row) (ob : ObserverOf) (there : slice_get s0.state.observers o ≡ Some ob)
     (x ack : Cell) (x_is : x ≡ observed_cell s0.state.observers o row) (ack_is : ack ≡ acknowledgment s0.state.observers o row) (clean : IsClean s0.state) (seated : q0.number < s0.state.seats) where
@@ -54,8 +61,8 @@ module _ (s0 : SharedOf) (q0 : SeatOf) (o : ℕ) (row : Row) (ob : ObserverOf) (
   pub goes0 : Goes s0 q0 s0 q0
   goes0 = goes s0 q0 s0 q0 z [] (stage0 s0 q0) refl refl
 
-  pub end0 : (f : RunFault) → IsRefusedBy s0 q0.number (Begin (works.Run o row)) f → IsEnd s0 f
-  end0 f = end_if_out s0 q0 s0 q0 z [] (stage0 s0 q0) (Begin (works.Run o row)) f (stages.begin_refused z seat o row ob there x ack x_is ack_is seated)
+  pub end0 : (f : RunFault) → IsRefusedBy s0 q0.number (Begin (works.Run o row)) f → StopsIn s0 (works.Run o row ∷ []) s0 f
+  end0 f = end_if_out s0 q0 s0 q0 z [] (stage0 s0 q0) (works.Run o row) tt refl (Begin (works.Run o row)) f refl (stages.begin_refused z seat o row ob there x ack x_is ack_is seated)
 
   module _ (ans1 : Answer) (s1 : SharedOf) (q1 : SeatOf) (c1 : Calls s0 q0 (Begin (works.Run o row)) ans1 s1 q1) where
     abbrev pub z1 : StateOf
@@ -77,8 +84,8 @@ module _ (s0 : SharedOf) (q0 : SeatOf) (o : ℕ) (row : Row) (ob : ObserverOf) (
       pub start_is : start ≡ ts a
       start_is = let e = is_start in cc
 
-      pub end1 : (f : RunFault) → IsRefusedBy s1 q1.number (Read start x) f → IsEnd s1 f
-      end1 f h = end_if_none s0 q0 s1 q1 z1 e1 at1 (Read (ts a) x) f (stages.cell_refused z seat o row ob there x ack x_is ack_is seated) (subst (λ n. IsRefusedBy s1 q1.number (Read n x) f) start_is h)
+      pub end1 : (f : RunFault) → IsRefusedBy s1 q1.number (Read start x) f → StopsIn s0 (works.Run o row ∷ []) s1 f
+      end1 f h = end_if_none s0 q0 s1 q1 z1 e1 at1 (works.Run o row) refl refl (Read (ts a) x) f (stages.cell_refused z seat o row ob there x ack x_is ack_is seated) (subst (λ n. IsRefusedBy s1 q1.number (Read n x) f) start_is h)
 
       module _ (b1 : Answer) (s2 : SharedOf) (q2 : SeatOf) (c2 : Calls s1 q1 (Read start x) b1 s2 q2) where
         abbrev pub z2 : StateOf
@@ -103,8 +110,8 @@ module _ (s0 : SharedOf) (q0 : SeatOf) (o : ℕ) (row : Row) (ob : ObserverOf) (
         pub goes2 : Goes s0 q0 s2 q2
         goes2 = goes s0 q0 s2 q2 z2 e2 at2 refl refl
 
-        pub end2 : (f : RunFault) → IsRefusedBy s2 q2.number (Read start ack) f → IsEnd s2 f
-        end2 f h = end_if_none s0 q0 s2 q2 z2 e2 at2 (Read (ts a) ack) f (stages.ack_refused z seat o row ob there x ack x_is ack_is seated b1) (subst (λ n. IsRefusedBy s2 q2.number (Read n ack) f) start_is h)
+        pub end2 : (v : Version) → b1 ≡ found_answer v → (f : RunFault) → IsRefusedBy s2 q2.number (Read start ack) f → StopsIn s0 (works.Run o row ∷ []) s2 f
+        end2 v saw f h = end_if_none s0 q0 s2 q2 z2 e2 at2 (works.Run o row) refl (subst (λ b. is_over (At (ts a) ∷ b ∷ []) ≡ false) (sym saw) refl) (Read (ts a) ack) f (stages.ack_refused z seat o row ob there x ack x_is ack_is seated b1) (subst (λ n. IsRefusedBy s2 q2.number (Read n ack) f) start_is h)
 
         module _ (b2 : Answer) (s3 : SharedOf) (q3 : SeatOf) (c3 : Calls s2 q2 (Read start ack) b2 s3 q3) where
           abbrev pub z3 : StateOf
@@ -133,8 +140,8 @@ module _ (s0 : SharedOf) (q0 : SeatOf) (o : ℕ) (row : Row) (ob : ObserverOf) (
             not_refused : step_reason (stages.s3 z seat o row ob there x ack x_is ack_is (found_answer v) b2) seat declare ≡ None
             not_refused = stages.declare_refused z seat o row ob there x ack x_is ack_is seated v b2 f newer run_is
 
-            pub end3 : (g : RunFault) → IsRefusedBy s3 q3.number (Declare start (declared.Run o f)) g → IsEnd s3 g
-            end3 g h = end_if_none s0 q0 s3 q3 z3 e3 at3 declare g (subst (λ b. step_reason (stages.s3 z seat o row ob there x ack x_is ack_is b b2) seat declare ≡ None) (sym saw) not_refused) (subst (λ n. IsRefusedBy s3 q3.number (Declare n (declared.Run o f)) g) start_is h)
+            pub end3 : (g : RunFault) → IsRefusedBy s3 q3.number (Declare start (declared.Run o f)) g → StopsIn s0 (works.Run o row ∷ []) s3 g
+            end3 g h = end_if_none s0 q0 s3 q3 z3 e3 at3 (works.Run o row) refl (newer_goes_on (ts a) b1 b2 v [] saw newer refl) declare g (subst (λ b. step_reason (stages.s3 z seat o row ob there x ack x_is ack_is b b2) seat declare ≡ None) (sym saw) not_refused) (subst (λ n. IsRefusedBy s3 q3.number (Declare n (declared.Run o f)) g) start_is h)
 
             module _ (ans4 : Answer) (s4 : SharedOf) (q4 : SeatOf) (c4 : Calls s3 q3 (Declare start (declared.Run o f)) ans4 s4 q4) where
               abbrev pub z4 : StateOf
@@ -161,8 +168,8 @@ module _ (s0 : SharedOf) (q0 : SeatOf) (o : ℕ) (row : Row) (ob : ObserverOf) (
               past : (y : Cell) (c s : ℕ) → write_at z4.entries y c ≡ Some s → c < a
               past y c s h = let p = clean.past y c s h in omega (arith, p)
 
-              pub end4 : (g : RunFault) → IsRefusedBy s4 q4.number (Prewrite start ack) g → IsEnd s4 g
-              end4 g h = end_if_none s0 q0 s4 q4 z4 e4 at4 (Prewrite (ts a) ack) g (ends.prewrite_refused z4 seat a ack (contents.Stamp (ts a)) t4 own4 refl refl alone refl refl seated) (subst (λ n. IsRefusedBy s4 q4.number (Prewrite n ack) g) start_is h)
+              pub end4 : (g : RunFault) → IsRefusedBy s4 q4.number (Prewrite start ack) g → StopsIn s0 (works.Run o row ∷ []) s4 g
+              end4 g h = end_if_none s0 q0 s4 q4 z4 e4 at4 (works.Run o row) refl (newer_goes_on (ts a) b1 b2 v (Done ∷ []) saw newer refl) (Prewrite (ts a) ack) g (ends.prewrite_refused z4 seat a ack (contents.Stamp (ts a)) t4 own4 refl refl alone refl refl seated) (subst (λ n. IsRefusedBy s4 q4.number (Prewrite n ack) g) start_is h)
 
               module _ (ans5 : Answer) (s5 : SharedOf) (q5 : SeatOf) (c5 : Calls s4 q4 (Prewrite start ack) ans5 s5 q5) where
                 abbrev pub z5 : StateOf
@@ -177,8 +184,8 @@ module _ (s0 : SharedOf) (q0 : SeatOf) (o : ℕ) (row : Row) (ob : ObserverOf) (
                 pub goes5 : Goes s0 q0 s5 q5
                 goes5 = goes s0 q0 s5 q5 z5 e5 at5 refl refl
 
-                pub end5 : (g : RunFault) → IsRefusedBy s5 q5.number (Stamp start) g → IsEnd s5 g
-                end5 g h = end_if_out s0 q0 s5 q5 z5 e5 at5 (Stamp (ts a)) g (ends.stamp_refused z4 seat a ack (contents.Stamp (ts a)) t4 own4 refl refl alone refl refl seated) (subst (λ n. IsRefusedBy s5 q5.number (Stamp n) g) start_is h)
+                pub end5 : (g : RunFault) → IsRefusedBy s5 q5.number (Stamp start) g → StopsIn s0 (works.Run o row ∷ []) s5 g
+                end5 g h = end_if_out s0 q0 s5 q5 z5 e5 at5 (works.Run o row) refl (newer_goes_on (ts a) b1 b2 v (Done ∷ Done ∷ []) saw newer refl) (Stamp (ts a)) g refl (ends.stamp_refused z4 seat a ack (contents.Stamp (ts a)) t4 own4 refl refl alone refl refl seated) (subst (λ n. IsRefusedBy s5 q5.number (Stamp n) g) start_is h)
 
                 module _ (ans6 : Answer) (s6 : SharedOf) (q6 : SeatOf) (c6 : Calls s5 q5 (Stamp start) ans6 s6 q6) where
                   abbrev pub z6 : StateOf
@@ -193,8 +200,8 @@ module _ (s0 : SharedOf) (q0 : SeatOf) (o : ℕ) (row : Row) (ob : ObserverOf) (
                   pub goes6 : Goes s0 q0 s6 q6
                   goes6 = goes s0 q0 s6 q6 z6 e6 at6 refl refl
 
-                  pub end6 : (g : RunFault) → IsRefusedBy s6 q6.number (CommitPrimary start) g → IsEnd s6 g
-                  end6 g h = end_if_none s0 q0 s6 q6 z6 e6 at6 (CommitPrimary (ts a)) g (ends.commit_refused z4 seat a ack (contents.Stamp (ts a)) t4 own4 refl refl alone refl refl seated) (subst (λ n. IsRefusedBy s6 q6.number (CommitPrimary n) g) start_is h)
+                  pub end6 : (g : RunFault) → IsRefusedBy s6 q6.number (CommitPrimary start) g → StopsIn s0 (works.Run o row ∷ []) s6 g
+                  end6 g h = end_if_none s0 q0 s6 q6 z6 e6 at6 (works.Run o row) refl (newer_goes_on (ts a) b1 b2 v (Done ∷ Done ∷ At (ts (a + 1)) ∷ []) saw newer refl) (CommitPrimary (ts a)) g (ends.commit_refused z4 seat a ack (contents.Stamp (ts a)) t4 own4 refl refl alone refl refl seated) (subst (λ n. IsRefusedBy s6 q6.number (CommitPrimary n) g) start_is h)
 
                   module _ (ans7 : Answer) (s7 : SharedOf) (q7 : SeatOf) (c7 : Calls s6 q6 (CommitPrimary start) ans7 s7 q7) where
                     abbrev pub z7 : StateOf

@@ -25,12 +25,13 @@ use Rattle.pb_core.specs.Calls.{SharedOf, SeatOf, Calls}
 use Rattle.pb_history.specs.History.{Has, IsEntry, TellsHistory}
 use Rattle.pb_alone.specs.declared.fault.RunFault.{RunFault}
 use Rattle.pb_alone.specs.Alone.{IsClean, Goes, ts, entry}
-use Rattle.pb_alone.specs.Faults.{IsRefusedBy, IsEnd}
+use Rattle.pb_alone.specs.Faults.{IsRefusedBy}
+use Rattle.pb_alone.specs.Stops.{StopsIn}
 use Rattle.pb_alone.specs.Visits.{IsObserver, Visits}
 use Rattle.pb_alone.proofs.RunStages.{IsSeen}
 use Rattle.pb_alone.proofs.Extending.{got_there, member_of, extends_none, extends_one}
 use Rattle.pb_alone.proofs.Stages.{got_here}
-use Rattle.pb_alone.proofs.Going.{AtStage}
+use Rattle.pb_alone.proofs.Going.{AtStage, begun}
 use Rattle.pb_alone.proofs.RunUpto as upto
 
 has_right : {A : Type 0} (xs ys : List A) (z : A) → Has ys z → Has (xs ++ ys) z
@@ -60,16 +61,19 @@ module _ (s0 : SharedOf) (q0 : SeatOf) (o : ℕ) (row : Row) (program : Accepted
   entry_of : (s : SharedOf) (q : SeatOf) (z : StateOf) (more : List Received) (at : AtStage s0 q0 s q z more) (step : Step) (answer : Answer) → Has (map (λ (r : Received). entry q0.number r.step r.answer) more) (entry q0.number step answer) → IsEntry s.journal q0.number step answer
   entry_of s q z more at step answer h = subst (λ j. Has j (entry q0.number step answer)) (sym at.journal) (has_right s0.journal (map (λ (r : Received). entry q0.number r.step r.answer) more) _ h)
 
+  pub end0 : (f : RunFault) → IsRefusedBy s0 q0.number (Begin (works.Run o row)) f → StopsIn s0 (works.Run o row ∷ []) s0 f
+  end0 f h = upto.end0 s0 q0 o row io.observer io.there x k x_is k_is clean seated f h
+
   module _ (ans1 : Answer) (s1 : SharedOf) (q1 : SeatOf) (c1 : Calls s0 q0 (Begin (works.Run o row)) ans1 s1 q1) (start : Ts) (is : ans1 ≡ At start) where
-    pub end1 : (f : RunFault) → IsRefusedBy s1 q1.number (Read start x) f → IsEnd s1 f
+    pub end1 : (f : RunFault) → IsRefusedBy s1 q1.number (Read start x) f → StopsIn s0 (works.Run o row ∷ []) s1 f
     end1 f h = upto.end1 s0 q0 o row io.observer io.there x k x_is k_is clean seated ans1 s1 q1 c1 start is f h
 
     module _ (b1 : Answer) (s2 : SharedOf) (q2 : SeatOf) (c2 : Calls s1 q1 (Read start x) b1 s2 q2) where
       pub goes2 : Goes s0 q0 s2 q2
       goes2 = upto.goes2 s0 q0 o row io.observer io.there x k x_is k_is clean seated ans1 s1 q1 c1 start is b1 s2 q2 c2
 
-      pub end2 : (f : RunFault) → IsRefusedBy s2 q2.number (Read start k) f → IsEnd s2 f
-      end2 f h = upto.end2 s0 q0 o row io.observer io.there x k x_is k_is clean seated ans1 s1 q1 c1 start is b1 s2 q2 c2 f h
+      pub end2 : (v : Version) → b1 ≡ found_answer v → (f : RunFault) → IsRefusedBy s2 q2.number (Read start k) f → StopsIn s0 (works.Run o row ∷ []) s2 f
+      end2 v saw f h = upto.end2 s0 q0 o row io.observer io.there x k x_is k_is clean seated ans1 s1 q1 c1 start is b1 s2 q2 c2 v saw f h
 
       at2 : AtStage s0 q0 s2 q2 (upto.z2 s0 q0 o row io.observer io.there x k x_is k_is clean seated ans1 s1 q1 c1 start is b1 s2 q2 c2) (upto.e2 s0 q0 o row io.observer io.there x k x_is k_is clean seated ans1 s1 q1 c1 start is b1 s2 q2 c2)
       at2 = upto.at2 s0 q0 o row io.observer io.there x k x_is k_is clean seated ans1 s1 q1 c1 start is b1 s2 q2 c2
@@ -94,6 +98,7 @@ module _ (s0 : SharedOf) (q0 : SeatOf) (o : ℕ) (row : Row) (program : Accepted
             clean = subst IsClean (sym z) (record { unlocked = clean.unlocked; past = λ y c s h. let p = clean.past y c s h in omega (arith, p) });
             clock = subst (λ (w : StateOf). s0.state.clock ≤ w.clock) (sym z) (omega arith);
             observers = ap (λ (w : StateOf). w.observers) z;
+            begun = begun s0 q0 s2 q2 _ _ at2 (works.Run o row ∷ []) refl;
             outcome = inr (record {
               at = record {
                 start = a;
@@ -126,6 +131,7 @@ module _ (s0 : SharedOf) (q0 : SeatOf) (o : ℕ) (row : Row) (program : Accepted
               clean = subst IsClean (sym z) (record { unlocked = clean.unlocked; past = λ y c s h. let p = clean.past y c s h in omega (arith, p) });
               clock = subst (λ (w : StateOf). s0.state.clock ≤ w.clock) (sym z) (omega arith);
               observers = os-is;
+              begun = begun s0 q0 s3 q3 _ _ at3 (works.Run o row ∷ []) refl;
               outcome = inr (record {
                 at = record {
                   start = a;
@@ -145,7 +151,7 @@ module _ (s0 : SharedOf) (q0 : SeatOf) (o : ℕ) (row : Row) (program : Accepted
           run = made ∙ ap (λ p. plain_run p (record_of x v (acknowledged_in b2).0) start.0 f.result) (sym io.program_is)
 
           module _ (what : Declared) (what_is : what ≡ declared.Run o f) where
-            pub end3 : (g : RunFault) → IsRefusedBy s3 q3.number (Declare start what) g → IsEnd s3 g
+            pub end3 : (g : RunFault) → IsRefusedBy s3 q3.number (Declare start what) g → StopsIn s0 (works.Run o row ∷ []) s3 g
             end3 g h = upto.end3 s0 q0 o row io.observer io.there x k x_is k_is clean seated ans1 s1 q1 c1 start is b1 s2 q2 c2 b2 s3 q3 c3 v saw newer f run g (subst (λ w. IsRefusedBy s3 q3.number (Declare start w) g) what_is h)
 
             module _ (ans4 : Answer) (s4 : SharedOf) (q4 : SeatOf) (c4 : Calls s3 q3 (Declare start what) ans4 s4 q4) where
@@ -155,21 +161,21 @@ module _ (s0 : SharedOf) (q0 : SeatOf) (o : ℕ) (row : Row) (program : Accepted
               pub goes4 : Goes s0 q0 s4 q4
               goes4 = upto.goes4 s0 q0 o row io.observer io.there x k x_is k_is clean seated ans1 s1 q1 c1 start is b1 s2 q2 c2 b2 s3 q3 c3 v saw newer f run ans4 s4 q4 d4
 
-              pub end4 : (g : RunFault) → IsRefusedBy s4 q4.number (Prewrite start k) g → IsEnd s4 g
+              pub end4 : (g : RunFault) → IsRefusedBy s4 q4.number (Prewrite start k) g → StopsIn s0 (works.Run o row ∷ []) s4 g
               end4 g h = upto.end4 s0 q0 o row io.observer io.there x k x_is k_is clean seated ans1 s1 q1 c1 start is b1 s2 q2 c2 b2 s3 q3 c3 v saw newer f run ans4 s4 q4 d4 g h
 
               module _ (ans5 : Answer) (s5 : SharedOf) (q5 : SeatOf) (c5 : Calls s4 q4 (Prewrite start k) ans5 s5 q5) where
                 pub goes5 : Goes s0 q0 s5 q5
                 goes5 = upto.goes5 s0 q0 o row io.observer io.there x k x_is k_is clean seated ans1 s1 q1 c1 start is b1 s2 q2 c2 b2 s3 q3 c3 v saw newer f run ans4 s4 q4 d4 ans5 s5 q5 c5
 
-                pub end5 : (g : RunFault) → IsRefusedBy s5 q5.number (Stamp start) g → IsEnd s5 g
+                pub end5 : (g : RunFault) → IsRefusedBy s5 q5.number (Stamp start) g → StopsIn s0 (works.Run o row ∷ []) s5 g
                 end5 g h = upto.end5 s0 q0 o row io.observer io.there x k x_is k_is clean seated ans1 s1 q1 c1 start is b1 s2 q2 c2 b2 s3 q3 c3 v saw newer f run ans4 s4 q4 d4 ans5 s5 q5 c5 g h
 
                 module _ (ans6 : Answer) (s6 : SharedOf) (q6 : SeatOf) (c6 : Calls s5 q5 (Stamp start) ans6 s6 q6) where
                   pub goes6 : Goes s0 q0 s6 q6
                   goes6 = upto.goes6 s0 q0 o row io.observer io.there x k x_is k_is clean seated ans1 s1 q1 c1 start is b1 s2 q2 c2 b2 s3 q3 c3 v saw newer f run ans4 s4 q4 d4 ans5 s5 q5 c5 ans6 s6 q6 c6
 
-                  pub end6 : (g : RunFault) → IsRefusedBy s6 q6.number (CommitPrimary start) g → IsEnd s6 g
+                  pub end6 : (g : RunFault) → IsRefusedBy s6 q6.number (CommitPrimary start) g → StopsIn s0 (works.Run o row ∷ []) s6 g
                   end6 g h = upto.end6 s0 q0 o row io.observer io.there x k x_is k_is clean seated ans1 s1 q1 c1 start is b1 s2 q2 c2 b2 s3 q3 c3 v saw newer f run ans4 s4 q4 d4 ans5 s5 q5 c5 ans6 s6 q6 c6 g h
 
                   module _ (ans7 : Answer) (s7 : SharedOf) (q7 : SeatOf) (c7 : Calls s6 q6 (CommitPrimary start) ans7 s7 q7) where
@@ -190,6 +196,7 @@ module _ (s0 : SharedOf) (q0 : SeatOf) (o : ℕ) (row : Row) (program : Accepted
                           clean = upto.clean7 s0 q0 o row io.observer io.there x k x_is k_is clean seated ans1 s1 q1 c1 start is b1 s2 q2 c2 b2 s3 q3 c3 v saw newer f run ans4 s4 q4 d4 ans5 s5 q5 c5 ans6 s6 q6 c6 ans7 s7 q7 c7;
                           clock = subst (λ (w : StateOf). s0.state.clock ≤ w.clock) (sym z) (omega arith);
                           observers = os-is;
+                          begun = begun s0 q0 s7 q7 _ _ at7 (works.Run o row ∷ []) refl;
                           outcome = inl (record {
                             m = member_of a (a + 1) u;
                             work = refl;

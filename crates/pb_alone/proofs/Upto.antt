@@ -17,7 +17,8 @@ use Rattle.pb_history.specs.declared.entry.Received.{Received}
 use Rattle.pb_core.specs.Calls.{SharedOf, SeatOf, Calls}
 use Rattle.pb_alone.specs.declared.fault.RunFault.{RunFault}
 use Rattle.pb_alone.specs.Alone.{IsClean, Goes, Changes, IsSmall, ts, entry, changes_from, change_entries}
-use Rattle.pb_alone.specs.Faults.{IsRefusedBy, IsEnd}
+use Rattle.pb_alone.specs.Faults.{IsRefusedBy}
+use Rattle.pb_alone.specs.Stops.{StopsIn}
 use Rattle.pb_alone.proofs.Stages as stages
 use Rattle.pb_alone.proofs.Going.{AtStage, stage0, next, goes, end_if_none, end_if_out}
 
@@ -42,8 +43,8 @@ module _ (s0 : SharedOf) (q0 : SeatOf) (batch : Writes) (x : Cell) (first : prim
   pub goes0 : Goes s0 q0 s0 q0
   goes0 = goes s0 q0 s0 q0 s0.state [] (stage0 s0 q0) refl refl
 
-  pub end0 : (f : RunFault) → IsRefusedBy s0 q0.number (Begin works.Script) f → IsEnd s0 f
-  end0 f = end_if_out s0 q0 s0 q0 s0.state [] (stage0 s0 q0) (Begin works.Script) f (stages.begin_refused s0.state q0.number x k seated)
+  pub end0 : (f : RunFault) → IsRefusedBy s0 q0.number (Begin works.Script) f → StopsIn s0 (works.Script ∷ []) s0 f
+  end0 f = end_if_out s0 q0 s0 q0 s0.state [] (stage0 s0 q0) works.Script tt refl (Begin works.Script) f refl (stages.begin_refused s0.state q0.number x k seated)
 
   module _ (ans1 : Answer) (s1 : SharedOf) (q1 : SeatOf) (c1 : Calls s0 q0 (Begin works.Script) ans1 s1 q1) where
     pub is_start : ans1 ≡ At (ts a)
@@ -71,8 +72,8 @@ module _ (s0 : SharedOf) (q0 : SeatOf) (batch : Writes) (x : Cell) (first : prim
       declare_is : Declare start what ≡ declare
       declare_is i = Declare (start_is i) (whole_is i)
 
-      pub end1 : (f : RunFault) → IsRefusedBy s1 q1.number (Declare start what) f → IsEnd s1 f
-      end1 f h = end_if_none s0 q0 s1 q1 (stages.s1 s0.state q0.number x k) e1 at1 declare f (stages.declare_refused s0.state q0.number x k seated) (subst (λ step. IsRefusedBy s1 q1.number step f) declare_is h)
+      pub end1 : (f : RunFault) → IsRefusedBy s1 q1.number (Declare start what) f → StopsIn s0 (works.Script ∷ []) s1 f
+      end1 f h = end_if_none s0 q0 s1 q1 (stages.s1 s0.state q0.number x k) e1 at1 works.Script refl refl declare f (stages.declare_refused s0.state q0.number x k seated) (subst (λ step. IsRefusedBy s1 q1.number step f) declare_is h)
 
       module _ (ans2 : Answer) (s2 : SharedOf) (q2 : SeatOf) (c2 : Calls s1 q1 (Declare start what) ans2 s2 q2) where
         abbrev e2 : List Received
@@ -84,8 +85,8 @@ module _ (s0 : SharedOf) (q0 : SeatOf) (batch : Writes) (x : Cell) (first : prim
         pub goes2 : Goes s0 q0 s2 q2
         goes2 = goes s0 q0 s2 q2 (stages.s2 s0.state q0.number x k) e2 at2 refl refl
 
-        pub end2 : (f : RunFault) → IsRefusedBy s2 q2.number (Prewrite start x) f → IsEnd s2 f
-        end2 f h = end_if_none s0 q0 s2 q2 (stages.s2 s0.state q0.number x k) e2 at2 (Prewrite (ts a) x) f (stages.prewrite_refused s0.state q0.number x k seated) (subst (λ n. IsRefusedBy s2 q2.number (Prewrite n x) f) start_is h)
+        pub end2 : (f : RunFault) → IsRefusedBy s2 q2.number (Prewrite start x) f → StopsIn s0 (works.Script ∷ []) s2 f
+        end2 f h = end_if_none s0 q0 s2 q2 (stages.s2 s0.state q0.number x k) e2 at2 works.Script refl refl (Prewrite (ts a) x) f (stages.prewrite_refused s0.state q0.number x k seated) (subst (λ n. IsRefusedBy s2 q2.number (Prewrite n x) f) start_is h)
 
         module _ (ans3 : Answer) (s3 : SharedOf) (q3 : SeatOf) (c3 : Calls s2 q2 (Prewrite start x) ans3 s3 q3) where
           abbrev e3 : List Received
@@ -97,8 +98,8 @@ module _ (s0 : SharedOf) (q0 : SeatOf) (batch : Writes) (x : Cell) (first : prim
           pub goes3 : Goes s0 q0 s3 q3
           goes3 = goes s0 q0 s3 q3 (stages.s3 s0.state q0.number x k) e3 at3 refl refl
 
-          pub end3 : (f : RunFault) → IsRefusedBy s3 q3.number (Stamp start) f → IsEnd s3 f
-          end3 f h = end_if_out s0 q0 s3 q3 (stages.s3 s0.state q0.number x k) e3 at3 (Stamp (ts a)) f (stages.stamp_refused s0.state q0.number x k seated) (subst (λ n. IsRefusedBy s3 q3.number (Stamp n) f) start_is h)
+          pub end3 : (f : RunFault) → IsRefusedBy s3 q3.number (Stamp start) f → StopsIn s0 (works.Script ∷ []) s3 f
+          end3 f h = end_if_out s0 q0 s3 q3 (stages.s3 s0.state q0.number x k) e3 at3 works.Script refl refl (Stamp (ts a)) f refl (stages.stamp_refused s0.state q0.number x k seated) (subst (λ n. IsRefusedBy s3 q3.number (Stamp n) f) start_is h)
 
           module _ (ans4 : Answer) (s4 : SharedOf) (q4 : SeatOf) (c4 : Calls s3 q3 (Stamp start) ans4 s4 q4) where
             abbrev e4 : List Received
@@ -110,8 +111,8 @@ module _ (s0 : SharedOf) (q0 : SeatOf) (batch : Writes) (x : Cell) (first : prim
             pub goes4 : Goes s0 q0 s4 q4
             goes4 = goes s0 q0 s4 q4 (stages.s4 s0.state q0.number x k) e4 at4 refl refl
 
-            pub end4 : (f : RunFault) → IsRefusedBy s4 q4.number (CommitPrimary start) f → IsEnd s4 f
-            end4 f h = end_if_none s0 q0 s4 q4 (stages.s4 s0.state q0.number x k) e4 at4 (CommitPrimary (ts a)) f (stages.commit_refused s0.state q0.number x k seated) (subst (λ n. IsRefusedBy s4 q4.number (CommitPrimary n) f) start_is h)
+            pub end4 : (f : RunFault) → IsRefusedBy s4 q4.number (CommitPrimary start) f → StopsIn s0 (works.Script ∷ []) s4 f
+            end4 f h = end_if_none s0 q0 s4 q4 (stages.s4 s0.state q0.number x k) e4 at4 works.Script refl refl (CommitPrimary (ts a)) f (stages.commit_refused s0.state q0.number x k seated) (subst (λ n. IsRefusedBy s4 q4.number (CommitPrimary n) f) start_is h)
 
             module _ (ans5 : Answer) (s5 : SharedOf) (q5 : SeatOf) (c5 : Calls s4 q4 (CommitPrimary start) ans5 s5 q5) where
               abbrev e5 : List Received

@@ -26,8 +26,10 @@ use Rattle.pb_alone.specs.declared.fault.ReportFault.TheVariants as ends
 use Rattle.pb_alone.specs.Alone.{IsClean, IsSmall, change_entries, changes_from}
 use Rattle.pb_alone.specs.declared.fault.RunFault.{RunFault}
 use Rattle.pb_alone.specs.declared.fault.RunFault.TheVariants as faults
-use Rattle.pb_alone.specs.Faults.{IsEnd, of_report}
-use Rattle.pb_alone.specs.Runs.{IsScript, Made, Reports, Runs}
+use Rattle.pb_alone.specs.Faults.{of_report}
+use Rattle.pb_alone.specs.Stops.{StopsIn, HasBegun, works_for, works_in, changes_for, due_work}
+use Rattle.pb_alone.proofs.Stopping.{begun_on, changes_begun}
+use Rattle.pb_alone.specs.Runs.{Made, Reports, Runs}
 use Rattle.pb_alone.proofs.Blocks.{history, writes_are}
 
 nothing_in : (x : Slot) → finite.get (opening [] 0 0).entries x ≡ None
@@ -73,6 +75,7 @@ pub made : (text : List ℕ) (before : SharedOf) (seat : ℕ) (batches : List Wr
 made text before seat batches after empty read w =
     let c = w.changes in
     let r = w.rounds in
+    let b : HasBegun before (works_for w.changed.state.observers batches) after = begun_on before (changes_for batches) w.changed (map due_work (due w.changed.state.observers batches)) after (changes_begun before seat batches w.changed c) r.begun in
     let changes = changes_from seat before.state.clock batches in
     let observers = after.state.observers in
     let journal : w.changed.journal ≡ flat_map change_entries changes = c.journal ∙ ap (λ j. j ++ flat_map change_entries changes) empty in
@@ -89,15 +92,16 @@ made text before seat batches after empty read w =
       seat = seat;
       next = refl;
       clean = r.clean;
+      begun = subst (λ os. works_in after.journal ≡ works_for os batches) (sym r.observers) (ap works_in (b.journal ∙ ap (λ j. j ++ b.more) empty) ∙ b.works_are);
       done = subst (λ os. AreDone observers after.journal seat (due os batches) r.runs) (sym r.observers) r.done;
     }
 
-pub stopped : (text : List ℕ) (before after : SharedOf) (old now : Option (List ℕ)) (failed : Bool) (f : RunFault) → IsScript text → IsEnd after f → now ≡ old → failed ≡ false → Runs text before after old now failed (Err f)
-stopped text before after old now failed (faults.Refused n) s e same un = (s, e, same, un)
-stopped text before after old now failed faults.NoMemory s e same un = (same, un)
-stopped text before after old now failed (faults.Manifest m) s e same un = absurd e
-stopped text before after old now failed (faults.Script m) s e same un = absurd e
-stopped text before after old now failed faults.Output s e same un = absurd e
+pub stopped : (text : List ℕ) (before after : SharedOf) (old now : Option (List ℕ)) (failed : Bool) (f : RunFault) → (batches : List Writes) → script_of text ≡ Ok batches → StopsIn before (works_for before.state.observers batches) after f → now ≡ old → failed ≡ false → Runs text before after old now failed (Err f)
+stopped text before after old now failed (faults.Refused n) bs read s same un = (record { batches = bs; read = read; stopped = s }, same, un)
+stopped text before after old now failed faults.NoMemory bs read s same un = (same, un)
+stopped text before after old now failed (faults.Manifest m) bs read s same un = absurd s
+stopped text before after old now failed (faults.Script m) bs read s same un = absurd s
+stopped text before after old now failed faults.Output bs read s same un = absurd s
 
 pub ended : (text : List ℕ) (before after : SharedOf) (old now : Option (List ℕ)) (failed : Bool) (e : ReportFault) → Made text before.state.clock after → Reports after old now failed (Err e) → Runs text before after old now failed (Err (of_report e))
 ended text before after old now failed ends.Output m r = (m, r.0, r.1)

@@ -1,8 +1,8 @@
 -- What the faults of a run say.
-use Rattle.std.specs.Prelude.{◌≡◌, ℕ, ◌⊎◌, length, Some}
+use Rattle.std.specs.Prelude.{◌≡◌, ℕ, Some}
 use Rattle.pb_steps.specs.declared.step.Step.{Step}
 use Rattle.pb_base.specs.declared.refusal.Reason.{Reason}
-use Rattle.pb_base.specs.declared.refusal.Reason.TheVariants.{NoMemory, OutOfTimestamps, JournalFull}
+use Rattle.pb_base.specs.declared.refusal.Reason.TheVariants.{NoMemory}
 use Rattle.pb_base.specs.Reasons.{reason_code}
 use Rattle.pb_core.specs.Calls.{SharedOf, call_reason}
 use Rattle.pb_alone.specs.declared.fault.RunFault.{RunFault}
@@ -15,13 +15,6 @@ abbrev pub IsRefusedBy : SharedOf → ℕ → Step → RunFault → Type 0
 IsRefusedBy shared seat step (faults.Refused n) = (why : Reason) × (call_reason shared seat step ≡ Some why) × (n ≡ reason_code why)
 IsRefusedBy shared seat step faults.NoMemory = (why : Reason) → call_reason shared seat step ≡ Some why → reason_code why ≡ reason_code NoMemory
 IsRefusedBy shared seat step _ = ⊥
-
--- the timestamps or the journal came to their end, or memory did
-abbrev pub IsEnd : SharedOf → RunFault → Type 0
-IsEnd shared (faults.Refused n) =
-    ((n ≡ reason_code OutOfTimestamps) × (shared.state.clock ≡ 18446744073709551615)) ⊎ ((n ≡ reason_code JournalFull) × (length shared.journal ≡ shared.limit))
-IsEnd shared faults.NoMemory = Unit {0}
-IsEnd shared _ = ⊥
 
 -- the fault of a run whose report ended so
 abbrev pub of_report : ReportFault → RunFault

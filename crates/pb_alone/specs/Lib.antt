@@ -4,6 +4,7 @@ pub mod Committed
 pub mod Puts
 pub mod Visits
 pub mod Due
+pub mod Stops
 pub mod Rounds
 pub mod Tallies
 pub mod Runs

@@ -1,5 +1,5 @@
 -- Visits of observers one after another.
-use Rattle.std.specs.Prelude.{◌≡◌, ℕ, ◌<◌, ◌≤◌, ◌⊎◌, List, [], ◌∷◌}
+use Rattle.std.specs.Prelude.{◌≡◌, ℕ, ◌<◌, ◌≤◌, ◌⊎◌, List, [], ◌∷◌, map}
 use Rattle.pb_base.specs.declared.names.Row.{Row}
 use Rattle.pb_steps.specs.declared.step.Work.TheVariants as works
 use Rattle.pb_steps.specs.Observers.{ObserverOf}
@@ -9,6 +9,7 @@ use Rattle.pb_history.specs.History.{Member}
 use Rattle.pb_base.specs.Batch.{Writes}
 use Rattle.pb_alone.specs.Alone.{IsClean, Changes}
 use Rattle.pb_alone.specs.Due.{due}
+use Rattle.pb_alone.specs.Stops.{HasBegun, due_work}
 use Rattle.pb_alone.specs.Visits.{Extends, IsCleanAt}
 
 -- each that was due ran, by the next of these runs, or there was nothing to run for
@@ -26,6 +27,7 @@ RiseBetween low high (m ∷ ms) = (low < m.commit) × RiseBetween m.commit high 
 pub record Rounds (old : SharedOf) (seat : ℕ) (due : List (ℕ × Row)) (new : SharedOf) : Type 0 where
   pub clean : IsClean new.state
   pub observers : new.state.observers ≡ old.state.observers
+  pub begun : HasBegun old (map due_work due) new
   pub runs : List Member
   pub history : Extends new.state.observers old.journal new.journal runs
   pub rise : RiseBetween old.state.clock new.state.clock runs

@@ -18,7 +18,7 @@ use Rattle.pb_alone.specs.Alone.{IsClean, changes_from}
 use Rattle.pb_alone.specs.Committed.{IsSeenAt}
 use Rattle.pb_alone.specs.Tallies.{AreTallies}
 use Rattle.pb_steps.specs.declared.step.Work.TheVariants as works
-use Rattle.pb_alone.specs.Faults.{IsEnd}
+use Rattle.pb_alone.specs.Stops.{works_in, works_for, HasStopped}
 use Rattle.pb_alone.specs.Due.{due}
 use Rattle.pb_alone.specs.Rounds.{AreDone}
 
@@ -49,7 +49,8 @@ Reports shared old now failed (Err ends.NoMemory) = (now ≡ old) × (failed ≡
 
 -- The committed transactions of the journal are the script's batches in order, each once, and then runs of observers: for
 -- each changed cell, by row and column, one of each observer of its column, but where the journal shows that there was
--- nothing to run for. Each change took the next two timestamps, from the clock on, and no lock stands.
+-- nothing to run for. Each change took the next two timestamps, from the clock on, and no lock stands. Each change began one
+-- transaction, and so did each visit of an observer.
 pub record Made (text : List ℕ) (clock : ℕ) (shared : SharedOf) : Type 0 where
   pub batches : List Writes
   pub read : script_of text ≡ Ok batches
@@ -62,10 +63,13 @@ pub record Made (text : List ℕ) (clock : ℕ) (shared : SharedOf) : Type 0 whe
   pub next : changes ≡ changes_from seat clock batches
   pub clean : IsClean shared.state
   pub done : AreDone shared.state.observers shared.journal seat (due shared.state.observers batches) runs
+  pub begun : works_in shared.journal ≡ works_for shared.state.observers batches
 
--- the script is read as changes
-abbrev pub IsScript : List ℕ → Type 0
-IsScript text = (batches : List Writes) × (script_of text ≡ Ok batches)
+-- the script is read as changes, and it was stopped among these and the visits that they call for
+pub record WasStopped (text : List ℕ) (before after : SharedOf) (code : ℕ) : Type 0 where
+  pub batches : List Writes
+  pub read : script_of text ≡ Ok batches
+  pub stopped : HasStopped before (works_for before.state.observers batches) after code
 
 -- the script was not read
 abbrev pub IsUnread : List ℕ → RunFault → Type 0
@@ -77,7 +81,7 @@ IsUnread text _ = ⊥
 abbrev pub Runs : List ℕ → SharedOf → SharedOf → Option (List ℕ) → Option (List ℕ) → Bool → Result (Unit {0}) RunFault → Type 0
 Runs text before after old now failed (Ok _) = Made text before.state.clock after × Wrote after old now × (failed ≡ false)
 Runs text before after old now failed (Err (faults.Script f)) = (script_of text ≡ Err (f.line, f.code)) × (after ≡ before) × (now ≡ old) × (failed ≡ false)
-Runs text before after old now failed (Err (faults.Refused n)) = IsScript text × IsEnd after (faults.Refused n) × (now ≡ old) × (failed ≡ false)
+Runs text before after old now failed (Err (faults.Refused n)) = WasStopped text before after n × (now ≡ old) × (failed ≡ false)
 Runs text before after old now failed (Err faults.Output) = Made text before.state.clock after × Began after old now × (failed ≡ true)
 Runs text before after old now failed (Err faults.NoMemory) = (now ≡ old) × (failed ≡ false)
 Runs text before after old now failed (Err (faults.Manifest f)) = ⊥

@@ -13,6 +13,7 @@ use Rattle.pb_history.specs.declared.entry.Entry.{Entry}
 use Rattle.pb_core.specs.Calls.{SharedOf}
 use Rattle.pb_history.specs.History.{Has, IsEntry, Member, InHistory}
 use Rattle.pb_alone.specs.Alone.{IsClean, ts}
+use Rattle.pb_alone.specs.Stops.{HasBegun}
 
 -- the observer of this number has this program and column
 pub record IsObserver (observers : List ObserverOf) (o : ℕ) (program : AcceptedOf) (column : ℕ) : Type 0 where
@@ -51,4 +52,5 @@ pub record Visits (old : SharedOf) (seat o : ℕ) (row : Row) (new : SharedOf) :
   pub clean : IsClean new.state
   pub clock : old.state.clock ≤ new.state.clock
   pub observers : new.state.observers ≡ old.state.observers
+  pub begun : HasBegun old (works.Run o row ∷ []) new
   pub outcome : Ran old o row new ⊎ WasClean old seat o row new

@@ -3,7 +3,9 @@ ghost use Rattle.std.specs.Prelude.{◌≡◌, ◌<◌, ◌∷◌, [], length, I
 ghost use Rattle.std.specs.List.{All};
 ghost use Rattle.pb_core.specs.Calls.{Calls};
 ghost use Rattle.pb_alone.specs.Alone.{IsClean, Goes, Changes, IsSmall};
-ghost use Rattle.pb_alone.specs.Faults.{IsRefusedBy, IsEnd};
+ghost use Rattle.pb_alone.specs.Faults.{IsRefusedBy};
+ghost use Rattle.pb_alone.specs.Stops.{StopsIn, changes_for};
+ghost use Rattle.pb_steps.specs.declared.step.Work.TheVariants as works;
 
 use crate::fault::RunFault;
 use pb_base::{Batch, Reason};
@@ -46,7 +48,7 @@ fn change<T: Tablet>(
     requires small { IsSmall batch }
     ensures goes { Goes shared.old seat.old shared.new seat.new }
     ensures ok { OnOk result (Changes shared.old seat.old.number (batch ∷ []) shared.new) }
-    ensures err { IfErr result (IsEnd shared.new) }
+    ensures err { IfErr result (StopsIn shared.old (works.Script ∷ []) shared.new) }
 {
     let cell = batch.primary();
     let what = Declaration::new(alloc, Declared::Script(batch))?;
@@ -72,7 +74,7 @@ pub fn change_all<T: Tablet>(
     requires small { All IsSmall batches.now }
     ensures goes { Goes shared.old seat.old shared.new seat.new }
     ensures ok { OnOk result (Changes shared.old seat.old.number batches.now shared.new) }
-    ensures err { IfErr result (IsEnd shared.new) }
+    ensures err { IfErr result (StopsIn shared.old (changes_for batches.now) shared.new) }
 {
     for batch in batches {
         let batch = batch.copy()?;

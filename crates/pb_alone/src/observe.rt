@@ -1,7 +1,8 @@
 //! Runs of observers, by one seat alone.
-ghost use Rattle.std.specs.Prelude.{◌≡◌, ◌<◌, nat_lt, length, IfOk, IfErr, OnOk};
+ghost use Rattle.std.specs.Prelude.{◌≡◌, ◌<◌, nat_lt, [], ◌∷◌, length, map, IfOk, IfErr, OnOk};
 ghost use Rattle.pb_alone.specs.Alone.{IsClean, Goes};
-ghost use Rattle.pb_alone.specs.Faults.{IsEnd};
+ghost use Rattle.pb_alone.specs.Stops.{StopsIn, due_work};
+ghost use Rattle.pb_steps.specs.declared.step.Work.TheVariants as works;
 ghost use Rattle.pb_alone.specs.Visits.{IsObserver, Visits};
 ghost use Rattle.pb_alone.specs.Rounds.{AllBelow, Rounds};
 ghost use Rattle.pb_steps.specs.Declarations.{plain_run};
@@ -72,7 +73,7 @@ pub(crate) fn visit_all<T: Tablet>(
     requires known { AllBelow (length shared.old.state.observers) due.now }
     ensures goes { Goes shared.old seat.old shared.new seat.new }
     ensures ok { OnOk result (Rounds shared.old seat.old.number due.now shared.new) }
-    ensures err { IfErr result (IsEnd shared.new) }
+    ensures err { IfErr result (StopsIn shared.old (map due_work due.now) shared.new) }
 {
     for place in due {
         visit(alloc, place.0, place.1, shared, seat)?;
@@ -94,7 +95,7 @@ pub fn visit<T: Tablet>(
     requires known { number < length shared.old.state.observers }
     ensures goes { Goes shared.old seat.old shared.new seat.new }
     ensures ok { OnOk result (Visits shared.old seat.old.number number row shared.new) }
-    ensures err { IfErr result (IsEnd shared.new) }
+    ensures err { IfErr result (StopsIn shared.old (works.Run number row ∷ []) shared.new) }
 {
     // For the proof: what the journal tells of its history, here and at each end.
     let _ = shared.journal();

@@ -5,7 +5,7 @@ ghost use Rattle.pb_texts.specs.ScriptLines.{script_of};
 ghost use Rattle.pb_alone.specs.Runs.{IsUnread, Runs, KeepsSeats};
 ghost use Rattle.std.specs.List.{All};
 ghost use Rattle.pb_alone.specs.Alone.{IsClean, Goes, IsSmall};
-ghost use Rattle.pb_alone.specs.Faults.{IsEnd};
+ghost use Rattle.pb_alone.specs.Stops.{StopsIn, works_for};
 ghost use Rattle.pb_alone.specs.Rounds.{Works};
 
 use crate::change::change_all;
@@ -48,7 +48,7 @@ fn work<T: Tablet>(
     requires small { All IsSmall batches.now }
     ensures goes { Goes shared.old seat.old shared.new seat.new }
     ensures ok { OnOk result (Works shared.old seat.old.number batches.now shared.new) }
-    ensures err { IfErr result (IsEnd shared.new) }
+    ensures err { IfErr result (StopsIn shared.old (works_for shared.old.state.observers batches.now) shared.new) }
 {
     change_all(alloc, batches, shared, seat)?;
     let due = due_of(alloc, shared.observers(), batches)?;

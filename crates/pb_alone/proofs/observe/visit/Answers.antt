@@ -1,26 +1,33 @@
-use Rattle.std.proofs.Common.{◌∙◌, sym, ap, subst}
+use Rattle.std.proofs.Common.{[], ◌∷◌, ◌∙◌, sym, ap, subst}
 use Rattle.std.proofs.lemmas.Bool.{ltb-true, ltb-false}
 use Rattle.std.proofs.lemmas.Result.{err_from_is_err_and}
 use Rattle.pb_base.specs.declared.cell.Cell.TheVariants.{Data}
 use Rattle.pb_base.specs.declared.names.Ts.{Ts}
 use Rattle.pb_vm.specs.Record.{record_of}
+use Rattle.pb_steps.specs.declared.step.Work.TheVariants as works
 use Rattle.pb_steps.specs.Declarations.{plain_run}
 use Rattle.pb_core.specs.Calls.{SharedOf}
-use Rattle.pb_alone.specs.Faults.{IsEnd}
+use Rattle.pb_alone.specs.Stops.{StopsIn}
 use Rattle.pb_alone.proofs.RunVisit as visits
 use Rattle.pb_alone.proofs.observe.visit.Goals as goal
+
+pub returns-in_err-start-clause-err : goal.returns-in_err-start-clause-err
+returns-in_err-start-clause-err g c =
+    let p = err_from_is_err_and c.from_residual-in_err-start.result c.from_residual-in_err-start.ensures.1 in
+    rw (p.1, p.2) (subst (λ (s : SharedOf). StopsIn c.args.shared.now (works.Run c.args.number c.args.row ∷ []) s c.in_err-start.field-0.0) (sym c.in_err-start.ensures.table)
+    (visits.end0 c.args.shared.now c.args.seat.now c.args.number c.args.row c.in_ok-program.program.value c.in_ok-program.column c.in_ok-program.ensures c.requires.clean c.requires.seated c.in_err-start.field-0.0 c.in_err-start.ensures.fault))
 
 pub returns-in_err-of-clause-err : goal.returns-in_err-of-clause-err
 returns-in_err-of-clause-err g c =
     let p = err_from_is_err_and c.from_residual-in_err-of.result c.from_residual-in_err-of.ensures.1 in
-    rw (p.1, p.2) (subst (λ (s : SharedOf). IsEnd s c.in_err-of.field-0.0) (sym c.in_err-of.ensures.table)
+    rw (p.1, p.2) (subst (λ (s : SharedOf). StopsIn c.args.shared.now (works.Run c.args.number c.args.row ∷ []) s c.in_err-of.field-0.0) (sym c.in_err-of.ensures.table)
     (visits.end1 c.args.shared.now c.args.seat.now c.args.number c.args.row c.in_ok-program.program.value c.in_ok-program.column c.in_ok-program.ensures c.requires.clean c.requires.seated _ c.take.new.shared c.take.new.seat c.in_ok-start.ensures.ok c.in-At.start c.in-At.is c.in_err-of.field-0.0 c.in_err-of.ensures.fault))
 
 pub returns-in_err-take-clause-err : goal.returns-in_err-take-clause-err
 returns-in_err-take-clause-err g c =
     let p = err_from_is_err_and c.from_residual-in_err-take.result c.from_residual-in_err-take.ensures.1 in
-    rw (p.1, p.2) (subst (λ (s : SharedOf). IsEnd s c.in_err-take.field-0.0) (sym c.in_err-take.ensures.table)
-    (visits.end2 c.args.shared.now c.args.seat.now c.args.number c.args.row c.in_ok-program.program.value c.in_ok-program.column c.in_ok-program.ensures c.requires.clean c.requires.seated _ c.take.new.shared c.take.new.seat c.in_ok-start.ensures.ok c.in-At.start c.in-At.is _ c.take-2.new.shared c.take-2.new.seat c.in_ok-of.ensures.ok c.in_err-take.field-0.0 c.in_err-take.ensures.fault))
+    rw (p.1, p.2) (subst (λ (s : SharedOf). StopsIn c.args.shared.now (works.Run c.args.number c.args.row ∷ []) s c.in_err-take.field-0.0) (sym c.in_err-take.ensures.table)
+    (visits.end2 c.args.shared.now c.args.seat.now c.args.number c.args.row c.in_ok-program.program.value c.in_ok-program.column c.in_ok-program.ensures c.requires.clean c.requires.seated _ c.take.new.shared c.take.new.seat c.in_ok-start.ensures.ok c.in-At.start c.in-At.is _ c.take-2.new.shared c.take-2.new.seat c.in_ok-of.ensures.ok (record { start = c.in-Found.of; commit = c.in-Found.commit; content = c.in-Found.content }) c.in-Found.is c.in_err-take.field-0.0 c.in_err-take.ensures.fault))
 
 pub returns-in_default-2 : goal.returns-in_default-2
 returns-in_default-2 g c = record {
@@ -52,7 +59,7 @@ returns-in_err-take-2-clause-err g c =
     ∙ ap (λ b. plain_run c.in_ok-program.program.value b c.in-At.start.0 c.in_ok-finished.finished.result)
     (c.new-change.ensures ∙ ap (λ (t : Ts). record_of (Data c.args.row c.in_ok-program.column) (record { start = c.in-Found.of; commit = c.in-Found.commit; content = c.in-Found.content }) t.0) c.acknowledged_in-acknowledged.ensures) in
     let p = err_from_is_err_and c.from_residual-in_err-take-2.result c.from_residual-in_err-take-2.ensures.1 in
-    rw (p.1, p.2) (subst (λ (s : SharedOf). IsEnd s c.in_err-take-2.field-0.0) (sym c.in_err-take-2.ensures.table)
+    rw (p.1, p.2) (subst (λ (s : SharedOf). StopsIn c.args.shared.now (works.Run c.args.number c.args.row ∷ []) s c.in_err-take-2.field-0.0) (sym c.in_err-take-2.ensures.table)
     (visits.end3 c.args.shared.now c.args.seat.now c.args.number c.args.row c.in_ok-program.program.value c.in_ok-program.column c.in_ok-program.ensures c.requires.clean c.requires.seated _ c.take.new.shared c.take.new.seat c.in_ok-start.ensures.ok c.in-At.start c.in-At.is _ c.take-2.new.shared c.take-2.new.seat c.in_ok-of.ensures.ok _ c.take-3.new.shared c.take-3.new.seat c.in_ok-take.ensures.ok (record { start = c.in-Found.of; commit = c.in-Found.commit; content = c.in-Found.content }) c.in-Found.is newer c.in_ok-finished.finished made c.in_ok-what.what c.in_ok-what.ensures c.in_err-take-2.field-0.0 c.in_err-take-2.ensures.fault))
 
 pub returns-in_err-take-3-clause-goes : goal.returns-in_err-take-3-clause-goes
@@ -74,7 +81,7 @@ returns-in_err-take-3-clause-err g c =
     ∙ ap (λ b. plain_run c.in_ok-program.program.value b c.in-At.start.0 c.in_ok-finished.finished.result)
     (c.new-change.ensures ∙ ap (λ (t : Ts). record_of (Data c.args.row c.in_ok-program.column) (record { start = c.in-Found.of; commit = c.in-Found.commit; content = c.in-Found.content }) t.0) c.acknowledged_in-acknowledged.ensures) in
     let p = err_from_is_err_and c.from_residual-in_err-take-3.result c.from_residual-in_err-take-3.ensures.1 in
-    rw (p.1, p.2) (subst (λ (s : SharedOf). IsEnd s c.in_err-take-3.field-0.0) (sym c.in_err-take-3.ensures.table)
+    rw (p.1, p.2) (subst (λ (s : SharedOf). StopsIn c.args.shared.now (works.Run c.args.number c.args.row ∷ []) s c.in_err-take-3.field-0.0) (sym c.in_err-take-3.ensures.table)
     (visits.end4 c.args.shared.now c.args.seat.now c.args.number c.args.row c.in_ok-program.program.value c.in_ok-program.column c.in_ok-program.ensures c.requires.clean c.requires.seated _ c.take.new.shared c.take.new.seat c.in_ok-start.ensures.ok c.in-At.start c.in-At.is _ c.take-2.new.shared c.take-2.new.seat c.in_ok-of.ensures.ok _ c.take-3.new.shared c.take-3.new.seat c.in_ok-take.ensures.ok (record { start = c.in-Found.of; commit = c.in-Found.commit; content = c.in-Found.content }) c.in-Found.is newer c.in_ok-finished.finished made c.in_ok-what.what c.in_ok-what.ensures _ c.take-4.new.shared c.take-4.new.seat c.in_ok-take-2.ensures.ok c.in_err-take-3.field-0.0 c.in_err-take-3.ensures.fault))
 
 pub returns-in_err-take-4-clause-goes : goal.returns-in_err-take-4-clause-goes
@@ -96,7 +103,7 @@ returns-in_err-take-4-clause-err g c =
     ∙ ap (λ b. plain_run c.in_ok-program.program.value b c.in-At.start.0 c.in_ok-finished.finished.result)
     (c.new-change.ensures ∙ ap (λ (t : Ts). record_of (Data c.args.row c.in_ok-program.column) (record { start = c.in-Found.of; commit = c.in-Found.commit; content = c.in-Found.content }) t.0) c.acknowledged_in-acknowledged.ensures) in
     let p = err_from_is_err_and c.from_residual-in_err-take-4.result c.from_residual-in_err-take-4.ensures.1 in
-    rw (p.1, p.2) (subst (λ (s : SharedOf). IsEnd s c.in_err-take-4.field-0.0) (sym c.in_err-take-4.ensures.table)
+    rw (p.1, p.2) (subst (λ (s : SharedOf). StopsIn c.args.shared.now (works.Run c.args.number c.args.row ∷ []) s c.in_err-take-4.field-0.0) (sym c.in_err-take-4.ensures.table)
     (visits.end5 c.args.shared.now c.args.seat.now c.args.number c.args.row c.in_ok-program.program.value c.in_ok-program.column c.in_ok-program.ensures c.requires.clean c.requires.seated _ c.take.new.shared c.take.new.seat c.in_ok-start.ensures.ok c.in-At.start c.in-At.is _ c.take-2.new.shared c.take-2.new.seat c.in_ok-of.ensures.ok _ c.take-3.new.shared c.take-3.new.seat c.in_ok-take.ensures.ok (record { start = c.in-Found.of; commit = c.in-Found.commit; content = c.in-Found.content }) c.in-Found.is newer c.in_ok-finished.finished made c.in_ok-what.what c.in_ok-what.ensures _ c.take-4.new.shared c.take-4.new.seat c.in_ok-take-2.ensures.ok _ c.take-5.new.shared c.take-5.new.seat c.in_ok-take-3.ensures.ok c.in_err-take-4.field-0.0 c.in_err-take-4.ensures.fault))
 
 pub returns-in_err-take-5-clause-goes : goal.returns-in_err-take-5-clause-goes
@@ -118,7 +125,7 @@ returns-in_err-take-5-clause-err g c =
     ∙ ap (λ b. plain_run c.in_ok-program.program.value b c.in-At.start.0 c.in_ok-finished.finished.result)
     (c.new-change.ensures ∙ ap (λ (t : Ts). record_of (Data c.args.row c.in_ok-program.column) (record { start = c.in-Found.of; commit = c.in-Found.commit; content = c.in-Found.content }) t.0) c.acknowledged_in-acknowledged.ensures) in
     let p = err_from_is_err_and c.from_residual-in_err-take-5.result c.from_residual-in_err-take-5.ensures.1 in
-    rw (p.1, p.2) (subst (λ (s : SharedOf). IsEnd s c.in_err-take-5.field-0.0) (sym c.in_err-take-5.ensures.table)
+    rw (p.1, p.2) (subst (λ (s : SharedOf). StopsIn c.args.shared.now (works.Run c.args.number c.args.row ∷ []) s c.in_err-take-5.field-0.0) (sym c.in_err-take-5.ensures.table)
     (visits.end6 c.args.shared.now c.args.seat.now c.args.number c.args.row c.in_ok-program.program.value c.in_ok-program.column c.in_ok-program.ensures c.requires.clean c.requires.seated _ c.take.new.shared c.take.new.seat c.in_ok-start.ensures.ok c.in-At.start c.in-At.is _ c.take-2.new.shared c.take-2.new.seat c.in_ok-of.ensures.ok _ c.take-3.new.shared c.take-3.new.seat c.in_ok-take.ensures.ok (record { start = c.in-Found.of; commit = c.in-Found.commit; content = c.in-Found.content }) c.in-Found.is newer c.in_ok-finished.finished made c.in_ok-what.what c.in_ok-what.ensures _ c.take-4.new.shared c.take-4.new.seat c.in_ok-take-2.ensures.ok _ c.take-5.new.shared c.take-5.new.seat c.in_ok-take-3.ensures.ok _ c.take-6.new.shared c.take-6.new.seat c.in_ok-take-4.ensures.ok c.in_err-take-5.field-0.0 c.in_err-take-5.ensures.fault))
 
 pub returns-clause-goes : goal.returns-clause-goes

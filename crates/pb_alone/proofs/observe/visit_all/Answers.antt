@@ -5,6 +5,9 @@ use Rattle.pb_alone.specs.Visits.{Visits}
 use Rattle.pb_alone.proofs.Going.{goes, stage0}
 use Rattle.pb_alone.proofs.AllChanges.{goes_on}
 use Rattle.pb_alone.proofs.OneRound.{no_rounds, one_round, below_at}
+use Rattle.std.proofs.lemmas.Result.{err_from_is_err_and}
+use Rattle.pb_alone.specs.Stops.{due_work}
+use Rattle.pb_alone.proofs.Stopping.{stops_at}
 use Rattle.pb_alone.proofs.observe.visit_all.Goals as goal
 
 pub loop-place-init : goal.loop-place-init
@@ -21,6 +24,12 @@ visit-requires-clause-known g c =
 pub returns-in_err-visit-clause-goes : goal.returns-in_err-visit-clause-goes
 returns-in_err-visit-clause-goes g c =
     goes_on c.args.shared.now c.args.seat.now c.loop-place.shared c.loop-place.seat c.visit.new.shared c.visit.new.seat c.loop-place.invariant.goes c.in_err-visit.ensures.goes
+
+pub returns-in_err-visit-clause-err : goal.returns-in_err-visit-clause-err
+returns-in_err-visit-clause-err g c =
+    let p = err_from_is_err_and c.from_residual.result c.from_residual.ensures.1 in
+    rw (p.1, p.2) (stops_at due_work c.args.shared.now c.args.due.now c.loop-place.place-index c.place-item.result c.loop-place.shared c.visit.new.shared c.in_err-visit.field-0.0
+    c.loop-place-test.true (sym c.place-item.is) c.loop-place.invariant.rounds.begun c.in_err-visit.ensures.err)
 
 pub loop-place-preserved : goal.loop-place-preserved
 loop-place-preserved g c =

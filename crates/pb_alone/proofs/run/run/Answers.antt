@@ -1,6 +1,7 @@
 use Rattle.std.proofs.Common.{refl, rules, subst, arith}
 use Rattle.std.proofs.lemmas.Result.{err_from_is_err_and}
 use Rattle.pb_alone.specs.Rounds.{Works}
+use Rattle.pb_alone.specs.Stops.{StopsIn, works_for}
 use Rattle.pb_alone.proofs.Seated.{goes_on_seated}
 use Rattle.pb_alone.proofs.Whole.{clean_fresh, made, stopped, ended}
 use Rattle.pb_alone.proofs.run.run.Goals as goal
@@ -11,7 +12,7 @@ work-requires-clause-clean g c = clean_fresh _ _ _ _ c.args.shared.now.state c.r
 pub returns-in_err-work-clause-runs : goal.returns-in_err-work-clause-runs
 returns-in_err-work-clause-runs g c =
     let p = err_from_is_err_and c.from_residual-in_err-work.result c.from_residual-in_err-work.ensures.1 in
-    rw (p.1, p.2) (stopped c.args.text.now c.args.shared.now c.work.new.shared _ _ _ c.in_err-work.field-0.0 (c.in_ok-batches.batches.items, c.in_ok-batches.ensures.ok) c.in_err-work.ensures.err refl c.requires.unfailed)
+    rw (p.1, p.2) (stopped c.args.text.now c.args.shared.now c.work.new.shared _ _ _ c.in_err-work.field-0.0 c.in_ok-batches.batches.items c.in_ok-batches.ensures.ok (subst (λ bs. StopsIn c.args.shared.now (works_for c.args.shared.now.state.observers bs) c.work.new.shared c.in_err-work.field-0.0) c.deref.ensures.value c.in_err-work.ensures.err) refl c.requires.unfailed)
 
 pub returns-in_err-work-clause-keeps : goal.returns-in_err-work-clause-keeps
 returns-in_err-work-clause-keeps g c = goes_on_seated c.args.shared.now _ c.work.new.shared c.work.new.seat c.args.seats.now.items c.requires.fresh c.requires.seated (omega (arith, c.requires.seated.counted, c.seats.ensures.seats, c.seats.ensures.some)) (search rules) c.in_err-work.ensures.goes

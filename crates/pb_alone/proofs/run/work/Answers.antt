@@ -1,6 +1,9 @@
-use Rattle.std.proofs.Common.{◌∙◌, ap, subst}
+use Rattle.std.proofs.Common.{◌∙◌, ap, map, subst}
+use Rattle.std.proofs.lemmas.Result.{err_from_is_err_and}
 use Rattle.pb_alone.specs.Due.{due}
 use Rattle.pb_alone.specs.Rounds.{Rounds}
+use Rattle.pb_alone.specs.Stops.{StopsIn, changes_for, due_work}
+use Rattle.pb_alone.proofs.Stopping.{changes_begun, stops_before, stops_later}
 use Rattle.pb_alone.proofs.AllChanges.{goes_on}
 use Rattle.pb_alone.proofs.run.work.Goals as goal
 
@@ -9,6 +12,19 @@ returns-in_err-visit_all-clause-goes g c = goes_on c.args.shared.now c.args.seat
 
 pub returns-clause-goes : goal.returns-clause-goes
 returns-clause-goes g c = goes_on c.args.shared.now c.args.seat.now c.change_all.new.shared c.change_all.new.seat c.visit_all.new.shared c.visit_all.new.seat c.in_ok-change_all.ensures.goes c.in_ok-visit_all.ensures.goes
+
+pub returns-in_err-change_all-clause-err : goal.returns-in_err-change_all-clause-err
+returns-in_err-change_all-clause-err g c =
+    let p = err_from_is_err_and c.from_residual.result c.from_residual.ensures.1 in
+    rw (p.1, p.2) (stops_before c.args.shared.now (changes_for c.args.batches.now) (map due_work (due c.args.shared.now.state.observers c.args.batches.now)) c.change_all.new.shared c.in_err-change_all.field-0.0 c.in_err-change_all.ensures.err)
+
+pub returns-in_err-visit_all-clause-err : goal.returns-in_err-visit_all-clause-err
+returns-in_err-visit_all-clause-err g c =
+    let p = err_from_is_err_and c.from_residual-in_err-visit_all.result c.from_residual-in_err-visit_all.ensures.1 in
+    let list = c.deref.ensures.value ∙ c.in_ok-due.ensures.due ∙ ap (λ os. due os c.args.batches.now) (c.observers.ensures.observers ∙ c.in_ok-change_all.ensures.goes.observers) in
+    rw (p.1, p.2) (stops_later c.args.shared.now (changes_for c.args.batches.now) c.change_all.new.shared (map due_work (due c.args.shared.now.state.observers c.args.batches.now)) c.visit_all.new.shared c.in_err-visit_all.field-0.0
+    (changes_begun c.args.shared.now c.args.seat.now.number c.args.batches.now c.change_all.new.shared c.in_ok-change_all.ensures.ok)
+    (subst (λ ds. StopsIn c.change_all.new.shared (map due_work ds) c.visit_all.new.shared c.in_err-visit_all.field-0.0) list c.in_err-visit_all.ensures.err))
 
 pub returns-clause-ok : goal.returns-clause-ok
 returns-clause-ok g c =
