@@ -1,9 +1,5 @@
 -- What sorted lists answer is what they contain.
-use Rattle.std.proofs.Common.{◌≡◌, ℕ, ◌<◌, ◌≤◌, ◌==◌, ◌&&◌, cond, List, [], ◌∷◌, Option, None, Some, IfSome, MatchOption, refl, sym, ap, ◌∙◌, subst, length, slice_get}
-use Rattle.std.specs.List.{HoldsAt}
-use Rattle.std.specs.Option.{option_copied}
-use Rattle.std.specs.Borrow.{Bor}
-use Rattle.std.proofs.lemmas.Option.{slice_get_past, slice_get-get_or}
+use Rattle.std.proofs.Common.{◌≡◌, ◌==◌, ◌&&◌, cond, [], ◌∷◌, Some, IfSome, refl, sym, ap, ◌∙◌, subst, length}
 use Rattle.std.specs.declared.cmp.Ordering.TheVariants.{Less, Equal, Greater}
 use Rattle.std.specs.Ordering.{is_eq}
 use Rattle.std.specs.FinMap as map
@@ -22,10 +18,6 @@ of_sort_found (e ∷ es) q all =
       | Equal ↦ λ p. subst (λ (s : Slot). IsOfSort s.sort e.1) (sym (slot_cmp-IsAntisymmetric q e.0 p)) all.0
       | Greater ↦ λ p. of_sort_found es q all.1
     ] refl
-
-pub got : {X : Type 0} (xs : List X) (i : ℕ) (r : Option (Bor X)) → MatchOption r (length xs ≤ i) (λ x. (i < length xs) × HoldsAt (λ y. x.now ≡ y) xs i) → option_copied r ≡ slice_get xs i
-got xs i None le = sym (slice_get_past xs i le)
-got xs i (Some x) at = ap Some (at.1 x.now) ∙ sym (slice_get-get_or xs i x.now at.0)
 
 module _ (es : EntryList) (ms : MarkList) (l : AreLists es ms) where
   pub get-listed : (q : Slot) → map.get (contents_of es ms).entries q ≡ map.find slot_cmp q es

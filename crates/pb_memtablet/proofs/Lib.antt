@@ -1,4 +1,7 @@
 pub mod Spots
+pub mod Homes
+pub mod Pieces
+pub mod Cuts
 pub mod Nearest
 pub mod Edits
 pub mod Answered

@@ -1,5 +1,5 @@
 -- What stands nearest to a place in sorted lists is the newest entry, and the next mark.
-use Rattle.std.proofs.Common.{◌≡◌, ◌≢◌, ℕ, ◌<◌, ◌≤◌, inl, inr, [], ◌∷◌, Option, None, Some, IfSome, IfNone, refl, sym, ap, ◌∙◌, subst, arith, zero, suc, is_some, length, get_or, T, false}
+use Rattle.std.proofs.Common.{◌≡◌, ◌≢◌, ℕ, ◌<◌, ◌≤◌, inl, inr, [], ◌∷◌, Option, None, Some, IfSome, IfNone, refl, sym, ap, ◌∙◌, subst, arith, zero, suc, is_some, length, get_or, slice_get, T, false}
 use Rattle.std.proofs.lemmas.Bool.{cases_order}
 use Rattle.std.proofs.lemmas.List.{get_or_default}
 use Rattle.std.specs.declared.cmp.Ordering.{Ordering}
@@ -15,7 +15,11 @@ use Rattle.pb_store.specs.declared.slot.Sort.{Sort}
 use Rattle.pb_store.specs.declared.slot.Item.{Item}
 use Rattle.pb_store.specs.Slot.{slot_cmp, slot_cmp_total, slot_cmp-IsAntisymmetric, sort_rank}
 use Rattle.pb_store.specs.Contents.{slot_at, IsOfSort, IsNewest, IsNextMark, ComesAfter}
+use Rattle.std.specs.Option.{option_map}
+use Rattle.std.proofs.lemmas.Option.{slice_get_within, get_or_from_slice_get}
 use Rattle.pb_memtablet.specs.Places.{IsGap, IsCut}
+use Rattle.pb_memtablet.specs.Chunks.{entries_above}
+use Rattle.pb_memtablet.proofs.Cuts.{first_above_is, none_above, none_past}
 use Rattle.pb_memtablet.specs.Listed.{EntryList, MarkList, AllOfSort}
 use Rattle.pb_memtablet.proofs.Spots.{find-found, find-gap, found_self, cut_above, cut_below, gap_first, gap_after, past}
 
@@ -138,3 +142,16 @@ module _ (ms : MarkList) (s : T (map.is_sorted cell_cmp ms)) where
       comes_here after cut d lt,
       λ cell comes below. no_mark cell i (unmarked after i cell cut start (omega arith) comes (λ x more. ap (λ (y : Cell × Unit {0}). cell_cmp cell y.0) (get_or_default ms i x d lt) ∙ below)),
     )
+
+  -- ---- what a list of marks tells
+  pub next_after : (a : Cell) (r : Option (Cell × Unit {0})) → r ≡ slice_get (entries_above cell_cmp a ms) 0 → IsNextMark (map.from_sorted ms) (Some a) (option_map (λ m. m.0) r)
+  next_after a None p = no_next (Some a) (length ms) (none_above cell_cmp cell_cmp_total ms a s p) tt refl
+  next_after a (Some m) p =
+      let first = first_above_is cell_cmp cell_cmp_total ms a s m p in
+      subst (λ (x : Cell × Unit {0}). IsNextMark (map.from_sorted ms) (Some a) (Some x.0)) (sym first.is) (next_here (Some a) first.place first.cut tt m first.within)
+
+  pub next_first : (r : Option (Cell × Unit {0})) → r ≡ slice_get ms 0 → IsNextMark (map.from_sorted ms) None (option_map (λ m. m.0) r)
+  next_first None p = let le : length ms ≤ 0 = none_past ms 0 p in no_next None 0 tt refl (omega (arith, le))
+  next_first (Some m) p =
+      let found : slice_get ms 0 ≡ Some m = sym p in
+      subst (λ (x : Cell × Unit {0}). IsNextMark (map.from_sorted ms) None (Some x.0)) (get_or_from_slice_get ms 0 m m found) (next_here None 0 tt refl m (slice_get_within ms 0 m found))

@@ -15,15 +15,19 @@ use Rattle.pb_memtablet.specs.Places.{IsFound, IsGap, IsCut}
 pub holds : (b : Bool) → b ≡ true → T b
 holds b e = subst T (sym e) tt
 
-first : (a b : Bool) → T (a && b) → T a
+pub truth : (b : Bool) → T b → b ≡ true
+truth true t = refl
+truth false t = absurd t
+
+pub first : (a b : Bool) → T (a && b) → T a
 first true b p = tt
 first false b p = p
 
-second : (a b : Bool) → T (a && b) → T b
+pub second : (a b : Bool) → T (a && b) → T b
 second true b p = p
 second false b p = absurd p
 
-less : (o : Ordering) → T (is_lt o) → o ≡ Less
+pub less : (o : Ordering) → T (is_lt o) → o ≡ Less
 less Less p = refl
 less Equal p = absurd p
 less Greater p = absurd p

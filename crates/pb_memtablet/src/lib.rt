@@ -1,7 +1,10 @@
-//! Tablets in memory.
+//! Tablets in memory, and the sorted lists that they are kept in.
 #![tactic(auto)]
 
+mod chunks;
 mod list;
 mod sorted;
+mod sorted_list;
 
 pub use list::ListTablet;
+pub use sorted_list::SortedList;

@@ -1,25 +1,23 @@
 //! A tablet of two sorted lists.
-ghost use Rattle.std.specs.Prelude.{◌≡◌, ◌+◌, ◌≤◌, ◌<◌, ◌↔◌, IsTrue, IfSome, IfNone, count_by, vec_len, vec_capacity, cond, length};
+ghost use Rattle.std.specs.Prelude.{◌≡◌, ◌+◌, ◌≤◌, ◌↔◌, IsTrue, count_by, cond};
+ghost use Rattle.std.specs.Option.{option_map};
 ghost use Rattle.std.specs.FinMap as map;
-ghost use Rattle.pb_store.specs.Contents.{nothing, after_edit, after_edits, IsNewest, IsNextMark, IsOfSort, PutsOfSort, AllPutOfSort};
+ghost use Rattle.pb_store.specs.Contents.{nothing, after_edit, after_edits, IsNewest, IsNextMark, PutsOfSort, AllPutOfSort};
 ghost use Rattle.pb_memtablet.specs.Listed.{contents_of, AreLists, AllOfSort, is_put, is_mark};
-ghost use Rattle.pb_memtablet.specs.Places.{IsCut};
 ghost use Rattle.pb_base.specs.Cell.{cell_cmp};
 ghost use Rattle.pb_store.specs.Slot.{slot_cmp};
 
-use crate::sorted::{look_up, place_above, put_in, take_out};
+use crate::sorted_list::SortedList;
 use pb_base::{Cell, NoMemory, Ts};
 use pb_store::{Edit, Item, Slot, Sort, Tablet};
 use std::alloc::Global;
 use std::marker::Model;
 
-/// A tablet that keeps its entries in one list and its marks in another, both sorted.
-///
-/// A look-up is a binary search, and an edit shifts what stands behind it.
+/// A tablet that keeps its entries in one sorted list and its marks in another.
 #[derive(Drop)]
 pub struct ListTablet {
-    entries: Vec<(Slot, Item)>,
-    marks: Vec<(Cell, ())>,
+    entries: SortedList<Slot, Item>,
+    marks: SortedList<Cell, ()>,
 }
 
 impl Model for ListTablet {
@@ -30,9 +28,9 @@ impl Model for ListTablet {
 
     ghost coded = { coded_contents };
 
-    ghost view = { λ t. contents_of t.entries.items t.marks.items };
+    ghost view = { λ t. contents_of t.entries.entries t.marks.entries };
 
-    ghost invariant = { λ t. AreLists t.entries.items t.marks.items };
+    ghost invariant = { λ t. AreLists t.entries.entries t.marks.entries };
 }
 
 impl ListTablet {
@@ -41,8 +39,8 @@ impl ListTablet {
         ensures { result ≡ nothing }
     {
         ListTablet {
-            entries: Vec::new(alloc),
-            marks: Vec::new(alloc),
+            entries: SortedList::new(alloc),
+            marks: SortedList::new(alloc),
         }
     }
 }
@@ -55,51 +53,45 @@ fn is_beside(slot: &Slot, other: &Slot) -> bool
 }
 
 // The entry with the greatest timestamp at most `high`.
-fn newest_in(entries: &[(Slot, Item)], cell: Cell, sort: Sort, high: Ts) -> Option<(Ts, Item)>
-    requires sorted { IsTrue (map.is_sorted slot_cmp entries.now) }
-    requires of_sort { AllOfSort entries.now }
-    ensures { IsNewest (map.from_sorted entries.now) cell sort high result }
+fn newest_in(
+    entries: &SortedList<Slot, Item>,
+    cell: Cell,
+    sort: Sort,
+    high: Ts,
+) -> Option<(Ts, Item)>
+    requires sorted { IsTrue (map.is_sorted slot_cmp entries.now.entries) }
+    requires of_sort { AllOfSort entries.now.entries }
+    ensures { IsNewest (map.from_sorted entries.now.entries) cell sort high result }
 {
     let highest = Slot {
         cell,
         sort,
         ts: high,
     };
-    let above = place_above(entries, &highest);
-    if above == 0 {
-        return None;
-    }
-    let (slot, item) = &entries[above - 1];
-    if is_beside(slot, &highest) {
-        Some((slot.ts, *item))
+    let (slot, item) = entries.last_up_to(&highest)?;
+    if is_beside(&slot, &highest) {
+        Some((slot.ts, item))
     } else {
         None
     }
 }
 
-// The place of the first mark that may come after the cell.
-fn start_in(marks: &[(Cell, ())], after: Option<Cell>) -> usize
-    requires { IsTrue (map.is_sorted cell_cmp marks.now) }
-    ensures cut { IfSome after (λ cell. IsCut cell_cmp marks.now cell result) }
-    ensures first { IfNone after (result ≡ 0) }
-    ensures within { result ≤ length marks.now }
+// The cell of a mark.
+fn marked_cell(mark: Option<(Cell, ())>) -> Option<Cell>
+    ensures { result ≡ option_map (λ m. m.0) mark }
 {
-    match after {
-        Some(cell) => place_above(marks, &cell),
-        None => 0,
-    }
+    let (cell, ()) = mark?;
+    Some(cell)
 }
 
 // The first mark after the cell, or of all.
-fn next_in(marks: &[(Cell, ())], after: Option<Cell>) -> Option<Cell>
-    requires { IsTrue (map.is_sorted cell_cmp marks.now) }
-    ensures { IsNextMark (map.from_sorted marks.now) after result }
+fn next_in(marks: &SortedList<Cell, ()>, after: Option<Cell>) -> Option<Cell>
+    requires { IsTrue (map.is_sorted cell_cmp marks.now.entries) }
+    ensures { IsNextMark (map.from_sorted marks.now.entries) after result }
 {
-    let start = start_in(marks, after);
-    if start < marks.len() {
-        Some(marks[start].0)
-    } else {
-        None
+    match after {
+        Some(cell) => marked_cell(marks.first_above(&cell)),
+        None => marked_cell(marks.at(0)),
     }
 }
 
@@ -124,34 +116,36 @@ fn marks_in(edits: &[Edit]) -> usize
 }
 
 // Does an edit for which there is room.
-fn change(entries: &mut Vec<(Slot, Item)>, marks: &mut Vec<(Cell, ())>, edit: &Edit)
-    requires lists { AreLists entries.old.items marks.old.items }
+fn change(entries: &mut SortedList<Slot, Item>, marks: &mut SortedList<Cell, ()>, edit: &Edit)
+    requires lists { AreLists entries.old.entries marks.old.entries }
     requires of_sort { PutsOfSort edit.now }
-    requires room { vec_len entries.old + cond (is_put edit.now) 1 0 ≤ vec_capacity entries.old }
-    requires mark_room { vec_len marks.old + cond (is_mark edit.now) 1 0 ≤ vec_capacity marks.old }
-    ensures lists { AreLists entries.new.items marks.new.items }
-    ensures contents { contents_of entries.new.items marks.new.items ≡ after_edit edit.now (contents_of entries.old.items marks.old.items) }
-    ensures len { vec_len entries.new ≤ vec_len entries.old + cond (is_put edit.now) 1 0 }
-    ensures mark_len { vec_len marks.new ≤ vec_len marks.old + cond (is_mark edit.now) 1 0 }
-    ensures capacity { vec_capacity entries.old ≤ vec_capacity entries.new }
-    ensures mark_capacity { vec_capacity marks.old ≤ vec_capacity marks.new }
+    requires room { cond (is_put edit.now) 1 0 ≤ entries.old.room }
+    requires mark_room { cond (is_mark edit.now) 1 0 ≤ marks.old.room }
+    ensures lists { AreLists entries.new.entries marks.new.entries }
+    ensures contents { contents_of entries.new.entries marks.new.entries ≡ after_edit edit.now (contents_of entries.old.entries marks.old.entries) }
+    ensures room { entries.old.room ≤ entries.new.room + cond (is_put edit.now) 1 0 }
+    ensures mark_room { marks.old.room ≤ marks.new.room + cond (is_mark edit.now) 1 0 }
 {
     match *edit {
-        Edit::Put(slot, item) => put_in(entries, slot, item),
-        Edit::Erase(slot) => take_out(entries, &slot),
-        Edit::Mark(cell) => put_in(marks, cell, ()),
-        Edit::Unmark(cell) => take_out(marks, &cell),
+        Edit::Put(slot, item) => entries.put(slot, item),
+        Edit::Erase(slot) => entries.take_out(&slot),
+        Edit::Mark(cell) => marks.put(cell, ()),
+        Edit::Unmark(cell) => marks.take_out(&cell),
     }
 }
 
 // Does all edits, for which there is room.
-fn change_all(entries: &mut Vec<(Slot, Item)>, marks: &mut Vec<(Cell, ())>, edits: &[Edit])
-    requires lists { AreLists entries.old.items marks.old.items }
+fn change_all(
+    entries: &mut SortedList<Slot, Item>,
+    marks: &mut SortedList<Cell, ()>,
+    edits: &[Edit],
+)
+    requires lists { AreLists entries.old.entries marks.old.entries }
     requires of_sort { AllPutOfSort edits.now }
-    requires room { vec_len entries.old + count_by is_put edits.now ≤ vec_capacity entries.old }
-    requires mark_room { vec_len marks.old + count_by is_mark edits.now ≤ vec_capacity marks.old }
-    ensures lists { AreLists entries.new.items marks.new.items }
-    ensures contents { contents_of entries.new.items marks.new.items ≡ after_edits edits.now (contents_of entries.old.items marks.old.items) }
+    requires room { count_by is_put edits.now ≤ entries.old.room }
+    requires mark_room { count_by is_mark edits.now ≤ marks.old.room }
+    ensures lists { AreLists entries.new.entries marks.new.entries }
+    ensures contents { contents_of entries.new.entries marks.new.entries ≡ after_edits edits.now (contents_of entries.old.entries marks.old.entries) }
 {
     for edit in edits {
         change(entries, marks, edit);
@@ -162,7 +156,7 @@ impl Tablet for ListTablet {
     ghost contents = { λ t. t };
 
     fn get(&self, slot: Slot) -> Option<Item> {
-        look_up(&self.entries, &slot)
+        self.entries.get(&slot)
     }
 
     fn newest(&self, cell: Cell, sort: Sort, high: Ts) -> Option<(Ts, Item)> {
@@ -178,7 +172,7 @@ impl Tablet for ListTablet {
     }
 
     fn at(&self, place: usize) -> Option<(Slot, Item)> {
-        self.entries.get(place).copied()
+        self.entries.at(place)
     }
 
     fn is_empty(&self) -> bool {

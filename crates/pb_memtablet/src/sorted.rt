@@ -1,5 +1,5 @@
 //! Lists of keys and values, sorted by key.
-ghost use Rattle.std.specs.Prelude.{◌≡◌, ◌<◌, ◌≤◌, ◌+◌, IfOk, IfErr, length, IsTrue, vec_len, vec_capacity, not};
+ghost use Rattle.std.specs.Prelude.{◌≡◌, ◌<◌, ◌≤◌, ◌+◌, IfOk, IfErr, length, IsTrue, cond, vec_len, vec_capacity, not};
 ghost use Rattle.std.specs.Ordering.{eq_by_cmp};
 ghost use Rattle.std.specs.FinMap.{find, put, is_sorted};
 ghost use Rattle.std.specs.FinMap.Entries.{where_key};
@@ -38,28 +38,38 @@ pub(crate) fn place_above<K: Ord, V>(entries: &[(K, V)], key: &K) -> usize
     }
 }
 
-// Puts the value at the key. There is room for one entry more.
-pub(crate) fn put_in<K: Ord + Drop, V: Drop>(entries: &mut Vec<(K, V)>, key: K, value: V)
+// Puts the value at the key, and answers whether the key is new. There is room for one entry more.
+pub(crate) fn put_in<K: Ord + Drop, V: Drop>(entries: &mut Vec<(K, V)>, key: K, value: V) -> bool
     requires sorted { IsTrue (is_sorted K.cmp entries.old.items) }
     requires room { vec_len entries.old < vec_capacity entries.old }
     ensures items { entries.new.items ≡ put K.cmp key value entries.old.items }
     ensures capacity { vec_capacity entries.old ≤ vec_capacity entries.new }
-    ensures len { vec_len entries.new ≤ vec_len entries.old + 1 }
+    ensures len { vec_len entries.new ≡ vec_len entries.old + cond result 1 0 }
 {
     match spot(entries, &key) {
-        Ok(i) => entries[i].1 = value,
-        Err(i) => entries.insert(i, (key, value)).unwrap(),
+        Ok(i) => {
+            entries[i].1 = value;
+            false
+        }
+        Err(i) => {
+            entries.insert(i, (key, value)).unwrap();
+            true
+        }
     }
 }
 
-// Takes the key out.
-pub(crate) fn take_out<K: Ord + Drop, V: Drop>(entries: &mut Vec<(K, V)>, key: &K)
+// Takes the key out, and answers whether it was there.
+pub(crate) fn take_from<K: Ord + Drop, V: Drop>(entries: &mut Vec<(K, V)>, key: &K) -> bool
     requires { IsTrue (is_sorted K.cmp entries.old.items) }
     ensures items { entries.new.items ≡ where_key K.cmp (λ k. not (eq_by_cmp K.cmp key.now k)) entries.old.items }
     ensures capacity { vec_capacity entries.old ≤ vec_capacity entries.new }
-    ensures len { vec_len entries.new ≤ vec_len entries.old }
+    ensures len { vec_len entries.new + cond result 1 0 ≡ vec_len entries.old }
 {
-    if let Ok(i) = spot(entries, key) {
-        entries.remove(i);
+    match spot(entries, key) {
+        Ok(i) => {
+            entries.remove(i);
+            true
+        }
+        Err(_) => false,
     }
 }

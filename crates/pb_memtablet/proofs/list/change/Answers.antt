@@ -2,24 +2,24 @@ use Rattle.std.proofs.Common.{sym, subst}
 use Rattle.pb_store.specs.Contents.{PutsOfSort}
 use Rattle.pb_memtablet.proofs.Edits.{IsDone, put_done, erase_done, mark_done, unmark_done}
 use Rattle.pb_memtablet.proofs.list.change.Goals as goal
-use Rattle.pb_memtablet.proofs.list.change.Goals.{After-put_in, After-take_out, After-put_in-in-Mark, After-take_out-in-Unmark}
+use Rattle.pb_memtablet.proofs.list.change.Goals.{After-put, After-take_out, After-put-in-Mark, After-take_out-in-Unmark}
 
-put : (c : After-put_in) → IsDone c.put_in.new.entries.items c.args.marks.now.items c.args.edit.now c.args.entries.now.items c.args.marks.now.items
-put c = subst (λ e. IsDone c.put_in.new.entries.items c.args.marks.now.items e c.args.entries.now.items c.args.marks.now.items) (sym c.in-Put.is)
-    (put_done c.args.entries.now.items c.args.marks.now.items c.requires.lists c.put_in.new.entries.items c.in-Put.slot c.in-Put.item c.put_in.ensures.items
+put : (c : After-put) → IsDone c.put.new.self.entries c.args.marks.now.entries c.args.edit.now c.args.entries.now.entries c.args.marks.now.entries
+put c = subst (λ e. IsDone c.put.new.self.entries c.args.marks.now.entries e c.args.entries.now.entries c.args.marks.now.entries) (sym c.in-Put.is)
+    (put_done c.args.entries.now.entries c.args.marks.now.entries c.requires.lists c.put.new.self.entries c.in-Put.slot c.in-Put.item c.put.ensures.entries
     (subst PutsOfSort c.in-Put.is c.requires.of_sort))
 
-erase : (c : After-take_out) → IsDone c.take_out.new.entries.items c.args.marks.now.items c.args.edit.now c.args.entries.now.items c.args.marks.now.items
-erase c = subst (λ e. IsDone c.take_out.new.entries.items c.args.marks.now.items e c.args.entries.now.items c.args.marks.now.items) (sym c.in-Erase.is)
-    (erase_done c.args.entries.now.items c.args.marks.now.items c.requires.lists c.take_out.new.entries.items c.in-Erase.slot c.take_out.ensures.items)
+erase : (c : After-take_out) → IsDone c.take_out.new.self.entries c.args.marks.now.entries c.args.edit.now c.args.entries.now.entries c.args.marks.now.entries
+erase c = subst (λ e. IsDone c.take_out.new.self.entries c.args.marks.now.entries e c.args.entries.now.entries c.args.marks.now.entries) (sym c.in-Erase.is)
+    (erase_done c.args.entries.now.entries c.args.marks.now.entries c.requires.lists c.take_out.new.self.entries c.in-Erase.slot c.take_out.ensures.entries)
 
-mark : (c : After-put_in-in-Mark) → IsDone c.args.entries.now.items c.put_in-in-Mark.new.entries.items c.args.edit.now c.args.entries.now.items c.args.marks.now.items
-mark c = subst (λ e. IsDone c.args.entries.now.items c.put_in-in-Mark.new.entries.items e c.args.entries.now.items c.args.marks.now.items) (sym c.in-Mark.is)
-    (mark_done c.args.entries.now.items c.args.marks.now.items c.requires.lists c.put_in-in-Mark.new.entries.items c.in-Mark.cell c.put_in-in-Mark.ensures.items)
+mark : (c : After-put-in-Mark) → IsDone c.args.entries.now.entries c.put-in-Mark.new.self.entries c.args.edit.now c.args.entries.now.entries c.args.marks.now.entries
+mark c = subst (λ e. IsDone c.args.entries.now.entries c.put-in-Mark.new.self.entries e c.args.entries.now.entries c.args.marks.now.entries) (sym c.in-Mark.is)
+    (mark_done c.args.entries.now.entries c.args.marks.now.entries c.requires.lists c.put-in-Mark.new.self.entries c.in-Mark.cell c.put-in-Mark.ensures.entries)
 
-unmark : (c : After-take_out-in-Unmark) → IsDone c.args.entries.now.items c.take_out-in-Unmark.new.entries.items c.args.edit.now c.args.entries.now.items c.args.marks.now.items
-unmark c = subst (λ e. IsDone c.args.entries.now.items c.take_out-in-Unmark.new.entries.items e c.args.entries.now.items c.args.marks.now.items) (sym c.in-Unmark.is)
-    (unmark_done c.args.entries.now.items c.args.marks.now.items c.requires.lists c.take_out-in-Unmark.new.entries.items c.in-Unmark.cell c.take_out-in-Unmark.ensures.items)
+unmark : (c : After-take_out-in-Unmark) → IsDone c.args.entries.now.entries c.take_out-in-Unmark.new.self.entries c.args.edit.now c.args.entries.now.entries c.args.marks.now.entries
+unmark c = subst (λ e. IsDone c.args.entries.now.entries c.take_out-in-Unmark.new.self.entries e c.args.entries.now.entries c.args.marks.now.entries) (sym c.in-Unmark.is)
+    (unmark_done c.args.entries.now.entries c.args.marks.now.entries c.requires.lists c.take_out-in-Unmark.new.self.entries c.in-Unmark.cell c.take_out-in-Unmark.ensures.entries)
 
 pub returns-in-Put-clause-lists : goal.returns-in-Put-clause-lists
 returns-in-Put-clause-lists c = (put c).lists

@@ -1,15 +1,14 @@
-use Rattle.std.proofs.Common.{◌≡◌, ◌+◌, ◌≤◌, drop, vec_len}
+use Rattle.std.proofs.Common.{◌≡◌, ◌≤◌, drop}
 use Rattle.std.specs.List.{count_by}
-use Rattle.std.specs.Vec.{vec_capacity}
 use Rattle.pb_store.specs.Contents.{after_edits, AllPutOfSort}
 use Rattle.pb_memtablet.specs.Listed.{contents_of, AreLists, is_put, is_mark}
 use Rattle.pb_memtablet.proofs.list.change_all.Given as goal
 
 abbrev pub invariant-loop-edit : goal.invariant-loop-edit
 invariant-loop-edit l = record {
-  lists : AreLists l.entries.items l.marks.items;
+  lists : AreLists l.entries.entries l.marks.entries;
   of_sort : AllPutOfSort (drop l.edit-index l.edits);
-  room : vec_len l.entries + count_by is_put (drop l.edit-index l.edits) ≤ vec_capacity l.entries;
-  mark_room : vec_len l.marks + count_by is_mark (drop l.edit-index l.edits) ≤ vec_capacity l.marks;
-  done : after_edits (drop l.edit-index l.edits) (contents_of l.entries.items l.marks.items) ≡ after_edits l.edits (contents_of l.initial.entries.items l.initial.marks.items);
+  room : count_by is_put (drop l.edit-index l.edits) ≤ l.entries.room;
+  mark_room : count_by is_mark (drop l.edit-index l.edits) ≤ l.marks.room;
+  done : after_edits (drop l.edit-index l.edits) (contents_of l.entries.entries l.marks.entries) ≡ after_edits l.edits (contents_of l.initial.entries.entries l.initial.marks.entries);
 }

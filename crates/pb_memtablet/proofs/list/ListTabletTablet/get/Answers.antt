@@ -1,19 +1,15 @@
-use Rattle.std.proofs.Common.{◌≡◌, sym, ap, ◌∙◌, subst, IfSome, Option}
+use Rattle.std.proofs.Common.{sym, ap, ◌∙◌, subst, IfSome, Option}
 use Rattle.std.specs.FinMap as map
 use Rattle.pb_store.specs.declared.slot.Item.{Item}
-use Rattle.pb_store.specs.Slot.{slot_cmp}
 use Rattle.pb_store.specs.Contents.{Contents, IsOfSort}
 use Rattle.pb_memtablet.proofs.Answered.{get-listed, of_sort_found}
 use Rattle.pb_memtablet.proofs.list.ListTabletTablet.get.Goals as goal
 
 pub returns-clause-item : goal.returns-clause-item
 returns-clause-item c =
-    c.look_up.ensures
-    ∙ ap (map.find slot_cmp c.args.slot) c.deref.ensures.value
-    ∙ sym (get-listed c.self.inside.entries.items c.self.inside.marks.items c.self.invariant c.args.slot)
+    c.get.ensures
+    ∙ sym (get-listed c.self.inside.entries.entries c.self.inside.marks.entries c.self.invariant c.args.slot)
     ∙ ap (λ (k : Contents). map.get k.entries c.args.slot) c.self.view_is
 
 pub returns-clause-sort : goal.returns-clause-sort
-returns-clause-sort c =
-    let same : c.look_up.result ≡ map.find slot_cmp c.args.slot c.self.inside.entries.items = c.look_up.ensures ∙ ap (map.find slot_cmp c.args.slot) c.deref.ensures.value in
-    subst (λ (o : Option Item). IfSome o (IsOfSort c.args.slot.sort)) (sym same) (of_sort_found c.self.inside.entries.items c.args.slot c.self.invariant.of_sort)
+returns-clause-sort c = subst (λ (o : Option Item). IfSome o (IsOfSort c.args.slot.sort)) (sym c.get.ensures) (of_sort_found c.self.inside.entries.entries c.args.slot c.self.invariant.of_sort)

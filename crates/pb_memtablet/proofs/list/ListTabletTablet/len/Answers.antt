@@ -6,7 +6,6 @@ use Rattle.pb_memtablet.proofs.list.ListTabletTablet.len.Goals as goal
 
 pub returns : goal.returns
 returns c =
-    c.len.ensures
-    ∙ c.self.inside.entries.ok.0
-    ∙ sym (len-listed c.self.inside.entries.items c.self.inside.marks.items c.self.invariant)
+    c.len.ensures.len
+    ∙ sym (len-listed c.self.inside.entries.entries c.self.inside.marks.entries c.self.invariant)
     ∙ ap (λ (k : Contents). map.len k.entries) c.self.view_is

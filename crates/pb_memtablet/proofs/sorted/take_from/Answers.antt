@@ -1,14 +1,14 @@
 use Rattle.std.proofs.Common.{sym, subst}
 use Rattle.pb_memtablet.specs.Places.{IsFound, IsGap}
 use Rattle.pb_memtablet.proofs.Spots.{holds, without-removed, without-gap}
-use Rattle.pb_memtablet.proofs.sorted.take_out.Goals as goal
+use Rattle.pb_memtablet.proofs.sorted.take_from.Goals as goal
 
 pub returns-in-Ok-clause-items : goal.returns-in-Ok-clause-items
 returns-in-Ok-clause-items g c =
     let found = subst (λ es. IsFound g.K.Ord.cmp es c.args.key.now c.in-Ok.i) c.deref.ensures.value c.in-Ok.ensures.found in
     without-removed g.met.K.Ord.total c.args.entries.now.items c.remove.new.self.items c.args.key.now c.in-Ok.i (holds _ c.requires) found c.remove.ensures.items
 
-pub returns-in_default-clause-items : goal.returns-in_default-clause-items
-returns-in_default-clause-items g c =
-    let gap = subst (λ es. IsGap g.K.Ord.cmp es c.args.key.now c.in_default.field-0) c.deref.ensures.value c.in_default.ensures.gap in
-    sym (without-gap g.met.K.Ord.total c.args.entries.now.items c.args.key.now c.in_default.field-0 (holds _ c.requires) gap)
+pub returns-in-Err-clause-items : goal.returns-in-Err-clause-items
+returns-in-Err-clause-items g c =
+    let gap = subst (λ es. IsGap g.K.Ord.cmp es c.args.key.now c.in-Err.field-0) c.deref.ensures.value c.in-Err.ensures.gap in
+    sym (without-gap g.met.K.Ord.total c.args.entries.now.items c.args.key.now c.in-Err.field-0 (holds _ c.requires) gap)

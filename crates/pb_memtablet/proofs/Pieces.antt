@@ -1,0 +1,280 @@
+-- The chunks of a sorted list: what they are together after an edit, and which one a key belongs into.
+use Rattle.std.proofs.Common.{◌≡◌, ℕ, ◌<◌, ◌≤◌, ◌+◌, ◌-◌, Bool, true, false, cond, List, [], ◌∷◌, ◌++◌, None, Some, refl, sym, ap, ◌∙◌, subst, arith, zero, suc, length, take, drop, get_or, set, T, append_assoc, length-append, length-set, slice_get, inl, inr, vec_len, ◌==◌, ◌*◌}
+use Rattle.std.proofs.lemmas.Bool.Decides.{nat_tests}
+use Rattle.std.specs.declared.cmp.Ordering.{Ordering}
+use Rattle.std.specs.Cmp.{IsTotalOrder}
+use Rattle.std.specs.List.{All, AllWithin, insert, remove, last_or}
+use Rattle.std.proofs.lemmas.Bool.{cases_order}
+use Rattle.pb_memtablet.specs.Places.{IsCut}
+use Rattle.std.specs.List.Sorted.{IsPartitionedBy}
+use Rattle.std.proofs.lemmas.List.Elements.{All-cons, All-append, All-take, All-drop, All-head, All-tail}
+use Rattle.std.specs.declared.vec.Vec.{Vec}
+use Rattle.std.specs.FinMap.{find, put}
+use Rattle.std.specs.FinMap.Entries.{is_sorted}
+use Rattle.pb_memtablet.specs.declared.chunks.TheConstants.{CHUNK}
+use Rattle.pb_memtablet.specs.Chunks.{chunk_entries, IsChunk, IsHome, AreBelow, AreAbove, starts_by, entries_up_to, entries_above}
+use Rattle.pb_memtablet.proofs.Homes.{sorted_left, sorted_right, above_head, below_head, at_most, is_above, above_parts, find-home, put-home, without, without-home, entries_up_to-home, entries_above-home, entries_up_to-cut, entries_above-cut, last_of_take, last_or-append, first_of_drop, drop_past}
+
+empty_by_length : {X : Type 0} (xs : List X) → length xs ≡ 0 → xs ≡ []
+empty_by_length [] n = refl
+empty_by_length (x ∷ xs) n = absurd (omega (arith, n))
+
+pub All-insert : {X : Type 0} (P : X → Type 0) (xs : List X) (i : ℕ) (x : X) → P x → All P xs → All P (insert xs i x)
+All-insert P xs i x p h = All-append P (take i xs) (x ∷ drop i xs) (All-take P i xs h) (All-cons P x (drop i xs) p (All-drop P i xs h))
+
+pub All-remove : {X : Type 0} (P : X → Type 0) (xs : List X) (i : ℕ) → All P xs → All P (remove xs i)
+All-remove P xs i h = All-append P (take i xs) (drop (suc i) xs) (All-take P i xs h) (All-drop P (suc i) xs h)
+
+pub at_set : {X : Type 0} (xs : List X) (i : ℕ) (x d : X) → i < length xs → get_or (set xs i x) i d ≡ x
+at_set [] i x d lt = absurd (omega (arith, lt))
+at_set (y ∷ xs) zero x d lt = refl
+at_set (y ∷ xs) (suc i) x d lt = at_set xs i x d (omega arith)
+
+pub is_zero : (n : ℕ) → true ≡ (n == 0) → n ≡ 0
+is_zero n e = grind (arith, nat_tests)
+
+pub not_zero : (n : ℕ) → false ≡ (n == 0) → 0 < n
+not_zero n e = grind (arith, nat_tests)
+
+pub at_most_one : (b : Bool) → cond b 1 0 ≤ 1
+at_most_one true = omega arith
+at_most_one false = omega arith
+
+pub remove-set : {X : Type 0} (xs : List X) (i : ℕ) (x : X) → remove (set xs i x) i ≡ remove xs i
+remove-set [] i x = refl
+remove-set (y ∷ xs) zero x = refl
+remove-set (y ∷ xs) (suc i) x = ap (λ l. y ∷ l) (remove-set xs i x)
+
+module _ {E A : Type 0} where
+  pub nothing_in : (c : Vec E A) → vec_len c ≡ 0 → c.items ≡ []
+  nothing_in c n = empty_by_length c.items (omega (arith, c.ok.0, n))
+
+  pub chunk_entries-split : (cs : List (Vec E A)) (i : ℕ) (d : Vec E A) → i < length cs → chunk_entries cs ≡ chunk_entries (take i cs) ++ ((get_or cs i d).items ++ chunk_entries (drop (suc i) cs))
+  chunk_entries-split [] i d lt = absurd (omega (arith, lt))
+  chunk_entries-split (c ∷ cs) zero d lt = refl
+  chunk_entries-split (c ∷ cs) (suc i) d lt = ap (λ l. c.items ++ l) (chunk_entries-split cs i d (omega arith)) ∙ sym (append_assoc c.items _ _)
+
+  pub chunk_entries-set : (cs : List (Vec E A)) (i : ℕ) (m : Vec E A) → i < length cs → chunk_entries (set cs i m) ≡ chunk_entries (take i cs) ++ (m.items ++ chunk_entries (drop (suc i) cs))
+  chunk_entries-set [] i m lt = absurd (omega (arith, lt))
+  chunk_entries-set (c ∷ cs) zero m lt = refl
+  chunk_entries-set (c ∷ cs) (suc i) m lt = ap (λ l. c.items ++ l) (chunk_entries-set cs i m (omega arith)) ∙ sym (append_assoc c.items _ _)
+
+  pub chunk_entries-from : (cs : List (Vec E A)) (i : ℕ) (m : Vec E A) → i < length cs → m ≡ get_or cs i m → chunk_entries (drop i cs) ≡ m.items ++ chunk_entries (drop (suc i) cs)
+  chunk_entries-from [] i m lt e = absurd (omega (arith, lt))
+  chunk_entries-from (c ∷ cs) zero m lt e = ap (λ (d : Vec E A). d.items ++ chunk_entries cs) (sym e)
+  chunk_entries-from (c ∷ cs) (suc i) m lt e = chunk_entries-from cs i m (omega arith) e
+
+  -- a chunk in two halves
+  pub chunk_entries-parted : (cs : List (Vec E A)) (i : ℕ) (a b d : Vec E A) → i < length cs → a.items ++ b.items ≡ (get_or cs i d).items → chunk_entries (insert (set cs i a) (suc i) b) ≡ chunk_entries cs
+  chunk_entries-parted [] i a b d lt e = absurd (omega (arith, lt))
+  chunk_entries-parted (c ∷ cs) zero a b d lt e = sym (append_assoc a.items b.items (chunk_entries cs)) ∙ ap (λ l. l ++ chunk_entries cs) e
+  chunk_entries-parted (c ∷ cs) (suc i) a b d lt e = ap (λ l. c.items ++ l) (chunk_entries-parted cs i a b d (omega arith) e)
+
+  pub drop-parted : (cs : List (Vec E A)) (i : ℕ) (a b : Vec E A) → i < length cs → drop (suc (suc i)) (insert (set cs i a) (suc i) b) ≡ drop (suc i) cs
+  drop-parted [] i a b lt = absurd (omega (arith, lt))
+  drop-parted (c ∷ cs) zero a b lt = refl
+  drop-parted (c ∷ cs) (suc i) a b lt = drop-parted cs i a b (omega arith)
+
+  -- an empty chunk taken out
+  pub chunk_entries-removed : (cs : List (Vec E A)) (i : ℕ) (d : Vec E A) → i < length cs → (get_or cs i d).items ≡ [] → chunk_entries (remove cs i) ≡ chunk_entries cs
+  chunk_entries-removed [] i d lt e = absurd (omega (arith, lt))
+  chunk_entries-removed (c ∷ cs) zero d lt e = sym (ap (λ l. l ++ chunk_entries cs) e)
+  chunk_entries-removed (c ∷ cs) (suc i) d lt e = ap (λ l. c.items ++ l) (chunk_entries-removed cs i d (omega arith) e)
+
+  pub length-chunk_entries : (cs : List (Vec E A)) → All IsChunk cs → length (chunk_entries cs) ≤ CHUNK * length cs
+  length-chunk_entries [] h = omega arith
+  length-chunk_entries (c ∷ cs) h =
+      let chunk : IsChunk c = All-head IsChunk c cs h in
+      let rest : length (chunk_entries cs) ≤ CHUNK * length cs = length-chunk_entries cs (All-tail IsChunk c cs h) in
+      omega (arith, rest, chunk.fits, c.ok.0, length-append c.items (chunk_entries cs))
+
+  -- an entry more or less in one chunk is one more or less of all
+  pub length-set_in : (cs : List (Vec E A)) (i : ℕ) (m n : Vec E A) (a b : ℕ) → i < length cs → m ≡ get_or cs i m → length n.items + b ≡ length m.items + a → length (chunk_entries (set cs i n)) + b ≡ length (chunk_entries cs) + a
+  length-set_in [] i m n a b lt e l = absurd (omega (arith, lt))
+  length-set_in (c ∷ cs) zero m n a b lt e l =
+      let same : length c.items ≡ length m.items = ap (λ (d : Vec E A). length d.items) (sym e) in
+      omega (arith, length-append n.items (chunk_entries cs), length-append c.items (chunk_entries cs))
+  length-set_in (c ∷ cs) (suc i) m n a b lt e l =
+      let rest : length (chunk_entries (set cs i n)) + b ≡ length (chunk_entries cs) + a = length-set_in cs i m n a b (omega arith) e l in
+      omega (arith, length-append c.items (chunk_entries (set cs i n)), length-append c.items (chunk_entries cs))
+
+  pub length-taken_from : (cs : List (Vec E A)) (i : ℕ) (m n : Vec E A) (b : Bool) → i < length cs → m ≡ get_or cs i m → vec_len n + cond b 1 0 ≡ vec_len m → length (chunk_entries (set cs i n)) + cond b 1 0 ≡ length (chunk_entries cs)
+  length-taken_from cs i m n b lt e l =
+      let less : length n.items + cond b 1 0 ≡ length m.items + 0 = omega (arith, m.ok.0, n.ok.0) in
+      let all : length (chunk_entries (set cs i n)) + cond b 1 0 ≡ length (chunk_entries cs) + 0 = length-set_in cs i m n 0 (cond b 1 0) lt e less in
+      omega arith
+
+  -- a chunk that became empty is taken out
+  pub retired : (cs ds : List (Vec E A)) (i : ℕ) (n x : Vec E A) → i < length cs → ds ≡ remove (set cs i n) i → x ≡ get_or (set cs i n) i x → true ≡ (vec_len x == 0) → chunk_entries ds ≡ chunk_entries (set cs i n)
+  retired cs ds i n x lt ds_is x_is empty =
+      let same : x ≡ n = x_is ∙ at_set cs i n x lt in
+      let none : vec_len n ≡ 0 = is_zero (vec_len n) (empty ∙ ap (λ (v : Vec E A). vec_len v == 0) same) in
+      let within : i < length (set cs i n) = rw length-set lt in
+      ap chunk_entries ds_is ∙ chunk_entries-removed (set cs i n) i n within (ap (λ (v : Vec E A). v.items) (at_set cs i n n lt) ∙ nothing_in n none)
+
+  pub still_filled : (cs : List (Vec E A)) (i : ℕ) (n x : Vec E A) → i < length cs → x ≡ get_or (set cs i n) i x → false ≡ (vec_len x == 0) → 0 < vec_len n
+  still_filled cs i n x lt x_is some = not_zero (vec_len n) (some ∙ ap (λ (v : Vec E A). vec_len v == 0) (x_is ∙ at_set cs i n x lt))
+
+module _ {K X : Type 0} (R : K → K → Ordering) (o : IsTotalOrder R) where
+  above_from_first : (es ys : List (K × X)) (k : K) → 0 < length es → T (is_sorted R (es ++ ys)) → starts_by R k es ≡ false → AreAbove R k (es ++ ys)
+  above_from_first [] ys k some s f = absurd (omega (arith, some))
+  above_from_first (e ∷ es) ys k some s f = above_head R o e (es ++ ys) k s (is_above o e.0 k f)
+
+  below_to_first : (xs es ys : List (K × X)) (k : K) → T (is_sorted R (xs ++ (es ++ ys))) → starts_by R k es ≡ true → AreBelow R k xs
+  below_to_first xs [] ys k s t = cc
+  below_to_first xs (e ∷ es) ys k s t = below_head R o xs e (es ++ ys) k s (at_most o e.0 k t)
+
+  not_above : (es ys : List (K × X)) (k : K) → AreAbove R k (es ++ ys) → starts_by R k es ≡ true → ⊥
+  not_above [] ys k a t = cc
+  not_above (e ∷ es) ys k a t = at_most o e.0 k t a.0
+
+  cut_not_started : (es : List (K × X)) (k : K) → IsCut R es k 0 → starts_by R k es ≡ true → ⊥
+  cut_not_started [] k c t = cc
+  cut_not_started (e ∷ es) k c t = at_most o e.0 k t c
+
+  module _ {A : Type 0} where
+    -- no chunk of a list above k starts by k
+    none_starts : (cs : List (Vec (K × X) A)) (k : K) (j : ℕ) (d : Vec (K × X) A) → AreAbove R k (chunk_entries cs) → j < length cs → starts_by R k (get_or cs j d).items ≡ true → ⊥
+    none_starts [] k j d a lt t = absurd (omega (arith, lt))
+    none_starts (c ∷ cs) k zero d a lt t = not_above c.items (chunk_entries cs) k a t
+    none_starts (c ∷ cs) k (suc j) d a lt t = none_starts cs k j d (above_parts R c.items (chunk_entries cs) k a).1 (omega arith) t
+
+    pub filled : (c : Vec (K × X) A) → IsChunk c → 0 < length c.items
+    filled c h = let n = c.ok.0 in let f = h.filled in omega (arith, n, f)
+
+    pub partitioned : (cs : List (Vec (K × X) A)) (k : K) → T (is_sorted R (chunk_entries cs)) → All IsChunk cs → IsPartitionedBy (λ c. starts_by R k c.items) cs
+    partitioned [] k s h i j d le lt t = absurd (omega (arith, lt))
+    partitioned (c ∷ cs) k s h zero j d le lt t =
+        elim (starts_by R k c.items) as (λ b. starts_by R k c.items ≡ b → b ≡ true) [
+          | true ↦ λ e. refl
+          | false ↦ λ e. absurd (none_starts (c ∷ cs) k j d (above_from_first c.items (chunk_entries cs) k (filled c (All-head IsChunk c cs h)) s e) lt t)
+        ] refl
+    partitioned (c ∷ cs) k s h (suc i) zero d le lt t = absurd (omega (arith, le))
+    partitioned (c ∷ cs) k s h (suc i) (suc j) d le lt t =
+        partitioned cs k (sorted_right R c.items (chunk_entries cs) s) (All-tail IsChunk c cs h) i j d (omega arith) (omega arith) t
+
+    above_point : (cs : List (Vec (K × X) A)) (k : K) (p : ℕ) → T (is_sorted R (chunk_entries cs)) → All IsChunk cs → AllWithin (λ c. starts_by R k c.items ≡ false) cs p (length cs) → AreAbove R k (chunk_entries (drop p cs))
+    above_point [] k zero s h f = tt
+    above_point [] k (suc p) s h f = tt
+    above_point (c ∷ cs) k zero s h f = above_from_first c.items (chunk_entries cs) k (filled c (All-head IsChunk c cs h)) s (f 0 c (omega arith) (omega arith))
+    above_point (c ∷ cs) k (suc p) s h f =
+        above_point cs k p (sorted_right R c.items (chunk_entries cs) s) (All-tail IsChunk c cs h) (λ j d a b. f (suc j) d (omega arith) (omega arith))
+
+    pub home_at_point : (cs : List (Vec (K × X) A)) (k : K) (p : ℕ) → 0 < length cs → p ≤ length cs → T (is_sorted R (chunk_entries cs)) → All IsChunk cs
+        → AllWithin (λ c. starts_by R k c.items ≡ true) cs 0 p → AllWithin (λ c. starts_by R k c.items ≡ false) cs p (length cs) → (i : ℕ) → i ≡ p - 1 → IsHome R cs k i
+    home_at_point [] k p some le s h t f i e = absurd (omega (arith, some))
+    home_at_point (c ∷ cs) k zero some le s h t f i e =
+        let same : i ≡ 0 = omega arith in
+        subst (IsHome R (c ∷ cs) k) (sym same) record { within = some; below = tt; above = (above_parts R c.items (chunk_entries cs) k (above_point (c ∷ cs) k 0 s h f)).1 }
+    home_at_point (c ∷ cs) k (suc p) some le s h t f i e =
+        let all = c ∷ cs in
+        let lt : p < length all = omega arith in
+        let same : i ≡ p = omega arith in
+        subst (IsHome R all k) (sym same) record {
+          within = lt;
+          below = below_to_first (chunk_entries (take p all)) (get_or all p c).items (chunk_entries (drop (suc p) all)) k (subst (λ l. T (is_sorted R l)) (chunk_entries-split all p c lt) s) (t p c (omega arith) (omega arith));
+          above = above_point all k (suc p) s h f;
+        }
+
+    -- ---- the list around the home of k
+    pub around : (cs : List (Vec (K × X) A)) (k : K) (i : ℕ) (m : Vec (K × X) A) → IsHome R cs k i → m ≡ get_or cs i m → chunk_entries cs ≡ chunk_entries (take i cs) ++ (m.items ++ chunk_entries (drop (suc i) cs))
+    around cs k i m h e = chunk_entries-split cs i m h.within ∙ ap (λ (c : Vec (K × X) A). chunk_entries (take i cs) ++ (c.items ++ chunk_entries (drop (suc i) cs))) (sym e)
+
+    pub home_sorted : (cs : List (Vec (K × X) A)) (k : K) (i : ℕ) (m : Vec (K × X) A) → IsHome R cs k i → m ≡ get_or cs i m → T (is_sorted R (chunk_entries cs)) → T (is_sorted R m.items)
+    home_sorted cs k i m h e s =
+        sorted_left R m.items (chunk_entries (drop (suc i) cs)) (sorted_right R (chunk_entries (take i cs)) _ (subst (λ l. T (is_sorted R l)) (around cs k i m h e) s))
+
+    pub find-in_home : (cs : List (Vec (K × X) A)) (k : K) (i : ℕ) (m : Vec (K × X) A) → IsHome R cs k i → m ≡ get_or cs i m → find R k m.items ≡ find R k (chunk_entries cs)
+    find-in_home cs k i m h e = sym (ap (find R k) (around cs k i m h e) ∙ find-home R (chunk_entries (take i cs)) m.items (chunk_entries (drop (suc i) cs)) k h.below h.above)
+
+    pub put-in_home : (cs : List (Vec (K × X) A)) (k : K) (v : X) (i : ℕ) (m n : Vec (K × X) A) → IsHome R cs k i → m ≡ get_or cs i m → n.items ≡ put R k v m.items → chunk_entries (set cs i n) ≡ put R k v (chunk_entries cs)
+    put-in_home cs k v i m n h e is =
+        chunk_entries-set cs i n h.within
+        ∙ ap (λ l. chunk_entries (take i cs) ++ (l ++ chunk_entries (drop (suc i) cs))) is
+        ∙ sym (put-home R (chunk_entries (take i cs)) m.items (chunk_entries (drop (suc i) cs)) k v h.below h.above)
+        ∙ ap (put R k v) (sym (around cs k i m h e))
+
+    pub without-in_home : (cs : List (Vec (K × X) A)) (k : K) (i : ℕ) (m n : Vec (K × X) A) → IsHome R cs k i → m ≡ get_or cs i m → n.items ≡ without R k m.items → chunk_entries (set cs i n) ≡ without R k (chunk_entries cs)
+    without-in_home cs k i m n h e is =
+        chunk_entries-set cs i n h.within
+        ∙ ap (λ l. chunk_entries (take i cs) ++ (l ++ chunk_entries (drop (suc i) cs))) is
+        ∙ sym (without-home R (chunk_entries (take i cs)) m.items (chunk_entries (drop (suc i) cs)) k h.below h.above)
+        ∙ ap (without R k) (sym (around cs k i m h e))
+
+    -- ---- a key's home among chunks of which one was parted
+    module _ (cs ds : List (Vec (K × X) A)) (k : K) (i : ℕ) (b : Vec (K × X) A) (h : IsHome R cs k i) (s : T (is_sorted R (chunk_entries ds))) (lt : suc i < length ds) (e : b ≡ get_or ds (suc i) b) where
+      at_second : T (is_sorted R (chunk_entries (take (suc i) ds) ++ (b.items ++ chunk_entries (drop (suc (suc i)) ds))))
+      at_second =
+          subst (λ (c : Vec (K × X) A). T (is_sorted R (chunk_entries (take (suc i) ds) ++ (c.items ++ chunk_entries (drop (suc (suc i)) ds))))) (sym e) (subst (λ l. T (is_sorted R l)) (chunk_entries-split ds (suc i) b lt) s)
+
+      pub home-second : drop (suc (suc i)) ds ≡ drop (suc i) cs → starts_by R k b.items ≡ true → IsHome R ds k (suc i)
+      home-second after t = record {
+        within = lt;
+        below = below_to_first (chunk_entries (take (suc i) ds)) b.items (chunk_entries (drop (suc (suc i)) ds)) k at_second t;
+        above = subst (λ l. AreAbove R k (chunk_entries l)) (sym after) h.above;
+      }
+
+      pub home-first : take i ds ≡ take i cs → 0 < length b.items → starts_by R k b.items ≡ false → IsHome R ds k i
+      home-first before some f = record {
+        within = omega arith;
+        below = subst (λ l. AreBelow R k (chunk_entries l)) (sym before) h.below;
+        above = subst (AreAbove R k) (sym (chunk_entries-from ds (suc i) b lt e)) (above_from_first b.items (chunk_entries (drop (suc (suc i)) ds)) k some (sorted_right R (chunk_entries (take (suc i) ds)) _ at_second) f);
+      }
+
+    -- ---- the keys up to k, and those above
+    module _ (cs : List (Vec (K × X) A)) (k : K) (i : ℕ) (m : Vec (K × X) A) (h : IsHome R cs k i) (e : m ≡ get_or cs i m) (s : T (is_sorted R (chunk_entries cs))) where
+      up_to_in_home : (p : ℕ) → IsCut R m.items k p → entries_up_to R k (chunk_entries cs) ≡ chunk_entries (take i cs) ++ take p m.items
+      up_to_in_home p c =
+          ap (entries_up_to R k) (around cs k i m h e)
+          ∙ entries_up_to-home R (chunk_entries (take i cs)) m.items (chunk_entries (drop (suc i) cs)) k h.below h.above
+          ∙ ap (λ l. chunk_entries (take i cs) ++ l) (entries_up_to-cut R o m.items k p (home_sorted cs k i m h e s) c)
+
+      above_in_home : (p : ℕ) → IsCut R m.items k p → entries_above R k (chunk_entries cs) ≡ drop p m.items ++ chunk_entries (drop (suc i) cs)
+      above_in_home p c =
+          ap (entries_above R k) (around cs k i m h e)
+          ∙ entries_above-home R (chunk_entries (take i cs)) m.items (chunk_entries (drop (suc i) cs)) k h.below h.above
+          ∙ ap (λ l. l ++ chunk_entries (drop (suc i) cs)) (entries_above-cut R o m.items k p (home_sorted cs k i m h e s) c)
+
+      pub last-in_home : (p q : ℕ) (x : K × X) → IsCut R m.items k p → p ≡ suc q → q < length m.items → x ≡ get_or m.items q x → Some x ≡ last_or None (entries_up_to R k (chunk_entries cs))
+      last-in_home p q x c p_is lt x_is =
+          ap Some x_is
+          ∙ sym (last_of_take (last_or None (chunk_entries (take i cs))) m.items q x lt)
+          ∙ sym (last_or-append None (chunk_entries (take i cs)) (take (suc q) m.items))
+          ∙ ap (λ n. last_or None (chunk_entries (take i cs) ++ take n m.items)) (sym p_is)
+          ∙ ap (last_or None) (sym (up_to_in_home p c))
+
+      pub last-none : (p : ℕ) → IsCut R m.items k p → p ≡ 0 → (0 < i → starts_by R k m.items ≡ true) → None ≡ last_or None (entries_up_to R k (chunk_entries cs))
+      last-none p c p_is started =
+          let zero_cut : IsCut R m.items k 0 = subst (IsCut R m.items k) p_is c in
+          let first_chunk : i ≡ 0 = elim (cases_order i 0) [
+            | inl same ↦ same
+            | inr rest ↦ elim rest [
+              | inl lt ↦ absurd (omega (arith, lt))
+              | inr gt ↦ absurd (cut_not_started m.items k zero_cut (started gt))
+            ]
+          ] in
+          ap (λ n. last_or None (chunk_entries (take n cs) ++ [])) (sym first_chunk)
+          ∙ ap (λ n. last_or None (chunk_entries (take i cs) ++ take n m.items)) (sym p_is)
+          ∙ ap (last_or None) (sym (up_to_in_home p c))
+
+      pub first-in_home : (p : ℕ) (x : K × X) → IsCut R m.items k p → p < length m.items → x ≡ get_or m.items p x → Some x ≡ slice_get (entries_above R k (chunk_entries cs)) 0
+      first-in_home p x c lt x_is =
+          ap Some x_is
+          ∙ sym (first_of_drop m.items (chunk_entries (drop (suc i) cs)) p x lt)
+          ∙ ap (λ l. slice_get l 0) (sym (above_in_home p c))
+
+      past_home : (p : ℕ) → IsCut R m.items k p → length m.items ≤ p → entries_above R k (chunk_entries cs) ≡ chunk_entries (drop (suc i) cs)
+      past_home p c le = above_in_home p c ∙ ap (λ l. l ++ chunk_entries (drop (suc i) cs)) (drop_past m.items p le)
+
+      pub first-in_next : (p n : ℕ) (next : Vec (K × X) A) (x : K × X) → IsCut R m.items k p → length m.items ≤ p → n ≡ suc i → n < length cs → next ≡ get_or cs n next → 0 < length next.items → x ≡ get_or next.items 0 x
+          → Some x ≡ slice_get (entries_above R k (chunk_entries cs)) 0
+      first-in_next p n next x c le n_is lt next_is some x_is =
+          ap Some x_is
+          ∙ sym (first_of_drop next.items (chunk_entries (drop (suc n) cs)) 0 x some)
+          ∙ ap (λ l. slice_get l 0) (sym (chunk_entries-from cs n next lt next_is))
+          ∙ ap (λ j. slice_get (chunk_entries (drop j cs)) 0) n_is
+          ∙ ap (λ l. slice_get l 0) (sym (past_home p c le))
+
+      pub first-none : (p : ℕ) → IsCut R m.items k p → length m.items ≤ p → length cs ≤ suc i → None ≡ slice_get (entries_above R k (chunk_entries cs)) 0
+      first-none p c le last =
+          ap (λ l. slice_get (chunk_entries l) 0) (sym (drop_past cs (suc i) last)) ∙ ap (λ l. slice_get l 0) (sym (past_home p c le))

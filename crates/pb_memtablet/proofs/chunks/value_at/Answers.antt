@@ -1,0 +1,15 @@
+use Rattle.std.proofs.Common.{ap, ◌∙◌}
+use Rattle.std.specs.FinMap.{find}
+use Rattle.pb_memtablet.proofs.Spots.{holds, truth}
+use Rattle.pb_memtablet.proofs.Pieces.{home_sorted, find-in_home}
+use Rattle.pb_memtablet.proofs.chunks.value_at.Goals as goal
+
+pub look_up-requires : goal.look_up-requires
+look_up-requires g c =
+    rw c.deref.ensures.value (truth _ (home_sorted g.K.Ord.cmp g.met.K.Ord.total c.args.chunks.now c.args.key.now c.home_of.result c.index-chunks-home_of.result c.home_of.ensures.home c.index-chunks-home_of.is (holds _ c.requires.sorted)))
+
+pub returns : goal.returns
+returns g c =
+    c.look_up.ensures
+    ∙ ap (find g.K.Ord.cmp c.args.key.now) c.deref.ensures.value
+    ∙ find-in_home g.K.Ord.cmp g.met.K.Ord.total c.args.chunks.now c.args.key.now c.home_of.result c.index-chunks-home_of.result c.home_of.ensures.home c.index-chunks-home_of.is

@@ -1,0 +1,276 @@
+//! Chunks of entries, sorted together by key.
+ghost use Rattle.std.specs.Prelude.{◌≡◌, true, ℕ, ◌<◌, ◌≤◌, ◌+◌, ◌-◌, IsTrue, [], ◌∷◌, cond, not, length, take, drop, slice_get, vec_len, vec_capacity};
+ghost use Rattle.std.specs.List.{All, HoldsAt, last_or, remove};
+ghost use Rattle.std.specs.Ordering.{eq_by_cmp};
+ghost use Rattle.std.specs.FinMap.{find, put, is_sorted};
+ghost use Rattle.std.specs.FinMap.Entries.{where_key};
+ghost use Rattle.pb_memtablet.specs.Chunks.{chunk_entries, IsChunk, IsHalf, IsSpare, AreChunks, IsHome, entries_up_to, entries_above, starts_by};
+
+use crate::sorted::{look_up, place_above, put_in, take_from};
+
+// How many entries a chunk holds at most.
+pub(crate) const CHUNK: usize = 64;
+
+// How many entries stay in a full chunk that is parted.
+const HALF: usize = CHUNK / 2;
+
+// How many spares there are at most for an emptied chunk to become one more.
+const SPARES: usize = 64;
+
+pub(crate) type Chunk<K, V> = Vec<(K, V)>;
+
+// Whether the first key is at most the given one.
+fn does_start_by<K: Ord, V>(entries: &[(K, V)], key: &K) -> bool
+    ensures { result ≡ starts_by K.cmp key.now entries.now }
+{
+    !entries.is_empty() && entries[0].0.cmp(key).is_le()
+}
+
+// The place of the chunk where the key stands, or would stand.
+fn home_of<K: Ord, V>(chunks: &[Chunk<K, V>], key: &K) -> usize
+    requires chunks { AreChunks K.cmp chunks.now }
+    requires some { 0 < length chunks.now }
+    ensures home { IsHome K.cmp chunks.now key.now result }
+    ensures started { 0 < result → HoldsAt (λ c. starts_by K.cmp key.now c.items ≡ true) chunks.now result }
+{
+    chunks
+        .partition_point(|chunk| does_start_by(chunk, key))
+        .saturating_sub(1)
+}
+
+// The value at the key.
+pub(crate) fn value_at<K: Ord, V: Copy>(chunks: &[Chunk<K, V>], key: &K) -> Option<V>
+    requires { AreChunks K.cmp chunks.now }
+    ensures { result ≡ find K.cmp key.now (chunk_entries chunks.now) }
+{
+    if chunks.is_empty() {
+        return None;
+    }
+    look_up(&chunks[home_of(chunks, key)], key)
+}
+
+// The last entry whose key is at most the given one.
+pub(crate) fn last_up_to<K: Ord + Copy, V: Copy>(chunks: &[Chunk<K, V>], key: &K) -> Option<(K, V)>
+    requires { AreChunks K.cmp chunks.now }
+    ensures { result ≡ last_or None (entries_up_to K.cmp key.now (chunk_entries chunks.now)) }
+{
+    if chunks.is_empty() {
+        return None;
+    }
+    let chunk = &chunks[home_of(chunks, key)];
+    let above = place_above(chunk, key);
+    if above == 0 {
+        None
+    } else {
+        Some(chunk[above - 1])
+    }
+}
+
+// The first entry whose key is above the given one.
+pub(crate) fn first_above<K: Ord + Copy, V: Copy>(chunks: &[Chunk<K, V>], key: &K) -> Option<(K, V)>
+    requires { AreChunks K.cmp chunks.now }
+    ensures { result ≡ slice_get (entries_above K.cmp key.now (chunk_entries chunks.now)) 0 }
+{
+    if chunks.is_empty() {
+        return None;
+    }
+    let home = home_of(chunks, key);
+    let chunk = &chunks[home];
+    let place = place_above(chunk, key);
+    if place < chunk.len() {
+        Some(chunk[place])
+    } else if home + 1 < chunks.len() {
+        Some(chunks[home + 1][0])
+    } else {
+        None
+    }
+}
+
+// The entry at a place, counted over all chunks.
+pub(crate) fn entry_at<K: Copy, V: Copy>(chunks: &[Chunk<K, V>], place: usize) -> Option<(K, V)>
+    ensures { result ≡ slice_get (chunk_entries chunks.now) place }
+{
+    let mut left = place;
+    for chunk in chunks {
+        if left < chunk.len() {
+            return Some(chunk[left]);
+        }
+        left -= chunk.len();
+    }
+    None
+}
+
+// Moves the second half of a full chunk into an empty one.
+fn move_half<K: Drop, V: Drop>(chunk: &mut Chunk<K, V>, empty: &mut Chunk<K, V>)
+    requires full { vec_len chunk.old ≡ CHUNK }
+    requires empty { IsSpare empty.old }
+    ensures kept { chunk.new.items ≡ take HALF chunk.old.items }
+    ensures moved { empty.new.items ≡ drop HALF chunk.old.items }
+    ensures kept_len { vec_len chunk.new ≡ HALF }
+    ensures moved_len { vec_len empty.new ≡ HALF }
+    ensures kept_capacity { vec_capacity chunk.old ≤ vec_capacity chunk.new }
+    ensures moved_capacity { vec_capacity empty.old ≤ vec_capacity empty.new }
+{
+    while chunk.len() > HALF {
+        let entry = chunk.pop().unwrap();
+        empty.push(entry).unwrap();
+    }
+    empty.reverse();
+}
+
+// Parts a full chunk into two halves.
+fn part_chunk<K: Drop, V: Drop>(
+    chunks: &mut Vec<Chunk<K, V>>,
+    spares: &mut Vec<Chunk<K, V>>,
+    place: usize,
+)
+    requires within { place < vec_len chunks.old }
+    requires each { All IsChunk chunks.old.items }
+    requires full { HoldsAt (λ c. vec_len c ≡ CHUNK) chunks.old.items place }
+    requires spares { All IsSpare spares.old.items }
+    requires spare { 0 < vec_len spares.old }
+    requires room { vec_len chunks.old < vec_capacity chunks.old }
+    ensures entries { chunk_entries chunks.new.items ≡ chunk_entries chunks.old.items }
+    ensures before { take place chunks.new.items ≡ take place chunks.old.items }
+    ensures after { drop (place + 2) chunks.new.items ≡ drop (place + 1) chunks.old.items }
+    ensures halves { HoldsAt IsHalf chunks.new.items place × HoldsAt IsHalf chunks.new.items (place + 1) }
+    ensures each { All IsChunk chunks.new.items }
+    ensures spares { All IsSpare spares.new.items }
+    ensures len { vec_len chunks.new ≡ vec_len chunks.old + 1 }
+    ensures spares_len { vec_len spares.new + 1 ≡ vec_len spares.old }
+    ensures capacity { vec_capacity chunks.old ≤ vec_capacity chunks.new }
+{
+    let mut half = spares.pop().unwrap();
+    move_half(&mut chunks[place], &mut half);
+    chunks.insert(place + 1, half).unwrap();
+}
+
+// The place of the chunk where the key belongs, which is parted first if it is full.
+fn roomy_home<K: Ord + Drop, V: Drop>(
+    chunks: &mut Vec<Chunk<K, V>>,
+    spares: &mut Vec<Chunk<K, V>>,
+    key: &K,
+) -> usize
+    requires chunks { AreChunks K.cmp chunks.old.items }
+    requires some { 0 < vec_len chunks.old }
+    requires spares { All IsSpare spares.old.items }
+    requires spare { 0 < vec_len spares.old }
+    requires room { vec_len chunks.old + vec_len spares.old ≤ vec_capacity chunks.old }
+    ensures home { IsHome K.cmp chunks.new.items key.now result }
+    ensures not_full { HoldsAt (λ c. vec_len c < CHUNK) chunks.new.items result }
+    ensures entries { chunk_entries chunks.new.items ≡ chunk_entries chunks.old.items }
+    ensures each { All IsChunk chunks.new.items }
+    ensures spares { All IsSpare spares.new.items }
+    ensures len { vec_len chunks.new + vec_len spares.new ≡ vec_len chunks.old + vec_len spares.old }
+    ensures spares_len { vec_len spares.old ≤ vec_len spares.new + 1 }
+    ensures capacity { vec_capacity chunks.old ≤ vec_capacity chunks.new }
+{
+    let home = home_of(chunks, key);
+    if chunks[home].len() < CHUNK {
+        return home;
+    }
+    part_chunk(chunks, spares, home);
+    if does_start_by(&chunks[home + 1], key) {
+        home + 1
+    } else {
+        home
+    }
+}
+
+// Begins with one entry.
+fn put_alone<K: Ord + Drop, V: Drop>(
+    chunks: &mut Vec<Chunk<K, V>>,
+    spares: &mut Vec<Chunk<K, V>>,
+    key: K,
+    value: V,
+)
+    requires none { vec_len chunks.old ≡ 0 }
+    requires spares { All IsSpare spares.old.items }
+    requires spare { 0 < vec_len spares.old }
+    requires room { vec_len spares.old ≤ vec_capacity chunks.old }
+    ensures entries { chunk_entries chunks.new.items ≡ (key, value) ∷ [] }
+    ensures each { All IsChunk chunks.new.items }
+    ensures spares { All IsSpare spares.new.items }
+    ensures len { vec_len chunks.new ≡ 1 }
+    ensures spares_len { vec_len spares.new + 1 ≡ vec_len spares.old }
+    ensures capacity { vec_capacity chunks.old ≤ vec_capacity chunks.new }
+{
+    let mut chunk = spares.pop().unwrap();
+    chunk.push((key, value)).unwrap();
+    chunks.push(chunk).unwrap();
+}
+
+// Puts the value at the key, and answers whether the key is new.
+pub(crate) fn put_among<K: Ord + Drop, V: Drop>(
+    chunks: &mut Vec<Chunk<K, V>>,
+    spares: &mut Vec<Chunk<K, V>>,
+    key: K,
+    value: V,
+) -> bool
+    requires chunks { AreChunks K.cmp chunks.old.items }
+    requires spares { All IsSpare spares.old.items }
+    requires spare { 0 < vec_len spares.old }
+    requires room { vec_len chunks.old + vec_len spares.old ≤ vec_capacity chunks.old }
+    ensures entries { chunk_entries chunks.new.items ≡ put K.cmp key value (chunk_entries chunks.old.items) }
+    ensures grown { length (chunk_entries chunks.new.items) ≡ length (chunk_entries chunks.old.items) + cond result 1 0 }
+    ensures chunks { AreChunks K.cmp chunks.new.items }
+    ensures spares { All IsSpare spares.new.items }
+    ensures len { vec_len chunks.new + vec_len spares.new ≡ vec_len chunks.old + vec_len spares.old }
+    ensures spares_len { vec_len spares.old ≤ vec_len spares.new + 1 }
+    ensures capacity { vec_capacity chunks.old ≤ vec_capacity chunks.new }
+{
+    if chunks.is_empty() {
+        put_alone(chunks, spares, key, value);
+        return true;
+    }
+    let home = roomy_home(chunks, spares, &key);
+    put_in(&mut chunks[home], key, value)
+}
+
+// Takes an empty chunk out, and keeps it where there is room for it and few are kept.
+fn retire_chunk<K: Drop, V: Drop>(
+    chunks: &mut Vec<Chunk<K, V>>,
+    spares: &mut Vec<Chunk<K, V>>,
+    place: usize,
+)
+    requires within { place < vec_len chunks.old }
+    requires empty { HoldsAt IsSpare chunks.old.items place }
+    requires spares { All IsSpare spares.old.items }
+    ensures chunks { chunks.new.items ≡ remove chunks.old.items place }
+    ensures spares { All IsSpare spares.new.items }
+    ensures len { vec_len chunks.new + vec_len spares.new ≤ vec_len chunks.old + vec_len spares.old }
+    ensures spares_len { vec_len spares.old ≤ vec_len spares.new }
+    ensures capacity { vec_capacity chunks.old ≤ vec_capacity chunks.new }
+{
+    let chunk = chunks.remove(place);
+    if spares.len() < spares.capacity().min(SPARES) {
+        spares.push(chunk).unwrap();
+    }
+}
+
+// Takes the key out, and answers whether it was there.
+pub(crate) fn take_among<K: Ord + Drop, V: Drop>(
+    chunks: &mut Vec<Chunk<K, V>>,
+    spares: &mut Vec<Chunk<K, V>>,
+    key: &K,
+) -> bool
+    requires chunks { AreChunks K.cmp chunks.old.items }
+    requires spares { All IsSpare spares.old.items }
+    ensures entries { chunk_entries chunks.new.items ≡ where_key K.cmp (λ k. not (eq_by_cmp K.cmp key.now k)) (chunk_entries chunks.old.items) }
+    ensures shrunk { length (chunk_entries chunks.new.items) + cond result 1 0 ≡ length (chunk_entries chunks.old.items) }
+    ensures chunks { AreChunks K.cmp chunks.new.items }
+    ensures spares { All IsSpare spares.new.items }
+    ensures len { vec_len chunks.new + vec_len spares.new ≤ vec_len chunks.old + vec_len spares.old }
+    ensures spares_len { vec_len spares.old ≤ vec_len spares.new }
+    ensures capacity { vec_capacity chunks.old ≤ vec_capacity chunks.new }
+{
+    if chunks.is_empty() {
+        return false;
+    }
+    let home = home_of(chunks, key);
+    let taken = take_from(&mut chunks[home], key);
+    if chunks[home].is_empty() {
+        retire_chunk(chunks, spares, home);
+    }
+    taken
+}

@@ -1,0 +1,173 @@
+//! A sorted list in chunks.
+ghost use Rattle.std.specs.Prelude.{◌≡◌, ◌==◌, ◌+◌, ◌-◌, ◌<◌, ◌≤◌, IsTrue, IsOk, OnOk, [], None, length, max, not, slice_get, vec_len};
+ghost use Rattle.std.specs.List.{All, last_or};
+ghost use Rattle.std.specs.Ordering.{eq_by_cmp};
+ghost use Rattle.std.specs.FinMap.{find, put, is_sorted};
+ghost use Rattle.std.specs.FinMap.Entries.{where_key};
+ghost use Rattle.pb_memtablet.specs.Chunks.{IsSpare, entries_up_to, entries_above};
+
+use crate::chunks::{
+    CHUNK, Chunk, entry_at, first_above, last_up_to, put_among, take_among, value_at,
+};
+use std::alloc::{AllocError, Global};
+use std::marker::Model;
+
+// How many chunks there are at most, so that the entries can be counted.
+const CHUNKS: usize = usize::MAX / CHUNK;
+
+/// A list of entries, sorted by key, in chunks of bounded length.
+///
+/// A put or a removal moves the entries of one chunk at most, and not all that stand behind it.
+#[derive(Drop)]
+pub struct SortedList<K: Ord, V> {
+    alloc: Global,
+    chunks: Vec<Chunk<K, V>>,
+    // Empty chunks with memory of their own, of which each put takes one at most.
+    spares: Vec<Chunk<K, V>>,
+    len: usize,
+}
+
+impl<K: Ord, V> Model for SortedList<K, V> {
+    ghost use Rattle.std.specs.Prelude.{vec_len};
+    ghost use Rattle.pb_memtablet.specs.ListOf.{ListOf, list_code};
+
+    ghost Value = { ListOf K V };
+
+    ghost coded = { list_code K.code V.code };
+
+    ghost use Rattle.pb_memtablet.specs.Chunks.{chunk_entries};
+    ghost use Rattle.pb_memtablet.specs.ListParts.{AreListParts};
+
+    ghost view = { λ l. record { entries = chunk_entries l.chunks.items; room = vec_len l.spares } };
+
+    ghost invariant = { λ l. AreListParts K.cmp l.chunks l.spares l.len };
+}
+
+impl<K: Ord, V> SortedList<K, V> {
+    /// The list with nothing in it. It takes no memory until there is room for a put.
+    pub fn new(alloc: Global) -> Self
+        ensures entries { result.entries ≡ [] }
+        ensures room { result.room ≡ 0 }
+    {
+        SortedList {
+            alloc,
+            chunks: Vec::new(alloc),
+            spares: Vec::new(alloc),
+            len: 0,
+        }
+    }
+
+    /// The number of entries.
+    pub fn len(&self) -> usize
+        ensures len { result ≡ length self.now.entries }
+        ensures sorted { IsTrue (is_sorted K.cmp self.now.entries) }
+    {
+        self.len
+    }
+
+    pub fn is_empty(&self) -> bool
+        ensures { result ≡ (length self.now.entries == 0) }
+    {
+        self.len == 0
+    }
+}
+
+impl<K: Ord, V: Copy> SortedList<K, V> {
+    /// The value at the key.
+    pub fn get(&self, key: &K) -> Option<V>
+        ensures { result ≡ find K.cmp key.now self.now.entries }
+    {
+        value_at(&self.chunks, key)
+    }
+}
+
+impl<K: Ord + Copy, V: Copy> SortedList<K, V> {
+    /// The last entry whose key is at most the given one.
+    pub fn last_up_to(&self, key: &K) -> Option<(K, V)>
+        ensures { result ≡ last_or None (entries_up_to K.cmp key.now self.now.entries) }
+    {
+        last_up_to(&self.chunks, key)
+    }
+
+    /// The first entry whose key is above the given one.
+    pub fn first_above(&self, key: &K) -> Option<(K, V)>
+        ensures { result ≡ slice_get (entries_above K.cmp key.now self.now.entries) 0 }
+    {
+        first_above(&self.chunks, key)
+    }
+
+    /// The entry at a place. It walks over the chunks before it.
+    pub fn at(&self, place: usize) -> Option<(K, V)>
+        ensures { result ≡ slice_get self.now.entries place }
+    {
+        entry_at(&self.chunks, place)
+    }
+}
+
+// Adds spares until there are so many.
+fn stock_spares<K: Drop, V: Drop>(
+    spares: &mut Vec<Chunk<K, V>>,
+    alloc: Global,
+    wanted: usize,
+) -> Result<(), AllocError>
+    requires { All IsSpare spares.old.items }
+    ensures spares { All IsSpare spares.new.items }
+    ensures ok { OnOk result (wanted ≤ vec_len spares.new) }
+    ensures kept { vec_len spares.old ≤ vec_len spares.new }
+    ensures most { vec_len spares.new ≤ max (vec_len spares.old) wanted }
+{
+    while spares.len() < wanted {
+        let spare = Vec::with_capacity(alloc, CHUNK)?;
+        spares.push(spare)?;
+    }
+    Ok(())
+}
+
+impl<K: Ord + Drop, V: Drop> SortedList<K, V> {
+    /// Makes room for so many puts.
+    pub fn reserve(&mut self, puts: usize) -> Result<(), AllocError>
+        ensures entries { self.new.entries ≡ self.old.entries }
+        ensures ok { OnOk result (puts ≤ self.new.room) }
+        ensures succeeds { puts ≤ self.old.room → IsOk result }
+        ensures room { self.old.room ≤ self.new.room }
+    {
+        if puts <= self.spares.len() {
+            return Ok(());
+        }
+        if puts > CHUNKS - self.chunks.len() {
+            return Err(AllocError);
+        }
+        self.chunks.reserve(puts)?;
+        stock_spares(&mut self.spares, self.alloc, puts)
+    }
+
+    /// Puts the value at the key. There is room for it.
+    pub fn put(&mut self, key: K, value: V)
+        requires { 0 < self.old.room }
+        ensures entries { self.new.entries ≡ put K.cmp key value self.old.entries }
+        ensures room { self.old.room ≤ self.new.room + 1 }
+    {
+        if put_among(&mut self.chunks, &mut self.spares, key, value) {
+            self.len += 1;
+        }
+    }
+
+    /// Takes the key out.
+    pub fn take_out(&mut self, key: &K)
+        ensures entries { self.new.entries ≡ where_key K.cmp (λ k. not (eq_by_cmp K.cmp key.now k)) self.old.entries }
+        ensures room { self.old.room ≤ self.new.room }
+    {
+        if take_among(&mut self.chunks, &mut self.spares, key) {
+            self.len -= 1;
+        }
+    }
+
+    /// Takes all out, and keeps the room.
+    pub fn clear(&mut self)
+        ensures entries { self.new.entries ≡ [] }
+        ensures room { self.new.room ≡ self.old.room }
+    {
+        self.chunks.clear();
+        self.len = 0;
+    }
+}
