@@ -15,7 +15,7 @@ use Rattle.pb_memtablet.specs.declared.chunks.TheConstants.{CHUNK}
 use Rattle.pb_memtablet.specs.Chunks.{chunk_entries, IsChunk, IsHome, AreBelow, AreAbove, starts_by, entries_up_to, entries_above}
 use Rattle.pb_memtablet.proofs.Homes.{sorted_left, sorted_right, above_head, below_head, at_most, is_above, above_parts, find-home, put-home, without, without-home, entries_up_to-home, entries_above-home, entries_up_to-cut, entries_above-cut, last_of_take, last_or-append, first_of_drop, drop_past}
 
-empty_by_length : {X : Type 0} (xs : List X) → length xs ≡ 0 → xs ≡ []
+pub empty_by_length : {X : Type 0} (xs : List X) → length xs ≡ 0 → xs ≡ []
 empty_by_length [] n = refl
 empty_by_length (x ∷ xs) n = absurd (omega (arith, n))
 

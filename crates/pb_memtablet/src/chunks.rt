@@ -4,8 +4,10 @@ ghost use Rattle.std.specs.List.{All, HoldsAt, last_or, remove};
 ghost use Rattle.std.specs.Ordering.{eq_by_cmp};
 ghost use Rattle.std.specs.FinMap.{find, put, is_sorted};
 ghost use Rattle.std.specs.FinMap.Entries.{where_key};
+ghost use Rattle.pb_memtablet.specs.BlockCounts.{AreCounts};
 ghost use Rattle.pb_memtablet.specs.Chunks.{chunk_entries, IsChunk, IsHalf, IsSpare, AreChunks, IsHome, entries_up_to, entries_above, starts_by};
 
+use crate::counts::{block_of, count_blocks};
 use crate::sorted::{look_up, place_above, put_in, take_from};
 
 // How many entries a chunk holds at most.
@@ -86,8 +88,8 @@ pub(crate) fn first_above<K: Ord + Copy, V: Copy>(chunks: &[Chunk<K, V>], key: &
     }
 }
 
-// The entry at a place, counted over all chunks.
-pub(crate) fn entry_at<K: Copy, V: Copy>(chunks: &[Chunk<K, V>], place: usize) -> Option<(K, V)>
+// The entry at a place, counted over these chunks.
+pub(crate) fn entry_among<K: Copy, V: Copy>(chunks: &[Chunk<K, V>], place: usize) -> Option<(K, V)>
     ensures { result ≡ slice_get (chunk_entries chunks.now) place }
 {
     let mut left = place;
@@ -149,6 +151,7 @@ fn part_chunk<K: Drop, V: Drop>(
 fn roomy_home<K: Ord + Drop, V: Drop>(
     chunks: &mut Vec<Chunk<K, V>>,
     spares: &mut Vec<Chunk<K, V>>,
+    counts: &mut Vec<usize>,
     key: &K,
 ) -> usize
     requires chunks { AreChunks K.cmp chunks.old.items }
@@ -156,6 +159,8 @@ fn roomy_home<K: Ord + Drop, V: Drop>(
     requires spares { All IsSpare spares.old.items }
     requires spare { 0 < vec_len spares.old }
     requires room { vec_len chunks.old + vec_len spares.old ≤ vec_capacity chunks.old }
+    requires counts { AreCounts counts.old.items chunks.old.items }
+    requires counts_room { vec_len chunks.old + vec_len spares.old ≤ vec_capacity counts.old }
     ensures home { IsHome K.cmp chunks.new.items key.now result }
     ensures not_full { HoldsAt (λ c. vec_len c < CHUNK) chunks.new.items result }
     ensures entries { chunk_entries chunks.new.items ≡ chunk_entries chunks.old.items }
@@ -164,12 +169,15 @@ fn roomy_home<K: Ord + Drop, V: Drop>(
     ensures len { vec_len chunks.new + vec_len spares.new ≡ vec_len chunks.old + vec_len spares.old }
     ensures spares_len { vec_len spares.old ≤ vec_len spares.new + 1 }
     ensures capacity { vec_capacity chunks.old ≤ vec_capacity chunks.new }
+    ensures counts { AreCounts counts.new.items chunks.new.items }
+    ensures counts_capacity { vec_capacity counts.old ≤ vec_capacity counts.new }
 {
     let home = home_of(chunks, key);
     if chunks[home].len() < CHUNK {
         return home;
     }
     part_chunk(chunks, spares, home);
+    count_blocks(chunks, counts);
     if does_start_by(&chunks[home + 1], key) {
         home + 1
     } else {
@@ -204,6 +212,7 @@ fn put_alone<K: Ord + Drop, V: Drop>(
 pub(crate) fn put_among<K: Ord + Drop, V: Drop>(
     chunks: &mut Vec<Chunk<K, V>>,
     spares: &mut Vec<Chunk<K, V>>,
+    counts: &mut Vec<usize>,
     key: K,
     value: V,
 ) -> bool
@@ -211,6 +220,8 @@ pub(crate) fn put_among<K: Ord + Drop, V: Drop>(
     requires spares { All IsSpare spares.old.items }
     requires spare { 0 < vec_len spares.old }
     requires room { vec_len chunks.old + vec_len spares.old ≤ vec_capacity chunks.old }
+    requires counts { AreCounts counts.old.items chunks.old.items }
+    requires counts_room { vec_len chunks.old + vec_len spares.old ≤ vec_capacity counts.old }
     ensures entries { chunk_entries chunks.new.items ≡ put K.cmp key value (chunk_entries chunks.old.items) }
     ensures grown { length (chunk_entries chunks.new.items) ≡ length (chunk_entries chunks.old.items) + cond result 1 0 }
     ensures chunks { AreChunks K.cmp chunks.new.items }
@@ -218,13 +229,18 @@ pub(crate) fn put_among<K: Ord + Drop, V: Drop>(
     ensures len { vec_len chunks.new + vec_len spares.new ≡ vec_len chunks.old + vec_len spares.old }
     ensures spares_len { vec_len spares.old ≤ vec_len spares.new + 1 }
     ensures capacity { vec_capacity chunks.old ≤ vec_capacity chunks.new }
+    ensures counts { AreCounts counts.new.items chunks.new.items }
+    ensures counts_capacity { vec_capacity counts.old ≤ vec_capacity counts.new }
 {
     if chunks.is_empty() {
         put_alone(chunks, spares, key, value);
+        count_blocks(chunks, counts);
         return true;
     }
-    let home = roomy_home(chunks, spares, &key);
-    put_in(&mut chunks[home], key, value)
+    let home = roomy_home(chunks, spares, counts, &key);
+    let is_new = put_in(&mut chunks[home], key, value);
+    counts[block_of(home)] += usize::from(is_new);
+    is_new
 }
 
 // Takes an empty chunk out, and keeps it where there is room for it and few are kept.
@@ -252,10 +268,13 @@ fn retire_chunk<K: Drop, V: Drop>(
 pub(crate) fn take_among<K: Ord + Drop, V: Drop>(
     chunks: &mut Vec<Chunk<K, V>>,
     spares: &mut Vec<Chunk<K, V>>,
+    counts: &mut Vec<usize>,
     key: &K,
 ) -> bool
     requires chunks { AreChunks K.cmp chunks.old.items }
     requires spares { All IsSpare spares.old.items }
+    requires counts { AreCounts counts.old.items chunks.old.items }
+    requires counts_room { vec_len chunks.old + vec_len spares.old ≤ vec_capacity counts.old }
     ensures entries { chunk_entries chunks.new.items ≡ where_key K.cmp (λ k. not (eq_by_cmp K.cmp key.now k)) (chunk_entries chunks.old.items) }
     ensures shrunk { length (chunk_entries chunks.new.items) + cond result 1 0 ≡ length (chunk_entries chunks.old.items) }
     ensures chunks { AreChunks K.cmp chunks.new.items }
@@ -263,6 +282,8 @@ pub(crate) fn take_among<K: Ord + Drop, V: Drop>(
     ensures len { vec_len chunks.new + vec_len spares.new ≤ vec_len chunks.old + vec_len spares.old }
     ensures spares_len { vec_len spares.old ≤ vec_len spares.new }
     ensures capacity { vec_capacity chunks.old ≤ vec_capacity chunks.new }
+    ensures counts { AreCounts counts.new.items chunks.new.items }
+    ensures counts_capacity { vec_capacity counts.old ≤ vec_capacity counts.new }
 {
     if chunks.is_empty() {
         return false;
@@ -271,6 +292,9 @@ pub(crate) fn take_among<K: Ord + Drop, V: Drop>(
     let taken = take_from(&mut chunks[home], key);
     if chunks[home].is_empty() {
         retire_chunk(chunks, spares, home);
+        count_blocks(chunks, counts);
+    } else {
+        counts[block_of(home)] -= usize::from(taken);
     }
     taken
 }

@@ -2,6 +2,7 @@
 #![tactic(auto)]
 
 mod chunks;
+mod counts;
 mod list;
 mod sorted;
 mod sorted_list;

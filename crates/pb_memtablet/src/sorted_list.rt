@@ -6,9 +6,8 @@ ghost use Rattle.std.specs.FinMap.{find, put, is_sorted};
 ghost use Rattle.std.specs.FinMap.Entries.{where_key};
 ghost use Rattle.pb_memtablet.specs.Chunks.{IsSpare, entries_up_to, entries_above};
 
-use crate::chunks::{
-    CHUNK, Chunk, entry_at, first_above, last_up_to, put_among, take_among, value_at,
-};
+use crate::chunks::{CHUNK, Chunk, first_above, last_up_to, put_among, take_among, value_at};
+use crate::counts::entry_at;
 use std::alloc::{AllocError, Global};
 use std::marker::Model;
 
@@ -24,6 +23,8 @@ pub struct SortedList<K: Ord, V> {
     chunks: Vec<Chunk<K, V>>,
     // Empty chunks with memory of their own, of which each put takes one at most.
     spares: Vec<Chunk<K, V>>,
+    // How many entries each block of chunks has.
+    counts: Vec<usize>,
     len: usize,
 }
 
@@ -40,7 +41,7 @@ impl<K: Ord, V> Model for SortedList<K, V> {
 
     ghost view = { λ l. record { entries = chunk_entries l.chunks.items; room = vec_len l.spares } };
 
-    ghost invariant = { λ l. AreListParts K.cmp l.chunks l.spares l.len };
+    ghost invariant = { λ l. AreListParts K.cmp l.chunks l.spares l.counts l.len };
 }
 
 impl<K: Ord, V> SortedList<K, V> {
@@ -53,6 +54,7 @@ impl<K: Ord, V> SortedList<K, V> {
             alloc,
             chunks: Vec::new(alloc),
             spares: Vec::new(alloc),
+            counts: Vec::new(alloc),
             len: 0,
         }
     }
@@ -96,11 +98,11 @@ impl<K: Ord + Copy, V: Copy> SortedList<K, V> {
         first_above(&self.chunks, key)
     }
 
-    /// The entry at a place. It walks over the chunks before it.
+    /// The entry at a place. It walks over the blocks of chunks before it, and then in one block.
     pub fn at(&self, place: usize) -> Option<(K, V)>
         ensures { result ≡ slice_get self.now.entries place }
     {
-        entry_at(&self.chunks, place)
+        entry_at(&self.chunks, &self.counts, place)
     }
 }
 
@@ -138,6 +140,7 @@ impl<K: Ord + Drop, V: Drop> SortedList<K, V> {
             return Err(AllocError);
         }
         self.chunks.reserve(puts)?;
+        self.counts.reserve(self.chunks.len() + puts)?;
         stock_spares(&mut self.spares, self.alloc, puts)
     }
 
@@ -147,7 +150,13 @@ impl<K: Ord + Drop, V: Drop> SortedList<K, V> {
         ensures entries { self.new.entries ≡ put K.cmp key value self.old.entries }
         ensures room { self.old.room ≤ self.new.room + 1 }
     {
-        if put_among(&mut self.chunks, &mut self.spares, key, value) {
+        if put_among(
+            &mut self.chunks,
+            &mut self.spares,
+            &mut self.counts,
+            key,
+            value,
+        ) {
             self.len += 1;
         }
     }
@@ -157,7 +166,7 @@ impl<K: Ord + Drop, V: Drop> SortedList<K, V> {
         ensures entries { self.new.entries ≡ where_key K.cmp (λ k. not (eq_by_cmp K.cmp key.now k)) self.old.entries }
         ensures room { self.old.room ≤ self.new.room }
     {
-        if take_among(&mut self.chunks, &mut self.spares, key) {
+        if take_among(&mut self.chunks, &mut self.spares, &mut self.counts, key) {
             self.len -= 1;
         }
     }
@@ -168,6 +177,7 @@ impl<K: Ord + Drop, V: Drop> SortedList<K, V> {
         ensures room { self.new.room ≡ self.old.room }
     {
         self.chunks.clear();
+        self.counts.clear();
         self.len = 0;
     }
 }

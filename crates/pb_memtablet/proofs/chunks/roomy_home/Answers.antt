@@ -21,7 +21,7 @@ returns-then-does_start_by-clause-home g c =
     subst (IsHome R ds k) (sym one)
     (home-second R g.met.K.Ord.total cs ds k i b h s lt (subst (λ n. b ≡ get_or ds n b) one c.index-2.ensures)
     (ap (λ n. drop n ds) (sym two) ∙ c.part_chunk.ensures.after ∙ ap (λ n. drop n cs) one)
-    (ap (starts_by R k) (sym c.deref-2.ensures.value) ∙ sym c.does_start_by.ensures ∙ c.if-does_start_by.true))
+    (ap (starts_by R k) (sym c.deref-3.ensures.value) ∙ sym c.does_start_by.ensures ∙ c.if-does_start_by.true))
 
 pub returns-else-does_start_by-clause-home : goal.returns-else-does_start_by-clause-home
 returns-else-does_start_by-clause-home g c =
@@ -38,4 +38,4 @@ returns-else-does_start_by-clause-home g c =
     let half : IsHalf b = subst IsHalf (sym c.index-2.ensures) (c.part_chunk.ensures.halves.1 b) in
     let some : 0 < length b.items = omega (arith, half.filled, b.ok.0) in
     home-first R g.met.K.Ord.total cs ds k i b h s lt (subst (λ n. b ≡ get_or ds n b) one c.index-2.ensures) c.part_chunk.ensures.before some
-    (ap (starts_by R k) (sym c.deref-2.ensures.value) ∙ sym c.does_start_by.ensures ∙ c.if-does_start_by.false)
+    (ap (starts_by R k) (sym c.deref-3.ensures.value) ∙ sym c.does_start_by.ensures ∙ c.if-does_start_by.false)

@@ -1,4 +1,4 @@
-use Rattle.std.proofs.Common.{◌≡◌, ◌<◌, ◌+◌, cond, length, set, arith, sym, ap, ◌∙◌, subst, T, vec_len}
+use Rattle.std.proofs.Common.{◌≡◌, ◌-◌, get_or, ◌<◌, ◌+◌, cond, length, set, arith, sym, ap, ◌∙◌, subst, T, vec_len}
 use Rattle.std.specs.List.{All}
 use Rattle.std.specs.FinMap.{is_sorted}
 use Rattle.std.specs.FinMap.Entries.{is_sorted-where_key}
@@ -7,7 +7,9 @@ use Rattle.pb_memtablet.specs.Chunks.{chunk_entries, IsChunk, IsHome}
 use Rattle.pb_memtablet.proofs.Spots.{holds, truth}
 use Rattle.pb_memtablet.proofs.Homes.{without}
 use Rattle.pb_memtablet.proofs.Pieces.{home_sorted, without-in_home, length-taken_from, retired, still_filled, remove-set, All-remove}
+use Rattle.pb_memtablet.proofs.Counted.{block_is_counted, taken_was_counted, counts_after, byte_of}
 use Rattle.pb_memtablet.proofs.chunks.take_among.Goals as goal
+use Rattle.pb_memtablet.proofs.chunks.take_among.Goals.{Else-is_empty-2, After-retire_chunk}
 
 pub take_from-taken-requires : goal.take_from-taken-requires
 take_from-taken-requires g c =
@@ -16,14 +18,14 @@ take_from-taken-requires g c =
     let h : IsHome R c.args.chunks.now.items c.args.key.now i = subst (λ l. IsHome R l c.args.key.now i) c.deref.ensures.value c.home_of-home.ensures.home in
     truth _ (home_sorted R g.met.K.Ord.total c.args.chunks.now.items c.args.key.now i c.index_mut.result.now h c.index_mut.ensures.value (holds _ c.requires.chunks.sorted))
 
-entries_else : (g : _) (c : goal.Else-is_empty-2 g) → chunk_entries (set c.args.chunks.now.items c.home_of-home.result c.take_from-taken.new.entries) ≡ without g.K.Ord.cmp c.args.key.now (chunk_entries c.args.chunks.now.items)
+entries_else : (g : _) (c : Else-is_empty-2 g) → chunk_entries (set c.args.chunks.now.items c.home_of-home.result c.take_from-taken.new.entries) ≡ without g.K.Ord.cmp c.args.key.now (chunk_entries c.args.chunks.now.items)
 entries_else g c =
     let i = c.home_of-home.result in
     let h : IsHome g.K.Ord.cmp c.args.chunks.now.items c.args.key.now i = subst (λ l. IsHome g.K.Ord.cmp l c.args.key.now i) c.deref.ensures.value c.home_of-home.ensures.home in
     without-in_home g.K.Ord.cmp g.met.K.Ord.total c.args.chunks.now.items c.args.key.now i c.index_mut.result.now c.take_from-taken.new.entries h c.index_mut.ensures.value c.take_from-taken.ensures.items
 
 pub returns-else-is_empty-2-clause-entries : goal.returns-else-is_empty-2-clause-entries
-returns-else-is_empty-2-clause-entries g c = entries_else g c
+returns-else-is_empty-2-clause-entries g c = entries_else g (goal.at.returns-else-is_empty-2-clause-entries g c).Else-is_empty-2
 
 pub returns-else-is_empty-2-clause-shrunk : goal.returns-else-is_empty-2-clause-shrunk
 returns-else-is_empty-2-clause-shrunk g c =
@@ -42,11 +44,11 @@ returns-else-is_empty-2-clause-chunks g c =
     let old : IsChunk m = rw c.index_mut.ensures.value (c.requires.chunks.each i m lt) in
     let some : 0 < vec_len n = still_filled cs i n c.index.result.now lt c.index.ensures c.if-is_empty-2.ensures in
     record {
-      sorted = truth _ (subst (λ l. T (is_sorted R l)) (sym (entries_else g c)) (is_sorted-where_key R _ _ (holds _ c.requires.chunks.sorted)));
+      sorted = truth _ (subst (λ l. T (is_sorted R l)) (sym (entries_else g (goal.at.returns-else-is_empty-2-clause-chunks g c).Else-is_empty-2)) (is_sorted-where_key R _ _ (holds _ c.requires.chunks.sorted)));
       each = All-set IsChunk cs i n (record { filled = some; fits = omega (arith, old.fits, c.take_from-taken.ensures.len); roomy = omega (arith, old.roomy, c.take_from-taken.ensures.capacity) }) c.requires.chunks.each;
     }
 
-entries_then : (g : _) (c : goal.After-retire_chunk g) → chunk_entries c.retire_chunk.new.chunks.items ≡ without g.K.Ord.cmp c.args.key.now (chunk_entries c.args.chunks.now.items)
+entries_then : (g : _) (c : After-retire_chunk g) → chunk_entries c.retire_chunk.new.chunks.items ≡ without g.K.Ord.cmp c.args.key.now (chunk_entries c.args.chunks.now.items)
 entries_then g c =
     let i = c.home_of-home.result in
     let cs = c.args.chunks.now.items in
@@ -55,7 +57,7 @@ entries_then g c =
     ∙ without-in_home g.K.Ord.cmp g.met.K.Ord.total cs c.args.key.now i c.index_mut.result.now c.take_from-taken.new.entries h c.index_mut.ensures.value c.take_from-taken.ensures.items
 
 pub returns-then-is_empty-2-clause-entries : goal.returns-then-is_empty-2-clause-entries
-returns-then-is_empty-2-clause-entries g c = entries_then g c
+returns-then-is_empty-2-clause-entries g c = entries_then g (goal.at.returns-then-is_empty-2-clause-entries g c).After-retire_chunk
 
 pub returns-then-is_empty-2-clause-shrunk : goal.returns-then-is_empty-2-clause-shrunk
 returns-then-is_empty-2-clause-shrunk g c =
@@ -72,6 +74,40 @@ returns-then-is_empty-2-clause-chunks g c =
     let cs = c.args.chunks.now.items in
     let i = c.home_of-home.result in
     record {
-      sorted = truth _ (subst (λ l. T (is_sorted R l)) (sym (entries_then g c)) (is_sorted-where_key R _ _ (holds _ c.requires.chunks.sorted)));
+      sorted = truth _ (subst (λ l. T (is_sorted R l)) (sym (entries_then g (goal.at.returns-then-is_empty-2-clause-chunks g c).After-retire_chunk)) (is_sorted-where_key R _ _ (holds _ c.requires.chunks.sorted)));
       each = subst (All IsChunk) (sym (c.retire_chunk.ensures.chunks ∙ remove-set cs i c.take_from-taken.new.entries)) (All-remove IsChunk cs i c.requires.chunks.each);
     }
+
+pub count_blocks-requires-clause-each : goal.count_blocks-requires-clause-each
+count_blocks-requires-clause-each g c =
+    subst (All IsChunk) (sym (c.deref-then-is_empty-2.ensures.value ∙ c.retire_chunk.ensures.chunks ∙ remove-set c.args.chunks.now.items c.home_of-home.result c.take_from-taken.new.entries))
+    (All-remove IsChunk c.args.chunks.now.items c.home_of-home.result c.requires.chunks.each)
+
+pub index_mut-requires-else-is_empty-2 : goal.index_mut-requires-else-is_empty-2
+index_mut-requires-else-is_empty-2 g c =
+    let lt : c.home_of-home.result < length c.args.chunks.now.items = omega (arith, c.home_of-home.ensures.home.within, ap length c.deref.ensures.value) in
+    let counted = block_is_counted c.args.counts.now.items c.args.chunks.now.items c.home_of-home.result c.block_of.result c.requires.counts lt c.block_of.ensures in
+    omega (arith, counted, c.args.counts.now.ok.0)
+
+pub overflow_sub-index_mut : goal.overflow_sub-index_mut
+overflow_sub-index_mut g c =
+    let lt : c.home_of-home.result < length c.args.chunks.now.items = omega (arith, c.home_of-home.ensures.home.within, ap length c.deref.ensures.value) in
+    let m = c.index_mut.result.now in
+    let n = c.take_from-taken.new.entries in
+    let taken = c.take_from-taken.result in
+    let had = c.index_mut-else-is_empty-2.result.now in
+    let less : length n.items + cond taken 1 0 ≡ length m.items = omega (arith, m.ok.0, n.ok.0, c.take_from-taken.ensures.len) in
+    let counted = taken_was_counted c.args.counts.now.items c.args.chunks.now.items c.home_of-home.result c.block_of.result m n (cond taken 1 0) had c.requires.counts lt c.block_of.ensures c.index_mut.ensures.value less in
+    omega (arith, counted, c.index_mut-else-is_empty-2.ensures.value, c.from.ensures, byte_of taken)
+
+pub returns-else-is_empty-2-clause-counts : goal.returns-else-is_empty-2-clause-counts
+returns-else-is_empty-2-clause-counts g c =
+    let lt : c.home_of-home.result < length c.args.chunks.now.items = omega (arith, c.home_of-home.ensures.home.within, ap length c.deref.ensures.value) in
+    let m = c.index_mut.result.now in
+    let n = c.take_from-taken.new.entries in
+    let taken = c.take_from-taken.result in
+    let had = c.index_mut-else-is_empty-2.result.now in
+    let less : length n.items + cond taken 1 0 ≡ length m.items = omega (arith, m.ok.0, n.ok.0, c.take_from-taken.ensures.len) in
+    let was_counted = taken_was_counted c.args.counts.now.items c.args.chunks.now.items c.home_of-home.result c.block_of.result m n (cond taken 1 0) had c.requires.counts lt c.block_of.ensures c.index_mut.ensures.value less in
+    let counted : (had - c.from.result) + cond taken 1 0 ≡ get_or c.args.counts.now.items c.block_of.result had + 0 = omega (arith, was_counted, c.index_mut-else-is_empty-2.ensures.value, c.from.ensures, byte_of taken) in
+    counts_after c.args.counts.now.items c.args.chunks.now.items c.home_of-home.result c.block_of.result m n 0 (cond taken 1 0) (had - c.from.result) had c.requires.counts lt c.block_of.ensures c.index_mut.ensures.value (omega (arith, less)) counted

@@ -2,7 +2,7 @@ use Rattle.std.proofs.Common.{◌≡◌, ◌<◌, ◌+◌, ◌-◌, suc, Some, l
 use Rattle.pb_memtablet.specs.Chunks.{chunk_entries}
 use Rattle.pb_memtablet.proofs.Homes.{get_here, get_later}
 use Rattle.pb_memtablet.proofs.Pieces.{chunk_entries-from}
-use Rattle.pb_memtablet.proofs.chunks.entry_at.Goals as goal
+use Rattle.pb_memtablet.proofs.chunks.entry_among.Goals as goal
 
 pub returns-then-left-len : goal.returns-then-left-len
 returns-then-left-len g c =

@@ -1,6 +1,6 @@
 use Rattle.std.proofs.Common.{◌≡◌, drop, slice_get}
 use Rattle.pb_memtablet.specs.Chunks.{chunk_entries}
-use Rattle.pb_memtablet.proofs.chunks.entry_at.Given as goal
+use Rattle.pb_memtablet.proofs.chunks.entry_among.Given as goal
 
 -- what is left to find in the chunks that are left
 abbrev pub invariant-loop-chunk : goal.invariant-loop-chunk
