@@ -20,6 +20,8 @@ mod memtablet;
 #[cfg(test)]
 mod registry;
 #[cfg(test)]
+mod sorted_list;
+#[cfg(test)]
 mod texts;
 #[cfg(test)]
 mod verify;

@@ -70,6 +70,23 @@ fn edits_are_read_back(rt: HostRuntime) -> Result<(), Fail> {
     Ok(())
 }
 
+#[test]
+fn marks_go_on_from_chunk_to_chunk(rt: HostRuntime) -> Result<(), Fail> {
+    let mut tablet = ListTablet::new(rt.alloc());
+    for row in 0..1000_u64 {
+        tablet.apply(&[Edit::Mark(Cell::Data(Row(row), Column::new(3).unwrap()))])?;
+    }
+    let mut last = None;
+    for row in 0..1000_u64 {
+        last = tablet.next_mark(last);
+        assert_eq!(rt; last, Some(Cell::Data(Row(row), Column::new(3).unwrap())));
+    }
+    assert_eq!(rt; tablet.next_mark(last), None);
+    tablet.clear();
+    tablet.end();
+    Ok(())
+}
+
 #[derive(Drop)]
 struct Seen {
     get: Option<Item>,
