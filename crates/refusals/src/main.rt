@@ -9,6 +9,7 @@ mod observers;
 mod page;
 mod programs;
 mod runs;
+mod tablets;
 
 use std::process::ExitCode;
 
@@ -16,7 +17,9 @@ use std::process::ExitCode;
 fn all(rt: &HostRuntime) -> Result<bool, pb_base::NoMemory> {
     let alloc = rt.alloc();
     let copies = calls::batch_copies(alloc)? && calls::step_copies(alloc)?;
-    let table = calls::table_applies(alloc)? && calls::state_takes(alloc)?;
+    let table = calls::table_applies(alloc)?
+        && tablets::chunks_are_parted(alloc)?
+        && calls::state_takes(alloc)?;
     let shared = calls::shared_calls(alloc)?;
     let runs = runs::script_parses(alloc)?
         && runs::shared_opens(alloc)?
