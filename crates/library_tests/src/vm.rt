@@ -1,156 +1,116 @@
-use pb_base::{Cell, Column, Content, Refused, Row, Ts, Version};
-use pb_vm::{AcceptFault, Accepted, Moved, Phase, Record, Vm, accept};
+//! Programs that run. All values are worked out from RFC 9669, or from the sources in C.
+mod ends;
+mod helping;
+mod observers;
+mod opcodes;
+mod rows;
+
+use pb_asm::assemble;
+use pb_base::{Cell, Column, Content, Row, Ts, Value, Version};
+use pb_helpers::HelperTable;
+use pb_registry::accept;
+use pb_verify::verify;
+use pb_vm::{Accepted, Finished, Phase, Record, Reply, Vm};
 use std::alloc::Global;
 use std::process::Abort;
-use std::rt::HostRuntime;
 use std::sync::Arc;
 
-const MOV: [u8; 8] = [0xb7, 0, 0, 0, 0, 0, 0, 0];
+// A row whose eight bytes are their places, from 1 on.
+const ROW: u64 = 0x0807_0605_0403_0201;
 
-const EXIT: [u8; 8] = [0x95, 0, 0, 0, 0, 0, 0, 0];
+// The same of 32 bytes.
+const VALUE: Value = [
+    1, 2, 3, 4, 5, 6, 7, 8, 9, 10, 11, 12, 13, 14, 15, 16, 17, 18, 19, 20, 21, 22, 23, 24, 25, 26,
+    27, 28, 29, 30, 31, 32,
+];
 
-fn bytes_of(rt: &impl Abort, alloc: Global, slots: &[[u8; 8]]) -> Vec<u8> {
+fn column(rt: &impl Abort, number: u8) -> Column {
+    Column::new(number).expect(rt, "a column")
+}
+
+fn data(rt: &impl Abort, row: u64, number: u8) -> Cell {
+    Cell::Data(Row(row), column(rt, number))
+}
+
+// The record of a change of this cell by the transaction from 258 to 772, where 5 is acknowledged.
+fn change_in(rt: &impl Abort, row: u64, number: u8, content: Content) -> Record {
+    let version = Version {
+        start: Ts(258),
+        commit: Ts(772),
+        content,
+    };
+    Record::new(data(rt, row, number), &version, Ts(5))
+}
+
+// The same of column 9.
+fn change(rt: &impl Abort, row: u64, content: Content) -> Record {
+    change_in(rt, row, 9, content)
+}
+
+// The bytes of these slots, the first byte of each written first.
+fn bytes_of(rt: &impl Abort, alloc: Global, slots: &[u64]) -> Vec<u8> {
     let mut bytes = Vec::new(alloc);
     for slot in slots {
-        bytes.extend_from_slice(slot).expect(rt, "memory");
+        bytes
+            .extend_from_slice(&slot.to_be_bytes())
+            .expect(rt, "memory");
     }
     bytes
 }
 
-// The number of slots with code 0, or slot and code of the fault.
-fn judged(rt: &HostRuntime, bytes: &[u8]) -> (usize, u8) {
-    match accept(rt.alloc(), bytes) {
-        Ok(accepted) => (accepted.slots(), 0),
-        Err(AcceptFault::Refused(Refused { slot, code })) => (slot as usize, code),
-        Err(AcceptFault::NoMemory) => (0, 1),
-    }
+// The accepted program of these slots, with all helpers.
+fn coded(rt: &impl Abort, alloc: Global, slots: &[u64]) -> Arc<Accepted> {
+    let bytes = bytes_of(rt, alloc, slots);
+    let accepted = accept(alloc, &bytes, HelperTable::all())
+        .ok()
+        .expect(rt, "accepted");
+    Arc::new(alloc, accepted).expect(rt, "memory")
 }
 
-#[test]
-fn verdicts(rt: HostRuntime) {
-    let table = [
-        ([MOV, EXIT, EXIT], (2, 35)),
-        ([MOV, MOV, EXIT], (3, 0)),
-        ([MOV, MOV, MOV], (2, 36)),
-        ([EXIT, MOV, MOV], (0, 21)),
-        ([[0xb7, 1, 0, 0, 0, 0, 0, 0], EXIT, EXIT], (1, 21)),
-        ([MOV, [0xb7, 10, 0, 0, 0, 0, 0, 0], EXIT], (1, 22)),
-        ([EXIT, EXIT, [0xbf, 0x16, 0, 0, 0, 0, 0, 0]], (2, 12)),
-        ([[0xbf, 0xbb, 0, 0, 0, 0, 0, 0], EXIT, EXIT], (0, 12)),
-        ([[0xb7, 11, 1, 0, 0, 0, 0, 0], EXIT, EXIT], (0, 13)),
-        ([[0xb7, 0xb0, 0, 0, 0, 0, 0, 0], EXIT, EXIT], (0, 13)),
-        ([MOV, [0x95, 0xb0, 0, 0, 0, 0, 0, 0], EXIT], (1, 13)),
-        ([[0xb7, 0x10, 0, 0, 0, 0, 0, 0], EXIT, EXIT], (0, 14)),
-        ([[0xb7, 0, 0, 1, 0, 0, 0, 0], EXIT, EXIT], (0, 14)),
-        ([MOV, [0x95, 1, 0, 0, 0, 0, 0, 0], EXIT], (1, 14)),
-        ([MOV, [0x95, 0, 1, 0, 0, 0, 0, 0], EXIT], (1, 14)),
-        ([MOV, [0x95, 0, 0, 0, 0, 0, 0, 1], EXIT], (1, 14)),
-    ];
-    for (slots, wanted) in table {
-        let bytes = bytes_of(&rt, rt.alloc(), &slots);
-        assert!(rt; judged(&rt, &bytes) == wanted);
-    }
+// The accepted program of a text, with all helpers.
+fn assembled(rt: &impl Abort, alloc: Global, text: &str) -> Arc<Accepted> {
+    let program = assemble(alloc, text).ok().expect(rt, "a program");
+    let accepted = verify(alloc, program, HelperTable::all())
+        .ok()
+        .expect(rt, "accepted");
+    Arc::new(alloc, accepted).expect(rt, "memory")
 }
 
-#[test]
-fn sizes(rt: HostRuntime) {
-    assert!(rt; judged(&rt, &[]) == (0, 10));
-    assert!(rt; judged(&rt, &[0xb7, 0, 0, 0, 0, 0, 0]) == (0, 10));
-    assert!(rt; judged(&rt, &MOV) == (0, 36));
-    assert!(rt; judged(&rt, &EXIT) == (0, 21));
-    let mut bytes = bytes_of(&rt, rt.alloc(), &[MOV; 511]);
-    bytes.extend_from_slice(&EXIT).expect(&rt, "memory");
-    assert!(rt; judged(&rt, &bytes) == (512, 0));
-    bytes.extend_from_slice(&EXIT).expect(&rt, "memory");
-    assert!(rt; judged(&rt, &bytes) == (0, 11));
-    bytes.extend_from_slice(&[0]).expect(&rt, "memory");
-    assert!(rt; judged(&rt, &bytes) == (0, 10));
-}
-
-fn accepted_of(rt: &impl Abort, alloc: Global, slots: &[[u8; 8]]) -> Accepted {
-    match accept(alloc, &bytes_of(rt, alloc, slots)) {
-        Ok(accepted) => accepted,
-        Err(_) => panic!(rt; "refused"),
-    }
-}
-
-fn change(rt: &impl Abort, content: Content) -> Record {
-    let column = Column::new(9).expect(rt, "a column");
-    let version = Version {
-        start: Ts(258),
-        commit: Ts(u64::MAX),
-        content,
-    };
-    Record::new(Cell::Data(Row(7), column), &version, Ts(5))
-}
-
-// Register 0 at the end, and the instructions done.
-fn run(rt: &impl Abort, alloc: Global, slots: &[[u8; 8]]) -> (u64, u16) {
-    let accepted = Arc::new(alloc, accepted_of(rt, alloc, slots)).expect(rt, "memory");
-    let change = change(rt, Content::Deleted);
-    let mut vm = Vm::start(alloc, &accepted, change, Ts(3)).expect(rt, "memory");
-    for _ in 0..512u32 {
-        if let Phase::Going = vm.phase() {
-            vm.step();
+// A machine's run to its end, where each ask is answered by this reply, and how many instructions it did.
+fn run_on(rt: &impl Abort, vm: Vm, reply: Reply) -> (Finished, u16) {
+    let mut vm = vm;
+    for _ in 0..1024u32 {
+        match vm.phase() {
+            Phase::Going => {
+                vm.step();
+            }
+            Phase::Asking(_) => vm.reply(reply),
+            Phase::Over(_) => {}
         }
     }
     let taken = vm.taken();
     match vm.phase() {
-        Phase::Over(end) => {
-            let finished = vm.finish();
-            assert!(rt; finished.is_of(&accepted) && finished.is_plain());
-            assert!(rt; finished.result() == end && finished.run() == Ts(3));
-            (end, taken)
-        }
+        Phase::Over(_) => (vm.finish(), taken),
         _ => panic!(rt; "not ended"),
     }
 }
 
-#[test]
-fn runs(rt: HostRuntime) {
-    assert!(rt; run(&rt, rt.alloc(), &[MOV, EXIT]) == (0, 2));
-    let seven = [0xb7, 0, 0, 0, 7, 0, 0, 0];
-    let other = [0xb7, 9, 0, 0, 8, 0, 0, 0];
-    let minus_two = [0xb7, 0, 0, 0, 0xfe, 0xff, 0xff, 0xff];
-    assert!(rt; run(&rt, rt.alloc(), &[seven, other, EXIT]) == (7, 3));
-    assert!(rt; run(&rt, rt.alloc(), &[seven, minus_two, EXIT]) == (18446744073709551614, 3));
-    let mut slots = [MOV; 512];
-    slots[511] = EXIT;
-    assert!(rt; run(&rt, rt.alloc(), &slots) == (0, 512));
+// The run at 3 of a program on a record.
+fn run(
+    rt: &impl Abort,
+    alloc: Global,
+    program: &Arc<Accepted>,
+    change: Record,
+    reply: Reply,
+) -> (Finished, u16) {
+    let vm = Vm::start(alloc, program, change, Ts(3)).expect(rt, "memory");
+    run_on(rt, vm, reply)
 }
 
-#[test]
-fn a_step_at_a_time(rt: HostRuntime) {
-    let accepted = Arc::new(rt.alloc(), accepted_of(&rt, rt.alloc(), &[MOV, EXIT])).expect(
-        &rt, "memory",
-    );
-    let change = change(&rt, Content::Deleted);
-    let mut vm = Vm::start(rt.alloc(), &accepted, change, Ts(3)).expect(&rt, "memory");
-    assert!(rt; vm.taken() == 0);
-    if let Phase::Going = vm.phase() {
-        assert!(rt; vm.step() == Moved::Went);
-    }
-    assert!(rt; vm.taken() == 1);
-    if let Phase::Going = vm.phase() {
-        assert!(rt; vm.step() == Moved::Ended(0));
-    }
-    assert!(rt; vm.taken() == 2 && vm.phase() == Phase::Over(0));
-}
-
-#[test]
-fn programs_are_compared(rt: HostRuntime) {
-    let one = accepted_of(&rt, rt.alloc(), &[MOV, EXIT]);
-    assert!(rt; one.is_same(&accepted_of(&rt, rt.alloc(), &[MOV, EXIT])));
-    assert!(rt; !one.is_same(&accepted_of(&rt, rt.alloc(), &[MOV, MOV, EXIT])));
-    assert!(rt; !one.is_same(&accepted_of(&rt, rt.alloc(), &[[0xb7, 0, 0, 0, 1, 0, 0, 0], EXIT])));
-    assert!(rt; one.program().slots() == 2);
-}
-
-#[test]
-fn records(rt: HostRuntime) {
-    let value = change(&rt, Content::Value([42; 32]));
-    let deleted = change(&rt, Content::Deleted);
-    assert!(rt; value.is_same(&change(&rt, Content::Value([42; 32]))));
-    assert!(rt; !value.is_same(&deleted));
-    assert!(rt; deleted.is_same(&change(&rt, Content::Stamp(Ts(8)))));
+// What a text ends with, on the record of the counted value, where a cell that it asks for is absent.
+fn result_of(rt: &impl Abort, alloc: Global, text: &str) -> u64 {
+    let program = assembled(rt, alloc, text);
+    let record = change(rt, ROW, Content::Value(VALUE));
+    let (finished, _) = run(rt, alloc, &program, record, Reply::Absent);
+    finished.result()
 }

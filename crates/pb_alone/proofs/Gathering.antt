@@ -21,12 +21,10 @@ use Rattle.pb_steps.specs.State.{StateOf, TransactionOf, phase_in, cells_of, bat
 use Rattle.pb_steps.specs.Observers.{ObserverOf, acknowledgment}
 use Rattle.pb_base.specs.declared.names.Row.{Row}
 use Rattle.pb_base.specs.declared.cell.Cell.TheVariants.{Data, Ack}
-use Rattle.pb_vm.specs.Finished.{Meant, is_plain, is_empty}
 use Rattle.pb_steps.specs.declared.step.Work.{Work}
 use Rattle.pb_steps.specs.declared.step.Work.TheVariants as works
 use Rattle.pb_steps.specs.declared.step.Declared.TheVariants as declared
-use Rattle.pb_steps.specs.Declarations.{IsKnown}
-use Rattle.pb_steps.specs.Declarations.{IsKnown}
+use Rattle.pb_steps.specs.Declarations.{IsPlainRun}
 use Rattle.pb_history.specs.declared.entry.Entry.{Entry}
 use Rattle.pb_history.specs.History.{Has, Member, TellsHistory}
 use Rattle.pb_texts.specs.declared.report.newest.Put.{Put}
@@ -130,24 +128,17 @@ distinct_content (v ∷ ws) d w (inr h) =
 phase_there : (state : StateOf) (start : ℕ) (t : TransactionOf) (c : Ts) → finmap.get state.transactions start ≡ Some t → phase_in state start ≡ Some (phases.Committed c) → t.phase ≡ phases.Committed c
 phase_there state start t c there p = let q : Some t.phase ≡ Some (phases.Committed c) = ap (option_map (λ (u : TransactionOf). u.phase)) (sym there) ∙ p in cc
 
-no_writes : (f : Meant) → is_plain f ≡ true → f.writes ≡ []
-no_writes f e = none_of f.writes (both (is_empty f.talk) (is_empty f.writes) e).1
-  where
-    none_of : (ws : Writes) → is_empty ws ≡ true → ws ≡ []
-    none_of [] e = refl
-    none_of (w ∷ ws) e = cc
-
 -- a write to a data cell is one of a batch
-in_batch : (observers : List ObserverOf) (work : Work) (s : ℕ) (what : Declared) (row : Row) (column : ℕ) (k : Content) → IsKnown what → Has (cells_of observers work s what) (Data row column, k) → Has (batch_in what) (Data row column, k)
-in_batch observers work s (declared.Script batch) row column k known h = h
-in_batch observers works.Script s (declared.Run o f) row column k known h = subst (λ ws. Has ws (Data row column, k)) (no_writes f known.1) h
-in_batch observers (works.Run p r) s (declared.Run o f) row column k known (inl e) =
+in_batch : (observers : List ObserverOf) (work : Work) (s : ℕ) (what : Declared) (row : Row) (column : ℕ) (k : Content) → IsPlainRun what → Has (cells_of observers work s what) (Data row column, k) → Has (batch_in what) (Data row column, k)
+in_batch observers work s (declared.Script batch) row column k plain h = h
+in_batch observers works.Script s (declared.Run o f) row column k plain h = subst (λ ws. Has ws (Data row column, k)) plain.1 h
+in_batch observers (works.Run p r) s (declared.Run o f) row column k plain (inl e) =
     let cells : acknowledgment observers p r ≡ Data row column = ap (λ (w : Cell × Content). w.0) e in
     absurd (apart p r _ row column cells)
   where
     apart : (p : ℕ) (r : Row) (n : ℕ) (row : Row) (column : ℕ) → Ack p r n ≡ Data row column → ⊥
     apart p r n row column e = cc
-in_batch observers (works.Run p r) s (declared.Run o f) row column k known (inr h) = absurd (subst (λ ws. Has ws (Data row column, k)) (no_writes f known.1) h)
+in_batch observers (works.Run p r) s (declared.Run o f) row column k plain (inr h) = absurd (subst (λ ws. Has ws (Data row column, k)) plain.1 h)
 
 module _ (journal : List Entry) (state : StateOf) (tells : TellsHistory journal state) where
   write_of : (seat : ℕ) (start : Ts) (what : Declared) (c : Ts) (w : Cell × Content) → Has journal (record { seat = seat; step = steps.Declare start what; answer = answers.Done }) → phase_in state start.0 ≡ Some (phases.Committed c)
@@ -192,7 +183,7 @@ module _ (journal : List Entry) (state : StateOf) (tells : TellsHistory journal 
       let i = h.in_history in
       let phase : phase_in state h.m.start ≡ Some (phases.Committed (record { 0 = commit })) = ap (option_map (λ (u : TransactionOf). u.phase)) c.there ∙ ap Some c.phase ∙ ap (λ n. Some (phases.Committed (record { 0 = n }))) h.commit_is in
       let all : Has (cells_of state.observers h.m.work h.m.start i.what) (x, content) = subst (λ ws. Has ws (x, content)) i.writes_are (content_has h.m.writes x content h.writes) in
-      let has : Has (batch_in i.what) (x, content) = in_batch state.observers h.m.work h.m.start i.what row column content (tells.declared h.m.seat h.m.start i.what i.declared).known all in
+      let has : Has (batch_in i.what) (x, content) = in_batch state.observers h.m.work h.m.start i.what row column content (tells.declared h.m.seat h.m.start i.what i.declared).plain all in
       in_block (puts_by state) journal (record { seat = h.m.seat; step = steps.Declare (record { 0 = h.m.start }) i.what; answer = answers.Done }) _ i.declared
       (subst (λ o. Has (if_committed o (batch_in i.what)) (record { cell = x; commit = record { 0 = commit }; content = content })) (sym phase) (has_map (put_by (record { 0 = commit })) (batch_in i.what) (x, content) has))
 

@@ -3,7 +3,7 @@ use Rattle.std.proofs.Common.{◌≡◌, ℕ, ◌⊎◌, inl, inr, Bool, true, f
 use Rattle.std.specs.Prelude.{◌==◌}
 use Rattle.std.proofs.lemmas.Bool.{eqb-true}
 use Rattle.pb_base.specs.declared.refusal.Reason.{Reason}
-use Rattle.pb_base.specs.declared.refusal.Reason.TheVariants.{OutOfTimestamps, JournalFull}
+use Rattle.pb_base.specs.declared.refusal.Reason.TheVariants.{OutOfTimestamps, NotItsDeclaration, JournalFull}
 use Rattle.pb_base.specs.Reasons.{reason_code}
 use Rattle.pb_steps.specs.declared.step.Step.{Step}
 use Rattle.pb_steps.specs.declared.step.Answer.{Answer}
@@ -18,7 +18,7 @@ use Rattle.pb_alone.specs.declared.fault.RunFault.{RunFault}
 use Rattle.pb_alone.specs.declared.fault.RunFault.TheVariants as faults
 use Rattle.pb_alone.specs.Alone.{Goes, entry}
 use Rattle.pb_alone.specs.Faults.{IsRefusedBy}
-use Rattle.pb_alone.specs.Stops.{works_in, answers_in, is_over, takes_timestamp, BeginsWith, HasBegun, IsAtEnd, HasStopped, StopsIn}
+use Rattle.pb_alone.specs.Stops.{works_in, answers_in, is_over, takes_timestamp, BeginsWith, HasBegun, MayCallHelpers, IsAtEnd, HasStopped, StopsIn}
 
 -- ---- lists
 
@@ -101,13 +101,13 @@ module _ (s0 : SharedOf) (q0 : SeatOf) (s : SharedOf) (q : SeatOf) (state : Stat
   begun ws e = record { more = entries; journal = at.journal; works_are = e }
 
   module _ (w : Work) (begins : BeginsWith w entries) (goes_on : is_over (answers_in entries) ≡ false) where
-    stops : (code : ℕ) → IsAtEnd s entries code → HasStopped s0 (w ∷ []) s code
+    stops : (code : ℕ) → IsAtEnd s w entries code → HasStopped s0 (w ∷ []) s code
     stops code end = record { before = []; rest = entries; journal = at.journal; work = w; later = []; works_are = refl; begins = begins; goes_on = goes_on; at_end = end }
 
     pub end_if_none : (step : Step) (f : RunFault) → step_reason state q0.number step ≡ None → IsRefusedBy s q.number step f → StopsIn s0 (w ∷ []) s f
     end_if_none step (faults.Refused n) none e =
         let p = full_is (length s.journal == s.limit) e.0 (ap (λ r. or_full r (length s.journal == s.limit)) (sym none) ∙ refused_here step e.0 e.1) in
-        stops n (inr (e.2 ∙ ap reason_code p.0, eqb-true _ _ p.1))
+        stops n (inr (inl (e.2 ∙ ap reason_code p.0, eqb-true _ _ p.1)))
     end_if_none step faults.NoMemory none e = tt
     end_if_none step (faults.Manifest m) none e = e
     end_if_none step (faults.Script m) none e = e
@@ -117,9 +117,25 @@ module _ (s0 : SharedOf) (q0 : SeatOf) (s : SharedOf) (q : SeatOf) (state : Stat
     end_if_out step (faults.Refused n) takes why e =
         elim (out_or_full (is_out state) (length s.journal == s.limit) e.0 (ap (λ r. or_full r (length s.journal == s.limit)) (sym why) ∙ refused_here step e.0 e.1)) [
           | inl p ↦ stops n (inl (e.2 ∙ ap reason_code p.0, ap (λ (z : StateOf). z.clock) at.state_is ∙ eqb-true _ _ p.1, takes))
-          | inr p ↦ stops n (inr (e.2 ∙ ap reason_code p.0, eqb-true _ _ p.1))
+          | inr p ↦ stops n (inr (inl (e.2 ∙ ap reason_code p.0, eqb-true _ _ p.1)))
         ]
     end_if_out step faults.NoMemory takes why e = tt
     end_if_out step (faults.Manifest m) takes why e = e
     end_if_out step (faults.Script m) takes why e = e
     end_if_out step faults.Output takes why e = e
+
+    unlike_or_full : (unlike full : Bool) (why : Reason) → or_full (first_reason ((NotItsDeclaration, unlike) ∷ [])) full ≡ Some why → ((why ≡ NotItsDeclaration) × (unlike ≡ true)) ⊎ ((why ≡ JournalFull) × (full ≡ true))
+    unlike_or_full true true why e = inl (cc, refl)
+    unlike_or_full true false why e = inl (cc, refl)
+    unlike_or_full false full why e = inr (full_is full why e)
+
+    pub end_if_unlike : (step : Step) (f : RunFault) (unlike : Bool) → (unlike ≡ true → MayCallHelpers s.state.observers w) → step_reason state q0.number step ≡ first_reason ((NotItsDeclaration, unlike) ∷ []) → IsRefusedBy s q.number step f → StopsIn s0 (w ∷ []) s f
+    end_if_unlike step (faults.Refused n) unlike helped why e =
+        elim (unlike_or_full unlike (length s.journal == s.limit) e.0 (ap (λ r. or_full r (length s.journal == s.limit)) (sym why) ∙ refused_here step e.0 e.1)) [
+          | inl p ↦ stops n (inr (inr (e.2 ∙ ap reason_code p.0, helped p.1)))
+          | inr p ↦ stops n (inr (inl (e.2 ∙ ap reason_code p.0, eqb-true _ _ p.1)))
+        ]
+    end_if_unlike step faults.NoMemory unlike helped why e = tt
+    end_if_unlike step (faults.Manifest m) unlike helped why e = e
+    end_if_unlike step (faults.Script m) unlike helped why e = e
+    end_if_unlike step faults.Output unlike helped why e = e

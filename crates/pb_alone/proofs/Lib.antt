@@ -16,3 +16,4 @@ pub mod Stopping
 mod Extending
 pub mod RunVisit
 pub mod OneRound
+pub mod SilentRuns

@@ -1,6 +1,6 @@
 -- The states that a run of an observer goes through up to its declaration, and why none of its steps is refused but at the
 -- ends of the clock and of the journal.
-use Rattle.std.proofs.Common.{◌≡◌, ℕ, ◌+◌, ◌<◌, true, false, cond, not, ◌&&◌, [], ◌∷◌, length, Some, None, slice_get, refl, sym, ap, ◌∙◌}
+use Rattle.std.proofs.Common.{subst, ◌≡◌, ℕ, ◌+◌, ◌<◌, true, cond, not, ◌&&◌, [], ◌∷◌, length, Some, None, slice_get, refl, sym, ap, ◌∙◌}
 use Rattle.std.specs.Ordering.{eq_by_cmp}
 use Rattle.std.specs.FinMap as map
 use Rattle.std.proofs.lemmas.Bool.{eq-eqb, lt-ltb}
@@ -11,8 +11,8 @@ use Rattle.pb_base.specs.declared.content.Version.{Version}
 use Rattle.pb_base.specs.Cell.{cell_cmp}
 use Rattle.pb_base.specs.Same.{is_same}
 use Rattle.pb_vm.specs.Finished.{Meant, meant_code}
-use Rattle.pb_vm.specs.Record.{record_of}
-use Rattle.pb_base.specs.declared.refusal.Reason.TheVariants.{OutOfTimestamps, NotOfSeat, WrongPhase, NotItsDeclaration, NoSuchObserver}
+use Rattle.pb_helpers.specs.Record.{record_of}
+use Rattle.pb_base.specs.declared.refusal.Reason.TheVariants.{OutOfTimestamps, NotOfSeat, NotItsDeclaration, NoSuchObserver}
 use Rattle.pb_steps.specs.declared.step.Work.TheVariants as works
 use Rattle.pb_steps.specs.declared.step.Declared.TheVariants as declared
 use Rattle.pb_steps.specs.declared.step.Step.TheVariants.{Begin, Read, Declare}
@@ -23,7 +23,7 @@ use Rattle.pb_steps.specs.State.{StateOf, TransactionOf, new_transaction, cells_
 use Rattle.pb_steps.specs.Observers.{ObserverOf, observed_cell, acknowledgment}
 use Rattle.pb_steps.specs.Readings.{lock_at}
 use Rattle.pb_steps.specs.Reads.{found_answer, acknowledged_in}
-use Rattle.pb_steps.specs.Declarations.{plain_run, is_run, is_its}
+use Rattle.pb_steps.specs.Declarations.{MayDeclare, plain_run, is_run, is_its}
 use Rattle.pb_steps.specs.Reasons.{IsOwn, is_out, first_reason}
 use Rattle.pb_steps.specs.Steps.{step_reason, StepCase}
 use Rattle.pb_steps.specs.Read.{read_reasons, with_read}
@@ -100,6 +100,14 @@ module _ (s : StateOf) (seat o : ℕ) (row : Row) (observer : ObserverOf) (there
         declares Done new m = (refl, m.new_is ∙ ap (λ (t : TransactionOf). with_transaction s3 a (record t { phase = phases.Declared; declared = cells_of s.observers t.work a (declared.Run o f) })) (same_own _ _ _ t3 m.t own3 m.own))
         declares _ new m = absurd m
 
+        -- what is declared so far writes nothing but the acknowledgment
+        pub writes_none : (answer : Answer) (new : StateOf) → StepCase s3 seat (Declare (ts a) (declared.Run o f)) answer new → f.writes ≡ []
+        writes_none Done new m =
+            let t-is = same_own _ _ _ t3 m.t own3 m.own in
+            let may : MayDeclare s.observers (works.Run o row) a t3.reads (declared.Run o f) = subst (λ (t : TransactionOf). MayDeclare s.observers t.work a t.reads (declared.Run o f)) t-is m.its in
+            ap (λ (z : Meant). z.writes) may.1.run
+        writes_none _ new m = absurd m
+
   -- ---- what each step may be refused with
 
   module _ (seated : seat < s.seats) where
@@ -114,12 +122,10 @@ module _ (s : StateOf) (seat o : ℕ) (row : Row) (observer : ObserverOf) (there
 
     module _ (v : Version) (b2 : Answer) (f : Meant) (newer : (acknowledged_in b2).0 < v.commit.0)
         (is : f ≡ plain_run observer.program (record_of x v (acknowledged_in b2).0) a f.result) where
-      its : is_its s.observers (works.Run o row) a (t3 (found_answer v) b2).reads (declared.Run o f) ≡ true
+      pub its : is_its s.observers (works.Run o row) a (t3 (found_answer v) b2).reads (declared.Run o f) ≡ true
       its =
           (λ i. (eq-eqb o o refl i) && is_run (there i) (observed_cell s.observers o row) a f (cond (same_cells x (observed_cell s.observers o row) x_is i && same_cells ack (acknowledgment s.observers o row) ack_is i) (Some (record { version = v; acknowledged = acknowledged_in b2 })) None))
           ∙ (λ i. lt-ltb _ _ newer i && is_same meant_code f (plain_run observer.program (record_of (observed_cell s.observers o row) v (acknowledged_in b2).0) a f.result) (is ∙ ap (λ y. plain_run observer.program (record_of y v (acknowledged_in b2).0) a f.result) x_is) i)
 
-      pub declare_refused : step_reason (s3 (found_answer v) b2) seat (Declare (ts a) (declared.Run o f)) ≡ None
-      declare_refused =
-          allowed_own (s3 (found_answer v) b2) seat a (t3 (found_answer v) b2) (declare_reasons s.observers a (declared.Run o f)) seated (own3 (found_answer v) b2)
-          ∙ (λ i. first_reason ((WrongPhase, false) ∷ (NotItsDeclaration, not (its i)) ∷ []))
+    pub declare_refused : (b1 b2 : Answer) (f : Meant) → step_reason (s3 b1 b2) seat (Declare (ts a) (declared.Run o f)) ≡ first_reason ((NotItsDeclaration, not (is_its s.observers (works.Run o row) a (t3 b1 b2).reads (declared.Run o f))) ∷ [])
+    declare_refused b1 b2 f = allowed_own (s3 b1 b2) seat a (t3 b1 b2) (declare_reasons s.observers a (declared.Run o f)) seated (own3 b1 b2)

@@ -6,9 +6,9 @@ use Rattle.pb_base.specs.declared.cell.Cell.TheVariants.{Data, Ack}
 use Rattle.pb_base.specs.declared.names.Row.{Row}
 use Rattle.pb_base.specs.declared.names.Ts.{Ts}
 use Rattle.pb_base.specs.declared.content.Version.{Version}
-use Rattle.pb_vm.specs.Accepted.{AcceptedOf}
+use Rattle.pb_isa.specs.Programs.{JudgedOf}
 use Rattle.pb_vm.specs.Finished.{Meant}
-use Rattle.pb_vm.specs.Record.{record_of}
+use Rattle.pb_helpers.specs.Record.{record_of}
 use Rattle.pb_steps.specs.declared.step.Work.TheVariants as works
 use Rattle.pb_steps.specs.declared.step.Declared.{Declared}
 use Rattle.pb_steps.specs.declared.step.Declared.TheVariants as declared
@@ -19,6 +19,7 @@ use Rattle.pb_steps.specs.declared.step.Answer.TheVariants.{At, Locked, Found, A
 use Rattle.pb_steps.specs.State.{StateOf}
 use Rattle.pb_steps.specs.Observers.{observed_cell, acknowledgment, column_or_zero, observed_column}
 use Rattle.pb_steps.specs.Reads.{found_answer, acknowledged_in}
+use Rattle.pb_isa.specs.Helpers.{no_helpers}
 use Rattle.pb_steps.specs.Declarations.{plain_run}
 use Rattle.pb_history.specs.declared.entry.Received.{Received}
 use Rattle.pb_core.specs.Calls.{SharedOf, SeatOf, Calls}
@@ -38,7 +39,7 @@ has_right : {A : Type 0} (xs ys : List A) (z : A) → Has ys z → Has (xs ++ ys
 has_right [] ys z h = h
 has_right (x ∷ xs) ys z h = inr (has_right xs ys z h)
 
-module _ (s0 : SharedOf) (q0 : SeatOf) (o : ℕ) (row : Row) (program : AcceptedOf) (column : ℕ) (io : IsObserver s0.state.observers o program column) (clean : IsClean s0.state) (seated : q0.number < s0.state.seats) where
+module _ (s0 : SharedOf) (q0 : SeatOf) (o : ℕ) (row : Row) (program : JudgedOf) (column : ℕ) (io : IsObserver s0.state.observers o program column) (clean : IsClean s0.state) (seated : q0.number < s0.state.seats) where
   abbrev pub x : Cell
   x = Data row column
 
@@ -146,9 +147,9 @@ module _ (s0 : SharedOf) (q0 : SeatOf) (o : ℕ) (row : Row) (program : Accepted
               });
             }
 
-        module _ (v : Version) (saw : b1 ≡ found_answer v) (newer : (acknowledged_in b2).0 < v.commit.0) (f : Meant) (made : f ≡ plain_run program (record_of x v (acknowledged_in b2).0) start.0 f.result) where
-          run : f ≡ plain_run io.observer.program (record_of x v (acknowledged_in b2).0) start.0 f.result
-          run = made ∙ ap (λ p. plain_run p (record_of x v (acknowledged_in b2).0) start.0 f.result) (sym io.program_is)
+        module _ (v : Version) (saw : b1 ≡ found_answer v) (newer : (acknowledged_in b2).0 < v.commit.0) (f : Meant) (made : program.helpers ≡ no_helpers → f ≡ plain_run program (record_of x v (acknowledged_in b2).0) start.0 f.result) where
+          run : io.observer.program.helpers ≡ no_helpers → f ≡ plain_run io.observer.program (record_of x v (acknowledged_in b2).0) start.0 f.result
+          run none = made (ap (λ (p : JudgedOf). p.helpers) (sym io.program_is) ∙ none) ∙ ap (λ p. plain_run p (record_of x v (acknowledged_in b2).0) start.0 f.result) (sym io.program_is)
 
           module _ (what : Declared) (what_is : what ≡ declared.Run o f) where
             pub end3 : (g : RunFault) → IsRefusedBy s3 q3.number (Declare start what) g → StopsIn s0 (works.Run o row ∷ []) s3 g

@@ -15,7 +15,7 @@ use Rattle.pb_alone.specs.declared.fault.RunFault.{RunFault}
 use Rattle.pb_alone.specs.declared.fault.RunFault.TheVariants as faults
 use Rattle.pb_alone.specs.Alone.{Changes, change_entries, changes_from, entry, ts}
 use Rattle.pb_alone.specs.Stops.{work_of, works_in, changes_for, HasBegun, HasStopped, StopsIn}
-use Rattle.pb_alone.proofs.Going.{append_assoc, append_nil, map_append}
+use Rattle.pb_alone.proofs.Going.{append_assoc, append_nil}
 
 works_join : (xs ys : List Entry) → works_in (xs ++ ys) ≡ works_in xs ++ works_in ys
 works_join xs ys = flat_map-append (λ (e : Entry). work_of e.step) xs ys

@@ -1,10 +1,11 @@
 -- Where a run stops before its end: a work that isn't over, and the end of the clock or of the journal that it came to.
-use Rattle.std.specs.Prelude.{◌≡◌, ℕ, ◌⊎◌, Bool, true, false, not, ◌||◌, nat_lt, List, [], ◌∷◌, ◌++◌, length, map}
+use Rattle.std.specs.Prelude.{◌≡◌, ◌≢◌, ℕ, ◌⊎◌, Bool, true, false, not, ◌||◌, nat_lt, List, [], ◌∷◌, ◌++◌, length, map, Some, slice_get}
 use Rattle.std.specs.List.{flat_map}
 use Rattle.pb_base.specs.declared.names.Row.{Row}
-use Rattle.pb_base.specs.declared.refusal.Reason.TheVariants.{OutOfTimestamps, JournalFull}
+use Rattle.pb_base.specs.declared.refusal.Reason.TheVariants.{OutOfTimestamps, NotItsDeclaration, JournalFull}
 use Rattle.pb_base.specs.Reasons.{reason_code}
 use Rattle.pb_base.specs.Batch.{Writes}
+use Rattle.pb_isa.specs.Helpers.{no_helpers}
 use Rattle.pb_steps.specs.declared.step.Work.{Work}
 use Rattle.pb_steps.specs.declared.step.Work.TheVariants as works
 use Rattle.pb_steps.specs.declared.step.Step.{Step}
@@ -77,11 +78,18 @@ takes_timestamp (e ∷ es) = takes_timestamp es
 
 -- ---- the end that it came to
 
--- the next step needs a timestamp, and the last one is given out; or the journal is full
-abbrev pub IsAtEnd : SharedOf → List Entry → ℕ → Type 0
-IsAtEnd shared rest code =
+-- it is a run of an observer that may call helpers
+abbrev pub MayCallHelpers : List ObserverOf → Work → Type 0
+MayCallHelpers observers works.Script = ⊥
+MayCallHelpers observers (works.Run o row) = (observer : ObserverOf) × (slice_get observers o ≡ Some observer) × (observer.program.helpers ≢ no_helpers)
+
+-- The next step needs a timestamp, and the last one is given out; or the journal is full; or the run asks or writes, which
+-- no table takes yet.
+abbrev pub IsAtEnd : SharedOf → Work → List Entry → ℕ → Type 0
+IsAtEnd shared work rest code =
     ((code ≡ reason_code OutOfTimestamps) × (shared.state.clock ≡ 18446744073709551615) × (takes_timestamp rest ≡ true))
-    ⊎ ((code ≡ reason_code JournalFull) × (length shared.journal ≡ shared.limit))
+    ⊎ (((code ≡ reason_code JournalFull) × (length shared.journal ≡ shared.limit))
+    ⊎ ((code ≡ reason_code NotItsDeclaration) × MayCallHelpers shared.state.observers work))
 
 -- The works before this one were begun, in order; of this one there are these entries, perhaps none, and it isn't over; its
 -- next step was refused with this number.
@@ -94,7 +102,7 @@ pub record HasStopped (old : SharedOf) (ws : List Work) (new : SharedOf) (code :
   pub works_are : works_in before ++ (work ∷ later) ≡ ws
   pub begins : BeginsWith work rest
   pub goes_on : is_over (answers_in rest) ≡ false
-  pub at_end : IsAtEnd new rest code
+  pub at_end : IsAtEnd new work rest code
 
 -- why these works are not whole; for want of memory they may end anywhere
 abbrev pub StopsIn : SharedOf → List Work → SharedOf → RunFault → Type 0

@@ -7,8 +7,7 @@ use Rattle.pb_core.specs.Calls.{SharedOf}
 use Rattle.pb_history.specs.Journals.{IsLegal}
 use Rattle.pb_registry.specs.declared.code.Code.{Code}
 use Rattle.pb_registry.specs.declared.manifest.RegistryFault.{RegistryFault}
-use Rattle.pb_registry.specs.Judging.{told}
-use Rattle.pb_registry.specs.Manifests.{manifest_of}
+use Rattle.pb_registry.specs.Judging.{ReadsManifest, told}
 use Rattle.pb_registry.specs.Observers as registry
 use Rattle.pb_alone.specs.declared.fault.RunFault.{RunFault}
 use Rattle.pb_alone.specs.declared.fault.RunFault.TheVariants as faults
@@ -24,7 +23,7 @@ observers_of os = map observer_of os
 -- the manifest is read as these observers
 pub record IsRead (manifest : List ℕ) (observers : List ObserverOf) : Type 0 where
   pub uploaded : List registry.UploadOf
-  pub judged : manifest_of manifest ≡ Ok uploaded
+  pub judged : ReadsManifest manifest (Ok uploaded)
   pub taken : observers ≡ observers_of uploaded
 
 -- a table with these observers, one seat and room for the most entries, as opened
@@ -43,7 +42,7 @@ pub record RanOn (manifest script : List ℕ) (last : ℕ) (old now : Option (Li
 -- the manifest is at fault, and this tells how
 pub record IsManifestFault (manifest : List ℕ) (f : RegistryFault) : Type 0 where
   pub cause : Code
-  pub fault : manifest_of manifest ≡ Err cause
+  pub fault : ReadsManifest manifest (Err cause)
   pub tells : f ≡ told cause
 
 -- the manifest was refused

@@ -2,7 +2,7 @@
 use Rattle.std.specs.Prelude.{◌≡◌, ℕ, ◌<◌, ◌≤◌, ◌⊎◌, List, [], ◌∷◌, Some, slice_get}
 use Rattle.pb_base.specs.declared.names.Row.{Row}
 use Rattle.pb_base.specs.declared.content.Version.{Version}
-use Rattle.pb_vm.specs.Accepted.{AcceptedOf}
+use Rattle.pb_isa.specs.Programs.{JudgedOf}
 use Rattle.pb_steps.specs.declared.step.Work.TheVariants as works
 use Rattle.pb_steps.specs.declared.step.Step.TheVariants.{Read}
 use Rattle.pb_steps.specs.declared.step.Answer.{Answer}
@@ -16,7 +16,7 @@ use Rattle.pb_alone.specs.Alone.{IsClean, ts}
 use Rattle.pb_alone.specs.Stops.{HasBegun}
 
 -- the observer of this number has this program and column
-pub record IsObserver (observers : List ObserverOf) (o : ℕ) (program : AcceptedOf) (column : ℕ) : Type 0 where
+pub record IsObserver (observers : List ObserverOf) (o : ℕ) (program : JudgedOf) (column : ℕ) : Type 0 where
   pub observer : ObserverOf
   pub there : slice_get observers o ≡ Some observer
   pub program_is : observer.program ≡ program

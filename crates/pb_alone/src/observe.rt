@@ -5,37 +5,39 @@ ghost use Rattle.pb_alone.specs.Stops.{StopsIn, due_work};
 ghost use Rattle.pb_steps.specs.declared.step.Work.TheVariants as works;
 ghost use Rattle.pb_alone.specs.Visits.{IsObserver, Visits};
 ghost use Rattle.pb_alone.specs.Rounds.{AllBelow, Rounds};
+ghost use Rattle.pb_isa.specs.Helpers.{no_helpers};
 ghost use Rattle.pb_steps.specs.Declarations.{plain_run};
 
 use crate::change::take;
 use crate::fault::RunFault;
 use pb_base::{Cell, Column, NoMemory, ObserverNo, Row, Ts, Version};
-use pb_core::{
-    Accepted, Answer, Declaration, Declared, Finished, Moved, Record, Seat, Shared, Step, Vm, Work,
-    acknowledged_in,
-};
+use pb_core::{Answer, Declaration, Declared, Seat, Shared, Step, Work, acknowledged_in};
+use pb_helpers::{Record, Reply};
+use pb_sound::without_helpers_silent;
 use pb_store::Tablet;
+use pb_verify::Accepted;
+use pb_vm::{Finished, Moved, Vm};
 use std::alloc::Global;
 use std::sync::Arc;
 
-// Runs a program on a record, to its exit.
+// Runs a program on a record, to its exit. Nothing is read where it asks, since what it then declares is refused.
 fn finished_of(
     alloc: Global,
     program: &Arc<Accepted>,
     change: Record,
     start: Ts,
 ) -> Result<Finished, NoMemory>
-    ensures { IfOk result (λ f. f ≡ plain_run program.now.value change start.0 f.result) }
+    ensures { IfOk result (λ f. program.now.value.helpers ≡ no_helpers → f ≡ plain_run program.now.value change start.0 f.result) }
 {
+    // For the proof: a program without helpers asks nothing and writes nothing.
+    without_helpers_silent();
     let mut vm = Vm::start(alloc, program, change, start)?;
     loop {
         match vm.step() {
             Moved::Went => {}
-            Moved::Asks(_) => unreachable!(),
+            Moved::Asks(_) => vm.reply(Reply::Absent),
             Moved::Ended(_) => break,
         }
-        // For the proof: that it took no more instructions than there are slots, so that it ends.
-        let _ = vm.taken();
     }
     let finished = vm.finish();
     finished.known();

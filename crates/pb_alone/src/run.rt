@@ -83,7 +83,7 @@ fn run<T: Tablet, S: Sink>(
 /// than their acknowledgment, all by calls of the first seat alone, and writes the report.
 ///
 /// Table and seats come back on every path. The fault is the script's, a refused step (40 out of timestamps, 44 journal
-/// full), a write that failed, or want of memory.
+/// full; 43 where an observer that may call helpers asks or writes), a write that failed, or want of memory.
 pub fn run_alone<T: Tablet, S: Sink>(
     alloc: Global,
     text: &str,

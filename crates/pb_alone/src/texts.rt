@@ -1,7 +1,7 @@
 //! A manifest's and a script's texts, run on a table of their own.
 ghost use Rattle.std.specs.Prelude.{◌≡◌, ◌≤◌, false, length, Ok, IfOk, IfErr};
 ghost use Rattle.pb_store.specs.Contents.{nothing};
-ghost use Rattle.pb_registry.specs.Manifests.{manifest_of};
+ghost use Rattle.pb_registry.specs.Judging.{ReadsManifest};
 ghost use Rattle.pb_alone.specs.TextRuns.{RunsTexts, IsBadManifest, IsRead};
 
 use crate::fault::RunFault;
@@ -16,7 +16,7 @@ use std::alloc::Global;
 
 // The manifest's observers, its fault as one of the run.
 fn read(alloc: Global, manifest: &str) -> Result<Registry, RunFault>
-    ensures ok { IfOk result (λ os. manifest_of manifest.now ≡ Ok os) }
+    ensures ok { IfOk result (λ os. ReadsManifest manifest.now (Ok os)) }
     ensures err { IfErr result (IsBadManifest manifest.now) }
 {
     match Registry::from_json(alloc, manifest) {

@@ -3,11 +3,9 @@ use Rattle.std.specs.Prelude.{◌≡◌, ◌≢◌, ℕ, ◌⊎◌, Bool, true, 
 use Rattle.std.specs.Fmt.{decimal}
 use Rattle.std.specs.Io.KnownBytes.{Appends}
 use Rattle.pb_isa.specs.Slots.{slots}
-use Rattle.pb_isa.specs.Programs.{ProgramOf}
-use Rattle.pb_helpers.specs.declared.code.Code.{Code}
-use Rattle.pb_helpers.specs.Codes.{code_number}
+use Rattle.pb_isa.specs.Programs.{ProgramOf, JudgedOf}
 use Rattle.pb_helpers.specs.Table.{all_helpers}
-use Rattle.pb_verify.specs.Arriving.{Accepts, Refuses}
+use Rattle.pb_registry.specs.Accepting.{IsAcceptedCode, IsRefusedCode}
 use Rattle.pb_decode.specs.Encoding.{Encodes}
 use Rattle.pb_decode.specs.Faults.{AreRefusedAs}
 use Rattle.pb_asm.specs.declared.fault.AsmFault.{AsmFault}
@@ -93,16 +91,10 @@ Lists bytes Refused text = (slot code : ℕ) × AreRefusedAs bytes slot code × 
 abbrev pub acceptance_line : ℕ → List ℕ
 acceptance_line n = codes "accepted " ++ (decimal n ++ codes " slots\n")
 
--- the first slot at fault, with its lowest code: of the bytes, or of the program that they encode, by the rules for a
--- program that may call all helpers
-abbrev pub IsRefusedAt : List ℕ → ℕ → ℕ → Type 0
-IsRefusedAt bytes slot code =
-    AreRefusedAs bytes slot code ⊎ ((p : ProgramOf) × Encodes bytes p × ((c : Code) × (code ≡ code_number c) × Refuses p all_helpers slot c))
-
--- whether the rules accept the program that the bytes encode
+-- whether the rules accept the program that the bytes encode, where it may call all helpers; else the first slot at fault
 abbrev pub Checks : Judges
-Checks bytes Accepted text = (p : ProgramOf) × Encodes bytes p × Accepts p all_helpers × (text ≡ acceptance_line (slots p.insns))
-Checks bytes Refused text = (slot code : ℕ) × IsRefusedAt bytes slot code × (text ≡ refusal_line slot code)
+Checks bytes Accepted text = (j : JudgedOf) × IsAcceptedCode bytes all_helpers j × (text ≡ acceptance_line (slots j.program.insns))
+Checks bytes Refused text = (slot code : ℕ) × IsRefusedCode bytes all_helpers slot code × (text ≡ refusal_line slot code)
 
 -- the bytes at a path were judged so, and the whole text was written
 pub record Answered (judges : Judges) (held : Option (List ℕ)) (old now : Option (List ℕ)) (failed : Bool) (verdict : Verdict) : Type 0 where

@@ -16,8 +16,9 @@ use pb_asm::{AsmFault, assemble, disassemble};
 use pb_base::{Reason, Refused, Sink};
 use pb_decode::{DecodeFault, decode, encode};
 use pb_helpers::HelperTable;
+use pb_registry::accept;
 use pb_texts::write_all;
-use pb_verify::{VerifyFault, verify};
+use pb_verify::VerifyFault;
 use std::alloc::{AllocError, Global};
 
 // The fault of a text.
@@ -122,12 +123,7 @@ fn verdict_of<'a>(alloc: Global, bytes: &[u8]) -> Result<Answer, Fault<'a>>
     ensures told { IfOk result (λ a. Checks bytes.now a.verdict (string_bytes a.text)) }
     ensures fault { IfErr result IsMemoryFault }
 {
-    let program = match decode(alloc, bytes) {
-        Ok(program) => program,
-        Err(DecodeFault::Refused(refused)) => return refusal_of(alloc, refused),
-        Err(DecodeFault::NoMemory) => return Err(Fault::NoMemory),
-    };
-    match verify(alloc, program, HelperTable::all()) {
+    match accept(alloc, bytes, HelperTable::all()) {
         Ok(accepted) => acceptance_of(alloc, accepted.slots()),
         Err(VerifyFault::Refused(refused)) => refusal_of(alloc, refused),
         Err(VerifyFault::NoMemory) => Err(Fault::NoMemory),

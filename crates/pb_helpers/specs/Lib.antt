@@ -1,3 +1,5 @@
 pub mod Codes
 pub mod Table
 pub mod Arguments
+pub mod Replies
+pub mod Record

@@ -13,7 +13,7 @@ use Rattle.pb_steps.specs.declared.step.Step.TheVariants.{Read}
 use Rattle.pb_steps.specs.declared.step.Answer.{Answer}
 use Rattle.pb_steps.specs.declared.step.Answer.TheVariants.{Found, Absent}
 use Rattle.pb_base.specs.declared.names.Ts.{Ts}
-use Rattle.pb_vm.specs.Record.{record_of}
+use Rattle.pb_helpers.specs.Record.{record_of}
 use Rattle.pb_steps.specs.State.{StateOf, opening, cells_of}
 use Rattle.pb_steps.specs.Observers.{ObserverOf, observed_cell}
 use Rattle.pb_steps.specs.Declarations.{IsKnown, IsItsRun, MayDeclare, plain_run}
@@ -74,7 +74,7 @@ run_is observers journal m o row reads by f read own meant writes =
       newer = subst (λ (t : Ts). t.0 < own.seen.version.commit.0) was.acknowledged own.newer;
       result = f.result;
       writes = f.writes;
-      meaning = subst (λ (g : Meant). Means g.program g.helpers g.bytes g.began g.talk f.result f.writes) run meant;
+      meaning = subst (λ (g : Meant). Means g.judged g.bytes g.began g.talk f.result f.writes) run meant;
       writes_are = writes;
     }
 
@@ -92,7 +92,7 @@ module _ (journal : List Entry) (state : StateOf) (a : Agrees journal state) whe
       let d = l.declared past in
       let may = subst (λ w. MayDeclare state.observers w m.start c.t.reads d.0) (sym c.work ∙ work) d.4 in
       let r = run_declared state.observers o row m.start c.t.reads d.0 may in
-      let meant = (subst IsKnown r.2 d.3).0 in
+      let meant = subst IsKnown r.2 d.3 in
       run_is state.observers journal m o row c.t.reads r.0 r.1
       (λ q i. subst (λ n. IsEntry journal n (Read (ts m.start) q.cell) q.answer) (sym c.seat) (l.reads q i))
       r.3 meant (c.writes ∙ d.2 ∙ (λ i. cells_of state.observers ((sym c.work ∙ work) i) m.start (r.2 i)))

@@ -5,7 +5,9 @@ use Rattle.std.specs.Ordering.{nat_cmp}
 use Rattle.pb_base.specs.declared.cell.Cell.{Cell}
 use Rattle.pb_base.specs.declared.names.Ts.{Ts}
 use Rattle.pb_steps.specs.declared.step.Work.{Work}
+use Rattle.pb_steps.specs.declared.step.Work.TheVariants as works
 use Rattle.pb_steps.specs.declared.step.Declared.{Declared}
+use Rattle.pb_steps.specs.declared.step.Declared.TheVariants as declared
 use Rattle.pb_steps.specs.declared.step.Step.{Step}
 use Rattle.pb_steps.specs.declared.step.Step.TheVariants.{Begin, Read, Declare, Prewrite, Stamp, CommitPrimary}
 use Rattle.pb_steps.specs.declared.seen.RecordedRead.{RecordedRead}
@@ -15,7 +17,8 @@ use Rattle.pb_steps.specs.declared.phase.Phase.{Phase}
 use Rattle.pb_steps.specs.declared.phase.Phase.TheVariants as phases
 use Rattle.pb_steps.specs.State.{StateOf, TransactionOf, opening, new_transaction, cells_of}
 use Rattle.pb_steps.specs.Observers.{ObserverOf}
-use Rattle.pb_steps.specs.Declarations.{MayDeclare}
+use Rattle.pb_vm.specs.Finished.{Meant}
+use Rattle.pb_steps.specs.Declarations.{IsPlainRun, MayDeclare}
 use Rattle.pb_steps.specs.Reasons.{IsOwn}
 use Rattle.pb_steps.specs.Steps.{StepCase}
 use Rattle.pb_steps.specs.Phases.{is_reading, is_declared}
@@ -32,6 +35,12 @@ use Rattle.pb_history.proofs.Agreement.{ts, got, has_front, has_last, has_more, 
 
 abbrev entry : ℕ → Step → Answer → Entry
 entry seat step answer = record { seat = seat; step = step; answer = answer }
+
+plain_of : (observers : List ObserverOf) (work : Work) (s : ℕ) (reads : List RecordedRead) (what : Declared) → MayDeclare observers work s reads what → IsPlainRun what
+plain_of observers works.Script s reads (declared.Script batch) may = may
+plain_of observers (works.Run p row) s reads (declared.Run o f) may = (ap (λ (z : Meant). z.talk) may.1.run, ap (λ (z : Meant). z.writes) may.1.run)
+plain_of observers works.Script s reads (declared.Run o f) may = absurd may
+plain_of observers (works.Run p row) s reads (declared.Script batch) may = absurd may
 
 no_stamp_declared : (h : Phase) → is_declared h ≡ true → (c : ℕ) → PastStamp h c → ⊥
 no_stamp_declared phases.Declared e c p = elim p [ inl q ↦ cc | inr r ↦ elim r [ inl q ↦ cc | inr q ↦ cc ] ]
@@ -114,7 +123,7 @@ module _ (journal : List Entry) (seat : ℕ) (old new : StateOf) (a : Agrees jou
       let low = a.early s.0 m.t was in
       agrees_change journal e old new a s.0 u (ap (λ (z : StateOf). z.transactions) m.new_is) (omega (arith, clock)) (omega (arith, clock, low)) obs m.t was
       (record { seat = refl; work = refl; past = λ h. cc; stamped = λ c p. let r = reading_is m.t.phase reading in absurd (elim p [ inl q ↦ cc | inr z ↦ elim z [ inl q ↦ cc | inr q ↦ cc ] ]); committed = λ c q. let r = reading_is m.t.phase reading in cc })
-      (λ h. (u, h, refl, sym (ap (λ o. cells_of o m.t.work s.0 what) obs), m.known))
+      (λ h. (u, h, refl, sym (ap (λ o. cells_of o m.t.work s.0 what) obs), m.known, plain_of old.observers m.t.work s.0 m.t.reads what m.its))
       (record {
         begun = has_front journal e _ (a.logged s.0 m.t was).begun;
         reads = λ r h. has_front journal e _ ((a.logged s.0 m.t was).reads r h);

@@ -13,7 +13,7 @@ use Rattle.pb_steps.specs.declared.step.Answer.TheVariants.{At, Done, Committed}
 use Rattle.pb_steps.specs.declared.phase.Phase.TheVariants as phases
 use Rattle.pb_steps.specs.State.{StateOf, TransactionOf, cells_of}
 use Rattle.pb_steps.specs.Observers.{ObserverOf}
-use Rattle.pb_steps.specs.Declarations.{IsKnown}
+use Rattle.pb_steps.specs.Declarations.{IsKnown, IsPlainRun}
 use Rattle.pb_history.specs.declared.entry.Entry.{Entry}
 
 -- a list has an item
@@ -69,12 +69,13 @@ pub record IsCommitted (state : StateOf) (m : Member) : Type 0 where
   pub work : m.work ≡ t.work
   pub writes : m.writes ≡ t.declared
 
--- the state has what a declaration named, and that is known
+-- the state has what a declaration named, and that is known, and plain so far
 pub record IsDeclared (state : StateOf) (start : ℕ) (what : Declared) : Type 0 where
   pub t : TransactionOf
   pub there : map.get state.transactions start ≡ Some t
   pub declared : t.declared ≡ cells_of state.observers t.work start what
   pub known : IsKnown what
+  pub plain : IsPlainRun what
 
 -- the history of a journal, told by the state that it leads to
 pub record TellsHistory (journal : List Entry) (state : StateOf) : Type 0 where

@@ -5,7 +5,7 @@ use Rattle.pb_base.specs.declared.content.Content.TheVariants as contents
 use Rattle.pb_base.specs.declared.content.Version.{Version}
 use Rattle.pb_base.specs.Batch.{Writes}
 use Rattle.pb_isa.specs.Meaning.{Means}
-use Rattle.pb_vm.specs.Record.{record_of}
+use Rattle.pb_helpers.specs.Record.{record_of}
 use Rattle.pb_steps.specs.declared.step.Work.TheVariants as works
 use Rattle.pb_steps.specs.declared.step.Step.TheVariants.{Read}
 use Rattle.pb_steps.specs.declared.step.Answer.{Answer}
@@ -27,7 +27,7 @@ pub record IsObserverRun (observers : List ObserverOf) (journal : List Entry) (m
   pub newer : (acknowledged_in answer).0 < version.commit.0
   pub result : ℕ
   pub writes : Writes
-  pub meaning : Means observer.program.program observer.program.helpers (record_of (observed_cell observers o row) version (acknowledged_in answer).0) m.start [] result writes
+  pub meaning : Means observer.program (record_of (observed_cell observers o row) version (acknowledged_in answer).0) m.start [] result writes
   pub writes_are : m.writes ≡ (acknowledgment observers o row, contents.Stamp (record { 0 = m.start })) ∷ writes
 
 pub record TellsRuns (journal : List Entry) (state : StateOf) : Type 0 where

@@ -1,1 +1,2 @@
 mod Shift
+mod NextSlots

@@ -1,5 +1,6 @@
 pub mod Registers
 pub mod Slots
+pub mod NextSlots
 pub mod Programs
 pub mod Alu
 pub mod Helpers

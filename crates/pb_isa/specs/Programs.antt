@@ -1,8 +1,8 @@
--- Programs, and programs with the helpers that they may call, as contracts see them.
-use Rattle.std.specs.Prelude.{◌≡◌, ◌<◌, ◌≤◌, ◌⊎◌, List, refl}
-use Rattle.std.specs.Coded.{Coded, code_by, coded×, coded_list}
+-- Programs, and programs with what they are judged for, as contracts see them.
+use Rattle.std.specs.Prelude.{◌≡◌, ℕ, ◌<◌, ◌≤◌, ◌⊎◌, List, refl}
+use Rattle.std.specs.Coded.{Coded, code_by, coded×, coded_ℕ, coded_list}
 use Rattle.pb_isa.specs.declared.insn.Insn.{Insn}
-use Rattle.pb_isa.specs.declared.limits.TheConstants.{MAX_SLOTS}
+use Rattle.pb_isa.specs.declared.limits.TheConstants.{MAX_SLOTS, RECORD_BYTES}
 use Rattle.pb_isa.specs.declared.program.NoProgram.{NoProgram}
 use Rattle.pb_isa.specs.declared.program.NoProgram.TheVariants.{NoMemory, NotInRange}
 use Rattle.pb_isa.specs.contracts.insn.Insn as insn
@@ -25,14 +25,19 @@ abbrev pub IsRefused : List Insn → NoProgram → Type 0
 IsRefused is NoMemory = Unit {0}
 IsRefused is (NotInRange back) = (back.items ≡ is) × ((slots is ≡ 0) ⊎ (MAX_SLOTS < slots is))
 
--- a program with the helpers that it may call
-pub record AcceptedOf : Type 0 where
+-- a program with what it is judged for: the helpers that it may call, and how many bytes its record has
+pub record JudgedOf : Type 0 where
   pub program : ProgramOf
   pub helpers : HelperSet
+  pub record_size : ℕ
 
-abbrev pub accepted_code : Coded AcceptedOf
-accepted_code =
-    code_by (ProgramOf × HelperSet) (coded× program_code helper_code)
-    (λ a. (a.program, a.helpers))
-    (λ p. record { program = p.0; helpers = p.1 })
+abbrev pub judged_code : Coded JudgedOf
+judged_code =
+    code_by (ProgramOf × (HelperSet × ℕ)) (coded× program_code (coded× helper_code coded_ℕ))
+    (λ j. (j.program, (j.helpers, j.record_size)))
+    (λ p. record { program = p.0; helpers = p.1.0; record_size = p.1.1 })
     (λ _. refl)
+
+-- judged for the change record
+abbrev pub judged_of : ProgramOf → HelperSet → JudgedOf
+judged_of p h = record { program = p; helpers = h; record_size = RECORD_BYTES }

@@ -5,8 +5,9 @@ mod arithmetic;
 mod insn;
 mod limits;
 mod program;
+mod same;
 
 pub use arithmetic::{alu, holds};
 pub use insn::{AluOp, Cmp, Insn, Operand, Reg, Size, Width};
 pub use limits::{MAX_SLOTS, RECORD_BYTES, STACK_BYTES};
-pub use program::{NoProgram, Program};
+pub use program::{NoProgram, Program, next_slots_are_first};

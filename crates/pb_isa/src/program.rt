@@ -1,11 +1,13 @@
 //! Programs: lists of instructions that take at most so many slots together.
-ghost use Rattle.std.specs.Prelude.{◌≡◌, ◌≢◌, ◌<◌, ◌≤◌, ◌⊎◌, if◌then◌else◌, IfOk, IfErr, Ok, [], ◌∷◌, Some, None};
+ghost use Rattle.std.specs.Prelude.{◌≡◌, ◌≢◌, ◌<◌, ◌≤◌, ◌⊎◌, ◌↔◌, IsTrue, if◌then◌else◌, IfOk, IfErr, Ok, [], ◌∷◌, Some, None};
 ghost use Rattle.pb_isa.specs.Bounds.{Fits};
 ghost use Rattle.pb_isa.specs.Slots.{layout, places_of, insn_at, slots};
+ghost use Rattle.pb_isa.specs.NextSlots.{NextSlotsAreFirst};
 ghost use Rattle.pb_isa.specs.Programs.{IsProgram, IsRefused};
 
 use crate::insn::Insn;
 use crate::limits::MAX_SLOTS;
+use crate::same::are_same;
 use pb_base::NoMemory;
 use std::alloc::Global;
 use std::marker::Model;
@@ -94,6 +96,13 @@ impl Program {
         self.places[slot]
     }
 
+    /// Whether both have the same instructions.
+    pub fn is_same(&self, other: &Program) -> bool
+        ensures { IsTrue result ↔ (self.now ≡ other.now) }
+    {
+        are_same(&self.insns, &other.insns)
+    }
+
     /// Its instructions, in order.
     pub fn insns(&self) -> &[Insn]
         ensures insns { result.now ≡ self.now.insns }
@@ -103,3 +112,8 @@ impl Program {
         &self.insns
     }
 }
+
+/// An instruction begins at slot 0, and at the slot after each instruction but the last.
+pub fn next_slots_are_first()
+    ensures { NextSlotsAreFirst }
+{}

@@ -1,3 +1,4 @@
 pub mod Pointwise
 pub mod JoinIsMeet
 pub mod FlagsFilled
+pub mod FlagsByPlace

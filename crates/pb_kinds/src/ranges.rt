@@ -15,7 +15,7 @@ pub fn in_stack(at: i64, bytes: u8) -> bool
 
 /// Whether so many bytes lie all in the change record, from this distance to its first byte on.
 pub fn in_record(at: i64, bytes: u8) -> bool
-    ensures { result ≡ in_record at bytes }
+    ensures { result ≡ in_record RECORD_BYTES at bytes }
 {
     0 <= at && at <= RECORD_BYTES as i64 - i64::from(bytes)
 }
@@ -57,6 +57,7 @@ fn fill_from(written: &mut [bool; STACK_BYTES], low: usize, bytes: usize)
 
 impl Frame {
     /// Whether so many stack bytes are all written, from this distance to the stack's end on.
+    #[tactic(auto, using(crate::proofs::FlagsByPlace::all_by_place))]
     pub fn are_written(&self, at: i64, bytes: u8) -> bool
         requires inside { IsTrue (in_stack at bytes) }
         ensures { result ≡ are_written self.now at bytes }

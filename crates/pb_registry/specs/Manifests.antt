@@ -1,20 +1,14 @@
 -- What a manifest says, by the value that its text is read as.
-use Rattle.std.specs.Prelude.{ℕ, suc, Bool, true, false, not, ◌&&◌, ◌||◌, ◌==◌, nat_lt, nat_le, if◌then◌else◌, List, [], ◌∷◌, length, codes, Option, Some, None, is_some, option_and_then, Result, Ok, Err}
+use Rattle.std.specs.Prelude.{ℕ, suc, Bool, true, false, not, ◌&&◌, ◌||◌, ◌==◌, nat_lt, nat_le, if◌then◌else◌, List, length, codes, Option, Some, None, is_some, option_and_then, Result, Ok, Err}
 use Rattle.std.specs.List.{list_all, list_any}
 use Rattle.std.specs.Char.{is_ascii_digit, is_ascii_lowercase, is_ascii_uppercase}
 use Rattle.hex.specs.Hex.{decode_of}
 use Rattle.serde_json.specs.Data.{Data, Items, no_items, item, Members, no_members, member}
 use Rattle.serde_json.specs.Find.{get, as_number, as_str, as_array, as_object, as_u64}
 use Rattle.serde_json.specs.Read.{read}
-use Rattle.pb_base.specs.declared.refusal.Refused.{Refused}
-use Rattle.pb_isa.specs.Helpers.{no_helpers}
-use Rattle.pb_vm.specs.Accepted.{AcceptedOf}
-use Rattle.pb_vm.specs.Encoding.{program_of}
-use Rattle.pb_vm.specs.Verdict.{refusal}
 use Rattle.pb_registry.specs.declared.code.Code.{Code}
-use Rattle.pb_registry.specs.declared.code.Code.TheVariants.{Text, Form, TooMany, LeftOut, Name, Column, Digits, Program}
+use Rattle.pb_registry.specs.declared.code.Code.TheVariants.{Text, Form, TooMany, LeftOut, Name, Column, Digits}
 use Rattle.pb_base.specs.Reading.{◌>>=◌}
-use Rattle.pb_registry.specs.Observers.{UploadOf}
 
 abbrev pub members_count : Members → ℕ
 members_count no_members = 0
@@ -118,37 +112,24 @@ abbrev pub bytes_in : Option (List ℕ) → Result (List ℕ) Code
 bytes_in None = Err Form
 bytes_in (Some s) = if list_any is_ascii_uppercase s then Err Digits else decoded (decode_of s)
 
-abbrev pub judged : List ℕ → Option Refused → Result AcceptedOf Code
-judged bytes None = Ok (record { program = program_of bytes; helpers = no_helpers })
-judged bytes (Some r) = Err (Program r)
+-- an observer as it is written: its name's bytes, its column, and its code's bytes
+pub record WrittenOf : Type 0 where
+  pub name : List ℕ
+  pub column : ℕ
+  pub bytes : List ℕ
 
--- the program of these bytes, where nothing refuses them
-abbrev pub program_in : List ℕ → Result AcceptedOf Code
-program_in bytes = judged bytes (refusal bytes)
-
--- name, column, digits and program are read in this order, so the fault that is told has the lowest code
-unfoldable pub observer_in : Data → Result UploadOf Code
-observer_in d = do
+-- name, column and digits are read in this order, so the fault that is told has the lowest code
+unfoldable pub written_in : Data → Result WrittenOf Code
+written_in d = do
   name ← name_in (text_at (codes "name") d)
   column ← column_in (number_at (codes "column") d)
   bytes ← bytes_in (text_at (codes "code") d)
-  program ← program_in bytes
-  Ok (record { name = name; column = column; program = program })
+  Ok (record { name = name; column = column; bytes = bytes })
 
-abbrev pub one : UploadOf → List UploadOf
-one o = o ∷ []
+abbrev pub items_in : Option Data → Result Items Code
+items_in None = Err Text
+items_in (Some d) = whole_in (observers_in d)
 
-abbrev pub first_in : Items → Result (List UploadOf) Code
-first_in no_items = Ok []
-first_in (item d ds) = observer_in d >>= (λ o. Ok (one o))
-
-abbrev pub registry_in : Data → Result (List UploadOf) Code
-registry_in d = whole_in (observers_in d) >>= first_in
-
-abbrev pub read_in : Option Data → Result (List UploadOf) Code
-read_in None = Err Text
-read_in (Some d) = registry_in d
-
--- the observers of a manifest, or its fault
-abbrev pub manifest_of : List ℕ → Result (List UploadOf) Code
-manifest_of text = read_in (read text)
+-- the observers of a manifest's text, or the fault of its whole
+abbrev pub observers_of_text : List ℕ → Result Items Code
+observers_of_text text = items_in (read text)

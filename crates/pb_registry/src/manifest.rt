@@ -1,16 +1,13 @@
 //! A manifest's text, read exactly.
-ghost use Rattle.std.specs.Prelude.{◌≡◌};
-ghost use Rattle.serde_json.specs.View.{view};
-ghost use Rattle.pb_registry.specs.Manifests.{manifest_of, registry_in};
-ghost use Rattle.pb_registry.specs.Judging.{IsJudged, told, of_parts};
-ghost use Rattle.pb_base.specs.Reading.{Gives};
-ghost use Rattle.pb_registry.specs.Codes.{is_memory};
+ghost use Rattle.std.specs.Prelude.{◌≡◌, ◌≢◌, Ok, Err, IfOk, IfErr};
+ghost use Rattle.pb_registry.specs.declared.code.Code.TheVariants.{Memory};
+ghost use Rattle.pb_registry.specs.Judging.{ReadsManifest, IsJudged, told, of_parts};
 
 use crate::code::Code;
 use crate::form::{value_of, whole_in};
 use crate::observer::{Uploaded, observer_in};
 use pb_base::{Column, Refused};
-use pb_vm::Accepted;
+use pb_verify::Accepted;
 use std::alloc::Global;
 use std::error::Error;
 use std::fmt;
@@ -81,7 +78,8 @@ fn told(code: Code) -> RegistryFault
 }
 
 fn read(alloc: Global, text: &str) -> Result<Registry, Code>
-    ensures { Gives is_memory (λ r. r) result (manifest_of text.now) }
+    ensures ok { IfOk result (λ r. ReadsManifest text.now (Ok r)) }
+    ensures err { IfErr result (λ c. c ≢ Memory → ReadsManifest text.now (Err c)) }
 {
     let value = value_of(alloc, text)?;
     match whole_in(&value)? {
@@ -100,7 +98,7 @@ impl Registry {
     /// object with exactly `name`, `column`, `helpers`, an array of numbers, and `code`, a text. A number is written with
     /// digits alone, and is below 2^64.
     pub fn from_json(alloc: Global, text: &str) -> Result<Registry, RegistryFault>
-        ensures { IsJudged result (manifest_of text.now) }
+        ensures { IsJudged result text.now }
     {
         match read(alloc, text) {
             Ok(registry) => Ok(registry),

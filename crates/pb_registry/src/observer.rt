@@ -1,18 +1,24 @@
 //! One observer of a manifest.
-ghost use Rattle.std.specs.Prelude.{◌≡◌, Some, None, Ok, string_bytes, codes};
+ghost use Rattle.std.specs.Prelude.{◌≡◌, ◌≢◌, Some, None, Ok, Err, IfOk, IfErr, string_bytes, codes};
 ghost use Rattle.std.specs.List.{list_all, list_any};
 ghost use Rattle.std.specs.Char.{is_ascii_uppercase};
 ghost use Rattle.serde_json.specs.View.{view};
-ghost use Rattle.pb_registry.specs.Manifests.{is_name_letter, is_name, name_in, column_in, bytes_in, program_in, observer_in, text_at, number_at};
-ghost use Rattle.pb_registry.specs.Uploads.{upload_of};
+ghost use Rattle.pb_registry.specs.Manifests.{is_name_letter, is_name, name_in, column_in, bytes_in, written_in, text_at, number_at};
+ghost use Rattle.pb_isa.specs.Helpers.{no_helpers};
+ghost use Rattle.pb_registry.specs.declared.code.Code.TheVariants.{Memory};
+ghost use Rattle.pb_registry.specs.Accepting.{IsAcceptedCode};
+ghost use Rattle.pb_registry.specs.Judging.{IsCodeFault, ReadsObserver};
+ghost use Rattle.pb_registry.specs.Uploads.{upload_of, written_of};
 ghost use Rattle.pb_base.specs.Reading.{Gives};
 ghost use Rattle.pb_registry.specs.Codes.{is_memory};
 
+use crate::accepting::accept;
 use crate::code::Code;
 use crate::form::{number_at, text_at};
 use hex::FromHexError;
 use pb_base::Column;
-use pb_vm::{AcceptFault, Accepted, accept};
+use pb_helpers::HelperTable;
+use pb_verify::{Accepted, VerifyFault};
 use serde_json::Value;
 use std::alloc::Global;
 
@@ -22,6 +28,14 @@ pub struct Uploaded {
     pub name: String,
     pub column: Column,
     pub program: Accepted,
+}
+
+// An observer as it is written.
+#[derive(Drop)]
+struct Written {
+    name: String,
+    column: Column,
+    bytes: Vec<u8>,
 }
 
 fn is_name_letter(letter: u8) -> bool
@@ -93,12 +107,13 @@ fn bytes_in(alloc: Global, value: &Value) -> Result<Vec<u8>, Code>
 }
 
 fn program_in(alloc: Global, bytes: &[u8]) -> Result<Accepted, Code>
-    ensures { Gives is_memory (λ a. a) result (program_in bytes.now) }
+    ensures ok { IfOk result (IsAcceptedCode bytes.now no_helpers) }
+    ensures err { IfErr result (λ c. c ≢ Memory → IsCodeFault bytes.now c) }
 {
-    match accept(alloc, bytes) {
+    match accept(alloc, bytes, HelperTable::none()) {
         Ok(program) => Ok(program),
-        Err(AcceptFault::NoMemory) => Err(Code::Memory),
-        Err(AcceptFault::Refused(refused)) => Err(Code::Program(refused)),
+        Err(VerifyFault::NoMemory) => Err(Code::Memory),
+        Err(VerifyFault::Refused(refused)) => Err(Code::Program(refused)),
     }
 }
 
@@ -111,16 +126,33 @@ fn copy_of(alloc: Global, text: &str) -> Result<String, Code>
     }
 }
 
-/// Reads an observer. The fault that is told has the lowest code.
-#[tactic(auto, unfolding(crate::specs::Manifests::observer_in))]
-pub fn observer_in(alloc: Global, value: &Value) -> Result<Uploaded, Code>
-    ensures { Gives is_memory upload_of result (observer_in (view value.now)) }
+// Reads an observer as it is written.
+#[tactic(auto, unfolding(crate::specs::Manifests::written_in))]
+fn written_in(alloc: Global, value: &Value) -> Result<Written, Code>
+    ensures { Gives is_memory written_of result (written_in (view value.now)) }
 {
     let name = name_in(value)?;
     let column = column_in(value)?;
     let bytes = bytes_in(alloc, value)?;
-    let program = program_in(alloc, &bytes)?;
     let name = copy_of(alloc, name)?;
+    Ok(Written {
+        name,
+        column,
+        bytes,
+    })
+}
+
+/// Reads an observer. The fault that is told has the lowest code.
+pub fn observer_in(alloc: Global, value: &Value) -> Result<Uploaded, Code>
+    ensures ok { IfOk result (λ u. ReadsObserver (view value.now) (Ok (upload_of u))) }
+    ensures err { IfErr result (λ c. c ≢ Memory → ReadsObserver (view value.now) (Err c)) }
+{
+    let Written {
+        name,
+        column,
+        bytes,
+    } = written_in(alloc, value)?;
+    let program = program_in(alloc, &bytes)?;
     Ok(Uploaded {
         name,
         column,

@@ -11,10 +11,12 @@ ghost use Rattle.pb_state.specs.Cells.{cells_in};
 
 use crate::cells::Cells;
 use pb_base::{Cell, NoMemory, ObserverNo, Row, Ts};
+use pb_helpers::Record;
 use pb_steps::{
     Declaration, Declared, Observer, RecordedRead, Seen, Work, acknowledged_in, version_in,
 };
-use pb_vm::{Accepted, Finished, Record};
+use pb_verify::Accepted;
+use pb_vm::Finished;
 
 // The reads of a run are its cell, found, and its acknowledgment.
 fn seen_in(cell: &Cell, acknowledgment: &Cell, reads: &[RecordedRead]) -> Option<Seen>

@@ -8,9 +8,9 @@ use Rattle.pb_base.specs.declared.content.Version.{Version}
 use Rattle.pb_base.specs.Cell.{cell_cmp}
 use Rattle.pb_base.specs.Same.{same}
 use Rattle.pb_base.specs.Batch.{is_batch}
-use Rattle.pb_vm.specs.Accepted.{AcceptedOf}
-use Rattle.pb_vm.specs.Finished.{Meant, IsMeant, meant_code, is_plain}
-use Rattle.pb_vm.specs.Record.{record_of}
+use Rattle.pb_isa.specs.Programs.{JudgedOf}
+use Rattle.pb_vm.specs.Finished.{Meant, IsMeant, meant_code}
+use Rattle.pb_helpers.specs.Record.{record_of}
 use Rattle.pb_steps.specs.declared.seen.RecordedRead.{RecordedRead}
 use Rattle.pb_steps.specs.declared.seen.Seen.{Seen}
 use Rattle.pb_steps.specs.declared.step.Work.{Work}
@@ -21,15 +21,19 @@ use Rattle.pb_steps.specs.declared.step.Answer.{Answer}
 use Rattle.pb_steps.specs.Reads.{version_in, acknowledged_in}
 use Rattle.pb_steps.specs.Observers.{ObserverOf, observed_cell, acknowledgment}
 
--- what every declaration is: a script's writes are a batch, and a run is its program's meaning; so far it asks and writes
--- nothing
+-- what every declaration is: a script's writes are a batch, and a run is its program's meaning
 abbrev pub IsKnown : Declared → Type 0
 IsKnown (declared.Script batch) = is_batch batch ≡ true
-IsKnown (declared.Run o f) = IsMeant f × (is_plain f ≡ true)
+IsKnown (declared.Run o f) = IsMeant f
+
+-- so far a run that is declared asks and writes nothing
+abbrev pub IsPlainRun : Declared → Type 0
+IsPlainRun (declared.Script batch) = Unit {0}
+IsPlainRun (declared.Run o f) = (f.talk ≡ []) × (f.writes ≡ [])
 
 -- a run of a program on a record, which asked nothing and wrote nothing
-abbrev pub plain_run : AcceptedOf → List ℕ → ℕ → ℕ → Meant
-plain_run p bytes s r = record { program = p.program; helpers = p.helpers; bytes = bytes; began = s; talk = []; result = r; writes = [] }
+abbrev pub plain_run : JudgedOf → List ℕ → ℕ → ℕ → Meant
+plain_run p bytes s r = record { judged = p; bytes = bytes; began = s; talk = []; result = r; writes = [] }
 
 -- the run of an observer's program on the record of what was seen
 abbrev pub observer_run : ObserverOf → Cell → Seen → ℕ → ℕ → Meant

@@ -1,5 +1,5 @@
 -- A transaction declares what it writes, its first cell the primary (OSDI 2010, section 2.2).
-use Rattle.std.specs.Prelude.{◌≡◌, ℕ, true, not, List, [], ◌∷◌, Some}
+use Rattle.std.specs.Prelude.{◌≡◌, ℕ, true, not, List, [], ◌∷◌}
 use Rattle.pb_base.specs.declared.refusal.Reason.TheVariants.{WrongPhase, NotItsDeclaration}
 use Rattle.pb_steps.specs.declared.step.Declared.{Declared}
 use Rattle.pb_steps.specs.declared.phase.Phase.TheVariants as phases

@@ -4,7 +4,7 @@ use Rattle.std.specs.Coded.{Coded, code_by, coded×, coded_ℕ, coded_list}
 use Rattle.pb_base.specs.declared.cell.Cell.{Cell}
 use Rattle.pb_base.specs.declared.cell.Cell.TheVariants.{Data, Ack}
 use Rattle.pb_base.specs.declared.names.Row.{Row}
-use Rattle.pb_vm.specs.Accepted.{AcceptedOf, accepted_code}
+use Rattle.pb_isa.specs.Programs.{JudgedOf, judged_code}
 use Rattle.pb_steps.specs.declared.step.Work.{Work}
 use Rattle.pb_steps.specs.declared.step.Work.TheVariants.{Script, Run}
 
@@ -12,11 +12,11 @@ use Rattle.pb_steps.specs.declared.step.Work.TheVariants.{Script, Run}
 pub record ObserverOf : Type 0 where
   pub name : List ℕ
   pub column : ℕ
-  pub program : AcceptedOf
+  pub program : JudgedOf
 
 abbrev pub observer_code : Coded ObserverOf
 observer_code =
-    code_by (List ℕ × (ℕ × AcceptedOf)) (coded× (coded_list coded_ℕ) (coded× coded_ℕ accepted_code))
+    code_by (List ℕ × (ℕ × JudgedOf)) (coded× (coded_list coded_ℕ) (coded× coded_ℕ judged_code))
     (λ o. (o.name, (o.column, o.program)))
     (λ p. record { name = p.0; column = p.1.0; program = p.1.1 })
     (λ _. refl)

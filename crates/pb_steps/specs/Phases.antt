@@ -1,7 +1,7 @@
 -- How far a transaction has come.
 use Rattle.std.specs.Prelude.{Bool, true, false}
 use Rattle.pb_steps.specs.declared.phase.Phase.{Phase}
-use Rattle.pb_steps.specs.declared.phase.Phase.TheVariants.{Reading, Declared, Stamped, Committed, Failed}
+use Rattle.pb_steps.specs.declared.phase.Phase.TheVariants.{Reading, Declared, Stamped}
 
 abbrev pub is_reading : Phase → Bool
 is_reading Reading = true

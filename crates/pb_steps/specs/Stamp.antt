@@ -1,5 +1,5 @@
 -- Once every declared cell is prewritten, the transaction takes a fresh timestamp as its commit (OSDI 2010, section 2.3).
-use Rattle.std.specs.Prelude.{◌≡◌, ℕ, ◌+◌, Bool, true, false, not, ◌||◌, [], ◌∷◌, Some}
+use Rattle.std.specs.Prelude.{◌≡◌, ℕ, ◌+◌, Bool, true, false, not, ◌||◌, [], ◌∷◌}
 use Rattle.std.specs.List.{list_all}
 use Rattle.std.specs.FinMap as map
 use Rattle.pb_base.specs.declared.refusal.Reason.TheVariants.{OutOfTimestamps, WrongPhase}

@@ -1,6 +1,6 @@
 //! Observers.
 use pb_base::Column;
-use pb_vm::Accepted;
+use pb_verify::Accepted;
 use std::marker::Model;
 use std::sync::Arc;
 

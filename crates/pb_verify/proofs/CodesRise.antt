@@ -11,7 +11,8 @@ use Rattle.pb_isa.specs.declared.insn.Operand.TheVariants as operands
 use Rattle.pb_isa.specs.declared.insn.Reg.{Reg}
 use Rattle.pb_isa.specs.Registers.{number}
 use Rattle.pb_isa.specs.Slots.{slots, insn_at}
-use Rattle.pb_isa.specs.Helpers.{HelperSet, declared_helper}
+use Rattle.pb_isa.specs.Programs.{JudgedOf}
+use Rattle.pb_isa.specs.Helpers.{declared_helper}
 use Rattle.pb_kinds.specs.declared.frame.Kind.{Kind}
 use Rattle.pb_kinds.specs.declared.frame.Kind.TheVariants.{Unset, Number, Stack, Record}
 use Rattle.pb_kinds.specs.declared.frame.Frame.{Frame}
@@ -101,11 +102,11 @@ alu_rises f Mod w d x = numeric_rises f d x
 alu_rises f Xor w d x = numeric_rises f d x
 alu_rises f Arsh w d x = numeric_rises f d x
 
-loads_rise : (f : Frame) (k : Kind) (o : ℤ) (n : ℕ) → CodesRiseWithin 22 34 (loads f k o n)
-loads_rise f Unset o n = omega arith
-loads_rise f Number o n = (omega arith, omega arith)
-loads_rise f (Stack k) o n = one_of_two 22 34 _ _ UnwrittenByte OutsideStack (omega arith) (omega arith) (omega arith) (omega arith)
-loads_rise f (Record k) o n = one 22 34 _ OutsideRecord (omega arith) (omega arith)
+loads_rise : (size : ℕ) (f : Frame) (k : Kind) (o : ℤ) (n : ℕ) → CodesRiseWithin 22 34 (loads size f k o n)
+loads_rise size f Unset o n = omega arith
+loads_rise size f Number o n = (omega arith, omega arith)
+loads_rise size f (Stack k) o n = one_of_two 22 34 _ _ UnwrittenByte OutsideStack (omega arith) (omega arith) (omega arith) (omega arith)
+loads_rise size f (Record k) o n = one 22 34 _ OutsideRecord (omega arith) (omega arith)
 
 stores_rise : (k : Kind) (o : ℤ) (n : ℕ) → CodesRiseWithin 24 34 (stores k o n)
 stores_rise Unset o n = omega arith
@@ -131,24 +132,24 @@ compared p n f d x o =
 
 -- ---- the rules
 
-pub codes_rise : ArgumentCodesRise → (p : List Insn) (h : HelperSet) (n : ℕ) (f : Frame) (i : Insn) → CodesRiseWithin 21 38 (insn_rules p h n f i)
-codes_rise calls p h n f (Alu op w d x) = with_falls p (n + 1) (alu_rules f op w d x) (alu_rises f op w d x)
-codes_rise calls p h n f (Neg w d) = with_falls p (n + 1) (numeric_rules f d (operands.Imm (pos 0))) (numeric_rises f d (operands.Imm (pos 0)))
-codes_rise calls p h n f (LoadImm d v) = with_falls p (n + 2) (sets d) (to_higher 21 22 34 (sets d) (omega arith) (sets_rise d))
-codes_rise calls p h n f (Load z d r o) =
-    with_falls p (n + 1) (load_rules f z d r o) (joined 21 22 34 (reads f r ++ sets d) (loads f (at f r) o (bytes_of z)) (read_and_set f r d) (loads_rise f (at f r) o (bytes_of z)))
-codes_rise calls p h n f (StoreImm z d o k) =
-    with_falls p (n + 1) (store_imm_rules f z d o)
+pub codes_rise : ArgumentCodesRise → (j : JudgedOf) (n : ℕ) (f : Frame) (i : Insn) → CodesRiseWithin 21 38 (insn_rules j n f i)
+codes_rise calls j n f (Alu op w d x) = with_falls j.program.insns (n + 1) (alu_rules f op w d x) (alu_rises f op w d x)
+codes_rise calls j n f (Neg w d) = with_falls j.program.insns (n + 1) (numeric_rules f d (operands.Imm (pos 0))) (numeric_rises f d (operands.Imm (pos 0)))
+codes_rise calls j n f (LoadImm d v) = with_falls j.program.insns (n + 2) (sets d) (to_higher 21 22 34 (sets d) (omega arith) (sets_rise d))
+codes_rise calls j n f (Load z d r o) =
+    with_falls j.program.insns (n + 1) (load_rules j.record_size f z d r o) (joined 21 22 34 (reads f r ++ sets d) (loads j.record_size f (at f r) o (bytes_of z)) (read_and_set f r d) (loads_rise j.record_size f (at f r) o (bytes_of z)))
+codes_rise calls j n f (StoreImm z d o k) =
+    with_falls j.program.insns (n + 1) (store_imm_rules f z d o)
     (joined 21 21 34 (reads f d) (stores (at f d) o (bytes_of z)) (reads_rise f d) (from_lower 21 24 34 (stores (at f d) o (bytes_of z)) (omega arith) (stores_rise (at f d) o (bytes_of z))))
-codes_rise calls p h n f (Store z d r o) =
-    with_falls p (n + 1) (store_rules f z d r o)
+codes_rise calls j n f (Store z d r o) =
+    with_falls j.program.insns (n + 1) (store_rules f z d r o)
     (joined 21 24 34 (reads f d ++ reads f r ++ when (is_pointer (at f r)) PointerStored) (stores (at f d) o (bytes_of z))
     (joined 21 21 24 (reads f d ++ reads f r) (when (is_pointer (at f r)) PointerStored) (joined 21 21 21 (reads f d) (reads f r) (reads_rise f d) (reads_rise f r))
     (one 21 24 (is_pointer (at f r)) PointerStored (omega arith) (omega arith)))
     (stores_rise (at f d) o (bytes_of z)))
-codes_rise calls p h n f (Jump o) = to_higher 21 34 38 (jump_rules p n o) (omega arith) (jumps_rise p n o)
-codes_rise calls p h n f (JumpIf c w d x o) = compared p n f d x o
-codes_rise calls p h n f (Call k) = with_falls p (n + 1) (call_rules f (declared_helper h k)) (to_higher 21 31 34 (call_rules f (declared_helper h k)) (omega arith) (calls f (declared_helper h k)))
-codes_rise calls p h n f Exit =
+codes_rise calls j n f (Jump o) = to_higher 21 34 38 (jump_rules j.program.insns n o) (omega arith) (jumps_rise j.program.insns n o)
+codes_rise calls j n f (JumpIf c w d x o) = compared j.program.insns n f d x o
+codes_rise calls j n f (Call k) = with_falls j.program.insns (n + 1) (call_rules f (declared_helper j.helpers k)) (to_higher 21 31 34 (call_rules f (declared_helper j.helpers k)) (omega arith) (calls f (declared_helper j.helpers k)))
+codes_rise calls j n f Exit =
     joined 21 21 38 (unset f 0) (when (is_pointer (kind_of f 0)) ExitsWithPointer) (set f 0)
     (one 21 38 (is_pointer (kind_of f 0)) ExitsWithPointer (omega arith) (omega arith))

@@ -4,3 +4,4 @@ pub mod PointersWithin
 pub mod FramesAfter
 pub mod FramesAreMeets
 pub mod OneVerdict
+pub mod JumpsForward

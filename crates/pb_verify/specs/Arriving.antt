@@ -2,8 +2,7 @@
 use Rattle.std.specs.Prelude.{◌≡◌, ℕ, zero, suc, ◌+◌, ◌<◌, Bool, false, ◌||◌, if◌then◌else◌, List, [], ◌∷◌, ◌++◌, Option, Some, None, nat_eq}
 use Rattle.pb_isa.specs.declared.insn.Insn.{Insn}
 use Rattle.pb_isa.specs.Slots.{slots, insn_at}
-use Rattle.pb_isa.specs.Programs.{ProgramOf}
-use Rattle.pb_isa.specs.Helpers.{HelperSet}
+use Rattle.pb_isa.specs.Programs.{JudgedOf}
 use Rattle.pb_kinds.specs.declared.frame.Frame.{Frame}
 use Rattle.pb_kinds.specs.Frames.{join, entry_frame}
 use Rattle.pb_helpers.specs.declared.code.Code.{Code}
@@ -50,20 +49,20 @@ unfoldable pub in_at : List Insn → ℕ → Option Frame
 in_at p n = frame_before p n (outs p n)
 
 -- the codes at a slot: a second slot has no rules, and an instruction that nothing leads to breaks one
-abbrev pub codes_at : List Insn → HelperSet → ℕ → Option Insn → Option Frame → List Code
-codes_at p h n None f = []
-codes_at p h n (Some i) None = Unreachable ∷ []
-codes_at p h n (Some i) (Some f) = insn_rules p h n f i
+abbrev pub codes_at : JudgedOf → ℕ → Option Insn → Option Frame → List Code
+codes_at j n None f = []
+codes_at j n (Some i) None = Unreachable ∷ []
+codes_at j n (Some i) (Some f) = insn_rules j n f i
 
-abbrev pub faults : List Insn → HelperSet → ℕ → List Code
-faults p h n = codes_at p h n (insn_at p n) (in_at p n)
+abbrev pub faults : JudgedOf → ℕ → List Code
+faults j n = codes_at j n (insn_at j.program.insns n) (in_at j.program.insns n)
 
 -- the rules hold at every slot
-abbrev pub Accepts : ProgramOf → HelperSet → Type 0
-Accepts p h = (n : ℕ) → n < slots p.insns → faults p.insns h n ≡ []
+abbrev pub Accepts : JudgedOf → Type 0
+Accepts j = (n : ℕ) → n < slots j.program.insns → faults j n ≡ []
 
 -- n is the least slot whose rules fail, and c the lowest code there
-pub record Refuses (p : ProgramOf) (h : HelperSet) (n : ℕ) (c : Code) : Type 0 where
-  pub inside : n < slots p.insns
-  pub code : lowest_code (faults p.insns h n) ≡ Some c
-  pub before : (m : ℕ) → m < n → faults p.insns h m ≡ []
+pub record Refuses (j : JudgedOf) (n : ℕ) (c : Code) : Type 0 where
+  pub inside : n < slots j.program.insns
+  pub code : lowest_code (faults j n) ≡ Some c
+  pub before : (m : ℕ) → m < n → faults j m ≡ []

@@ -4,3 +4,5 @@ pub mod Arriving
 pub mod Verdict
 pub mod Within
 pub mod Ways
+pub mod Forward
+pub mod BySlot

@@ -14,7 +14,8 @@ use Rattle.pb_isa.specs.declared.insn.Size.{Size}
 use Rattle.pb_isa.specs.declared.insn.Reg.{Reg}
 use Rattle.pb_isa.specs.Registers.{number}
 use Rattle.pb_isa.specs.Slots.{slots, insn_at}
-use Rattle.pb_isa.specs.Helpers.{HelperSet, declared_helper}
+use Rattle.pb_isa.specs.Programs.{JudgedOf}
+use Rattle.pb_isa.specs.Helpers.{declared_helper}
 use Rattle.pb_isa.specs.Machine.{width}
 use Rattle.pb_kinds.specs.declared.frame.Kind.{Kind}
 use Rattle.pb_kinds.specs.declared.frame.Kind.TheVariants.{Unset, Number, Stack, Record}
@@ -82,12 +83,12 @@ alu_rules f op w dst src = numeric_rules f dst src
 
 -- ---- memory
 
--- n bytes are loaded at this distance from a pointer
-abbrev pub loads : Frame → Kind → ℤ → ℕ → List Code
-loads f Unset offset n = []
-loads f Number offset n = ThroughNumber ∷ []
-loads f (Stack k) offset n = stack_reads f (k +ℤ offset) n
-loads f (Record k) offset n = when (not (in_record (k +ℤ offset) n)) OutsideRecord
+-- n bytes are loaded at this distance from a pointer, where the record has so many
+abbrev pub loads : ℕ → Frame → Kind → ℤ → ℕ → List Code
+loads size f Unset offset n = []
+loads size f Number offset n = ThroughNumber ∷ []
+loads size f (Stack k) offset n = stack_reads f (k +ℤ offset) n
+loads size f (Record k) offset n = when (not (in_record size (k +ℤ offset) n)) OutsideRecord
 
 -- n bytes are stored there: the record is read-only
 abbrev pub stores : Kind → ℤ → ℕ → List Code
@@ -96,8 +97,8 @@ stores Number offset n = ThroughNumber ∷ []
 stores (Stack k) offset n = stack_writes (k +ℤ offset) n
 stores (Record k) offset n = WritesRecord ∷ []
 
-abbrev pub load_rules : Frame → Size → Reg → Reg → ℤ → List Code
-load_rules f z dst src offset = reads f src ++ sets dst ++ loads f (at f src) offset (bytes_of z)
+abbrev pub load_rules : ℕ → Frame → Size → Reg → Reg → ℤ → List Code
+load_rules size f z dst src offset = reads f src ++ sets dst ++ loads size f (at f src) offset (bytes_of z)
 
 abbrev pub store_imm_rules : Frame → Size → Reg → ℤ → List Code
 store_imm_rules f z dst offset = reads f dst ++ stores (at f dst) offset (bytes_of z)
@@ -125,17 +126,17 @@ exit_rules f = unset f 0 ++ when (is_pointer (kind_of f 0)) ExitsWithPointer
 
 -- the codes of the rules that the instruction at slot n breaks, lowest first. But for ja and exit an instruction leads to
 -- the slot after it, which has to be there
-abbrev pub insn_rules : List Insn → HelperSet → ℕ → Frame → Insn → List Code
-insn_rules p h n f (Alu op w dst src) = alu_rules f op w dst src ++ falls p (n + 1)
-insn_rules p h n f (Neg w dst) = numeric_rules f dst (operands.Imm (pos 0)) ++ falls p (n + 1)
-insn_rules p h n f (LoadImm dst imm) = sets dst ++ falls p (n + 2)
-insn_rules p h n f (Load z dst src offset) = load_rules f z dst src offset ++ falls p (n + 1)
-insn_rules p h n f (StoreImm z dst offset imm) = store_imm_rules f z dst offset ++ falls p (n + 1)
-insn_rules p h n f (Store z dst src offset) = store_rules f z dst src offset ++ falls p (n + 1)
-insn_rules p h n f (Jump offset) = jump_rules p n offset
-insn_rules p h n f (JumpIf c w dst src offset) = jump_if_rules p n f dst src offset
-insn_rules p h n f (Call imm) = call_rules f (declared_helper h imm) ++ falls p (n + 1)
-insn_rules p h n f Exit = exit_rules f
+abbrev pub insn_rules : JudgedOf → ℕ → Frame → Insn → List Code
+insn_rules j n f (Alu op w dst src) = alu_rules f op w dst src ++ falls j.program.insns (n + 1)
+insn_rules j n f (Neg w dst) = numeric_rules f dst (operands.Imm (pos 0)) ++ falls j.program.insns (n + 1)
+insn_rules j n f (LoadImm dst imm) = sets dst ++ falls j.program.insns (n + 2)
+insn_rules j n f (Load z dst src offset) = load_rules j.record_size f z dst src offset ++ falls j.program.insns (n + 1)
+insn_rules j n f (StoreImm z dst offset imm) = store_imm_rules f z dst offset ++ falls j.program.insns (n + 1)
+insn_rules j n f (Store z dst src offset) = store_rules f z dst src offset ++ falls j.program.insns (n + 1)
+insn_rules j n f (Jump offset) = jump_rules j.program.insns n offset
+insn_rules j n f (JumpIf c w dst src offset) = jump_if_rules j.program.insns n f dst src offset
+insn_rules j n f (Call imm) = call_rules f (declared_helper j.helpers imm) ++ falls j.program.insns (n + 1)
+insn_rules j n f Exit = exit_rules f
 
 abbrev pub CodesRise : Type 0
-CodesRise = (p : List Insn) (h : HelperSet) (n : ℕ) (f : Frame) (i : Insn) → CodesRiseWithin 21 38 (insn_rules p h n f i)
+CodesRise = (j : JudgedOf) (n : ℕ) (f : Frame) (i : Insn) → CodesRiseWithin 21 38 (insn_rules j n f i)

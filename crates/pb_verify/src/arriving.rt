@@ -2,6 +2,7 @@
 ghost use Rattle.std.specs.Prelude.{◌≡◌, ◌<◌, length};
 ghost use Rattle.pb_isa.specs.Slots.{slots};
 ghost use Rattle.pb_verify.specs.Arriving.{merge, if_leads, frame_before};
+ghost use Rattle.pb_verify.specs.Forward.{LeadsAreLater, AcceptedJumpsGoForward};
 ghost use Rattle.pb_verify.specs.Ways.{FramesAreMeets};
 
 use crate::following::leads_to;
@@ -56,3 +57,9 @@ pub fn frames_are_meets()
 {
     joins_are_meets();
 }
+
+/// An instruction leads to later slots alone, and the jumps of an accepted program go forward.
+pub fn jumps_lead_on()
+    ensures later { LeadsAreLater }
+    ensures forward { AcceptedJumpsGoForward }
+{}

@@ -10,6 +10,6 @@ mod rules;
 mod verifier;
 
 pub use accepted::Accepted;
-pub use arriving::frames_are_meets;
+pub use arriving::{frames_are_meets, jumps_lead_on};
 pub use rules::codes_rise;
 pub use verifier::{VerifyFault, either_accepted_or_refused, verify};

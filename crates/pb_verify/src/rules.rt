@@ -1,6 +1,7 @@
 //! The rules of one instruction.
 ghost use Rattle.std.specs.Prelude.{◌≡◌, ◌<◌, ◌+◌, ◌^◌, ◌≤◌, ℕ};
 ghost use Rattle.pb_isa.specs.Slots.{slots};
+ghost use Rattle.pb_isa.specs.Programs.{judged_of};
 ghost use Rattle.pb_helpers.specs.Codes.{lowest_code};
 ghost use Rattle.pb_verify.specs.Rules.{at, reads, sets, reads_operand, points, on_pointer, bytes_of, falls, numeric_rules, mov_rules, add_rules, alu_rules, loads, stores, load_rules, store_imm_rules, store_rules, jump_rules, jump_if_rules, exit_rules, insn_rules, CodesRise};
 ghost use Rattle.pb_verify.specs.Within.{IsNear, IsWithin};
@@ -9,7 +10,7 @@ use pb_helpers::{
     Code, HelperTable, argument_code, argument_codes_rise, stack_read_code, stack_write_code,
     unset_code,
 };
-use pb_isa::{AluOp, Insn, Operand, Program, Reg, Size, Width};
+use pb_isa::{AluOp, Insn, Operand, Program, RECORD_BYTES, Reg, Size, Width};
 use pb_kinds::{Frame, Kind, in_record};
 
 pub fn kind(frame: &Frame, reg: Reg) -> Kind
@@ -133,7 +134,7 @@ fn alu(frame: &Frame, op: AluOp, width: Width, dst: Reg, src: Operand) -> Option
 
 fn loads(frame: &Frame, base: Kind, offset: i16, bytes: u8) -> Option<Code>
     requires { IsNear (2 ^ 62) base }
-    ensures { result ≡ lowest_code (loads frame.now base offset bytes) }
+    ensures { result ≡ lowest_code (loads RECORD_BYTES frame.now base offset bytes) }
 {
     match base {
         Kind::Unset => None,
@@ -158,7 +159,7 @@ fn stores(base: Kind, offset: i16, bytes: u8) -> Option<Code>
 #[tactic(auto, using(crate::proofs::LowestCode::lowest_append))]
 fn load(frame: &Frame, size: Size, dst: Reg, src: Reg, offset: i16) -> Option<Code>
     requires { IsWithin (2 ^ 62) frame.now }
-    ensures { result ≡ lowest_code (load_rules frame.now size dst src offset) }
+    ensures { result ≡ lowest_code (load_rules RECORD_BYTES frame.now size dst src offset) }
 {
     let access = loads(frame, kind(frame, src), offset, bytes_of(size));
     reads(frame, src).or(sets(dst)).or(access)
@@ -239,7 +240,7 @@ pub fn lowest_broken(
 ) -> Option<Code>
     requires inside { slot < slots program.now.insns }
     requires near { IsWithin (2 ^ 62) frame.now }
-    ensures { result ≡ lowest_code (insn_rules program.now.insns helpers slot frame.now insn) }
+    ensures { result ≡ lowest_code (insn_rules (judged_of program.now helpers) slot frame.now insn) }
 {
     // For the proof: a program has at most `MAX_SLOTS` slots, so that the next slot is a number.
     let _slots = program.slots();

@@ -1,16 +1,17 @@
 //! Whether the rules hold at every slot.
 ghost use Rattle.std.specs.Prelude.{◌≡◌, ◌<◌, ◌+◌, ◌^◌, ℕ, [], Some, IfOk, IfErr, MatchResult};
 ghost use Rattle.pb_isa.specs.Slots.{slots, insn_at};
+ghost use Rattle.pb_isa.specs.Programs.{judged_of};
 ghost use Rattle.pb_helpers.specs.Codes.{lowest_code};
 ghost use Rattle.pb_verify.specs.Arriving.{codes_at, frame_after};
 ghost use Rattle.pb_verify.specs.Verdict.{IsAccepted, IsVerifyFault, EachHasOneVerdict};
 ghost use Rattle.pb_verify.specs.Within.{IsWithinIf};
 
-use crate::accepted::Accepted;
+use crate::accepted::{Accepted, by_slot};
 use crate::arriving::frame_before;
 use crate::following::after;
 use crate::rules::lowest_broken;
-use pb_base::Refused;
+use pb_base::{NoMemory, Refused};
 use pb_helpers::{Code, HelperTable};
 use pb_isa::Program;
 use pb_kinds::Frame;
@@ -37,8 +38,8 @@ fn frame_after(
     requires near { IsWithinIf (2 ^ 62) before }
     ensures value { MatchResult
         result
-        (λ out. (codes_at program.now.insns helpers slot (insn_at program.now.insns slot) before ≡ []) × (out ≡ frame_after (insn_at program.now.insns slot) before))
-        (λ code. lowest_code (codes_at program.now.insns helpers slot (insn_at program.now.insns slot) before) ≡ Some code) }
+        (λ out. (codes_at (judged_of program.now helpers) slot (insn_at program.now.insns slot) before ≡ []) × (out ≡ frame_after (insn_at program.now.insns slot) before))
+        (λ code. lowest_code (codes_at (judged_of program.now helpers) slot (insn_at program.now.insns slot) before) ≡ Some code) }
     ensures near { IfOk result (λ out. (b : ℕ) → IsWithinIf b before → IsWithinIf (b + 2147483648) out) }
 {
     match (program.at(slot), before) {
@@ -59,7 +60,7 @@ pub fn verify(
     helpers: HelperTable,
 ) -> Result<Accepted, VerifyFault>
     ensures accepted { IfOk result (IsAccepted program helpers) }
-    ensures refused { IfErr result (IsVerifyFault program helpers) }
+    ensures refused { IfErr result (IsVerifyFault (judged_of program helpers)) }
 {
     let mut outs: Vec<Option<Frame>> = Vec::new(alloc);
     for slot in 0..program.slots() {
@@ -78,10 +79,14 @@ pub fn verify(
             }
         }
     }
-    Ok(Accepted::new(program, helpers))
+    let insns = match by_slot(alloc, &program) {
+        Ok(insns) => insns,
+        Err(NoMemory) => return Err(VerifyFault::NoMemory),
+    };
+    Ok(Accepted::new(program, helpers, insns))
 }
 
-/// The rules accept a program with a table, or they refuse it at one slot with one code, and not both.
+/// The rules accept a program, or they refuse it at one slot with one code, and not both.
 pub fn either_accepted_or_refused()
     ensures { EachHasOneVerdict }
 {}

@@ -1,7 +1,5 @@
-pub mod BytesTaken
-pub mod SlotsEncode
-pub mod FirstSlotFault
-pub mod StraightLines
-pub mod MachineSteps
-pub mod SameInsns
-pub mod EncodingsTaken
+pub mod Replacing
+pub mod Calling
+pub mod Running
+pub mod Stepping
+pub mod Starting

@@ -1,10 +1,7 @@
-pub mod Encoding
-pub mod Rules
-pub mod Accepted
-pub mod Verdict
-pub mod Record
+pub mod Places
+pub mod Core
 pub mod Finished
 pub mod Position
-pub mod Vm
+pub mod Moves
 pub mod Keeping
-pub mod Encodings
+pub mod Phases

@@ -1,68 +1,79 @@
 //! What a machine leaves at its end.
-ghost use Rattle.std.specs.Prelude.{◌≡◌, ◌↔◌, IsTrue, true, []};
+ghost use Rattle.std.specs.Prelude.{◌≡◌, ◌↔◌, IsTrue};
 ghost use Rattle.pb_isa.specs.Meaning.{Means};
 ghost use Rattle.pb_vm.specs.Finished.{IsMeant, is_plain};
+ghost use Rattle.pb_vm.specs.Position.{talk_of};
 
-use crate::accepted::Accepted;
-use crate::change::Record;
-use pb_base::Ts;
+use pb_base::{Cell, Content, Ts};
+use pb_helpers::{Ask, Record, Reply};
+use pb_verify::Accepted;
 use std::marker::Model;
 use std::sync::Arc;
 
-/// A run's program, record and start timestamp, and its result, which is what the program means by them.
+/// A run's program, record and start timestamp, the asks and replies, and its result and writes, which are what the program
+/// means by the rest.
 #[derive(Drop)]
 pub struct Finished {
     accepted: Arc<Accepted>,
     change: Record,
     run: Ts,
+    talk: Vec<(Ask, Reply)>,
     end: u64,
+    writes: Vec<(Cell, Content)>,
 }
 
 impl Model for Finished {
-    ghost use Rattle.std.specs.Prelude.{[]};
     ghost use Rattle.pb_isa.specs.Meaning.{Means};
     ghost use Rattle.pb_vm.specs.Finished.{Meant, meant_code};
+    ghost use Rattle.pb_vm.specs.Position.{talk_of};
 
     ghost Value = { Meant };
 
     ghost coded = { meant_code };
 
-    ghost view = { λ f. record { program = f.accepted.value.program; helpers = f.accepted.value.helpers; bytes = f.change; began = f.run.0; talk = []; result = f.end; writes = [] } };
+    ghost view = { λ f. record { judged = f.accepted.value; bytes = f.change; began = f.run.0; talk = talk_of f.talk.items; result = f.end; writes = f.writes.items } };
 
-    ghost invariant = { λ f. Means f.accepted.value.program f.accepted.value.helpers f.change f.run.0 [] f.end [] };
+    ghost invariant = { λ f. Means f.accepted.value f.change f.run.0 (talk_of f.talk.items) f.end f.writes.items };
 }
 
 impl Finished {
-    // A run without asks and writes.
-    pub(crate) fn new(accepted: Arc<Accepted>, change: Record, run: Ts, end: u64) -> Finished
-        requires { Means accepted.value.program accepted.value.helpers change run.0 [] end [] }
-        ensures program { result.program ≡ accepted.value.program }
-        ensures helpers { result.helpers ≡ accepted.value.helpers }
+    pub(crate) fn new(
+        accepted: Arc<Accepted>,
+        change: Record,
+        run: Ts,
+        talk: Vec<(Ask, Reply)>,
+        end: u64,
+        writes: Vec<(Cell, Content)>,
+    ) -> Finished
+        requires { Means accepted.value change run.0 (talk_of talk.items) end writes.items }
+        ensures judged { result.judged ≡ accepted.value }
         ensures bytes { result.bytes ≡ change }
         ensures began { result.began ≡ run.0 }
-        ensures talk { result.talk ≡ [] }
+        ensures talk { result.talk ≡ talk_of talk.items }
         ensures end { result.result ≡ end }
+        ensures writes { result.writes ≡ writes.items }
     {
         Finished {
             accepted,
             change,
             run,
+            talk,
             end,
+            writes,
         }
     }
 
-    /// Result and writes are what the program means; so far it asks and writes nothing.
+    /// Result and writes are what the program means.
     pub fn known(&self)
-        ensures meant { IsMeant self.now }
-        ensures plain { is_plain self.now ≡ true }
+        ensures { IsMeant self.now }
     {
-        // For the proof: opens the value, whose invariant says both.
+        // For the proof: opens the value, whose invariant says it.
         let _ = &self.end;
     }
 
     /// Whether it ran this program with its helpers.
     pub fn is_of(&self, accepted: &Accepted) -> bool
-        ensures { IsTrue result ↔ ((self.now.program ≡ accepted.now.program) × (self.now.helpers ≡ accepted.now.helpers)) }
+        ensures { IsTrue result ↔ (self.now.judged ≡ accepted.now) }
     {
         self.accepted.is_same(accepted)
     }
@@ -81,6 +92,13 @@ impl Finished {
         self.run
     }
 
+    /// The cells that it asked for, and what it was told, in order.
+    pub fn talk(&self) -> &[(Ask, Reply)]
+        ensures { talk_of result.now ≡ self.now.talk }
+    {
+        &self.talk
+    }
+
     /// Register 0 at the exit.
     pub fn result(&self) -> u64
         ensures { result ≡ self.now.result }
@@ -88,12 +106,17 @@ impl Finished {
         self.end
     }
 
+    /// The cells that it writes, each once, in order of their first write; none where the result isn't 0.
+    pub fn writes(&self) -> &[(Cell, Content)]
+        ensures { result.now ≡ self.now.writes }
+    {
+        &self.writes
+    }
+
     /// Whether it asked nothing and wrote nothing.
     pub fn is_plain(&self) -> bool
         ensures { result ≡ is_plain self.now }
     {
-        // For the proof: opens the value, which asks and writes nothing.
-        let _ = &self.run;
-        true
+        self.talk.is_empty() && self.writes.is_empty()
     }
 }

@@ -5,10 +5,11 @@ use pb_alone::run_alone;
 use pb_base::{Column, NoMemory, Row, Sink, SinkFault, Ts};
 use pb_command::{PathFault, Paths, command};
 use pb_core::{Answer, Observer, OpenRefused, Shared, Step, Work};
+use pb_helpers::HelperTable;
 use pb_memtablet::ListTablet;
+use pb_registry::accept;
 use pb_store::{Table, Tablet};
 use pb_texts::Options;
-use pb_vm::accept;
 use std::alloc::Global;
 use std::process::Abort;
 use std::rt::HostRuntime;
@@ -391,7 +392,7 @@ fn told_of<T: Tablet>(
 #[test]
 fn a_run_has_seven_entries(rt: HostRuntime) -> Result<(), NoMemory> {
     let bytes = b"\xb7\0\0\0\0\0\0\0\x95\0\0\0\0\0\0\0";
-    let program = match accept(rt.alloc(), bytes) {
+    let program = match accept(rt.alloc(), bytes, HelperTable::none()) {
         Ok(program) => program,
         Err(_) => return Err(NoMemory),
     };

@@ -6,9 +6,11 @@ use pb_base::{Cell, Content, NoMemory, ObserverNo, Row, Ts, Version};
 use pb_core::{
     Declaration, Declared, Finished, Observer, OpenRefused, Record, Seat, Shared, Step, Vm, Work,
 };
+use pb_helpers::HelperTable;
 use pb_memtablet::ListTablet;
-use pb_registry::Registry;
-use pb_vm::{AcceptFault, Accepted, Phase, accept};
+use pb_registry::{Registry, accept};
+use pb_verify::{Accepted, VerifyFault};
+use pb_vm::Phase;
 use std::alloc::Global;
 use std::sync::Arc;
 
@@ -19,7 +21,7 @@ const MANIFEST: &str =
     "{\"profile\":1,\"observers\":[{\"name\":\"watch\",\"column\":0,\"helpers\":[],\"code\":\"b7000000000000009500000000000000\"}]}";
 
 fn program(alloc: Global) -> Result<Accepted, NoMemory> {
-    match accept(alloc, PROGRAM) {
+    match accept(alloc, PROGRAM, HelperTable::none()) {
         Ok(program) => Ok(program),
         Err(_) => Err(NoMemory),
     }
@@ -27,10 +29,10 @@ fn program(alloc: Global) -> Result<Accepted, NoMemory> {
 
 /// `accept`.
 pub fn programs_are_accepted(alloc: Global) -> Result<bool, NoMemory> {
-    match accept(alloc, PROGRAM) {
+    match accept(alloc, PROGRAM, HelperTable::none()) {
         Ok(program) => Ok(program.slots() == 2),
-        Err(AcceptFault::Refused(_)) => Ok(false),
-        Err(AcceptFault::NoMemory) => Ok(program(alloc)?.slots() == 2),
+        Err(VerifyFault::Refused(_)) => Ok(false),
+        Err(VerifyFault::NoMemory) => Ok(program(alloc)?.slots() == 2),
     }
 }
 

@@ -1,10 +1,11 @@
-use Rattle.std.proofs.Common.{[], ◌∷◌, ◌∙◌, sym, ap, subst}
+use Rattle.std.proofs.Common.{◌≡◌, [], ◌∷◌, ◌∙◌, sym, ap, subst}
 use Rattle.std.proofs.lemmas.Bool.{ltb-true, ltb-false}
 use Rattle.std.proofs.lemmas.Result.{err_from_is_err_and}
 use Rattle.pb_base.specs.declared.cell.Cell.TheVariants.{Data}
 use Rattle.pb_base.specs.declared.names.Ts.{Ts}
-use Rattle.pb_vm.specs.Record.{record_of}
+use Rattle.pb_helpers.specs.Record.{record_of}
 use Rattle.pb_steps.specs.declared.step.Work.TheVariants as works
+use Rattle.pb_isa.specs.Helpers.{no_helpers}
 use Rattle.pb_steps.specs.Declarations.{plain_run}
 use Rattle.pb_core.specs.Calls.{SharedOf}
 use Rattle.pb_alone.specs.Stops.{StopsIn}
@@ -54,8 +55,7 @@ pub returns-in_err-take-2-clause-err : goal.returns-in_err-take-2-clause-err
 returns-in_err-take-2-clause-err g c =
     let later = ltb-true _ _ (sym c.is_newer.ensures ∙ c.if-not-is_newer.false) in
     let newer = rw c.acknowledged_in-acknowledged.ensures at later in
-    let made =
-    c.in_ok-finished.ensures
+    let made = λ (none : c.in_ok-program.program.value.helpers ≡ no_helpers). c.in_ok-finished.ensures none
     ∙ ap (λ b. plain_run c.in_ok-program.program.value b c.in-At.start.0 c.in_ok-finished.finished.result)
     (c.new-change.ensures ∙ ap (λ (t : Ts). record_of (Data c.args.row c.in_ok-program.column) (record { start = c.in-Found.of; commit = c.in-Found.commit; content = c.in-Found.content }) t.0) c.acknowledged_in-acknowledged.ensures) in
     let p = err_from_is_err_and c.from_residual-in_err-take-2.result c.from_residual-in_err-take-2.ensures.1 in
@@ -66,8 +66,7 @@ pub returns-in_err-take-3-clause-goes : goal.returns-in_err-take-3-clause-goes
 returns-in_err-take-3-clause-goes g c =
     let later = ltb-true _ _ (sym c.is_newer.ensures ∙ c.if-not-is_newer.false) in
     let newer = rw c.acknowledged_in-acknowledged.ensures at later in
-    let made =
-    c.in_ok-finished.ensures
+    let made = λ (none : c.in_ok-program.program.value.helpers ≡ no_helpers). c.in_ok-finished.ensures none
     ∙ ap (λ b. plain_run c.in_ok-program.program.value b c.in-At.start.0 c.in_ok-finished.finished.result)
     (c.new-change.ensures ∙ ap (λ (t : Ts). record_of (Data c.args.row c.in_ok-program.column) (record { start = c.in-Found.of; commit = c.in-Found.commit; content = c.in-Found.content }) t.0) c.acknowledged_in-acknowledged.ensures) in
     rw (c.in_err-take-3.ensures.table, c.in_err-take-3.ensures.seat) (visits.goes4 c.args.shared.now c.args.seat.now c.args.number c.args.row c.in_ok-program.program.value c.in_ok-program.column c.in_ok-program.ensures c.requires.clean c.requires.seated _ c.take.new.shared c.take.new.seat c.in_ok-start.ensures.ok c.in-At.start c.in-At.is _ c.take-2.new.shared c.take-2.new.seat c.in_ok-of.ensures.ok _ c.take-3.new.shared c.take-3.new.seat c.in_ok-take.ensures.ok (record { start = c.in-Found.of; commit = c.in-Found.commit; content = c.in-Found.content }) c.in-Found.is newer c.in_ok-finished.finished made c.in_ok-what.what c.in_ok-what.ensures _ c.take-4.new.shared c.take-4.new.seat c.in_ok-take-2.ensures.ok)
@@ -76,8 +75,7 @@ pub returns-in_err-take-3-clause-err : goal.returns-in_err-take-3-clause-err
 returns-in_err-take-3-clause-err g c =
     let later = ltb-true _ _ (sym c.is_newer.ensures ∙ c.if-not-is_newer.false) in
     let newer = rw c.acknowledged_in-acknowledged.ensures at later in
-    let made =
-    c.in_ok-finished.ensures
+    let made = λ (none : c.in_ok-program.program.value.helpers ≡ no_helpers). c.in_ok-finished.ensures none
     ∙ ap (λ b. plain_run c.in_ok-program.program.value b c.in-At.start.0 c.in_ok-finished.finished.result)
     (c.new-change.ensures ∙ ap (λ (t : Ts). record_of (Data c.args.row c.in_ok-program.column) (record { start = c.in-Found.of; commit = c.in-Found.commit; content = c.in-Found.content }) t.0) c.acknowledged_in-acknowledged.ensures) in
     let p = err_from_is_err_and c.from_residual-in_err-take-3.result c.from_residual-in_err-take-3.ensures.1 in
@@ -88,8 +86,7 @@ pub returns-in_err-take-4-clause-goes : goal.returns-in_err-take-4-clause-goes
 returns-in_err-take-4-clause-goes g c =
     let later = ltb-true _ _ (sym c.is_newer.ensures ∙ c.if-not-is_newer.false) in
     let newer = rw c.acknowledged_in-acknowledged.ensures at later in
-    let made =
-    c.in_ok-finished.ensures
+    let made = λ (none : c.in_ok-program.program.value.helpers ≡ no_helpers). c.in_ok-finished.ensures none
     ∙ ap (λ b. plain_run c.in_ok-program.program.value b c.in-At.start.0 c.in_ok-finished.finished.result)
     (c.new-change.ensures ∙ ap (λ (t : Ts). record_of (Data c.args.row c.in_ok-program.column) (record { start = c.in-Found.of; commit = c.in-Found.commit; content = c.in-Found.content }) t.0) c.acknowledged_in-acknowledged.ensures) in
     rw (c.in_err-take-4.ensures.table, c.in_err-take-4.ensures.seat) (visits.goes5 c.args.shared.now c.args.seat.now c.args.number c.args.row c.in_ok-program.program.value c.in_ok-program.column c.in_ok-program.ensures c.requires.clean c.requires.seated _ c.take.new.shared c.take.new.seat c.in_ok-start.ensures.ok c.in-At.start c.in-At.is _ c.take-2.new.shared c.take-2.new.seat c.in_ok-of.ensures.ok _ c.take-3.new.shared c.take-3.new.seat c.in_ok-take.ensures.ok (record { start = c.in-Found.of; commit = c.in-Found.commit; content = c.in-Found.content }) c.in-Found.is newer c.in_ok-finished.finished made c.in_ok-what.what c.in_ok-what.ensures _ c.take-4.new.shared c.take-4.new.seat c.in_ok-take-2.ensures.ok _ c.take-5.new.shared c.take-5.new.seat c.in_ok-take-3.ensures.ok)
@@ -98,8 +95,7 @@ pub returns-in_err-take-4-clause-err : goal.returns-in_err-take-4-clause-err
 returns-in_err-take-4-clause-err g c =
     let later = ltb-true _ _ (sym c.is_newer.ensures ∙ c.if-not-is_newer.false) in
     let newer = rw c.acknowledged_in-acknowledged.ensures at later in
-    let made =
-    c.in_ok-finished.ensures
+    let made = λ (none : c.in_ok-program.program.value.helpers ≡ no_helpers). c.in_ok-finished.ensures none
     ∙ ap (λ b. plain_run c.in_ok-program.program.value b c.in-At.start.0 c.in_ok-finished.finished.result)
     (c.new-change.ensures ∙ ap (λ (t : Ts). record_of (Data c.args.row c.in_ok-program.column) (record { start = c.in-Found.of; commit = c.in-Found.commit; content = c.in-Found.content }) t.0) c.acknowledged_in-acknowledged.ensures) in
     let p = err_from_is_err_and c.from_residual-in_err-take-4.result c.from_residual-in_err-take-4.ensures.1 in
@@ -110,8 +106,7 @@ pub returns-in_err-take-5-clause-goes : goal.returns-in_err-take-5-clause-goes
 returns-in_err-take-5-clause-goes g c =
     let later = ltb-true _ _ (sym c.is_newer.ensures ∙ c.if-not-is_newer.false) in
     let newer = rw c.acknowledged_in-acknowledged.ensures at later in
-    let made =
-    c.in_ok-finished.ensures
+    let made = λ (none : c.in_ok-program.program.value.helpers ≡ no_helpers). c.in_ok-finished.ensures none
     ∙ ap (λ b. plain_run c.in_ok-program.program.value b c.in-At.start.0 c.in_ok-finished.finished.result)
     (c.new-change.ensures ∙ ap (λ (t : Ts). record_of (Data c.args.row c.in_ok-program.column) (record { start = c.in-Found.of; commit = c.in-Found.commit; content = c.in-Found.content }) t.0) c.acknowledged_in-acknowledged.ensures) in
     rw (c.in_err-take-5.ensures.table, c.in_err-take-5.ensures.seat) (visits.goes6 c.args.shared.now c.args.seat.now c.args.number c.args.row c.in_ok-program.program.value c.in_ok-program.column c.in_ok-program.ensures c.requires.clean c.requires.seated _ c.take.new.shared c.take.new.seat c.in_ok-start.ensures.ok c.in-At.start c.in-At.is _ c.take-2.new.shared c.take-2.new.seat c.in_ok-of.ensures.ok _ c.take-3.new.shared c.take-3.new.seat c.in_ok-take.ensures.ok (record { start = c.in-Found.of; commit = c.in-Found.commit; content = c.in-Found.content }) c.in-Found.is newer c.in_ok-finished.finished made c.in_ok-what.what c.in_ok-what.ensures _ c.take-4.new.shared c.take-4.new.seat c.in_ok-take-2.ensures.ok _ c.take-5.new.shared c.take-5.new.seat c.in_ok-take-3.ensures.ok _ c.take-6.new.shared c.take-6.new.seat c.in_ok-take-4.ensures.ok)
@@ -120,8 +115,7 @@ pub returns-in_err-take-5-clause-err : goal.returns-in_err-take-5-clause-err
 returns-in_err-take-5-clause-err g c =
     let later = ltb-true _ _ (sym c.is_newer.ensures ∙ c.if-not-is_newer.false) in
     let newer = rw c.acknowledged_in-acknowledged.ensures at later in
-    let made =
-    c.in_ok-finished.ensures
+    let made = λ (none : c.in_ok-program.program.value.helpers ≡ no_helpers). c.in_ok-finished.ensures none
     ∙ ap (λ b. plain_run c.in_ok-program.program.value b c.in-At.start.0 c.in_ok-finished.finished.result)
     (c.new-change.ensures ∙ ap (λ (t : Ts). record_of (Data c.args.row c.in_ok-program.column) (record { start = c.in-Found.of; commit = c.in-Found.commit; content = c.in-Found.content }) t.0) c.acknowledged_in-acknowledged.ensures) in
     let p = err_from_is_err_and c.from_residual-in_err-take-5.result c.from_residual-in_err-take-5.ensures.1 in
@@ -132,8 +126,7 @@ pub returns-clause-goes : goal.returns-clause-goes
 returns-clause-goes g c =
     let later = ltb-true _ _ (sym c.is_newer.ensures ∙ c.if-not-is_newer.false) in
     let newer = rw c.acknowledged_in-acknowledged.ensures at later in
-    let made =
-    c.in_ok-finished.ensures
+    let made = λ (none : c.in_ok-program.program.value.helpers ≡ no_helpers). c.in_ok-finished.ensures none
     ∙ ap (λ b. plain_run c.in_ok-program.program.value b c.in-At.start.0 c.in_ok-finished.finished.result)
     (c.new-change.ensures ∙ ap (λ (t : Ts). record_of (Data c.args.row c.in_ok-program.column) (record { start = c.in-Found.of; commit = c.in-Found.commit; content = c.in-Found.content }) t.0) c.acknowledged_in-acknowledged.ensures) in
     visits.goes7 c.args.shared.now c.args.seat.now c.args.number c.args.row c.in_ok-program.program.value c.in_ok-program.column c.in_ok-program.ensures c.requires.clean c.requires.seated _ c.take.new.shared c.take.new.seat c.in_ok-start.ensures.ok c.in-At.start c.in-At.is _ c.take-2.new.shared c.take-2.new.seat c.in_ok-of.ensures.ok _ c.take-3.new.shared c.take-3.new.seat c.in_ok-take.ensures.ok (record { start = c.in-Found.of; commit = c.in-Found.commit; content = c.in-Found.content }) c.in-Found.is newer c.in_ok-finished.finished made c.in_ok-what.what c.in_ok-what.ensures _ c.take-4.new.shared c.take-4.new.seat c.in_ok-take-2.ensures.ok _ c.take-5.new.shared c.take-5.new.seat c.in_ok-take-3.ensures.ok _ c.take-6.new.shared c.take-6.new.seat c.in_ok-take-4.ensures.ok _ c.take-7.new.shared c.take-7.new.seat c.in_ok-take-5.ensures.ok
@@ -142,8 +135,7 @@ pub returns-clause-ok : goal.returns-clause-ok
 returns-clause-ok g c =
     let later = ltb-true _ _ (sym c.is_newer.ensures ∙ c.if-not-is_newer.false) in
     let newer = rw c.acknowledged_in-acknowledged.ensures at later in
-    let made =
-    c.in_ok-finished.ensures
+    let made = λ (none : c.in_ok-program.program.value.helpers ≡ no_helpers). c.in_ok-finished.ensures none
     ∙ ap (λ b. plain_run c.in_ok-program.program.value b c.in-At.start.0 c.in_ok-finished.finished.result)
     (c.new-change.ensures ∙ ap (λ (t : Ts). record_of (Data c.args.row c.in_ok-program.column) (record { start = c.in-Found.of; commit = c.in-Found.commit; content = c.in-Found.content }) t.0) c.acknowledged_in-acknowledged.ensures) in
     visits.ran c.args.shared.now c.args.seat.now c.args.number c.args.row c.in_ok-program.program.value c.in_ok-program.column c.in_ok-program.ensures c.requires.clean c.requires.seated _ c.take.new.shared c.take.new.seat c.in_ok-start.ensures.ok c.in-At.start c.in-At.is _ c.take-2.new.shared c.take-2.new.seat c.in_ok-of.ensures.ok _ c.take-3.new.shared c.take-3.new.seat c.in_ok-take.ensures.ok (record { start = c.in-Found.of; commit = c.in-Found.commit; content = c.in-Found.content }) c.in-Found.is newer c.in_ok-finished.finished made c.in_ok-what.what c.in_ok-what.ensures _ c.take-4.new.shared c.take-4.new.seat c.in_ok-take-2.ensures.ok _ c.take-5.new.shared c.take-5.new.seat c.in_ok-take-3.ensures.ok _ c.take-6.new.shared c.take-6.new.seat c.in_ok-take-4.ensures.ok _ c.take-7.new.shared c.take-7.new.seat c.in_ok-take-5.ensures.ok c.journal.ensures.history c.journal-2.ensures.history

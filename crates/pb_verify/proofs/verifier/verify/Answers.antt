@@ -1,4 +1,5 @@
 use Rattle.std.proofs.Common.{◌≡◌, ◌+◌, ◌*◌, ◌++◌, [], ◌∷◌, length, sym, ap, ◌∙◌, arith, rules, below_more}
+use Rattle.pb_isa.specs.Programs.{judged_of}
 use Rattle.pb_verify.specs.Arriving.{outs, in_at, frame_before, faults}
 use Rattle.pb_verify.specs.Within.{IsWithinIf}
 use Rattle.pb_verify.proofs.PointersWithin.{within_arriving, within_if_more, within_push, none_within}
@@ -51,6 +52,6 @@ loop-slot-preserved c =
     let done = rw same at c.in-Ok.ensures.value in
     record {
       outs = pushed ∙ ap (λ xs. xs ++ c.in-Ok.out ∷ []) c.loop-slot.invariant.outs ∙ ap (λ x. outs p n ++ x ∷ []) done.1 ∙ sym (outs_more p n);
-      fine = below_more (λ m. faults p c.args.helpers m ≡ []) n c.loop-slot.invariant.fine done.0;
+      fine = below_more (λ m. faults (judged_of c.args.program c.args.helpers) m ≡ []) n c.loop-slot.invariant.fine done.0;
       near = rw pushed (within_push (n * 2147483648) ((n + 1) * 2147483648) _ _ (omega arith) c.loop-slot.invariant.near (within_if_more (n * 2147483648 + 2147483648) _ _ (omega arith) (c.in-Ok.ensures.near _ (known_near (goal.at.loop-slot-preserved c).After-frame_before-known))));
     }

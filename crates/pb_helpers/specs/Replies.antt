@@ -1,0 +1,14 @@
+-- Asks and replies, as the machine has them.
+use Rattle.std.specs.Prelude.{Some, None}
+use Rattle.pb_isa.specs.Machine as machine
+use Rattle.pb_helpers.specs.declared.ask.Ask.{Ask}
+use Rattle.pb_helpers.specs.declared.ask.Reply.{Reply}
+use Rattle.pb_helpers.specs.declared.ask.Reply.TheVariants.{Found, Absent}
+
+-- a cell that is asked for, by its numbers
+abbrev pub ask_of : Ask → machine.Ask
+ask_of q = record { row = q.row.0; column = q.column }
+
+abbrev pub reply_of : Reply → machine.Reply
+reply_of (Found v) = Some v
+reply_of Absent = None

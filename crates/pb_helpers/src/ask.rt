@@ -1,0 +1,35 @@
+//! What a program asks, and what it is told.
+ghost use Rattle.std.specs.Prelude.{◌≡◌};
+ghost use Rattle.pb_isa.specs.Machine.{IsReply};
+ghost use Rattle.pb_helpers.specs.Replies.{reply_of};
+
+use pb_base::{Column, Row, Value};
+
+/// A cell that a program reads: helper 1 with a column of 0 to 15.
+#[derive(Clone, Copy, Debug, PartialEq, Eq)]
+pub struct Ask {
+    pub row: Row,
+    pub column: Column,
+}
+
+/// What the program is told of the cell.
+#[derive(Clone, Copy, Debug, PartialEq, Eq)]
+pub enum Reply {
+    /// Its value.
+    Found(Value),
+    /// It is absent, or deleted.
+    Absent,
+}
+
+impl Reply {
+    /// The value, where there is one.
+    pub fn value(self) -> Option<Value>
+        ensures value { result ≡ reply_of self }
+        ensures reply { IsReply (reply_of self) }
+    {
+        match self {
+            Reply::Found(value) => Some(value),
+            Reply::Absent => None,
+        }
+    }
+}

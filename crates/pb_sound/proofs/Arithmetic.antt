@@ -1,0 +1,120 @@
+-- Operations with two operands, the negative, and the 64-bit immediate.
+use Rattle.std.proofs.Common.{◌≡◌, ℕ, ◌+◌, ℤ, pos, neg_ℤ, [], ◌++◌, Some, refl, ap}
+use Rattle.pb_isa.specs.declared.insn.Insn.TheVariants.{Alu, Neg, LoadImm}
+use Rattle.pb_isa.specs.declared.insn.AluOp.{AluOp}
+use Rattle.pb_isa.specs.declared.insn.AluOp.TheVariants.{Add, Sub, Mov}
+use Rattle.pb_isa.specs.declared.insn.Width.{Width}
+use Rattle.pb_isa.specs.declared.insn.Width.TheVariants.{Bits32, Bits64}
+use Rattle.pb_isa.specs.declared.insn.Operand.{Operand}
+use Rattle.pb_isa.specs.declared.insn.Operand.TheVariants.{Imm, Reg}
+use Rattle.pb_isa.specs.declared.insn.Reg as registers
+use Rattle.pb_isa.specs.Alu.{alu, word}
+use Rattle.pb_isa.specs.Machine as m
+use Rattle.pb_isa.specs.Machine.{Environment, State, does, address}
+use Rattle.pb_kinds.specs.declared.frame.Kind.{Kind}
+use Rattle.pb_kinds.specs.declared.frame.Kind.TheVariants.{Unset, Number, Stack, Record}
+use Rattle.pb_kinds.specs.declared.frame.Frame.{Frame}
+use Rattle.pb_kinds.specs.Frames.{is_pointer}
+use Rattle.pb_helpers.specs.Codes.{when}
+use Rattle.pb_helpers.specs.declared.code.Code.TheVariants.{PointerArithmetic}
+use Rattle.pb_verify.specs.Rules as rules
+use Rattle.pb_verify.specs.Rules.{at, reads, reads_operand, sets, numeric_rules, on_pointer, insn_rules}
+use Rattle.pb_verify.specs.Following.{kind_after, move_pointer}
+use Rattle.pb_sound.specs.Fits.{HasValue, Holds, FitsFrame}
+use Rattle.pb_sound.specs.Outcomes.{GoesOn}
+use Rattle.pb_sound.proofs.Lists.{empty_parts}
+use Rattle.pb_sound.proofs.Offsets.{moved_word, sub_is}
+use Rattle.pb_sound.proofs.Registers.{read_value, sets_on, IsFollowed}
+
+-- the operands have values, and what comes of them is of the kind after
+pub record Operands (e : Environment) (f : Frame) (s : State) (op : AluOp) (w : Width) (d : registers.Reg) (x : Operand) : Type 0 where
+  pub left : ℕ
+  pub right : ℕ
+  pub left_is : m.left s op d ≡ Some left
+  pub right_is : m.operand s x ≡ Some right
+  pub sets : sets d ≡ []
+  pub holds : Holds e (kind_after f op w d x) (Some (alu op w left right))
+
+-- two values
+pub record Both (s : State) (d : registers.Reg) (x : Operand) : Type 0 where
+  pub left : ℕ
+  pub right : ℕ
+  pub left_is : m.value s d ≡ Some left
+  pub right_is : m.operand s x ≡ Some right
+  pub sets : sets d ≡ []
+
+pub operand_is : (e : Environment) (f : Frame) (s : State) (x : Operand) → reads_operand f x ≡ [] → FitsFrame e f s → HasValue (m.operand s x)
+operand_is e f s (Imm k) h t = (word k, refl)
+operand_is e f s (Reg r) h t = let v = read_value e f s r h t in (v.value, v.is)
+
+pub both : (e : Environment) (f : Frame) (s : State) (d : registers.Reg) (x : Operand) → numeric_rules f d x ≡ [] → FitsFrame e f s → Both s d x
+both e f s d x h t =
+    let p3 = empty_parts (reads f d ++ reads_operand f x ++ sets d) (when (on_pointer f d x) PointerArithmetic) h in
+    let p2 = empty_parts (reads f d ++ reads_operand f x) (sets d) p3.0 in
+    let p1 = empty_parts (reads f d) (reads_operand f x) p2.0 in
+    let a = read_value e f s d p1.0 t in
+    let b = operand_is e f s x p1.1 t in
+    record { left = a.value; right = b.0; left_is = a.is; right_is = b.1; sets = p2.1 }
+
+moved_holds : (e : Environment) (k : Kind) (x : ℕ) (z : ℤ) → Holds e k (Some x) → Holds e (move_pointer k z) (Some (address x z))
+moved_holds e Unset x z h = (address x z, refl)
+moved_holds e Number x z h = (address x z, refl)
+moved_holds e (Stack k) x z h = let same : x ≡ address (e.place.stack + 512) k = cc in ap Some (rw same (moved_word (e.place.stack + 512) k z))
+moved_holds e (Record k) x z h = let same : x ≡ address e.place.record_at k = cc in ap Some (rw same (moved_word e.place.record_at k z))
+
+add_holds : (e : Environment) (f : Frame) (s : State) (d : registers.Reg) (k : ℤ) → reads f d ++ sets d ≡ [] → FitsFrame e f s → Operands e f s Add Bits64 d (Imm k)
+add_holds e f s d k h t =
+    let p = empty_parts (reads f d) (sets d) h in
+    let a = read_value e f s d p.0 t in
+    record { left = a.value; right = word k; left_is = a.is; right_is = refl; sets = p.1; holds = moved_holds e (at f d) a.value k a.holds }
+
+sub_holds : (e : Environment) (f : Frame) (s : State) (d : registers.Reg) (k : ℤ) → reads f d ++ sets d ≡ [] → FitsFrame e f s → Operands e f s Sub Bits64 d (Imm k)
+sub_holds e f s d k h t =
+    let p = empty_parts (reads f d) (sets d) h in
+    let a = read_value e f s d p.0 t in
+    record { left = a.value; right = word k; left_is = a.is; right_is = refl; sets = p.1; holds = rw (sub_is a.value k) (moved_holds e (at f d) a.value (neg_ℤ k) a.holds) }
+
+mov_imm : (e : Environment) (f : Frame) (s : State) (w : Width) (d : registers.Reg) (k : ℤ) → sets d ≡ [] → Operands e f s Mov w d (Imm k)
+mov_imm e f s Bits64 d k h = record { left = 0; right = word k; left_is = refl; right_is = refl; sets = h; holds = (_, refl) }
+mov_imm e f s Bits32 d k h = record { left = 0; right = word k; left_is = refl; right_is = refl; sets = h; holds = (_, refl) }
+
+mov_reg : (e : Environment) (f : Frame) (s : State) (d r : registers.Reg) → reads f r ++ sets d ≡ [] → FitsFrame e f s → Operands e f s Mov Bits64 d (Reg r)
+mov_reg e f s d r h t =
+    let p = empty_parts (reads f r) (sets d) h in
+    let a = read_value e f s r p.0 t in
+    record { left = 0; right = a.value; left_is = refl; right_is = a.is; sets = p.1; holds = a.holds }
+
+mov_low : (e : Environment) (f : Frame) (s : State) (d r : registers.Reg) → reads f r ++ sets d ++ when (is_pointer (at f r)) PointerArithmetic ≡ [] → FitsFrame e f s → Operands e f s Mov Bits32 d (Reg r)
+mov_low e f s d r h t =
+    let q = empty_parts (reads f r ++ sets d) (when (is_pointer (at f r)) PointerArithmetic) h in
+    let p = empty_parts (reads f r) (sets d) q.0 in
+    let a = read_value e f s r p.0 t in
+    record { left = 0; right = a.value; left_is = refl; right_is = a.is; sets = p.1; holds = (_, refl) }
+
+pub operands_are : (e : Environment) (f : Frame) (s : State) (op : AluOp) (w : Width) (d : registers.Reg) (x : Operand) → rules.alu_rules f op w d x ≡ [] → FitsFrame e f s → Operands e f s op w d x
+operands_are e f s Mov Bits64 d (Imm k) h t = mov_imm e f s Bits64 d k h
+operands_are e f s Mov Bits32 d (Imm k) h t = mov_imm e f s Bits32 d k h
+operands_are e f s Mov Bits64 d (Reg r) h t = mov_reg e f s d r h t
+operands_are e f s Mov Bits32 d (Reg r) h t = mov_low e f s d r h t
+operands_are e f s Add Bits64 d (Imm k) h t = add_holds e f s d k h t
+operands_are e f s Sub Bits64 d (Imm k) h t = sub_holds e f s d k h t
+operands_are e f s Add Bits64 d (Reg r) h t = let b = both e f s d (Reg r) h t in record { left = b.left; right = b.right; left_is = b.left_is; right_is = b.right_is; sets = b.sets; holds = (_, refl) }
+operands_are e f s Sub Bits64 d (Reg r) h t = let b = both e f s d (Reg r) h t in record { left = b.left; right = b.right; left_is = b.left_is; right_is = b.right_is; sets = b.sets; holds = (_, refl) }
+operands_are e f s op w d x h t = let b = both e f s d x h t in record { left = b.left; right = b.right; left_is = b.left_is; right_is = b.right_is; sets = b.sets; holds = (_, refl) }
+
+pub alu_on : (e : Environment) (f : Frame) (s : State) (op : AluOp) (w : Width) (d : registers.Reg) (x : Operand) → IsFollowed e.judged.program.insns s.slot (Alu op w d x) → insn_rules e.judged s.slot f (Alu op w d x) ≡ [] → FitsFrame e f s → GoesOn e f s.slot (Alu op w d x) (does e s (Alu op w d x))
+alu_on e f s op w d x a b t =
+    let parts = empty_parts (rules.alu_rules f op w d x) (rules.falls e.judged.program.insns (s.slot + 1)) b in
+    let o = operands_are e f s op w d x parts.0 t in
+    rw (o.left_is, o.right_is) (sets_on e f s (Alu op w d x) d (kind_after f op w d x) (alu op w o.left o.right) refl refl a parts.1 o.sets t o.holds)
+
+pub neg_on : (e : Environment) (f : Frame) (s : State) (w : Width) (d : registers.Reg) → IsFollowed e.judged.program.insns s.slot (Neg w d) → insn_rules e.judged s.slot f (Neg w d) ≡ [] → FitsFrame e f s → GoesOn e f s.slot (Neg w d) (does e s (Neg w d))
+neg_on e f s w d a b t =
+    let parts = empty_parts (numeric_rules f d (Imm (pos 0))) (rules.falls e.judged.program.insns (s.slot + 1)) b in
+    let o = both e f s d (Imm (pos 0)) parts.0 t in
+    rw o.left_is (sets_on e f s (Neg w d) d Number (alu Sub w 0 o.left) refl refl a parts.1 o.sets t (_, refl))
+
+pub load_imm_on : (e : Environment) (f : Frame) (s : State) (d : registers.Reg) (v : ℕ) → IsFollowed e.judged.program.insns s.slot (LoadImm d v) → insn_rules e.judged s.slot f (LoadImm d v) ≡ [] → FitsFrame e f s → GoesOn e f s.slot (LoadImm d v) (does e s (LoadImm d v))
+load_imm_on e f s d v a b t =
+    let parts = empty_parts (sets d) (rules.falls e.judged.program.insns (s.slot + 2)) b in
+    sets_on e f s (LoadImm d v) d Number v refl refl a parts.1 parts.0 t (v, refl)

@@ -1,0 +1,43 @@
+-- What fits a frame fits one that says less.
+use Rattle.std.proofs.Common.{◌≡◌, ◌≢◌, ℕ, ℤ, Option, refl}
+use Rattle.pb_kinds.specs.declared.frame.Kind.{Kind}
+use Rattle.pb_kinds.specs.declared.frame.Kind.TheVariants.{Unset, Number, Stack, Record}
+use Rattle.pb_kinds.specs.declared.frame.Frame.{Frame}
+use Rattle.pb_kinds.specs.Frames.{kind_of}
+use Rattle.pb_kinds.specs.Meet.{IsMeet}
+use Rattle.pb_isa.specs.Machine.{Environment, State}
+use Rattle.pb_verify.specs.Ways.{Fact, HasKind, HasByte, Says}
+use Rattle.pb_sound.specs.Fits.{Holds, FitsFrame}
+
+-- g says no more than f
+abbrev pub SaysLess : Frame → Frame → Type 0
+SaysLess g f = (x : Fact) → Says g x → Says f x
+
+number_set : Number ≢ Unset
+number_set e = cc
+
+stack_set : (k : ℤ) → Stack k ≢ Unset
+stack_set k e = cc
+
+record_set : (k : ℤ) → Record k ≢ Unset
+record_set k e = cc
+
+holds_less : (e : Environment) (f : Frame) (r : ℕ) (v : Option ℕ) (k : Kind) → (k ≢ Unset → kind_of f r ≡ k) → Holds e (kind_of f r) v → Holds e k v
+holds_less e f r v Unset same h = tt
+holds_less e f r v Number same h = rw (same number_set) at h
+holds_less e f r v (Stack k) same h = rw (same (stack_set k)) at h
+holds_less e f r v (Record k) same h = rw (same (record_set k)) at h
+
+pub fits_less : (e : Environment) (g f : Frame) (s : State) → SaysLess g f → FitsFrame e f s → FitsFrame e g s
+fits_less e g f s less t = record {
+  reg = λ r. holds_less e f r (s.regs r) (kind_of g r) (λ set. (less (HasKind r (kind_of g r)) (record { kind = refl; set = set })).kind) (t.reg r);
+  byte = λ i w. t.byte i (less (HasByte i) w);
+}
+
+-- what fits either of two frames fits their meet
+pub fits_meet : (e : Environment) (a b g : Frame) (s : State) → IsMeet a b g → FitsFrame e a s → FitsFrame e g s
+fits_meet e a b g s meet t = fits_less e g a s (λ x. says x) t
+  where
+    says : (x : Fact) → Says g x → Says a x
+    says (HasKind r k) h = ((meet.kinds r k).0 h).0
+    says (HasByte i) h = ((meet.bytes i).0 h).0

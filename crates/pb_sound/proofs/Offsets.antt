@@ -1,0 +1,53 @@
+-- Addresses at a distance from a place.
+use Rattle.std.proofs.Common.{◌≡◌, ℕ, zero, suc, ◌-◌, ◌%◌, ◌<◌, ◌≤◌, ltb, cond, Bool, true, false, ℤ, pos, negsuc, ◌+ℤ◌, neg_ℤ, ◌≤ℤ◌, ◌+◌, int_le, nat_abs, ◌⊎◌, arith, refl}
+use Rattle.std.proofs.Math.IntN.{sub_ℕ}
+use borrow.Author.Tests.{ltb-true, ltb-false}
+use Rattle.std.proofs.lemmas.Float.{T_from_true}
+use Rattle.std.proofs.lemmas.Int.{ints}
+use Rattle.std.proofs.lemmas.Bool.Decides.{nat_tests}
+use Rattle.pb_isa.specs.Alu.{alu, word}
+use Rattle.pb_isa.specs.declared.insn.AluOp.TheVariants.{Sub}
+use Rattle.pb_isa.specs.declared.insn.Width.TheVariants.{Bits64}
+use Rattle.pb_isa.specs.Machine.{address, lies_in}
+use Rattle.pb_kinds.specs.Ranges.{from_low}
+
+-- the word of a difference
+word_sub : (a b : ℕ) → (word (sub_ℕ a b) + b) % 18446744073709551616 ≡ a % 18446744073709551616
+word_sub a b =
+    let go : (t : Bool) → ltb a b ≡ t → (word (cond t (negsuc (b - suc a)) (pos (a - b))) + b) % 18446744073709551616 ≡ a % 18446744073709551616 = λ t e. elim t as (λ t. ltb a b ≡ t → (word (cond t (negsuc (b - suc a)) (pos (a - b))) + b) % 18446744073709551616 ≡ a % 18446744073709551616) [ true ↦ λ h. let l : a < b = ltb-true a b h in omega arith | false ↦ λ h. let l : b ≤ a = ltb-false a b h in omega arith ] e in
+    go (ltb a b) refl
+
+-- two distances one after the other are their sum
+pub moved_word : (b : ℕ) (k z : ℤ) → address (address b k) z ≡ address b (k +ℤ z)
+moved_word b (pos k) (pos z) = omega arith
+moved_word b (pos k) (negsuc z) = let e = word_sub k (suc z) in omega arith
+moved_word b (negsuc k) (pos z) = let e = word_sub z (suc k) in omega arith
+moved_word b (negsuc k) (negsuc z) = omega arith
+
+-- what is subtracted is added as its negative
+pub sub_is : (a : ℕ) (z : ℤ) → alu Sub Bits64 a (word z) ≡ address a (neg_ℤ z)
+sub_is a (pos zero) = omega arith
+sub_is a (pos (suc n)) = omega arith
+sub_is a (negsuc n) = omega arith
+
+pub plus_zero : (z : ℤ) → z +ℤ pos 0 ≡ z
+plus_zero z = omega (arith, ints)
+
+pub le_from : (a b : ℤ) → int_le a b ≡ true → a ≤ℤ b
+le_from a b h = record { le = T_from_true _ h }
+
+-- where a stack byte lies
+pub stack_at : (b n : ℕ) (z : ℤ) → 0 < n → negsuc 511 ≤ℤ z → (z +ℤ pos n) ≤ℤ pos 0 → b + 512 < 18446744073709551616 → (address (b + 512) z ≡ b + from_low z) × (from_low z + n ≤ 512)
+stack_at b n (pos m) some l h f = absurd (omega (arith, ints))
+stack_at b n (negsuc m) some l h f = (omega (arith, ints), omega (arith, ints))
+
+-- where a byte of the record lies
+pub record_at : (size b n : ℕ) (z : ℤ) → pos 0 ≤ℤ z → (z +ℤ pos n) ≤ℤ pos size → b + size < 18446744073709551616 → (address b z ≡ b + nat_abs z) × (nat_abs z + n ≤ size)
+record_at size b n (pos m) l h f = (omega (arith, ints), omega (arith, ints))
+record_at size b n (negsuc m) l h f = absurd (omega (arith, ints))
+
+pub lies : (base len x n : ℕ) → base ≤ x → x + n ≤ base + len → lies_in base len x n ≡ true
+lies base len x n a b = grind (arith, nat_tests)
+
+pub lies_not : (base len x n : ℕ) → (x + n ≤ base) ⊎ (base + len ≤ x) → 0 < n → lies_in base len x n ≡ false
+lies_not base len x n a b = grind (arith, nat_tests)

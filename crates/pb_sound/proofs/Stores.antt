@@ -1,0 +1,122 @@
+-- Stores of any number of bytes.
+use Rattle.std.proofs.Common.{◌≡◌, ℕ, ◌+◌, ◌-◌, ◌<◌, ◌≤◌, inl, inr, ℤ, pos, negsuc, ◌+ℤ◌, Bool, true, false, List, [], ◌∷◌, ◌++◌, length, get_or, Some, refl, ◌∙◌, arith, is_some, IsTrue}
+use Rattle.std.proofs.lemmas.Bool.{cases_lt}
+use Rattle.std.specs.Int.{to_le_bytes}
+use Rattle.pb_isa.specs.declared.insn.Insn.{Insn}
+use Rattle.pb_isa.specs.declared.insn.Insn.TheVariants.{Store, StoreImm}
+use Rattle.pb_isa.specs.declared.insn.Reg.{Reg}
+use Rattle.pb_isa.specs.declared.insn.Size.{Size}
+use Rattle.pb_isa.specs.declared.insn.Size.TheVariants.{B, H, W, Dw}
+use Rattle.pb_isa.specs.Alu.{word}
+use Rattle.pb_isa.specs.Slots.{insn_at}
+use Rattle.pb_isa.specs.Machine as m
+use Rattle.pb_isa.specs.Machine.{IsPlaced, Map, Environment, State, address, width, does, with_list}
+use Rattle.pb_kinds.specs.declared.frame.Kind.{Kind}
+use Rattle.pb_kinds.specs.declared.frame.Kind.TheVariants.{Unset, Number, Stack, Record}
+use Rattle.pb_kinds.specs.declared.frame.Frame.{Frame}
+use Rattle.pb_kinds.specs.Frames.{is_unset, is_pointer}
+use Rattle.pb_kinds.specs.Ranges.{in_stack, from_low, set_flags, with_written}
+use Rattle.pb_helpers.specs.Codes.{when}
+use Rattle.pb_helpers.specs.Arguments.{stack_writes}
+use Rattle.pb_helpers.specs.declared.code.Code.TheVariants.{PointerStored}
+use Rattle.pb_verify.specs.Rules.{at, reads, stores, bytes_of, insn_rules}
+use Rattle.pb_verify.specs.Following.{after, leads, with_store}
+use Rattle.pb_sound.specs.Fits.{HasValue, Holds, FitsFrame}
+use Rattle.pb_sound.specs.Outcomes.{GoesOn}
+use Rattle.pb_sound.proofs.Lists.{empty_parts, when_not, not_false, and_true, flag_from, with_list_below, with_list_above, with_list_in}
+use Rattle.pb_sound.proofs.Offsets.{moved_word, le_from, stack_at, lies}
+use Rattle.pb_sound.proofs.Registers.{read_value, follows, among_one, IsFollowed}
+use Rattle.pb_sound.proofs.Loads.{some_bytes}
+
+-- a byte that is written after n bytes are put from lo on
+byte_after : (w : List Bool) (vs : List ℕ) (m : Map) (b lo n : ℕ) → length vs ≡ n →
+    ((i : ℕ) → IsTrue (get_or w i false) → HasValue (m (b + i))) →
+    (i : ℕ) → IsTrue (get_or (set_flags w lo n) i false) → HasValue (with_list m (b + lo) vs (b + i))
+byte_after w vs m b lo n lv h i t =
+    elim (cases_lt i lo) [
+      | inl low ↦ rw (with_list_below vs m (b + lo) (b + i) (omega arith)) (h i (flag_from w lo n i (inl low) t))
+      | inr up ↦ elim (cases_lt i (lo + n)) [
+        | inl mid ↦
+            let e1 : b + i ≡ b + lo + (i - lo) = omega arith in
+            rw e1 (get_or vs (i - lo) 0, with_list_in vs m (b + lo) (i - lo) (omega arith))
+        | inr high ↦ rw (with_list_above vs m (b + lo) (b + i) (omega arith)) (h i (flag_from w lo n i (inr high) t))
+      ]
+    ]
+
+-- n bytes put on the stack
+pub fits_put : (e : Environment) (f : Frame) (s t : State) (z : ℤ) (n : ℕ) (vs : List ℕ) → length vs ≡ n → FitsFrame e f s → t.regs ≡ s.regs → t.stack ≡ with_list s.stack (e.place.stack + from_low z) vs → FitsFrame e (with_written f z n) t
+fits_put e f s t z n vs lv h er es = record {
+  reg = λ r. rw er (h.reg r);
+  byte = λ i w. rw es (byte_after f.written vs s.stack e.place.stack (from_low z) n lv h.byte i w);
+}
+
+-- n stack bytes at a distance from what a register holds
+abbrev pub spot : Kind → ℤ → ℤ
+spot (Stack k) o = k +ℤ o
+spot k o = o
+
+pub record Room (e : Environment) (f : Frame) (k : Kind) (o : ℤ) (n x : ℕ) : Type 0 where
+  pub frame : with_store f k o n ≡ with_written f (spot k o) n
+  pub there : address x o ≡ e.place.stack + from_low (spot k o)
+  pub room : from_low (spot k o) + n ≤ 512
+  pub inside : m.stack_has e (e.place.stack + from_low (spot k o)) n ≡ true
+
+pub stack_room : (e : Environment) (f : Frame) (k o : ℤ) (n : ℕ) → 0 < n → IsPlaced e → stack_writes (k +ℤ o) n ≡ [] → Room e f (Stack k) o n (address (e.place.stack + 512) k)
+stack_room e f k o n some pl l =
+    let z = k +ℤ o in
+    let ok : in_stack z n ≡ true = not_false _ (when_not _ _ l) in
+    let range = and_true _ _ ok in
+    let low = le_from (negsuc 511) z range.0 in
+    let high = le_from (z +ℤ pos n) (pos 0) range.1 in
+    let there = stack_at e.place.stack n z some low high pl.place.stack_fits in
+    let room : from_low z + n ≤ 512 = there.1 in
+    record {
+      frame = rw ok refl;
+      there = moved_word (e.place.stack + 512) k o ∙ there.0;
+      room = room;
+      inside = lies e.place.stack 512 (e.place.stack + from_low z) n (omega arith) (omega arith);
+    }
+
+pub store_room : (e : Environment) (f : Frame) (k : Kind) (x : ℕ) (o : ℤ) (n : ℕ) → 0 < n → IsPlaced e → is_unset k ≡ false → stores k o n ≡ [] → Holds e k (Some x) → Room e f k o n x
+store_room e f Unset x o n some pl u l h = cc
+store_room e f Number x o n some pl u l h = cc
+store_room e f (Record k) x o n some pl u l h = cc
+store_room e f (Stack k) x o n some pl u l h =
+    let same : x ≡ address (e.place.stack + 512) k = cc in
+    rw same (stack_room e f k o n some pl l)
+
+-- n bytes are stored there, and the instruction leads to the slot after it
+stores_on : (e : Environment) (f : Frame) (s : State) (i : Insn) (k : Kind) (x : ℕ) (o : ℤ) (n : ℕ) (vs : List ℕ) → length vs ≡ n → leads s.slot i ≡ (s.slot + 1) ∷ [] → after f i ≡ with_store f k o n → is_some (insn_at e.judged.program.insns (s.slot + 1)) ≡ true → FitsFrame e f s → Room e f k o n x → GoesOn e f s.slot i (m.stores_bytes e s (address x o) vs)
+stores_on e f s i k x o n vs lv el ea lands h at =
+    rw (at.there, lv, at.inside, lands) (record {
+      leads = rw el (among_one (s.slot + 1));
+      first = lands;
+      fits = rw (ea, at.frame) (fits_put e f s _ (spot k o) n vs lv h refl refl);
+    })
+
+pub length-bytes : (z : Size) (v : ℕ) → length (to_le_bytes (width z) v) ≡ bytes_of z
+length-bytes B v = refl
+length-bytes H v = refl
+length-bytes W v = refl
+length-bytes Dw v = refl
+
+pub store_imm_on : (e : Environment) (f : Frame) (s : State) (z : Size) (d : Reg) (o k : ℤ) → IsPlaced e → IsFollowed e.judged.program.insns s.slot (StoreImm z d o k) → insn_rules e.judged s.slot f (StoreImm z d o k) ≡ [] → FitsFrame e f s → GoesOn e f s.slot (StoreImm z d o k) (does e s (StoreImm z d o k))
+store_imm_on e f s z d o k pl a b t =
+    let parts = empty_parts _ _ b in
+    let first = empty_parts (reads f d) (stores (at f d) o (bytes_of z)) parts.0 in
+    let base = read_value e f s d first.0 t in
+    let where_to = store_room e f (at f d) base.value o (bytes_of z) (some_bytes z) pl (when_not _ _ first.0) first.1 base.holds in
+    let vs = to_le_bytes (width z) (word k) in
+    rw base.is (stores_on e f s (StoreImm z d o k) (at f d) base.value o (bytes_of z) vs (length-bytes z (word k)) refl refl (follows e.judged.program.insns (StoreImm z d o k) s.slot a parts.1) t where_to)
+
+pub store_on : (e : Environment) (f : Frame) (s : State) (z : Size) (d : Reg) (o : ℤ) (r : Reg) → IsPlaced e → IsFollowed e.judged.program.insns s.slot (Store z d r o) → insn_rules e.judged s.slot f (Store z d r o) ≡ [] → FitsFrame e f s → GoesOn e f s.slot (Store z d r o) (does e s (Store z d r o))
+store_on e f s z d o r pl a b t =
+    let parts = empty_parts _ _ b in
+    let p3 = empty_parts (reads f d ++ reads f r ++ when (is_pointer (at f r)) PointerStored) (stores (at f d) o (bytes_of z)) parts.0 in
+    let p2 = empty_parts (reads f d ++ reads f r) (when (is_pointer (at f r)) PointerStored) p3.0 in
+    let p1 = empty_parts (reads f d) (reads f r) p2.0 in
+    let base = read_value e f s d p1.0 t in
+    let from = read_value e f s r p1.1 t in
+    let where_to = store_room e f (at f d) base.value o (bytes_of z) (some_bytes z) pl (when_not _ _ p1.0) p3.1 base.holds in
+    let vs = to_le_bytes (width z) from.value in
+    rw (base.is, from.is) (stores_on e f s (Store z d r o) (at f d) base.value o (bytes_of z) vs (length-bytes z from.value) refl refl (follows e.judged.program.insns (Store z d r o) s.slot a parts.1) t where_to)

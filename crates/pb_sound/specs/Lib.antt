@@ -1,0 +1,11 @@
+pub mod Fits
+pub mod Outcomes
+pub mod NeverStuck
+pub mod Cells
+pub mod Mirrors
+pub mod Steps
+pub mod Alike
+pub mod Positions
+pub mod OneMeaning
+pub mod Placements
+pub mod Silent

@@ -1,0 +1,11 @@
+-- A program has one meaning.
+use Rattle.std.specs.Prelude.{◌≡◌, ℕ, List}
+use Rattle.pb_base.specs.Batch.{Writes}
+use Rattle.pb_isa.specs.Programs.{JudgedOf}
+use Rattle.pb_isa.specs.Meaning.{Talk, Means}
+
+-- the same program, record, start timestamp, asks and replies mean one result and one list of writes
+abbrev pub EachHasOneMeaning : Type 0
+EachHasOneMeaning =
+    (j : JudgedOf) (bytes : List ℕ) (began : ℕ) (talk : Talk) (r v : ℕ) (ws us : Writes) →
+    Means j bytes began talk r ws → Means j bytes began talk v us → (r ≡ v) × (ws ≡ us)

@@ -1,0 +1,11 @@
+-- A program that may call no helper asks nothing and writes nothing.
+use Rattle.std.specs.Prelude.{◌≡◌, ℕ, List, []}
+use Rattle.pb_base.specs.Batch.{Writes}
+use Rattle.pb_isa.specs.Helpers.{no_helpers}
+use Rattle.pb_isa.specs.Programs.{JudgedOf}
+use Rattle.pb_isa.specs.Meaning.{Talk, Means}
+
+abbrev pub WithoutHelpersSilent : Type 0
+WithoutHelpersSilent =
+    (j : JudgedOf) (bytes : List ℕ) (began : ℕ) (talk : Talk) (r : ℕ) (ws : Writes) →
+    j.helpers ≡ no_helpers → Means j bytes began talk r ws → (talk ≡ []) × (ws ≡ [])

@@ -1,0 +1,83 @@
+//! Accepted programs are never stuck: where the rules hold, the machine of the definitions goes on, at every placement alike,
+//! and a machine that tests nothing does the same.
+#![tactic(auto)]
+
+ghost use Rattle.pb_sound.specs.NeverStuck.{AcceptedAreNeverStuck};
+ghost use Rattle.pb_sound.specs.Alike.{EndIsMeaning};
+ghost use Rattle.pb_sound.specs.Placements.{EachPlacementIsAlike};
+ghost use Rattle.pb_sound.specs.Silent.{WithoutHelpersSilent};
+ghost use Rattle.pb_sound.specs.OneMeaning.{EachHasOneMeaning};
+ghost use Rattle.pb_sound.specs.Positions.{AcceptedCellsRun, EveryRunEnds};
+ghost use Rattle.pb_sound.specs.Steps.{AcceptedStepTogether};
+
+use pb_isa::next_slots_are_first;
+use pb_verify::{frames_are_meets, jumps_lead_on};
+
+/// An accepted program is never stuck: at every placement, with every record of the size that it is judged for, start and
+/// replies, each instruction that a run from entry comes to goes on to a later slot, asks, or is an exit; and the frame before
+/// its slot fits. So a run takes fewer instructions than the program has slots.
+pub fn accepted_are_never_stuck()
+    ensures { AcceptedAreNeverStuck }
+{
+    frames_are_meets();
+    jumps_lead_on();
+    next_slots_are_first();
+}
+
+/// A machine that tests nothing, on a list of registers and one of bytes, does with an accepted program what the definitions
+/// do, and each byte that it reads or writes is there.
+pub fn accepted_step_together()
+    ensures { AcceptedStepTogether }
+{
+    frames_are_meets();
+    jumps_lead_on();
+    next_slots_are_first();
+}
+
+/// What an accepted program ends with at one placement, it ends with at every one, after the same asks and replies.
+pub fn end_is_meaning()
+    ensures { EndIsMeaning }
+{
+    frames_are_meets();
+    jumps_lead_on();
+    next_slots_are_first();
+}
+
+/// A program has one meaning: the same record, start, asks and replies mean one result and one list of writes.
+pub fn each_has_one_meaning()
+    ensures { EachHasOneMeaning }
+{}
+
+/// From entry to an end, a machine that tests nothing has the asks and replies of the definitions, and ends with what the
+/// program means.
+pub fn accepted_cells_run()
+    ensures { AcceptedCellsRun }
+{
+    frames_are_meets();
+    jumps_lead_on();
+    next_slots_are_first();
+}
+
+/// Whatever is told, a run of an accepted program comes to an end.
+pub fn every_run_ends()
+    ensures { EveryRunEnds }
+{
+    frames_are_meets();
+    jumps_lead_on();
+    next_slots_are_first();
+}
+
+/// What a run of an accepted program does at one placement, it does at every one: it goes on, asks the same, or ends with
+/// the same.
+pub fn each_placement_is_alike()
+    ensures { EachPlacementIsAlike }
+{
+    frames_are_meets();
+    jumps_lead_on();
+    next_slots_are_first();
+}
+
+/// A program that may call no helper asks nothing and writes nothing.
+pub fn without_helpers_silent()
+    ensures { WithoutHelpersSilent }
+{}

@@ -1,0 +1,25 @@
+-- Where the instructions of an accepted program lead: forward.
+use Rattle.std.specs.Prelude.{◌≡◌, ℕ, ◌<◌, ℤ, pos, negsuc, Some, IsTrue}
+use Rattle.pb_isa.specs.declared.insn.Insn.{Insn}
+use Rattle.pb_isa.specs.declared.insn.Insn.TheVariants.{Jump, JumpIf}
+use Rattle.pb_isa.specs.Programs.{JudgedOf}
+use Rattle.pb_isa.specs.Slots.{insn_at}
+use Rattle.pb_verify.specs.Following.{leads}
+use Rattle.pb_verify.specs.Arriving.{has_slot, Accepts}
+
+abbrev pub IsAhead : ℤ → Type 0
+IsAhead (pos z) = Unit {0}
+IsAhead (negsuc z) = ⊥
+
+-- a jump goes forward
+abbrev pub IsForward : Insn → Type 0
+IsForward (Jump offset) = IsAhead offset
+IsForward (JumpIf c w dst src offset) = IsAhead offset
+IsForward i = Unit {0}
+
+-- the slots that an instruction leads to come later
+abbrev pub LeadsAreLater : Type 0
+LeadsAreLater = (n m : ℕ) (i : Insn) → IsTrue (has_slot (leads n i) m) → n < m
+
+abbrev pub AcceptedJumpsGoForward : Type 0
+AcceptedJumpsGoForward = (j : JudgedOf) → Accepts j → (n : ℕ) (i : Insn) → insn_at j.program.insns n ≡ Some i → IsForward i

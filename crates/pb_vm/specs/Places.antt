@@ -1,0 +1,11 @@
+-- Where a cell stands among those written.
+use Rattle.std.specs.Prelude.{ℕ, suc, cond, [], ◌∷◌}
+use Rattle.std.specs.Ordering.{eq_by_cmp}
+use Rattle.pb_base.specs.declared.cell.Cell.{Cell}
+use Rattle.pb_base.specs.Cell.{cell_cmp}
+use Rattle.pb_base.specs.Batch.{Writes}
+
+-- the place of the first write to x, or how many writes there are
+abbrev pub place_in : Cell → Writes → ℕ
+place_in x [] = 0
+place_in x (w ∷ ws) = cond (eq_by_cmp cell_cmp x w.0) 0 (suc (place_in x ws))

@@ -1,0 +1,61 @@
+//! The cells that a program writes, in order of their first write.
+ghost use Rattle.std.specs.Prelude.{◌≡◌, ◌≤◌, length, vec_capacity};
+ghost use Rattle.pb_isa.specs.Meaning.{kept_writes};
+ghost use Rattle.pb_isa.specs.Machine.{add_write, write_result};
+ghost use Rattle.pb_vm.specs.Places.{place_in};
+
+use pb_base::{Cell, Content, MAX_CELLS};
+
+// The place of a cell among those written; their number where it isn't one.
+fn place_in(writes: &[(Cell, Content)], cell: &Cell) -> usize
+    ensures place { result ≡ place_in cell.now writes.now }
+    ensures most { result ≤ length writes.now }
+{
+    match writes {
+        [] => 0,
+        [first, rest @ ..] => {
+            if *cell == first.0 {
+                0
+            } else {
+                place_in(rest, cell) + 1
+            }
+        }
+    }
+}
+
+/// The writes that stand after an end with this result: those made where it is 0, else none.
+pub fn kept(end: u64, writes: Vec<(Cell, Content)>) -> Vec<(Cell, Content)>
+    ensures { result.items ≡ kept_writes end writes.items }
+{
+    let mut writes = writes;
+    if end != 0 {
+        writes.clear();
+    }
+    writes
+}
+
+#[tactic(auto, using(crate::proofs::Replacing::is_there, crate::proofs::Replacing::is_absent, crate::proofs::Replacing::replaced, crate::proofs::Replacing::as_long))]
+/// Writes to a cell, which keeps its place where it was written before. It tells 0, or 3 for a 17th cell, which is not
+/// taken.
+pub fn write(writes: &mut Vec<(Cell, Content)>, cell: Cell, content: Content) -> u64
+    requires room { MAX_CELLS ≤ vec_capacity writes.old }
+    requires few { length writes.old.items ≤ MAX_CELLS }
+    ensures writes { writes.new.items ≡ add_write cell content writes.old.items }
+    ensures result { result ≡ write_result cell writes.old.items }
+    ensures room { MAX_CELLS ≤ vec_capacity writes.new }
+    ensures few { length writes.new.items ≤ MAX_CELLS }
+{
+    let place = place_in(writes, &cell);
+    let written = (cell, content);
+    if place < writes.len() {
+        writes[place] = written;
+        return 0;
+    }
+    if writes.len() == MAX_CELLS {
+        return 3;
+    }
+    if writes.push(written).is_err() {
+        unreachable!()
+    }
+    0
+}
