@@ -1,25 +1,18 @@
 -- The primary's lock is replaced by a write record, and the transaction is committed (OSDI 2010, section 2.2). Where that
 -- lock is gone, it is lost.
 use Rattle.std.specs.Prelude.{◌≡◌, ℕ, true, false, not, [], ◌∷◌, Some, is_some}
-use Rattle.std.specs.FinMap as map
 use Rattle.pb_base.specs.declared.cell.Cell.{Cell}
 use Rattle.pb_base.specs.declared.refusal.Reason.TheVariants.{WrongPhase}
 use Rattle.pb_base.specs.Batch.{primary_in}
-use Rattle.pb_store.specs.declared.slot.Item.TheVariants as items
-use Rattle.pb_store.specs.declared.slot.Sort.TheVariants as sorts
-use Rattle.pb_store.specs.Contents.{Entries, slot_at}
 use Rattle.pb_steps.specs.declared.phase.Phase.TheVariants as phases
 use Rattle.pb_steps.specs.Phases.{is_stamped}
 use Rattle.pb_steps.specs.State.{StateOf, TransactionOf, with_transaction}
 use Rattle.pb_steps.specs.Readings.{lock_at}
+use Rattle.pb_steps.specs.Commits.{commits}
 use Rattle.pb_steps.specs.Reasons.{Reasons, IsOwn}
 
 abbrev pub commit_reasons : TransactionOf → Reasons
 commit_reasons t = (WrongPhase, not (is_stamped t.phase)) ∷ []
-
--- the lock of s on x becomes the write record c
-abbrev pub commit_lock : Entries → Cell → ℕ → ℕ → Entries
-commit_lock e x s c = map.insert (map.remove e (slot_at x sorts.Lock s)) (slot_at x sorts.Write c) (items.Write (record { 0 = s }))
 
 -- the primary has the transaction's lock, which becomes its write record
 pub record CommitsPrimary (old : StateOf) (seat s : ℕ) (new : StateOf) : Type 0 where
@@ -30,10 +23,7 @@ pub record CommitsPrimary (old : StateOf) (seat s : ℕ) (new : StateOf) : Type 
   pub primary : Cell
   pub primary_is : primary_in t.declared ≡ Some primary
   pub locked : is_some (lock_at old.entries primary s) ≡ true
-  pub new_is : new ≡ record old {
-    entries = commit_lock old.entries primary s c;
-    transactions = map.insert old.transactions s (record t { phase = phases.Committed (record { 0 = c }) });
-  }
+  pub new_is : new ≡ with_transaction (commits old primary s c) s (record t { phase = phases.Committed (record { 0 = c }) })
 
 pub record Loses (old : StateOf) (seat s : ℕ) (new : StateOf) : Type 0 where
   pub t : TransactionOf

@@ -10,5 +10,9 @@ pub mod Read
 pub mod Declare
 pub mod Prewrite
 pub mod Stamp
+pub mod Commits
 pub mod CommitPrimary
+pub mod CommitSecondary
+pub mod Settle
+pub mod Clear
 pub mod Steps

@@ -59,6 +59,12 @@ NoVersion e x s = (c : ℕ) → c ≤ s → write_at e x c ≡ None
 abbrev pub NoLock : Entries → Cell → Type 0
 NoLock e x = (u : ℕ) → u < 2 ^ 64 → lock_at e x u ≡ None
 
+-- the lock of this start stands on x, with this primary, and none of a later start
+pub record IsLockOn (e : Entries) (x : Cell) (start : ℕ) (primary : Cell) : Type 0 where
+  pub fits : start < 2 ^ 64
+  pub locked : lock_at e x start ≡ Some primary
+  pub newest : (u : ℕ) → start < u → u < 2 ^ 64 → lock_at e x u ≡ None
+
 -- some lock stands on x
 abbrev pub SomeLock : Entries → Cell → Type 0
 SomeLock e x = (u : ℕ) × (u < 2 ^ 64) × (is_some (lock_at e x u) ≡ true)

@@ -14,6 +14,9 @@ use Rattle.pb_steps.specs.Declare.{declare_reasons, Declares}
 use Rattle.pb_steps.specs.Prewrite.{prewrite_reasons, Prewrites, Conflicts}
 use Rattle.pb_steps.specs.Stamp.{stamp_reasons, Stamps}
 use Rattle.pb_steps.specs.CommitPrimary.{commit_reasons, CommitsPrimary, Loses}
+use Rattle.pb_steps.specs.CommitSecondary.{secondary_reasons, CommitsSecondary}
+use Rattle.pb_steps.specs.Settle.{seat_reasons, MeetsNoLock, MeetsSecondary, Settles}
+use Rattle.pb_steps.specs.Clear.{ClearWaits, ClearsCommitted, ClearsBack}
 
 -- why a step may be refused, by rising numbers, each with whether it applies
 abbrev pub step_reasons : StateOf → ℕ → Step → Reasons
@@ -23,6 +26,9 @@ step_reasons s seat (steps.Declare start what) = own_reasons s seat start.0 (dec
 step_reasons s seat (steps.Prewrite start x) = own_reasons s seat start.0 (prewrite_reasons x)
 step_reasons s seat (steps.Stamp start) = stamp_reasons s seat start.0
 step_reasons s seat (steps.CommitPrimary start) = own_reasons s seat start.0 commit_reasons
+step_reasons s seat (steps.CommitSecondary start x) = own_reasons s seat start.0 (secondary_reasons x)
+step_reasons s seat (steps.Settle x) = seat_reasons s seat
+step_reasons s seat (steps.Clear x) = seat_reasons s seat
 
 -- why a step is refused, if it is: the reason with the lowest number
 abbrev pub step_reason : StateOf → ℕ → Step → Option Reason
@@ -40,6 +46,14 @@ StepCase old seat (steps.Prewrite s x) answers.Conflict new = Conflicts old seat
 StepCase old seat (steps.Stamp s) (answers.At c) new = Stamps old seat s.0 c.0 new
 StepCase old seat (steps.CommitPrimary s) answers.Committed new = CommitsPrimary old seat s.0 new
 StepCase old seat (steps.CommitPrimary s) answers.Lost new = Loses old seat s.0 new
+StepCase old seat (steps.CommitSecondary s x) answers.Done new = CommitsSecondary old seat s.0 x new
+StepCase old seat (steps.Settle x) answers.Absent new = MeetsNoLock old x new
+StepCase old seat (steps.Settle x) (answers.Locked start primary) new = MeetsSecondary old x start.0 primary new
+StepCase old seat (steps.Settle x) answers.RolledBack new = Settles old x new
+StepCase old seat (steps.Clear x) answers.Absent new = MeetsNoLock old x new
+StepCase old seat (steps.Clear x) answers.Waits new = ClearWaits old x new
+StepCase old seat (steps.Clear x) (answers.CommittedAt c) new = ClearsCommitted old x c.0 new
+StepCase old seat (steps.Clear x) answers.RolledBack new = ClearsBack old x new
 StepCase old seat _ _ new = ⊥
 
 -- one step of the table: a refused step has no case

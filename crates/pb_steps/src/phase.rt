@@ -15,7 +15,7 @@ pub enum Phase {
 
 impl Phase {
     ghost use Rattle.std.specs.Prelude.{◌≡◌};
-    ghost use Rattle.pb_steps.specs.Phases.{is_reading, is_declared, is_stamped};
+    ghost use Rattle.pb_steps.specs.Phases.{is_reading, is_declared, is_stamped, is_committed};
 
     /// Whether it reads, and has declared nothing so far.
     pub fn is_reading(self) -> bool
@@ -36,5 +36,12 @@ impl Phase {
         ensures { result ≡ is_stamped self }
     {
         matches!(self, Phase::Stamped(_))
+    }
+
+    /// Whether it is committed.
+    pub fn is_committed(self) -> bool
+        ensures { result ≡ is_committed self }
+    {
+        matches!(self, Phase::Committed(_))
     }
 }

@@ -104,6 +104,12 @@ pub enum Step {
     Stamp(Ts),
     /// Replaces the primary's lock by a write record: the transaction is committed.
     CommitPrimary(Ts),
+    /// Replaces the lock of a committed transaction on another of its cells by a write record, if it still stands.
+    CommitSecondary(Ts, Cell),
+    /// Takes a lock off its own primary, by anyone: the transaction can't commit any more.
+    Settle(Cell),
+    /// Takes a lock off a cell, by anyone, once its primary has none: it goes the way that the primary went.
+    Clear(Cell),
 }
 
 impl Step {
@@ -121,6 +127,9 @@ impl Step {
             Step::Prewrite(start, cell) => Ok(Step::Prewrite(*start, *cell)),
             Step::Stamp(start) => Ok(Step::Stamp(*start)),
             Step::CommitPrimary(start) => Ok(Step::CommitPrimary(*start)),
+            Step::CommitSecondary(start, cell) => Ok(Step::CommitSecondary(*start, *cell)),
+            Step::Settle(cell) => Ok(Step::Settle(*cell)),
+            Step::Clear(cell) => Ok(Step::Clear(*cell)),
         }
     }
 }
@@ -149,4 +158,10 @@ pub enum Answer {
     Committed,
     /// The primary's lock is gone; the transaction has failed.
     Lost,
+    /// The lock and its data are erased.
+    RolledBack,
+    /// The lock stays, since that of its primary stands.
+    Waits,
+    /// The lock is replaced by the write record of this commit, at which its primary has one.
+    CommittedAt(Ts),
 }

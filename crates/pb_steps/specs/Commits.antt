@@ -1,0 +1,24 @@
+-- A write record comes to a cell in the place of its lock, and lock and data go where a transaction is undone (OSDI 2010,
+-- section 2.2).
+use Rattle.std.specs.Prelude.{ℕ}
+use Rattle.std.specs.FinMap as map
+use Rattle.pb_base.specs.declared.cell.Cell.{Cell}
+use Rattle.pb_store.specs.declared.slot.Item.TheVariants as items
+use Rattle.pb_store.specs.declared.slot.Sort.TheVariants as sorts
+use Rattle.pb_store.specs.Contents.{Entries, slot_at}
+use Rattle.pb_steps.specs.State.{StateOf}
+
+-- the lock of s on x becomes the write record c
+abbrev pub commit_lock : Entries → Cell → ℕ → ℕ → Entries
+commit_lock e x s c = map.insert (map.remove e (slot_at x sorts.Lock s)) (slot_at x sorts.Write c) (items.Write (record { 0 = s }))
+
+-- every write record is put so
+abbrev pub commits : StateOf → Cell → ℕ → ℕ → StateOf
+commits old x s c = record old { entries = commit_lock old.entries x s c }
+
+-- lock and data of s on x go
+abbrev pub erase_lock : Entries → Cell → ℕ → Entries
+erase_lock e x s = map.remove (map.remove e (slot_at x sorts.Lock s)) (slot_at x sorts.Data s)
+
+abbrev pub rolls_back : StateOf → Cell → ℕ → StateOf
+rolls_back old x s = record old { entries = erase_lock old.entries x s }
