@@ -1,8 +1,8 @@
-// Preloaded into a program, refuses one of its requests for memory.
+// Preloaded into a program, refuses one of its requests for memory, or all from one on.
 //
 // REFUSE_AT names the request, counted from 1 at the program's start; requests are calls of malloc, calloc, realloc,
-// aligned_alloc and posix_memalign. REFUSE_FD names an open file descriptor: one byte is written to it when the request
-// is met and refused. All other requests go to the C library.
+// aligned_alloc and posix_memalign. Where REFUSE_REST is 1, those after it are refused too. REFUSE_FD names an open file
+// descriptor: one byte is written to it when a request is met and refused. All other requests go to the C library.
 #include <errno.h>
 #include <stddef.h>
 #include <stdlib.h>
@@ -26,7 +26,11 @@ static int is_refused(void) {
     if (at < 0) {
         at = number_in("REFUSE_AT");
     }
-    if (at == 0 || __atomic_add_fetch(&met, 1, __ATOMIC_RELAXED) != at) {
+    if (at == 0) {
+        return 0;
+    }
+    long now = __atomic_add_fetch(&met, 1, __ATOMIC_RELAXED);
+    if (now < at || (now > at && number_in("REFUSE_REST") == 0)) {
         return 0;
     }
     if (write((int)number_in("REFUSE_FD"), "x", 1) != 1) {

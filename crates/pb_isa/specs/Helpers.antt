@@ -9,7 +9,7 @@ pub data Helper : Type 0 where
   Delete : Helper
   Start : Helper
 
--- the helpers that a program has_helper
+-- the helpers that a program may call
 pub record HelperSet : Type 0 where
   pub read : Bool
   pub write : Bool

@@ -1,5 +1,6 @@
 ghost use Rattle.std.specs.Prelude.{◌≡◌, ◌≤◌, None, false, length};
 
+use self::run_ends::number_of;
 use crate::end_all;
 use pb_alone::run_alone;
 use pb_base::{Column, NoMemory, Row, Sink, SinkFault, Ts};
@@ -16,6 +17,7 @@ use std::rt::HostRuntime;
 use std::sync::Arc;
 
 mod checks;
+mod helped_runs;
 mod programs;
 mod refused_calls;
 mod run_ends;
@@ -273,6 +275,14 @@ fn observers_are_judged(rt: HostRuntime) {
             ("watch", 0, "[]", "b700000000000000"),
             "manifest: observer 0 code 56 slot 0 code 36\n",
         ),
+        (
+            ("watch", 0, "[]", "bf160000000000009500000000000000"),
+            "manifest: observer 0 code 56 slot 1 code 21\n",
+        ),
+        (
+            ("watch", 0, "[]", "85000000040000009500000000000000"),
+            "manifest: observer 0 code 56 slot 0 code 30\n",
+        ),
         (("watch", 0, "[2]", WATCH), "manifest: code 57\n"),
     ];
     for ((name, column, helpers, code), fault) in table {
@@ -342,15 +352,16 @@ fn told<T: Tablet>(shared: &Shared<T>) -> (usize, Ts, Ts, bool) {
     }
 }
 
-// The same, of a run of one change on a table of these tablets with this observer of column 0.
+// The same, of a run of one change on a table of these tablets with this observer of column 0, and the number that it ends
+// with, 0 where nothing is refused.
 fn told_of<T: Tablet>(
     rt: &HostRuntime,
     parts: Vec<(Row, T)>,
     observers: Vec<Observer>,
-) -> (usize, Ts, Ts, bool)
+) -> ((usize, Ts, Ts, bool), u8)
     requires { length observers.items ≤ 32 }
 {
-    let failed = (0, Ts(0), Ts(0), false);
+    let failed = ((0, Ts(0), Ts(0), false), 1);
     match Table::new(parts) {
         Ok(table) => match Shared::open(rt.alloc(), table, observers, 1, Ts(0), 100) {
             Ok((shared, seats)) => {
@@ -360,7 +371,7 @@ fn told_of<T: Tablet>(
                     fails: true,
                     failed: false,
                 };
-                let (shared, _seats, _outcome) = run_alone(
+                let (shared, _seats, outcome) = run_alone(
                     rt.alloc(),
                     "put 7 0 2a\n",
                     shared,
@@ -369,7 +380,7 @@ fn told_of<T: Tablet>(
                 );
                 let told = told(&shared);
                 shared.close();
-                told
+                (told, number_of(outcome))
             }
             Err(
                 OpenRefused {
@@ -404,7 +415,7 @@ fn a_run_has_seven_entries(rt: HostRuntime) -> Result<(), NoMemory> {
     })?;
     let mut parts: Vec<(Row, Boxed)> = Vec::new(rt.alloc());
     parts.push((Row(0), Box::new(rt.alloc(), ListTablet::new(rt.alloc()))?))?;
-    assert!(rt; told_of(&rt, parts, observers) == (12, Ts(3), Ts(4), true));
+    assert!(rt; told_of(&rt, parts, observers) == ((12, Ts(3), Ts(4), true), 0));
     Ok(())
 }
 

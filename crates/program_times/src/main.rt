@@ -1,8 +1,12 @@
 //! Times what is done with programs, for the scripts of bench/: `list SLOTS` decodes and lists a program of so many slots
 //! 10,000 times, and `verify SLOTS` decodes and verifies one 1,000 times. It prints how many bytes the listings, or how
-//! many slots the accepted programs have together.
+//! many slots the accepted programs have together. `run FILE RUNS` runs the program in a file so often, and prints what the
+//! last run left and how many instructions it did, or why the program is refused.
 #![tactic(auto)]
 
+mod running;
+
+use crate::running::{NoRun, last_of};
 use pb_asm::disassemble;
 use pb_base::NoMemory;
 use pb_decode::{decode, encode};
@@ -86,25 +90,50 @@ fn total_verified(alloc: Global, bytes: &[u8]) -> Option<u64> {
     Some(total)
 }
 
-// What the two words behind the program's own ask for.
-fn timed(rt: &HostRuntime) -> Option<u64> {
-    let args = env::args(rt).ok()?;
-    let words: Vec<String> = args.collect(rt.alloc()).ok()?;
-    let slots = words.get(2)?.parse::<u16>().ok()?;
-    let bytes = bytes_of(rt.alloc(), slots).ok()??;
-    match words.get(1)?.as_str() {
+// What `list` or `verify` of so many slots comes to.
+fn total_of(rt: &HostRuntime, word: &str, slots: &str) -> Option<u64> {
+    let bytes = bytes_of(rt.alloc(), slots.parse::<u16>().ok()?).ok()??;
+    match word {
         "list" => total_listed(rt.alloc(), &bytes),
         "verify" => total_verified(rt.alloc(), &bytes),
         _ => None,
     }
 }
 
-fn main(rt: HostRuntime) -> ExitCode {
-    match timed(&rt) {
-        Some(total) => {
-            let _ = println!(rt; "{total}");
-            ExitCode::SUCCESS
+// Prints what the last of so many runs left.
+fn tell_run(rt: &HostRuntime, path: &str, runs: &str) -> Option<bool> {
+    let runs = runs.parse::<u32>().ok()?;
+    match last_of(rt, path, runs) {
+        Ok(ran) => {
+            let end = ran.finished.result();
+            let writes = ran.finished.writes().len();
+            let _ = println!(rt; "result {end} taken {} writes {writes}", ran.taken);
+            Some(true)
         }
-        None => ExitCode::FAILURE,
+        Err(NoRun::Refused(refused)) => {
+            let _ = println!(rt; "refused slot {} code {}", refused.slot, refused.code);
+            Some(false)
+        }
+        Err(NoRun::Failed) => None,
+    }
+}
+
+// Does what the words behind the program's own ask for: whether it went, none where they ask for nothing.
+fn obey(rt: &HostRuntime) -> Option<bool> {
+    let args = env::args(rt).ok()?;
+    let words: Vec<String> = args.collect(rt.alloc()).ok()?;
+    let word = words.get(1)?.as_str();
+    if word == "run" {
+        return tell_run(rt, words.get(2)?.as_str(), words.get(3)?.as_str());
+    }
+    let total = total_of(rt, word, words.get(2)?.as_str())?;
+    let _ = println!(rt; "{total}");
+    Some(true)
+}
+
+fn main(rt: HostRuntime) -> ExitCode {
+    match obey(&rt) {
+        Some(true) => ExitCode::SUCCESS,
+        _ => ExitCode::FAILURE,
     }
 }

@@ -2,15 +2,13 @@
 ghost use Rattle.std.specs.Prelude.{◌≡◌, ◌≤◌, length, IfOk};
 
 use crate::calls::{batch, calls, column, table};
-use pb_base::{Cell, Content, NoMemory, ObserverNo, Row, Ts, Version};
-use pb_core::{
-    Declaration, Declared, Finished, Observer, OpenRefused, Record, Seat, Shared, Step, Vm, Work,
-};
+use crate::machines;
+use pb_base::{Cell, NoMemory, ObserverNo, Row, Ts};
+use pb_core::{Declaration, Declared, Finished, Observer, OpenRefused, Seat, Shared, Step, Work};
 use pb_helpers::HelperTable;
 use pb_memtablet::ListTablet;
 use pb_registry::{Registry, accept};
 use pb_verify::{Accepted, VerifyFault};
-use pb_vm::Phase;
 use std::alloc::Global;
 use std::sync::Arc;
 
@@ -56,32 +54,10 @@ pub fn manifests_are_read(alloc: Global) -> Result<bool, NoMemory> {
     }
 }
 
-// The record of a cell that was deleted at 2.
-fn change(cell: Cell) -> Record {
-    let version = Version {
-        start: Ts(1),
-        commit: Ts(2),
-        content: Content::Deleted,
-    };
-    Record::new(cell, &version, Ts(0))
-}
-
-// The run of a program on that record at 3, to its end.
+// The run of a program to its end.
 fn finished(alloc: Global, program: &Arc<Accepted>) -> Result<Finished, NoMemory> {
     let cell = Cell::Data(Row(7), column()?);
-    let mut vm = match Vm::start(alloc, program, change(cell), Ts(3)) {
-        Ok(vm) => vm,
-        Err(_) => Vm::start(alloc, program, change(cell), Ts(3))?,
-    };
-    for _ in 0..2u32 {
-        if let Phase::Going = vm.phase() {
-            vm.step();
-        }
-    }
-    match vm.phase() {
-        Phase::Over(_) => Ok(vm.finish()),
-        _ => Err(NoMemory),
-    }
+    machines::finished(machines::started(alloc, program, &cell)?)
 }
 
 /// `Vm::start`.

@@ -12,7 +12,7 @@ use std::alloc::Global;
 use std::rt::HostRuntime;
 
 // The number of a fault, and 0 where there is none.
-fn number_of(outcome: Result<(), RunFault>) -> u8 {
+pub fn number_of(outcome: Result<(), RunFault>) -> u8 {
     match outcome {
         Ok(()) => 0,
         Err(RunFault::Manifest(fault)) => fault.code,

@@ -1,0 +1,39 @@
+// Runs the BPF program in a file so often by DPDK's interpreter, on 80 bytes that are those of the record of a deleted
+// cell 7 0 of start 1 and commit 2, and prints what the last run ended with.
+#include <rte_bpf.h>
+#include <stdint.h>
+#include <stdio.h>
+#include <stdlib.h>
+
+#define MOST_SLOTS 512
+#define RECORD_BYTES 80
+
+int main(int argc, char **argv) {
+    static struct ebpf_insn slots[MOST_SLOTS];
+    uint64_t record[RECORD_BYTES / 8] = {7, 0, 1, 2};
+    uint64_t end = 0;
+    if (argc != 3) {
+        return 2;
+    }
+    FILE *file = fopen(argv[1], "rb");
+    if (file == NULL) {
+        return 2;
+    }
+    size_t count = fread(slots, sizeof slots[0], MOST_SLOTS, file);
+    fclose(file);
+    struct rte_bpf_prm how = {
+        .ins = slots,
+        .nb_ins = (uint32_t)count,
+        .prog_arg = {.type = RTE_BPF_ARG_PTR, .size = sizeof record},
+    };
+    struct rte_bpf *program = rte_bpf_load(&how);
+    if (program == NULL) {
+        return 1;
+    }
+    for (long left = atol(argv[2]); left > 0; left--) {
+        end = rte_bpf_exec(program, record);
+    }
+    rte_bpf_destroy(program);
+    printf("result %llu\n", (unsigned long long)end);
+    return 0;
+}
