@@ -19,6 +19,7 @@ use Rattle.pb_steps.specs.Declarations.{IsKnown, IsPlainRun, MayDeclare}
 use Rattle.pb_steps.specs.Phases.{is_reading}
 use Rattle.pb_history.specs.declared.entry.Entry.{Entry}
 use Rattle.pb_history.specs.History.{Has, IsEntry}
+use Rattle.pb_history.proofs.OnlyEntries.{OnlyEntries}
 
 abbrev pub ts : ℕ → Ts
 ts n = record { 0 = n }
@@ -169,13 +170,15 @@ module _ (journal : List Entry) (e : Entry) (old new : StateOf) (a : Agrees jour
   pub agrees_new : got old s ≡ None → (got new s ≡ Some u → Told new e.seat e.step e.answer) → Logged old.observers (journal ++ e ∷ []) s u → Agrees (journal ++ e ∷ []) new
   agrees_new was told = agrees_put (λ w v h. (v, there w (λ q. let now : got old s ≡ Some v = subst (λ k. got old k ≡ Some v) q h in cc) ∙ h, later_same v)) (told here)
 
--- a step that changes nothing
-pub agrees_same : (journal : List Entry) (e : Entry) (old new : StateOf) → Agrees journal old → new ≡ old → Told old e.seat e.step e.answer → Agrees (journal ++ e ∷ []) new
-agrees_same journal e old new a is told = subst (Agrees (journal ++ e ∷ [])) (sym is) (record {
-  early = a.early;
-  told = λ d h. elim (has_more journal e d h) [
-    | inl q ↦ subst (λ (z : Entry). Told old z.seat z.step z.answer) q told
-    | inr q ↦ a.told d q
-  ];
-  logged = λ w v h. logged_front old.observers journal e w v (a.logged w v h);
-})
+-- a step that changes entries alone
+pub agrees_same : (journal : List Entry) (e : Entry) (old new : StateOf) → Agrees journal old → OnlyEntries old new → Told new e.seat e.step e.answer → Agrees (journal ++ e ∷ []) new
+agrees_same journal e old new a kept told =
+    let grows : Grows old new = λ s t h. (t, ap (λ m. map.get m s) kept.transactions ∙ h, later_same t) in
+    record {
+      early = λ s t h. let b = a.early s t (sym (ap (λ m. map.get m s) kept.transactions) ∙ h) in let c = kept.clock in omega (arith, b, c);
+      told = λ d h. elim (has_more journal e d h) [
+        | inl q ↦ subst (λ (z : Entry). Told new z.seat z.step z.answer) q told
+        | inr q ↦ told_on old new kept.observers grows d.seat d.step d.answer (a.told d q)
+      ];
+      logged = λ w v h. subst (λ o. Logged o (journal ++ e ∷ []) w v) (sym kept.observers) (logged_front old.observers journal e w v (a.logged w v (sym (ap (λ m. map.get m w) kept.transactions) ∙ h)));
+    }

@@ -1,3 +1,4 @@
+pub mod OnlyEntries
 pub mod Agreement
 pub mod StepsAgree
 pub mod HistoryTold

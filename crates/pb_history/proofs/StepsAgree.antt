@@ -9,10 +9,10 @@ use Rattle.pb_steps.specs.declared.step.Work.TheVariants as works
 use Rattle.pb_steps.specs.declared.step.Declared.{Declared}
 use Rattle.pb_steps.specs.declared.step.Declared.TheVariants as declared
 use Rattle.pb_steps.specs.declared.step.Step.{Step}
-use Rattle.pb_steps.specs.declared.step.Step.TheVariants.{Begin, Read, Declare, Prewrite, Stamp, CommitPrimary}
+use Rattle.pb_steps.specs.declared.step.Step.TheVariants.{Begin, Read, Declare, Prewrite, Stamp, CommitPrimary, CommitSecondary, Settle, Clear}
 use Rattle.pb_steps.specs.declared.seen.RecordedRead.{RecordedRead}
 use Rattle.pb_steps.specs.declared.step.Answer.{Answer}
-use Rattle.pb_steps.specs.declared.step.Answer.TheVariants.{At, Locked, Found, Absent, Done, Conflict, Committed, Lost}
+use Rattle.pb_steps.specs.declared.step.Answer.TheVariants.{At, Locked, Found, Absent, Done, Conflict, Committed, Lost, RolledBack, Waits, CommittedAt}
 use Rattle.pb_steps.specs.declared.phase.Phase.{Phase}
 use Rattle.pb_steps.specs.declared.phase.Phase.TheVariants as phases
 use Rattle.pb_steps.specs.State.{StateOf, TransactionOf, opening, new_transaction, cells_of}
@@ -28,9 +28,12 @@ use Rattle.pb_steps.specs.Declare.{Declares}
 use Rattle.pb_steps.specs.Prewrite.{Prewrites, Conflicts}
 use Rattle.pb_steps.specs.Stamp.{Stamps}
 use Rattle.pb_steps.specs.CommitPrimary.{CommitsPrimary, Loses}
+use Rattle.pb_steps.specs.Commits.{commits, rolls_back}
+use Rattle.pb_store.specs.Contents.{Entries}
 use Rattle.pb_history.specs.declared.entry.Entry.{Entry}
 use Rattle.pb_history.specs.Journals.{JournalLeads, IsLegal}
 use Rattle.pb_history.specs.History.{Has, IsEntry}
+use Rattle.pb_history.proofs.OnlyEntries.{OnlyEntries, only_entries, secondary_keeps}
 use Rattle.pb_history.proofs.Agreement.{ts, got, has_front, has_last, has_more, PastStamp, Told, Agrees, agrees_change, agrees_new, agrees_same}
 
 abbrev entry : ℕ → Step → Answer → Entry
@@ -200,8 +203,8 @@ module _ (journal : List Entry) (seat : ℕ) (old new : StateOf) (a : Agrees jou
         committed = λ d q. cc;
       })
 
-  commits : (s : Ts) → CommitsPrimary old seat s.0 new → Agrees (journal ++ entry seat (CommitPrimary s) Committed ∷ []) new
-  commits s m =
+  commits_primary : (s : Ts) → CommitsPrimary old seat s.0 new → Agrees (journal ++ entry seat (CommitPrimary s) Committed ∷ []) new
+  commits_primary s m =
       let e = entry seat (CommitPrimary s) Committed in
       let was = m.own.there in
       let mine = m.own.mine in
@@ -249,17 +252,34 @@ module _ (journal : List Entry) (seat : ℕ) (old new : StateOf) (a : Agrees jou
         committed = λ d q. cc;
       })
 
+  nothing_changes : OnlyEntries old old
+  nothing_changes = record { transactions = refl; clock = refl; observers = refl }
+
+  entries_change : {e : Entries} → OnlyEntries old (record old { entries = e })
+  entries_change = record { transactions = refl; clock = refl; observers = refl }
+
+  changes_entries : (step : Step) (answer : Answer) (to : StateOf) → new ≡ to → OnlyEntries old to → Told new seat step answer → Agrees (journal ++ entry seat step answer ∷ []) new
+  changes_entries step answer to is kept told = agrees_same journal (entry seat step answer) old new a (only_entries old new to is kept) told
+
   case_agrees : (step : Step) (answer : Answer) → StepCase old seat step answer new → Agrees (journal ++ entry seat step answer ∷ []) new
   case_agrees (Begin work) (At s) m = begins work s.0 m
-  case_agrees (Read s x) (Locked start primary) m = agrees_same journal (entry seat (Read s x) (Locked start primary)) old new a m.new_is tt
+  case_agrees (Read s x) (Locked start primary) m = changes_entries (Read s x) (Locked start primary) old m.new_is nothing_changes tt
   case_agrees (Read s x) (Found start commit content) m = records s x (Found start commit content) m.t m.own m.reading m.new_is tt
   case_agrees (Read s x) Absent m = records s x Absent m.t m.own m.reading m.new_is tt
   case_agrees (Declare s what) Done m = declared_now s what m
   case_agrees (Prewrite s x) Done m = prewrites s x m
   case_agrees (Prewrite s x) Conflict m = conflicts s x m
   case_agrees (Stamp s) (At c) m = stamps s c.0 m
-  case_agrees (CommitPrimary s) Committed m = commits s m
+  case_agrees (CommitPrimary s) Committed m = commits_primary s m
   case_agrees (CommitPrimary s) Lost m = loses s m
+  case_agrees (CommitSecondary s x) Done m = agrees_same journal (entry seat (CommitSecondary s x) Done) old new a (secondary_keeps old seat s.0 x new m) tt
+  case_agrees (Settle x) Absent m = changes_entries (Settle x) Absent old m.new_is nothing_changes tt
+  case_agrees (Settle x) (Locked start primary) m = changes_entries (Settle x) (Locked start primary) old m.new_is nothing_changes tt
+  case_agrees (Settle x) RolledBack m = changes_entries (Settle x) RolledBack (rolls_back old x m.start) m.new_is entries_change tt
+  case_agrees (Clear x) Absent m = changes_entries (Clear x) Absent old m.new_is nothing_changes tt
+  case_agrees (Clear x) Waits m = changes_entries (Clear x) Waits old m.new_is nothing_changes tt
+  case_agrees (Clear x) (CommittedAt c) m = changes_entries (Clear x) (CommittedAt c) (commits old x m.start c.0) m.new_is entries_change tt
+  case_agrees (Clear x) RolledBack m = changes_entries (Clear x) RolledBack (rolls_back old x m.start) m.new_is entries_change tt
   case_agrees _ _ m = absurd m
 
 append_one : (xs : List Entry) (y : Entry) (zs : List Entry) → (xs ++ y ∷ []) ++ zs ≡ xs ++ y ∷ zs
