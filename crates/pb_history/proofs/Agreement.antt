@@ -1,6 +1,5 @@
 -- A legal journal and the state that it leads to tell each other.
-use Rattle.std.proofs.Common.{◌≡◌, ◌≢◌, ℕ, ◌≤◌, ◌⊎◌, inl, inr, Bool, true, false, cond, List, [], ◌∷◌, ◌++◌, Option, Some, None, refl, sym, ap, subst, ◌∙◌, arith}
-use Rattle.std.specs.Ordering.{nat_cmp, eq_by_cmp}
+use Rattle.std.proofs.Common.{◌≡◌, ◌≢◌, ℕ, ◌≤◌, ◌⊎◌, inl, inr, false, cond, List, [], ◌∷◌, ◌++◌, Option, Some, None, refl, sym, ap, subst, ◌∙◌, arith}
 use Rattle.std.specs.Cmp.{unsigned_tied, nat_cmp_total}
 use Rattle.std.specs.FinMap as map
 use Rattle.std.proofs.lemmas.Bool.{eqb-true, eq-eqb}
@@ -20,29 +19,13 @@ use Rattle.pb_steps.specs.Phases.{is_reading}
 use Rattle.pb_history.specs.declared.entry.Entry.{Entry}
 use Rattle.pb_history.specs.History.{Has, IsEntry}
 use Rattle.pb_history.proofs.OnlyEntries.{OnlyEntries}
+use Rattle.pb_history.proofs.Updates.{same_number, not_true, has_front, has_more}
 
 abbrev pub ts : ℕ → Ts
 ts n = record { 0 = n }
 
 abbrev pub got : StateOf → ℕ → Option TransactionOf
 got state s = map.get state.transactions s
-
--- ---- lists with an item more
-
-pub has_front : {A : Type 0} (xs : List A) (y z : A) → Has xs z → Has (xs ++ y ∷ []) z
-has_front [] y z h = absurd h
-has_front (x ∷ xs) y z (inl e) = inl e
-has_front (x ∷ xs) y z (inr h) = inr (has_front xs y z h)
-
-pub has_last : {A : Type 0} (xs : List A) (y : A) → Has (xs ++ y ∷ []) y
-has_last [] y = inl refl
-has_last (x ∷ xs) y = inr (has_last xs y)
-
-pub has_more : {A : Type 0} (xs : List A) (y z : A) → Has (xs ++ y ∷ []) z → (y ≡ z) ⊎ Has xs z
-has_more [] y z (inl e) = inl e
-has_more [] y z (inr h) = absurd h
-has_more (x ∷ xs) y z (inl e) = inr (inl e)
-has_more (x ∷ xs) y z (inr h) = elim (has_more xs y z h) [ inl e ↦ inl e | inr g ↦ inr (inr g) ]
 
 -- ---- what entries tell of transactions, and transactions of entries
 
@@ -103,19 +86,8 @@ logged_front observers journal e s t l = record {
 
 -- ---- one transaction more, or changed
 
-same_number : (a b : ℕ) → (a ≡ b) ⊎ (a ≢ b)
-same_number a b =
-    elim (eq_by_cmp nat_cmp a b) as (λ t. eq_by_cmp nat_cmp a b ≡ t → (a ≡ b) ⊎ (a ≢ b)) [
-      | true ↦ λ e. inl (eqb-true a b (sym (unsigned_tied a b) ∙ e))
-      | false ↦ λ e. inr (λ p. let q : eq_by_cmp nat_cmp a b ≡ true = unsigned_tied a b ∙ eq-eqb a b p in cc)
-    ] refl
-
 got_here : (m : Transactions) (s : ℕ) (u : TransactionOf) → map.get (map.insert m s u) s ≡ Some u
 got_here m s u = map.get-insert nat_cmp_total m s u s ∙ ap (λ b. cond b (Some u) (map.get m s)) (unsigned_tied s s ∙ eq-eqb s s refl)
-
-not_true : (b : Bool) → (b ≡ true → ⊥) → b ≡ false
-not_true true h = absurd (h refl)
-not_true false h = refl
 
 got_there : (m : Transactions) (s : ℕ) (u : TransactionOf) (w : ℕ) → w ≢ s → map.get (map.insert m s u) w ≡ map.get m w
 got_there m s u w n =

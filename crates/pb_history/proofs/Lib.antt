@@ -1,3 +1,5 @@
+pub mod Updates
+pub mod PhaseTests
 pub mod OnlyEntries
 pub mod Agreement
 pub mod StepsAgree
@@ -5,3 +7,9 @@ pub mod HistoryTold
 pub mod RunsTold
 pub mod TimestampsRise
 pub mod RunsCounted
+pub mod PhasesKeepSound
+pub mod LocksKeepSound
+pub mod ViewsAfter
+pub mod StepsKeepSound
+pub mod OpeningSound
+pub mod SoundHasData

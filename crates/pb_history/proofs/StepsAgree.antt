@@ -1,5 +1,5 @@
 -- Each step keeps journal and state in agreement.
-use Rattle.std.proofs.Common.{◌≡◌, ℕ, ◌⊎◌, inl, inr, true, false, List, [], ◌∷◌, ◌++◌, Option, Some, None, refl, sym, ap, subst, ◌∙◌, arith}
+use Rattle.std.proofs.Common.{◌≡◌, ℕ, ◌⊎◌, inl, inr, true, false, List, [], ◌∷◌, ◌++◌, Some, None, refl, sym, ap, subst, ◌∙◌, arith}
 use Rattle.std.specs.FinMap as map
 use Rattle.std.specs.Ordering.{nat_cmp}
 use Rattle.pb_base.specs.declared.cell.Cell.{Cell}
@@ -34,7 +34,9 @@ use Rattle.pb_history.specs.declared.entry.Entry.{Entry}
 use Rattle.pb_history.specs.Journals.{JournalLeads, IsLegal}
 use Rattle.pb_history.specs.History.{Has, IsEntry}
 use Rattle.pb_history.proofs.OnlyEntries.{OnlyEntries, only_entries, secondary_keeps}
-use Rattle.pb_history.proofs.Agreement.{ts, got, has_front, has_last, has_more, PastStamp, Told, Agrees, agrees_change, agrees_new, agrees_same}
+use Rattle.pb_history.proofs.Updates.{none_if, has_front, has_last, has_more}
+use Rattle.pb_history.proofs.PhaseTests.{reading_is}
+use Rattle.pb_history.proofs.Agreement.{ts, got, PastStamp, Told, Agrees, agrees_change, agrees_new, agrees_same}
 
 abbrev entry : ℕ → Step → Answer → Entry
 entry seat step answer = record { seat = seat; step = step; answer = answer }
@@ -59,19 +61,8 @@ past_declared (phases.Stamped d) e = cc
 past_declared (phases.Committed d) e = cc
 past_declared phases.Failed e = cc
 
-reading_is : (h : Phase) → is_reading h ≡ true → h ≡ phases.Reading
-reading_is phases.Reading e = refl
-reading_is phases.Declared e = cc
-reading_is (phases.Stamped d) e = cc
-reading_is (phases.Committed d) e = cc
-reading_is phases.Failed e = cc
-
 no_commit_declared : (h : Phase) → is_declared h ≡ true → (c : ℕ) → h ≡ phases.Committed (ts c) → ⊥
 no_commit_declared h e c q = no_stamp_declared h e c (inr (inl q))
-
-none_if : {A : Type 0} (o : Option A) → ((w : A) → o ≡ Some w → ⊥) → o ≡ None
-none_if None h = refl
-none_if (Some w) h = absurd (h w refl)
 
 module _ (journal : List Entry) (seat : ℕ) (old new : StateOf) (a : Agrees journal old) where
   begins : (work : Work) (s : ℕ) → Begins old seat work s new → Agrees (journal ++ entry seat (Begin work) (At (ts s)) ∷ []) new

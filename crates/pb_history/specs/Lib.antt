@@ -1,6 +1,8 @@
 pub mod Places
 pub mod Journals
 pub mod History
+pub mod TableView
+pub mod Sound
 pub mod ReadsTold
 pub mod RunsTold
 pub mod Timestamps
