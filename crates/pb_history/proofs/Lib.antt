@@ -13,3 +13,5 @@ pub mod ViewsAfter
 pub mod StepsKeepSound
 pub mod OpeningSound
 pub mod SoundHasData
+pub mod JournalParts
+pub mod JournalsAreSound

@@ -12,6 +12,7 @@ use Rattle.pb_history.specs.Sound.{IsSound, KeepsData}
 use Rattle.pb_history.specs.ReadsTold.{TellsReads}
 use Rattle.pb_history.specs.RunsTold.{TellsRuns}
 use Rattle.pb_history.specs.Timestamps.{TellsTimestamps}
+use Rattle.pb_history.specs.SoundJournals.{TellsSoundness}
 use Rattle.pb_history.specs.RunCounts.{TellsRunCounts}
 
 abbrev pub StepsKeepSound : Type 0
@@ -37,3 +38,6 @@ TimestampsRise = (observers : List ObserverOf) (seats clock : ℕ) (journal : Li
 
 abbrev pub RunsAreCounted : Type 0
 RunsAreCounted = (observers : List ObserverOf) (seats clock : ℕ) (journal : List Entry) (state : StateOf) → IsLegal observers seats clock journal state → TellsRunCounts journal state
+
+abbrev pub JournalsAreSound : Type 0
+JournalsAreSound = (observers : List ObserverOf) (seats clock : ℕ) (journal : List Entry) (state : StateOf) → IsLegal observers seats clock journal state → TellsSoundness observers seats clock journal state

@@ -7,4 +7,5 @@ pub mod ReadsTold
 pub mod RunsTold
 pub mod Timestamps
 pub mod RunCounts
+pub mod SoundJournals
 pub mod Laws

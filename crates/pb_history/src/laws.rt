@@ -1,5 +1,6 @@
 //! What every step keeps, and what every legal journal tells.
 ghost use Rattle.pb_history.specs.Laws.{StepsKeepSound, OpeningIsSound, SoundHasData};
+ghost use Rattle.pb_history.specs.Laws.{JournalsAreSound};
 ghost use Rattle.pb_history.specs.Laws.{HistoriesAreTold, ReadsAreTold, RunsAreCounted, RunsAreTold, TimestampsRise};
 
 /// The table is sound as it is opened, and every step keeps it so.
@@ -39,4 +40,9 @@ pub fn timestamps_rise()
 /// committed.
 pub fn runs_are_counted()
     ensures { RunsAreCounted }
+{}
+
+/// A legal journal leads to a sound table, and so does every beginning of it.
+pub fn journals_are_sound()
+    ensures { JournalsAreSound }
 {}
