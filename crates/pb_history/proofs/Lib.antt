@@ -15,3 +15,4 @@ pub mod OpeningSound
 pub mod SoundHasData
 pub mod JournalParts
 pub mod JournalsAreSound
+pub mod CommitsAreOrdered

@@ -44,7 +44,7 @@ module _ (old : StateOf) (seat : ℕ) (new : StateOf) (high : ℕ) (ts : List �
   case_rises (Clear x) RolledBack m = same (ap (λ (z : StateOf). z.clock) m.new_is)
   case_rises _ _ m = absurd m
 
-run_rises : (old : StateOf) (es : List Entry) (new : StateOf) → JournalLeads old es new → AreRising old.clock new.clock (timestamps es)
+pub run_rises : (old : StateOf) (es : List Entry) (new : StateOf) → JournalLeads old es new → AreRising old.clock new.clock (timestamps es)
 run_rises old [] new r = let clock : new.clock ≡ old.clock = ap (λ (z : StateOf). z.clock) r in omega (arith, clock)
 run_rises old (e ∷ es) new r = case_rises old e.seat r.0 new.clock (timestamps es) (run_rises r.0 es new r.2) e.step e.answer r.1.taken
 

@@ -123,6 +123,11 @@ has_front [] y z h = absurd h
 has_front (x ∷ xs) y z (inl e) = inl e
 has_front (x ∷ xs) y z (inr h) = inr (has_front xs y z h)
 
+pub has_before : {A : Type 0} (xs ys : List A) (z : A) → Has xs z → Has (xs ++ ys) z
+has_before [] ys z h = absurd h
+has_before (x ∷ xs) ys z (inl e) = inl e
+has_before (x ∷ xs) ys z (inr h) = inr (has_before xs ys z h)
+
 pub has_last : {A : Type 0} (xs : List A) (y : A) → Has (xs ++ y ∷ []) y
 has_last [] y = inl refl
 has_last (x ∷ xs) y = inr (has_last xs y)

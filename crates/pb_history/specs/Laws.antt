@@ -13,6 +13,7 @@ use Rattle.pb_history.specs.ReadsTold.{TellsReads}
 use Rattle.pb_history.specs.RunsTold.{TellsRuns}
 use Rattle.pb_history.specs.Timestamps.{TellsTimestamps}
 use Rattle.pb_history.specs.SoundJournals.{TellsSoundness}
+use Rattle.pb_history.specs.CommitOrder.{TellsCommitOrder}
 use Rattle.pb_history.specs.RunCounts.{TellsRunCounts}
 
 abbrev pub StepsKeepSound : Type 0
@@ -41,3 +42,6 @@ RunsAreCounted = (observers : List ObserverOf) (seats clock : ℕ) (journal : Li
 
 abbrev pub JournalsAreSound : Type 0
 JournalsAreSound = (observers : List ObserverOf) (seats clock : ℕ) (journal : List Entry) (state : StateOf) → IsLegal observers seats clock journal state → TellsSoundness observers seats clock journal state
+
+abbrev pub CommitsAreOrdered : Type 0
+CommitsAreOrdered = (observers : List ObserverOf) (seats clock : ℕ) (journal : List Entry) (state : StateOf) → IsLegal observers seats clock journal state → TellsCommitOrder journal state

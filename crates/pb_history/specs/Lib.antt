@@ -8,4 +8,5 @@ pub mod RunsTold
 pub mod Timestamps
 pub mod RunCounts
 pub mod SoundJournals
+pub mod CommitOrder
 pub mod Laws

@@ -1,6 +1,7 @@
 //! What every step keeps, and what every legal journal tells.
 ghost use Rattle.pb_history.specs.Laws.{StepsKeepSound, OpeningIsSound, SoundHasData};
 ghost use Rattle.pb_history.specs.Laws.{JournalsAreSound};
+ghost use Rattle.pb_history.specs.Laws.{CommitsAreOrdered};
 ghost use Rattle.pb_history.specs.Laws.{HistoriesAreTold, ReadsAreTold, RunsAreCounted, RunsAreTold, TimestampsRise};
 
 /// The table is sound as it is opened, and every step keeps it so.
@@ -45,4 +46,9 @@ pub fn runs_are_counted()
 /// A legal journal leads to a sound table, and so does every beginning of it.
 pub fn journals_are_sound()
     ensures { JournalsAreSound }
+{}
+
+/// A transaction of a legal journal is committed above its start, and what begins after the answer has it in its snapshot.
+pub fn commits_are_ordered()
+    ensures { CommitsAreOrdered }
 {}
