@@ -3,12 +3,13 @@ use Rattle.std.proofs.Common.{◌≡◌, ◌≢◌, ℕ, ◌≤◌, ◌⊎◌, i
 use Rattle.std.specs.Cmp.{unsigned_tied, nat_cmp_total}
 use Rattle.std.specs.FinMap as map
 use Rattle.std.proofs.lemmas.Bool.{eqb-true, eq-eqb}
+use Rattle.pb_base.specs.declared.cell.Cell.{Cell}
 use Rattle.pb_base.specs.declared.names.Ts.{Ts}
 use Rattle.pb_steps.specs.declared.step.Declared.{Declared}
 use Rattle.pb_steps.specs.declared.step.Step.{Step}
 use Rattle.pb_steps.specs.declared.step.Step.TheVariants.{Begin, Read, Declare, Stamp, CommitPrimary}
 use Rattle.pb_steps.specs.declared.step.Answer.{Answer}
-use Rattle.pb_steps.specs.declared.step.Answer.TheVariants.{At, Done, Committed}
+use Rattle.pb_steps.specs.declared.step.Answer.TheVariants.{At, Found, Absent, Done, Committed}
 use Rattle.pb_steps.specs.declared.phase.Phase.{Phase}
 use Rattle.pb_steps.specs.declared.phase.Phase.TheVariants as phases
 use Rattle.pb_steps.specs.declared.seen.RecordedRead.{RecordedRead}
@@ -24,6 +25,10 @@ use Rattle.pb_history.proofs.Updates.{same_number, not_true, has_front, has_more
 abbrev pub ts : ℕ → Ts
 ts n = record { 0 = n }
 
+-- a read as it is recorded
+abbrev pub read_of : ℕ → Cell → Answer → RecordedRead
+read_of s x answer = record { cell = x; at = record { 0 = s }; answer = answer }
+
 abbrev pub got : StateOf → ℕ → Option TransactionOf
 got state s = map.get state.transactions s
 
@@ -36,6 +41,8 @@ PastStamp h c = (h ≡ phases.Stamped (ts c)) ⊎ ((h ≡ phases.Committed (ts c
 -- what an answered step says of its transaction from then on
 abbrev pub Told : StateOf → ℕ → Step → Answer → Type 0
 Told state seat (Begin work) (At s) = (t : TransactionOf) × (got state s.0 ≡ Some t) × (t.seat ≡ seat) × (t.work ≡ work)
+Told state seat (Read s x) (Found start commit content) = (t : TransactionOf) × (got state s.0 ≡ Some t) × Has t.reads (read_of s.0 x (Found start commit content))
+Told state seat (Read s x) Absent = (t : TransactionOf) × (got state s.0 ≡ Some t) × Has t.reads (read_of s.0 x Absent)
 Told state seat (Declare s what) Done = (t : TransactionOf) × (got state s.0 ≡ Some t) × (is_reading t.phase ≡ false) × (t.declared ≡ cells_of state.observers t.work s.0 what) × IsKnown what × IsPlainRun what
 Told state seat (Stamp s) (At c) = (t : TransactionOf) × (got state s.0 ≡ Some t) × PastStamp t.phase c.0
 Told state seat (CommitPrimary s) Committed = (t : TransactionOf) × (got state s.0 ≡ Some t) × (c : ℕ) × (t.phase ≡ phases.Committed (ts c))
@@ -59,17 +66,20 @@ pub record Later (t u : TransactionOf) : Type 0 where
   pub seat : u.seat ≡ t.seat
   pub work : u.work ≡ t.work
   pub past : is_reading t.phase ≡ false → (is_reading u.phase ≡ false) × (u.declared ≡ t.declared)
+  pub reads : (r : RecordedRead) → Has t.reads r → Has u.reads r
   pub stamped : (c : ℕ) → PastStamp t.phase c → PastStamp u.phase c
   pub committed : (c : ℕ) → t.phase ≡ phases.Committed (ts c) → u.phase ≡ phases.Committed (ts c)
 
 later_same : (t : TransactionOf) → Later t t
-later_same t = record { seat = refl; work = refl; past = λ h. (h, refl); stamped = λ c h. h; committed = λ c h. h }
+later_same t = record { seat = refl; work = refl; past = λ h. (h, refl); reads = λ r h. h; stamped = λ c h. h; committed = λ c h. h }
 
 abbrev Grows : StateOf → StateOf → Type 0
 Grows old new = (s : ℕ) (t : TransactionOf) → got old s ≡ Some t → (u : TransactionOf) × (got new s ≡ Some u) × Later t u
 
 told_on : (old new : StateOf) → new.observers ≡ old.observers → Grows old new → (seat : ℕ) (step : Step) (answer : Answer) → Told old seat step answer → Told new seat step answer
 told_on old new obs g seat (Begin work) (At s) t = let u = g s.0 t.0 t.1 in (u.0, u.1, u.2.seat ∙ t.2, u.2.work ∙ t.3)
+told_on old new obs g seat (Read s x) (Found start commit content) t = let u = g s.0 t.0 t.1 in (u.0, u.1, u.2.reads _ t.2)
+told_on old new obs g seat (Read s x) Absent t = let u = g s.0 t.0 t.1 in (u.0, u.1, u.2.reads _ t.2)
 told_on old new obs g seat (Declare s what) Done t = let u = g s.0 t.0 t.1 in let p = u.2.past t.2 in (u.0, u.1, p.0, p.1 ∙ t.3 ∙ sym (λ i. cells_of (obs i) (u.2.work i) s.0 what), t.4, t.5)
 told_on old new obs g seat (Stamp s) (At c) t = let u = g s.0 t.0 t.1 in (u.0, u.1, u.2.stamped c.0 t.2)
 told_on old new obs g seat (CommitPrimary s) Committed t = let u = g s.0 t.0 t.1 in (u.0, u.1, t.2, u.2.committed t.2 t.3)

@@ -10,6 +10,7 @@ use Rattle.pb_steps.specs.declared.step.Answer.{Answer}
 use Rattle.pb_history.specs.History.{Has}
 use Rattle.pb_history.specs.TableView.{TableView}
 use Rattle.pb_history.specs.Sound.{HasStamp, LacksPrimary, ReadTells, IsSoundView}
+use Rattle.pb_history.proofs.Agreement.{read_of}
 use Rattle.pb_history.proofs.Updates.{set1, changed, set1_there, none_if, has_more}
 
 abbrev pub stamped_at : ℕ → Phase
@@ -82,9 +83,6 @@ module _ (v : TableView) (i : IsSoundView v) (s : ℕ) (h : Phase) (plain : IsPl
     tells = i.tells;
     settled = λ u r w c k' e f l g. elim (i.settled u r w c k' e (stamp_back w c f) l g) [ inl a ↦ inl a | inr b ↦ inr (λ z. b.0 (complete_back w c z), b.1) ];
   }
-
-abbrev pub read_of : ℕ → Cell → Answer → RecordedRead
-read_of s x answer = record { cell = x; at = record { 0 = s }; answer = answer }
 
 abbrev pub has_read : TableView → ℕ → RecordedRead → TableView
 has_read v s r = record v { reads = set1 v.reads s (v.reads s ++ r ∷ []) }

@@ -36,7 +36,7 @@ use Rattle.pb_history.specs.History.{Has, IsEntry}
 use Rattle.pb_history.proofs.OnlyEntries.{OnlyEntries, only_entries, secondary_keeps}
 use Rattle.pb_history.proofs.Updates.{none_if, has_front, has_last, has_more}
 use Rattle.pb_history.proofs.PhaseTests.{reading_is}
-use Rattle.pb_history.proofs.Agreement.{ts, got, PastStamp, Told, Agrees, agrees_change, agrees_new, agrees_same}
+use Rattle.pb_history.proofs.Agreement.{ts, read_of, got, PastStamp, Told, Agrees, agrees_change, agrees_new, agrees_same}
 
 abbrev entry : ℕ → Step → Answer → Entry
 entry seat step answer = record { seat = seat; step = step; answer = answer }
@@ -83,7 +83,7 @@ module _ (journal : List Entry) (seat : ℕ) (old new : StateOf) (a : Agrees jou
 
   -- a read is recorded
   records : (s : Ts) (x : Cell) (b : Answer) (t : TransactionOf) → IsOwn old seat s.0 t → is_reading t.phase ≡ true → new ≡ record old { transactions = map.insert old.transactions s.0 (with_read t s.0 x b) }
-      → Told new seat (Read s x) b → Agrees (journal ++ entry seat (Read s x) b ∷ []) new
+      → (got new s.0 ≡ Some (with_read t s.0 x b) → Told new seat (Read s x) b) → Agrees (journal ++ entry seat (Read s x) b ∷ []) new
   records s x b t own reading new-is told =
       let e = entry seat (Read s x) b in
       let was = own.there in
@@ -92,8 +92,8 @@ module _ (journal : List Entry) (seat : ℕ) (old new : StateOf) (a : Agrees jou
       let clock : new.clock ≡ old.clock = ap (λ (z : StateOf). z.clock) new-is in
       let low = a.early s.0 t was in
       agrees_change journal e old new a s.0 (with_read t s.0 x b) (ap (λ (z : StateOf). z.transactions) new-is) (omega (arith, clock)) (omega (arith, clock, low)) (ap (λ (z : StateOf). z.observers) new-is) t was
-      (record { seat = refl; work = refl; past = λ h. cc; stamped = λ c p. absurd (elim p [ inl q ↦ cc | inr z ↦ elim z [ inl q ↦ cc | inr q ↦ cc ] ]); committed = λ c q. cc })
-      (λ h. told)
+      (record { seat = refl; work = refl; past = λ h. cc; reads = λ q h. has_front t.reads (read_of s.0 x b) q h; stamped = λ c p. absurd (elim p [ inl q ↦ cc | inr z ↦ elim z [ inl q ↦ cc | inr q ↦ cc ] ]); committed = λ c q. cc })
+      told
       (record {
         begun = has_front journal e _ l.begun;
         reads = λ q h. elim (has_more t.reads (record { cell = x; at = ts s.0; answer = b }) q h) [
@@ -116,7 +116,7 @@ module _ (journal : List Entry) (seat : ℕ) (old new : StateOf) (a : Agrees jou
       let clock : new.clock ≡ old.clock = ap (λ (z : StateOf). z.clock) m.new_is in
       let low = a.early s.0 m.t was in
       agrees_change journal e old new a s.0 u (ap (λ (z : StateOf). z.transactions) m.new_is) (omega (arith, clock)) (omega (arith, clock, low)) obs m.t was
-      (record { seat = refl; work = refl; past = λ h. cc; stamped = λ c p. let r = reading_is m.t.phase reading in absurd (elim p [ inl q ↦ cc | inr z ↦ elim z [ inl q ↦ cc | inr q ↦ cc ] ]); committed = λ c q. let r = reading_is m.t.phase reading in cc })
+      (record { seat = refl; work = refl; past = λ h. cc; reads = λ r h. h; stamped = λ c p. let r = reading_is m.t.phase reading in absurd (elim p [ inl q ↦ cc | inr z ↦ elim z [ inl q ↦ cc | inr q ↦ cc ] ]); committed = λ c q. let r = reading_is m.t.phase reading in cc })
       (λ h. (u, h, refl, sym (ap (λ o. cells_of o m.t.work s.0 what) obs), m.known, plain_of old.observers m.t.work s.0 m.t.reads what m.its))
       (record {
         begun = has_front journal e _ (a.logged s.0 m.t was).begun;
@@ -139,6 +139,7 @@ module _ (journal : List Entry) (seat : ℕ) (old new : StateOf) (a : Agrees jou
         seat = same-seat;
         work = same-work;
         past = λ h. (elim how [ inl q ↦ ap is_reading q ∙ past | inr q ↦ ap is_reading q ], same-writes);
+        reads = λ r h. subst (λ rs. Has rs r) (sym same-reads) h;
         stamped = λ c p. absurd (no_stamp_declared t.phase phase c p);
         committed = λ c q. absurd (no_commit_declared t.phase phase c q);
       })
@@ -184,7 +185,7 @@ module _ (journal : List Entry) (seat : ℕ) (old new : StateOf) (a : Agrees jou
       let low = a.early s.0 m.t was in
       let logged : IsEntry (journal ++ e ∷ []) m.t.seat (Stamp s) (At (ts c)) = subst (λ n. IsEntry (journal ++ e ∷ []) n (Stamp s) (At (ts c))) (sym mine) (has_last journal e) in
       agrees_change journal e old new a s.0 u (ap (λ (z : StateOf). z.transactions) m.new_is) (omega (arith, clock, fresh)) (omega (arith, clock, fresh, low)) (ap (λ (z : StateOf). z.observers) m.new_is) m.t was
-      (record { seat = refl; work = refl; past = λ h. (refl, refl); stamped = λ d p. absurd (no_stamp_declared m.t.phase phase d p); committed = λ d q. absurd (no_commit_declared m.t.phase phase d q) })
+      (record { seat = refl; work = refl; past = λ h. (refl, refl); reads = λ r h. h; stamped = λ d p. absurd (no_stamp_declared m.t.phase phase d p); committed = λ d q. absurd (no_commit_declared m.t.phase phase d q) })
       (λ h. (u, h, inl refl))
       (record {
         begun = has_front journal e _ l.begun;
@@ -210,6 +211,7 @@ module _ (journal : List Entry) (seat : ℕ) (old new : StateOf) (a : Agrees jou
         seat = refl;
         work = refl;
         past = λ h. (refl, refl);
+        reads = λ r h. h;
         stamped = λ d p. inr (inl (elim p [ inl q ↦ (let k : ts m.c ≡ ts d = cc in ap phases.Committed k) | inr r ↦ elim r [ inl q ↦ cc | inr q ↦ cc ] ]));
         committed = λ d q. cc;
       })
@@ -233,7 +235,7 @@ module _ (journal : List Entry) (seat : ℕ) (old new : StateOf) (a : Agrees jou
       let clock : new.clock ≡ old.clock = ap (λ (z : StateOf). z.clock) m.new_is in
       let low = a.early s.0 m.t was in
       agrees_change journal e old new a s.0 u (ap (λ (z : StateOf). z.transactions) m.new_is) (omega (arith, clock)) (omega (arith, clock, low)) (ap (λ (z : StateOf). z.observers) m.new_is) m.t was
-      (record { seat = refl; work = refl; past = λ h. (refl, refl); stamped = λ d p. inr (inr refl); committed = λ d q. cc })
+      (record { seat = refl; work = refl; past = λ h. (refl, refl); reads = λ r h. h; stamped = λ d p. inr (inr refl); committed = λ d q. cc })
       (λ h. tt)
       (record {
         begun = has_front journal e _ l.begun;
@@ -255,8 +257,8 @@ module _ (journal : List Entry) (seat : ℕ) (old new : StateOf) (a : Agrees jou
   case_agrees : (step : Step) (answer : Answer) → StepCase old seat step answer new → Agrees (journal ++ entry seat step answer ∷ []) new
   case_agrees (Begin work) (At s) m = begins work s.0 m
   case_agrees (Read s x) (Locked start primary) m = changes_entries (Read s x) (Locked start primary) old m.new_is nothing_changes tt
-  case_agrees (Read s x) (Found start commit content) m = records s x (Found start commit content) m.t m.own m.reading m.new_is tt
-  case_agrees (Read s x) Absent m = records s x Absent m.t m.own m.reading m.new_is tt
+  case_agrees (Read s x) (Found start commit content) m = records s x (Found start commit content) m.t m.own m.reading m.new_is (λ h. (with_read m.t s.0 x (Found start commit content), h, has_last m.t.reads (read_of s.0 x (Found start commit content))))
+  case_agrees (Read s x) Absent m = records s x Absent m.t m.own m.reading m.new_is (λ h. (with_read m.t s.0 x Absent, h, has_last m.t.reads (read_of s.0 x Absent)))
   case_agrees (Declare s what) Done m = declared_now s what m
   case_agrees (Prewrite s x) Done m = prewrites s x m
   case_agrees (Prewrite s x) Conflict m = conflicts s x m

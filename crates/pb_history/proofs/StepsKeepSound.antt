@@ -34,8 +34,9 @@ use Rattle.pb_steps.specs.Steps.{StepCase, TableStep}
 use Rattle.pb_history.specs.TableView.{TableView, declared_by, prewritten_by, reads_by, view_of}
 use Rattle.pb_history.specs.Sound.{HasStamp, ReadTells, IsSoundView, IsSound}
 use Rattle.pb_history.proofs.Updates.{set1, set1_here, set1_same, none_if, some_if, same_cell, same_cell_is}
+use Rattle.pb_history.proofs.Agreement.{read_of}
 use Rattle.pb_history.proofs.PhaseTests.{reading_is, declared_is}
-use Rattle.pb_history.proofs.PhasesKeepSound.{IsPlain, with_phase, phase_kept, has_read, read_of, read_kept, with_declared, declared_kept, with_stamp, stamp_kept, stamped_at, committed_at}
+use Rattle.pb_history.proofs.PhasesKeepSound.{IsPlain, with_phase, phase_kept, has_read, read_kept, with_declared, declared_kept, with_stamp, stamp_kept, stamped_at, committed_at}
 use Rattle.pb_history.proofs.LocksKeepSound.{with_prewrite, prewrite_kept, without_lock, rolled_back_kept, with_record, record_kept}
 use Rattle.pb_history.proofs.ViewsAfter.{field_after, field_same, lock_after_commit, data_after_commit, write_after_commit, lock_after_back, data_after_back, write_after_back, lock_after_put, data_after_put, write_after_put}
 
