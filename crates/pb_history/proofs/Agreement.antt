@@ -1,15 +1,15 @@
 -- A legal journal and the state that it leads to tell each other.
-use Rattle.std.proofs.Common.{◌≡◌, ◌≢◌, ℕ, ◌≤◌, ◌⊎◌, inl, inr, Bool, true, false, cond, List, [], ◌∷◌, ◌++◌, Option, Some, None, refl, sym, ap, subst, ◌∙◌, arith}
-use Rattle.std.specs.Ordering.{nat_cmp, eq_by_cmp}
+use Rattle.std.proofs.Common.{◌≡◌, ◌≢◌, ℕ, ◌≤◌, ◌⊎◌, inl, inr, false, cond, List, [], ◌∷◌, ◌++◌, Option, Some, None, refl, sym, ap, subst, ◌∙◌, arith}
 use Rattle.std.specs.Cmp.{unsigned_tied, nat_cmp_total}
 use Rattle.std.specs.FinMap as map
 use Rattle.std.proofs.lemmas.Bool.{eqb-true, eq-eqb}
+use Rattle.pb_base.specs.declared.cell.Cell.{Cell}
 use Rattle.pb_base.specs.declared.names.Ts.{Ts}
 use Rattle.pb_steps.specs.declared.step.Declared.{Declared}
 use Rattle.pb_steps.specs.declared.step.Step.{Step}
 use Rattle.pb_steps.specs.declared.step.Step.TheVariants.{Begin, Read, Declare, Stamp, CommitPrimary}
 use Rattle.pb_steps.specs.declared.step.Answer.{Answer}
-use Rattle.pb_steps.specs.declared.step.Answer.TheVariants.{At, Done, Committed}
+use Rattle.pb_steps.specs.declared.step.Answer.TheVariants.{At, Found, Absent, Done, Committed}
 use Rattle.pb_steps.specs.declared.phase.Phase.{Phase}
 use Rattle.pb_steps.specs.declared.phase.Phase.TheVariants as phases
 use Rattle.pb_steps.specs.declared.seen.RecordedRead.{RecordedRead}
@@ -19,29 +19,18 @@ use Rattle.pb_steps.specs.Declarations.{IsKnown, IsPlainRun, MayDeclare}
 use Rattle.pb_steps.specs.Phases.{is_reading}
 use Rattle.pb_history.specs.declared.entry.Entry.{Entry}
 use Rattle.pb_history.specs.History.{Has, IsEntry}
+use Rattle.pb_history.proofs.OnlyEntries.{OnlyEntries}
+use Rattle.pb_history.proofs.Updates.{same_number, not_true, has_front, has_more}
 
 abbrev pub ts : ℕ → Ts
 ts n = record { 0 = n }
 
+-- a read as it is recorded
+abbrev pub read_of : ℕ → Cell → Answer → RecordedRead
+read_of s x answer = record { cell = x; at = record { 0 = s }; answer = answer }
+
 abbrev pub got : StateOf → ℕ → Option TransactionOf
 got state s = map.get state.transactions s
-
--- ---- lists with an item more
-
-pub has_front : {A : Type 0} (xs : List A) (y z : A) → Has xs z → Has (xs ++ y ∷ []) z
-has_front [] y z h = absurd h
-has_front (x ∷ xs) y z (inl e) = inl e
-has_front (x ∷ xs) y z (inr h) = inr (has_front xs y z h)
-
-pub has_last : {A : Type 0} (xs : List A) (y : A) → Has (xs ++ y ∷ []) y
-has_last [] y = inl refl
-has_last (x ∷ xs) y = inr (has_last xs y)
-
-pub has_more : {A : Type 0} (xs : List A) (y z : A) → Has (xs ++ y ∷ []) z → (y ≡ z) ⊎ Has xs z
-has_more [] y z (inl e) = inl e
-has_more [] y z (inr h) = absurd h
-has_more (x ∷ xs) y z (inl e) = inr (inl e)
-has_more (x ∷ xs) y z (inr h) = elim (has_more xs y z h) [ inl e ↦ inl e | inr g ↦ inr (inr g) ]
 
 -- ---- what entries tell of transactions, and transactions of entries
 
@@ -52,6 +41,8 @@ PastStamp h c = (h ≡ phases.Stamped (ts c)) ⊎ ((h ≡ phases.Committed (ts c
 -- what an answered step says of its transaction from then on
 abbrev pub Told : StateOf → ℕ → Step → Answer → Type 0
 Told state seat (Begin work) (At s) = (t : TransactionOf) × (got state s.0 ≡ Some t) × (t.seat ≡ seat) × (t.work ≡ work)
+Told state seat (Read s x) (Found start commit content) = (t : TransactionOf) × (got state s.0 ≡ Some t) × Has t.reads (read_of s.0 x (Found start commit content))
+Told state seat (Read s x) Absent = (t : TransactionOf) × (got state s.0 ≡ Some t) × Has t.reads (read_of s.0 x Absent)
 Told state seat (Declare s what) Done = (t : TransactionOf) × (got state s.0 ≡ Some t) × (is_reading t.phase ≡ false) × (t.declared ≡ cells_of state.observers t.work s.0 what) × IsKnown what × IsPlainRun what
 Told state seat (Stamp s) (At c) = (t : TransactionOf) × (got state s.0 ≡ Some t) × PastStamp t.phase c.0
 Told state seat (CommitPrimary s) Committed = (t : TransactionOf) × (got state s.0 ≡ Some t) × (c : ℕ) × (t.phase ≡ phases.Committed (ts c))
@@ -75,17 +66,20 @@ pub record Later (t u : TransactionOf) : Type 0 where
   pub seat : u.seat ≡ t.seat
   pub work : u.work ≡ t.work
   pub past : is_reading t.phase ≡ false → (is_reading u.phase ≡ false) × (u.declared ≡ t.declared)
+  pub reads : (r : RecordedRead) → Has t.reads r → Has u.reads r
   pub stamped : (c : ℕ) → PastStamp t.phase c → PastStamp u.phase c
   pub committed : (c : ℕ) → t.phase ≡ phases.Committed (ts c) → u.phase ≡ phases.Committed (ts c)
 
 later_same : (t : TransactionOf) → Later t t
-later_same t = record { seat = refl; work = refl; past = λ h. (h, refl); stamped = λ c h. h; committed = λ c h. h }
+later_same t = record { seat = refl; work = refl; past = λ h. (h, refl); reads = λ r h. h; stamped = λ c h. h; committed = λ c h. h }
 
 abbrev Grows : StateOf → StateOf → Type 0
 Grows old new = (s : ℕ) (t : TransactionOf) → got old s ≡ Some t → (u : TransactionOf) × (got new s ≡ Some u) × Later t u
 
 told_on : (old new : StateOf) → new.observers ≡ old.observers → Grows old new → (seat : ℕ) (step : Step) (answer : Answer) → Told old seat step answer → Told new seat step answer
 told_on old new obs g seat (Begin work) (At s) t = let u = g s.0 t.0 t.1 in (u.0, u.1, u.2.seat ∙ t.2, u.2.work ∙ t.3)
+told_on old new obs g seat (Read s x) (Found start commit content) t = let u = g s.0 t.0 t.1 in (u.0, u.1, u.2.reads _ t.2)
+told_on old new obs g seat (Read s x) Absent t = let u = g s.0 t.0 t.1 in (u.0, u.1, u.2.reads _ t.2)
 told_on old new obs g seat (Declare s what) Done t = let u = g s.0 t.0 t.1 in let p = u.2.past t.2 in (u.0, u.1, p.0, p.1 ∙ t.3 ∙ sym (λ i. cells_of (obs i) (u.2.work i) s.0 what), t.4, t.5)
 told_on old new obs g seat (Stamp s) (At c) t = let u = g s.0 t.0 t.1 in (u.0, u.1, u.2.stamped c.0 t.2)
 told_on old new obs g seat (CommitPrimary s) Committed t = let u = g s.0 t.0 t.1 in (u.0, u.1, t.2, u.2.committed t.2 t.3)
@@ -102,19 +96,8 @@ logged_front observers journal e s t l = record {
 
 -- ---- one transaction more, or changed
 
-same_number : (a b : ℕ) → (a ≡ b) ⊎ (a ≢ b)
-same_number a b =
-    elim (eq_by_cmp nat_cmp a b) as (λ t. eq_by_cmp nat_cmp a b ≡ t → (a ≡ b) ⊎ (a ≢ b)) [
-      | true ↦ λ e. inl (eqb-true a b (sym (unsigned_tied a b) ∙ e))
-      | false ↦ λ e. inr (λ p. let q : eq_by_cmp nat_cmp a b ≡ true = unsigned_tied a b ∙ eq-eqb a b p in cc)
-    ] refl
-
 got_here : (m : Transactions) (s : ℕ) (u : TransactionOf) → map.get (map.insert m s u) s ≡ Some u
 got_here m s u = map.get-insert nat_cmp_total m s u s ∙ ap (λ b. cond b (Some u) (map.get m s)) (unsigned_tied s s ∙ eq-eqb s s refl)
-
-not_true : (b : Bool) → (b ≡ true → ⊥) → b ≡ false
-not_true true h = absurd (h refl)
-not_true false h = refl
 
 got_there : (m : Transactions) (s : ℕ) (u : TransactionOf) (w : ℕ) → w ≢ s → map.get (map.insert m s u) w ≡ map.get m w
 got_there m s u w n =
@@ -169,13 +152,15 @@ module _ (journal : List Entry) (e : Entry) (old new : StateOf) (a : Agrees jour
   pub agrees_new : got old s ≡ None → (got new s ≡ Some u → Told new e.seat e.step e.answer) → Logged old.observers (journal ++ e ∷ []) s u → Agrees (journal ++ e ∷ []) new
   agrees_new was told = agrees_put (λ w v h. (v, there w (λ q. let now : got old s ≡ Some v = subst (λ k. got old k ≡ Some v) q h in cc) ∙ h, later_same v)) (told here)
 
--- a step that changes nothing
-pub agrees_same : (journal : List Entry) (e : Entry) (old new : StateOf) → Agrees journal old → new ≡ old → Told old e.seat e.step e.answer → Agrees (journal ++ e ∷ []) new
-agrees_same journal e old new a is told = subst (Agrees (journal ++ e ∷ [])) (sym is) (record {
-  early = a.early;
-  told = λ d h. elim (has_more journal e d h) [
-    | inl q ↦ subst (λ (z : Entry). Told old z.seat z.step z.answer) q told
-    | inr q ↦ a.told d q
-  ];
-  logged = λ w v h. logged_front old.observers journal e w v (a.logged w v h);
-})
+-- a step that changes entries alone
+pub agrees_same : (journal : List Entry) (e : Entry) (old new : StateOf) → Agrees journal old → OnlyEntries old new → Told new e.seat e.step e.answer → Agrees (journal ++ e ∷ []) new
+agrees_same journal e old new a kept told =
+    let grows : Grows old new = λ s t h. (t, ap (λ m. map.get m s) kept.transactions ∙ h, later_same t) in
+    record {
+      early = λ s t h. let b = a.early s t (sym (ap (λ m. map.get m s) kept.transactions) ∙ h) in let c = kept.clock in omega (arith, b, c);
+      told = λ d h. elim (has_more journal e d h) [
+        | inl q ↦ subst (λ (z : Entry). Told new z.seat z.step z.answer) q told
+        | inr q ↦ told_on old new kept.observers grows d.seat d.step d.answer (a.told d q)
+      ];
+      logged = λ w v h. subst (λ o. Logged o (journal ++ e ∷ []) w v) (sym kept.observers) (logged_front old.observers journal e w v (a.logged w v (sym (ap (λ m. map.get m w) kept.transactions) ∙ h)));
+    }

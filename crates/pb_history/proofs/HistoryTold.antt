@@ -15,10 +15,10 @@ use Rattle.pb_history.specs.History.{IsEntry, Member, InHistory, IsCommitted, Is
 use Rattle.pb_history.proofs.Agreement.{ts, got, Agrees, PastStamp}
 use Rattle.pb_history.proofs.StepsAgree.{legal_agrees}
 
-one : (o : Option TransactionOf) (t u : TransactionOf) → o ≡ Some t → o ≡ Some u → u ≡ t
+pub one : (o : Option TransactionOf) (t u : TransactionOf) → o ≡ Some t → o ≡ Some u → u ≡ t
 one o t u p q = cc
 
-same_stamp : (h : Phase) (c d : ℕ) → h ≡ phases.Committed (ts c) → PastStamp h d → c ≡ d
+pub same_stamp : (h : Phase) (c d : ℕ) → h ≡ phases.Committed (ts c) → PastStamp h d → c ≡ d
 same_stamp h c d e p = elim p [
   | inl q ↦ cc
   | inr r ↦ elim r [ inl q ↦ (let k : ts c ≡ ts d = cc in ap (λ (t : Ts). t.0) k) | inr q ↦ cc ]

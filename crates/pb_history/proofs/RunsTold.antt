@@ -1,5 +1,5 @@
 -- What the history of a legal journal tells of runs and of reads.
-use Rattle.std.proofs.Common.{◌≡◌, ℕ, ◌<◌, inl, inr, false, List, [], ◌∷◌, ◌++◌, Some, refl, sym, ap, subst, ◌∙◌}
+use Rattle.std.proofs.Common.{◌≡◌, ℕ, ◌<◌, inl, inr, false, List, Some, refl, sym, ap, subst, ◌∙◌}
 use Rattle.pb_base.specs.declared.content.Version.{Version}
 use Rattle.pb_steps.specs.declared.seen.RecordedRead.{RecordedRead}
 use Rattle.pb_steps.specs.declared.step.Declared.{Declared}
@@ -19,21 +19,18 @@ use Rattle.pb_steps.specs.Observers.{ObserverOf, observed_cell}
 use Rattle.pb_steps.specs.Declarations.{IsKnown, IsItsRun, MayDeclare, plain_run}
 use Rattle.pb_steps.specs.Phases.{is_reading}
 use Rattle.pb_steps.specs.Reads.{found_answer, version_in, acknowledged_in}
-use Rattle.pb_steps.specs.Steps.{StepCase, TableStep}
+use Rattle.pb_steps.specs.Steps.{StepCase}
 use Rattle.pb_history.specs.declared.entry.Entry.{Entry}
 use Rattle.pb_history.specs.Journals.{JournalLeads, IsLegal}
 use Rattle.pb_history.specs.History.{Has, IsEntry, Member, InHistory}
 use Rattle.pb_history.specs.ReadsTold.{TellsVersion, TellsReads}
 use Rattle.pb_history.specs.RunsTold.{IsObserverRun, TellsRuns}
+use Rattle.pb_history.proofs.JournalParts.{split}
 use Rattle.pb_history.proofs.Agreement.{ts, Agrees}
 use Rattle.pb_history.proofs.StepsAgree.{legal_agrees}
 use Rattle.pb_history.proofs.HistoryTold.{is_committed}
 
 -- ---- reads
-
-split : (s : StateOf) (before : List Entry) (e : Entry) (after : List Entry) (t : StateOf) → JournalLeads s (before ++ e ∷ after) t → (mid : StateOf) × JournalLeads s before mid × (next : StateOf) × TableStep mid e.seat e.step e.answer next
-split s [] e after t r = (s, refl, r.0, r.1)
-split s (d ∷ before) e after t r = let p = split r.0 before e after t r.2 in (p.0, (r.0, r.1, p.1), p.2, p.3)
 
 case_tells : (old : StateOf) (seat : ℕ) (step : Step) (answer : Answer) (new : StateOf) → StepCase old seat step answer new → TellsVersion old step answer
 case_tells old seat (Read s x) (Found start commit content) new c = c.version

@@ -1,5 +1,5 @@
 -- Each step keeps journal and state in agreement.
-use Rattle.std.proofs.Common.{◌≡◌, ℕ, ◌⊎◌, inl, inr, true, false, List, [], ◌∷◌, ◌++◌, Option, Some, None, refl, sym, ap, subst, ◌∙◌, arith}
+use Rattle.std.proofs.Common.{◌≡◌, ℕ, ◌⊎◌, inl, inr, true, false, List, [], ◌∷◌, ◌++◌, Some, None, refl, sym, ap, subst, ◌∙◌, arith}
 use Rattle.std.specs.FinMap as map
 use Rattle.std.specs.Ordering.{nat_cmp}
 use Rattle.pb_base.specs.declared.cell.Cell.{Cell}
@@ -9,10 +9,10 @@ use Rattle.pb_steps.specs.declared.step.Work.TheVariants as works
 use Rattle.pb_steps.specs.declared.step.Declared.{Declared}
 use Rattle.pb_steps.specs.declared.step.Declared.TheVariants as declared
 use Rattle.pb_steps.specs.declared.step.Step.{Step}
-use Rattle.pb_steps.specs.declared.step.Step.TheVariants.{Begin, Read, Declare, Prewrite, Stamp, CommitPrimary}
+use Rattle.pb_steps.specs.declared.step.Step.TheVariants.{Begin, Read, Declare, Prewrite, Stamp, CommitPrimary, CommitSecondary, Settle, Clear}
 use Rattle.pb_steps.specs.declared.seen.RecordedRead.{RecordedRead}
 use Rattle.pb_steps.specs.declared.step.Answer.{Answer}
-use Rattle.pb_steps.specs.declared.step.Answer.TheVariants.{At, Locked, Found, Absent, Done, Conflict, Committed, Lost}
+use Rattle.pb_steps.specs.declared.step.Answer.TheVariants.{At, Locked, Found, Absent, Done, Conflict, Committed, Lost, RolledBack, Waits, CommittedAt}
 use Rattle.pb_steps.specs.declared.phase.Phase.{Phase}
 use Rattle.pb_steps.specs.declared.phase.Phase.TheVariants as phases
 use Rattle.pb_steps.specs.State.{StateOf, TransactionOf, opening, new_transaction, cells_of}
@@ -28,10 +28,15 @@ use Rattle.pb_steps.specs.Declare.{Declares}
 use Rattle.pb_steps.specs.Prewrite.{Prewrites, Conflicts}
 use Rattle.pb_steps.specs.Stamp.{Stamps}
 use Rattle.pb_steps.specs.CommitPrimary.{CommitsPrimary, Loses}
+use Rattle.pb_steps.specs.Commits.{commits, rolls_back}
+use Rattle.pb_store.specs.Contents.{Entries}
 use Rattle.pb_history.specs.declared.entry.Entry.{Entry}
 use Rattle.pb_history.specs.Journals.{JournalLeads, IsLegal}
 use Rattle.pb_history.specs.History.{Has, IsEntry}
-use Rattle.pb_history.proofs.Agreement.{ts, got, has_front, has_last, has_more, PastStamp, Told, Agrees, agrees_change, agrees_new, agrees_same}
+use Rattle.pb_history.proofs.OnlyEntries.{OnlyEntries, only_entries, secondary_keeps}
+use Rattle.pb_history.proofs.Updates.{none_if, has_front, has_last, has_more}
+use Rattle.pb_history.proofs.PhaseTests.{reading_is}
+use Rattle.pb_history.proofs.Agreement.{ts, read_of, got, PastStamp, Told, Agrees, agrees_change, agrees_new, agrees_same}
 
 abbrev entry : ℕ → Step → Answer → Entry
 entry seat step answer = record { seat = seat; step = step; answer = answer }
@@ -56,19 +61,8 @@ past_declared (phases.Stamped d) e = cc
 past_declared (phases.Committed d) e = cc
 past_declared phases.Failed e = cc
 
-reading_is : (h : Phase) → is_reading h ≡ true → h ≡ phases.Reading
-reading_is phases.Reading e = refl
-reading_is phases.Declared e = cc
-reading_is (phases.Stamped d) e = cc
-reading_is (phases.Committed d) e = cc
-reading_is phases.Failed e = cc
-
 no_commit_declared : (h : Phase) → is_declared h ≡ true → (c : ℕ) → h ≡ phases.Committed (ts c) → ⊥
 no_commit_declared h e c q = no_stamp_declared h e c (inr (inl q))
-
-none_if : {A : Type 0} (o : Option A) → ((w : A) → o ≡ Some w → ⊥) → o ≡ None
-none_if None h = refl
-none_if (Some w) h = absurd (h w refl)
 
 module _ (journal : List Entry) (seat : ℕ) (old new : StateOf) (a : Agrees journal old) where
   begins : (work : Work) (s : ℕ) → Begins old seat work s new → Agrees (journal ++ entry seat (Begin work) (At (ts s)) ∷ []) new
@@ -89,7 +83,7 @@ module _ (journal : List Entry) (seat : ℕ) (old new : StateOf) (a : Agrees jou
 
   -- a read is recorded
   records : (s : Ts) (x : Cell) (b : Answer) (t : TransactionOf) → IsOwn old seat s.0 t → is_reading t.phase ≡ true → new ≡ record old { transactions = map.insert old.transactions s.0 (with_read t s.0 x b) }
-      → Told new seat (Read s x) b → Agrees (journal ++ entry seat (Read s x) b ∷ []) new
+      → (got new s.0 ≡ Some (with_read t s.0 x b) → Told new seat (Read s x) b) → Agrees (journal ++ entry seat (Read s x) b ∷ []) new
   records s x b t own reading new-is told =
       let e = entry seat (Read s x) b in
       let was = own.there in
@@ -98,8 +92,8 @@ module _ (journal : List Entry) (seat : ℕ) (old new : StateOf) (a : Agrees jou
       let clock : new.clock ≡ old.clock = ap (λ (z : StateOf). z.clock) new-is in
       let low = a.early s.0 t was in
       agrees_change journal e old new a s.0 (with_read t s.0 x b) (ap (λ (z : StateOf). z.transactions) new-is) (omega (arith, clock)) (omega (arith, clock, low)) (ap (λ (z : StateOf). z.observers) new-is) t was
-      (record { seat = refl; work = refl; past = λ h. cc; stamped = λ c p. absurd (elim p [ inl q ↦ cc | inr z ↦ elim z [ inl q ↦ cc | inr q ↦ cc ] ]); committed = λ c q. cc })
-      (λ h. told)
+      (record { seat = refl; work = refl; past = λ h. cc; reads = λ q h. has_front t.reads (read_of s.0 x b) q h; stamped = λ c p. absurd (elim p [ inl q ↦ cc | inr z ↦ elim z [ inl q ↦ cc | inr q ↦ cc ] ]); committed = λ c q. cc })
+      told
       (record {
         begun = has_front journal e _ l.begun;
         reads = λ q h. elim (has_more t.reads (record { cell = x; at = ts s.0; answer = b }) q h) [
@@ -122,7 +116,7 @@ module _ (journal : List Entry) (seat : ℕ) (old new : StateOf) (a : Agrees jou
       let clock : new.clock ≡ old.clock = ap (λ (z : StateOf). z.clock) m.new_is in
       let low = a.early s.0 m.t was in
       agrees_change journal e old new a s.0 u (ap (λ (z : StateOf). z.transactions) m.new_is) (omega (arith, clock)) (omega (arith, clock, low)) obs m.t was
-      (record { seat = refl; work = refl; past = λ h. cc; stamped = λ c p. let r = reading_is m.t.phase reading in absurd (elim p [ inl q ↦ cc | inr z ↦ elim z [ inl q ↦ cc | inr q ↦ cc ] ]); committed = λ c q. let r = reading_is m.t.phase reading in cc })
+      (record { seat = refl; work = refl; past = λ h. cc; reads = λ r h. h; stamped = λ c p. let r = reading_is m.t.phase reading in absurd (elim p [ inl q ↦ cc | inr z ↦ elim z [ inl q ↦ cc | inr q ↦ cc ] ]); committed = λ c q. let r = reading_is m.t.phase reading in cc })
       (λ h. (u, h, refl, sym (ap (λ o. cells_of o m.t.work s.0 what) obs), m.known, plain_of old.observers m.t.work s.0 m.t.reads what m.its))
       (record {
         begun = has_front journal e _ (a.logged s.0 m.t was).begun;
@@ -145,6 +139,7 @@ module _ (journal : List Entry) (seat : ℕ) (old new : StateOf) (a : Agrees jou
         seat = same-seat;
         work = same-work;
         past = λ h. (elim how [ inl q ↦ ap is_reading q ∙ past | inr q ↦ ap is_reading q ], same-writes);
+        reads = λ r h. subst (λ rs. Has rs r) (sym same-reads) h;
         stamped = λ c p. absurd (no_stamp_declared t.phase phase c p);
         committed = λ c q. absurd (no_commit_declared t.phase phase c q);
       })
@@ -190,7 +185,7 @@ module _ (journal : List Entry) (seat : ℕ) (old new : StateOf) (a : Agrees jou
       let low = a.early s.0 m.t was in
       let logged : IsEntry (journal ++ e ∷ []) m.t.seat (Stamp s) (At (ts c)) = subst (λ n. IsEntry (journal ++ e ∷ []) n (Stamp s) (At (ts c))) (sym mine) (has_last journal e) in
       agrees_change journal e old new a s.0 u (ap (λ (z : StateOf). z.transactions) m.new_is) (omega (arith, clock, fresh)) (omega (arith, clock, fresh, low)) (ap (λ (z : StateOf). z.observers) m.new_is) m.t was
-      (record { seat = refl; work = refl; past = λ h. (refl, refl); stamped = λ d p. absurd (no_stamp_declared m.t.phase phase d p); committed = λ d q. absurd (no_commit_declared m.t.phase phase d q) })
+      (record { seat = refl; work = refl; past = λ h. (refl, refl); reads = λ r h. h; stamped = λ d p. absurd (no_stamp_declared m.t.phase phase d p); committed = λ d q. absurd (no_commit_declared m.t.phase phase d q) })
       (λ h. (u, h, inl refl))
       (record {
         begun = has_front journal e _ l.begun;
@@ -200,8 +195,8 @@ module _ (journal : List Entry) (seat : ℕ) (old new : StateOf) (a : Agrees jou
         committed = λ d q. cc;
       })
 
-  commits : (s : Ts) → CommitsPrimary old seat s.0 new → Agrees (journal ++ entry seat (CommitPrimary s) Committed ∷ []) new
-  commits s m =
+  commits_primary : (s : Ts) → CommitsPrimary old seat s.0 new → Agrees (journal ++ entry seat (CommitPrimary s) Committed ∷ []) new
+  commits_primary s m =
       let e = entry seat (CommitPrimary s) Committed in
       let was = m.own.there in
       let mine = m.own.mine in
@@ -216,6 +211,7 @@ module _ (journal : List Entry) (seat : ℕ) (old new : StateOf) (a : Agrees jou
         seat = refl;
         work = refl;
         past = λ h. (refl, refl);
+        reads = λ r h. h;
         stamped = λ d p. inr (inl (elim p [ inl q ↦ (let k : ts m.c ≡ ts d = cc in ap phases.Committed k) | inr r ↦ elim r [ inl q ↦ cc | inr q ↦ cc ] ]));
         committed = λ d q. cc;
       })
@@ -239,7 +235,7 @@ module _ (journal : List Entry) (seat : ℕ) (old new : StateOf) (a : Agrees jou
       let clock : new.clock ≡ old.clock = ap (λ (z : StateOf). z.clock) m.new_is in
       let low = a.early s.0 m.t was in
       agrees_change journal e old new a s.0 u (ap (λ (z : StateOf). z.transactions) m.new_is) (omega (arith, clock)) (omega (arith, clock, low)) (ap (λ (z : StateOf). z.observers) m.new_is) m.t was
-      (record { seat = refl; work = refl; past = λ h. (refl, refl); stamped = λ d p. inr (inr refl); committed = λ d q. cc })
+      (record { seat = refl; work = refl; past = λ h. (refl, refl); reads = λ r h. h; stamped = λ d p. inr (inr refl); committed = λ d q. cc })
       (λ h. tt)
       (record {
         begun = has_front journal e _ l.begun;
@@ -249,17 +245,34 @@ module _ (journal : List Entry) (seat : ℕ) (old new : StateOf) (a : Agrees jou
         committed = λ d q. cc;
       })
 
+  nothing_changes : OnlyEntries old old
+  nothing_changes = record { transactions = refl; clock = refl; observers = refl }
+
+  entries_change : {e : Entries} → OnlyEntries old (record old { entries = e })
+  entries_change = record { transactions = refl; clock = refl; observers = refl }
+
+  changes_entries : (step : Step) (answer : Answer) (to : StateOf) → new ≡ to → OnlyEntries old to → Told new seat step answer → Agrees (journal ++ entry seat step answer ∷ []) new
+  changes_entries step answer to is kept told = agrees_same journal (entry seat step answer) old new a (only_entries old new to is kept) told
+
   case_agrees : (step : Step) (answer : Answer) → StepCase old seat step answer new → Agrees (journal ++ entry seat step answer ∷ []) new
   case_agrees (Begin work) (At s) m = begins work s.0 m
-  case_agrees (Read s x) (Locked start primary) m = agrees_same journal (entry seat (Read s x) (Locked start primary)) old new a m.new_is tt
-  case_agrees (Read s x) (Found start commit content) m = records s x (Found start commit content) m.t m.own m.reading m.new_is tt
-  case_agrees (Read s x) Absent m = records s x Absent m.t m.own m.reading m.new_is tt
+  case_agrees (Read s x) (Locked start primary) m = changes_entries (Read s x) (Locked start primary) old m.new_is nothing_changes tt
+  case_agrees (Read s x) (Found start commit content) m = records s x (Found start commit content) m.t m.own m.reading m.new_is (λ h. (with_read m.t s.0 x (Found start commit content), h, has_last m.t.reads (read_of s.0 x (Found start commit content))))
+  case_agrees (Read s x) Absent m = records s x Absent m.t m.own m.reading m.new_is (λ h. (with_read m.t s.0 x Absent, h, has_last m.t.reads (read_of s.0 x Absent)))
   case_agrees (Declare s what) Done m = declared_now s what m
   case_agrees (Prewrite s x) Done m = prewrites s x m
   case_agrees (Prewrite s x) Conflict m = conflicts s x m
   case_agrees (Stamp s) (At c) m = stamps s c.0 m
-  case_agrees (CommitPrimary s) Committed m = commits s m
+  case_agrees (CommitPrimary s) Committed m = commits_primary s m
   case_agrees (CommitPrimary s) Lost m = loses s m
+  case_agrees (CommitSecondary s x) Done m = agrees_same journal (entry seat (CommitSecondary s x) Done) old new a (secondary_keeps old seat s.0 x new m) tt
+  case_agrees (Settle x) Absent m = changes_entries (Settle x) Absent old m.new_is nothing_changes tt
+  case_agrees (Settle x) (Locked start primary) m = changes_entries (Settle x) (Locked start primary) old m.new_is nothing_changes tt
+  case_agrees (Settle x) RolledBack m = changes_entries (Settle x) RolledBack (rolls_back old x m.start) m.new_is entries_change tt
+  case_agrees (Clear x) Absent m = changes_entries (Clear x) Absent old m.new_is nothing_changes tt
+  case_agrees (Clear x) Waits m = changes_entries (Clear x) Waits old m.new_is nothing_changes tt
+  case_agrees (Clear x) (CommittedAt c) m = changes_entries (Clear x) (CommittedAt c) (commits old x m.start c.0) m.new_is entries_change tt
+  case_agrees (Clear x) RolledBack m = changes_entries (Clear x) RolledBack (rolls_back old x m.start) m.new_is entries_change tt
   case_agrees _ _ m = absurd m
 
 append_one : (xs : List Entry) (y : Entry) (zs : List Entry) → (xs ++ y ∷ []) ++ zs ≡ xs ++ y ∷ zs

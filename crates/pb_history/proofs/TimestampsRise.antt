@@ -2,15 +2,16 @@
 use Rattle.std.proofs.Common.{inl, inr, ◌≡◌, ℕ, ◌<◌, ◌≤◌, List, [], ◌∷◌, ap, subst, arith}
 use Rattle.pb_base.specs.declared.names.Ts.{Ts}
 use Rattle.pb_steps.specs.declared.step.Step.{Step}
-use Rattle.pb_steps.specs.declared.step.Step.TheVariants.{Begin, Read, Declare, Prewrite, Stamp, CommitPrimary}
+use Rattle.pb_steps.specs.declared.step.Step.TheVariants.{Begin, Read, Declare, Prewrite, Stamp, CommitPrimary, CommitSecondary, Settle, Clear}
 use Rattle.pb_steps.specs.declared.step.Answer.{Answer}
-use Rattle.pb_steps.specs.declared.step.Answer.TheVariants.{At, Locked, Found, Absent, Done, Conflict, Committed, Lost}
+use Rattle.pb_steps.specs.declared.step.Answer.TheVariants.{At, Locked, Found, Absent, Done, Conflict, Committed, Lost, RolledBack, Waits, CommittedAt}
 use Rattle.pb_steps.specs.State.{StateOf, opening}
 use Rattle.pb_steps.specs.Observers.{ObserverOf}
 use Rattle.pb_steps.specs.Steps.{StepCase}
 use Rattle.pb_history.specs.declared.entry.Entry.{Entry}
 use Rattle.pb_history.specs.Journals.{JournalLeads, IsLegal}
 use Rattle.pb_history.specs.History.{Has}
+use Rattle.pb_history.proofs.OnlyEntries.{secondary_keeps}
 use Rattle.pb_history.specs.Timestamps.{with_timestamp, timestamps, AreRising, TellsTimestamps}
 
 module _ (old : StateOf) (seat : ℕ) (new : StateOf) (high : ℕ) (ts : List ℕ) (rest : AreRising new.clock high ts) where
@@ -33,9 +34,17 @@ module _ (old : StateOf) (seat : ℕ) (new : StateOf) (high : ℕ) (ts : List �
   case_rises (Stamp s) (At c) m = let fresh = m.fresh in next c.0 (ap (λ (z : StateOf). z.clock) m.new_is) (omega (arith, fresh))
   case_rises (CommitPrimary s) Committed m = same (ap (λ (z : StateOf). z.clock) m.new_is)
   case_rises (CommitPrimary s) Lost m = same (ap (λ (z : StateOf). z.clock) m.new_is)
+  case_rises (CommitSecondary s x) Done m = same (secondary_keeps old seat s.0 x new m).clock
+  case_rises (Settle x) Absent m = same (ap (λ (z : StateOf). z.clock) m.new_is)
+  case_rises (Settle x) (Locked start primary) m = same (ap (λ (z : StateOf). z.clock) m.new_is)
+  case_rises (Settle x) RolledBack m = same (ap (λ (z : StateOf). z.clock) m.new_is)
+  case_rises (Clear x) Absent m = same (ap (λ (z : StateOf). z.clock) m.new_is)
+  case_rises (Clear x) Waits m = same (ap (λ (z : StateOf). z.clock) m.new_is)
+  case_rises (Clear x) (CommittedAt c) m = same (ap (λ (z : StateOf). z.clock) m.new_is)
+  case_rises (Clear x) RolledBack m = same (ap (λ (z : StateOf). z.clock) m.new_is)
   case_rises _ _ m = absurd m
 
-run_rises : (old : StateOf) (es : List Entry) (new : StateOf) → JournalLeads old es new → AreRising old.clock new.clock (timestamps es)
+pub run_rises : (old : StateOf) (es : List Entry) (new : StateOf) → JournalLeads old es new → AreRising old.clock new.clock (timestamps es)
 run_rises old [] new r = let clock : new.clock ≡ old.clock = ap (λ (z : StateOf). z.clock) r in omega (arith, clock)
 run_rises old (e ∷ es) new r = case_rises old e.seat r.0 new.clock (timestamps es) (run_rises r.0 es new r.2) e.step e.answer r.1.taken
 

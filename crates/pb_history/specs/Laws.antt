@@ -1,14 +1,29 @@
--- The laws of legal journals.
-use Rattle.std.specs.Prelude.{ℕ, List}
+-- The laws of the table's steps and of legal journals.
+use Rattle.std.specs.Prelude.{ℕ, ◌<◌, ◌^◌, List}
 use Rattle.pb_steps.specs.Observers.{ObserverOf}
-use Rattle.pb_steps.specs.State.{StateOf}
+use Rattle.pb_steps.specs.declared.step.Step.{Step}
+use Rattle.pb_steps.specs.declared.step.Answer.{Answer}
+use Rattle.pb_steps.specs.State.{StateOf, opening}
+use Rattle.pb_steps.specs.Steps.{TableStep}
 use Rattle.pb_history.specs.declared.entry.Entry.{Entry}
 use Rattle.pb_history.specs.Journals.{IsLegal}
 use Rattle.pb_history.specs.History.{TellsHistory}
+use Rattle.pb_history.specs.Sound.{IsSound, KeepsData}
 use Rattle.pb_history.specs.ReadsTold.{TellsReads}
 use Rattle.pb_history.specs.RunsTold.{TellsRuns}
 use Rattle.pb_history.specs.Timestamps.{TellsTimestamps}
+use Rattle.pb_history.specs.SoundJournals.{TellsSoundness}
+use Rattle.pb_history.specs.CommitOrder.{TellsCommitOrder}
 use Rattle.pb_history.specs.RunCounts.{TellsRunCounts}
+
+abbrev pub StepsKeepSound : Type 0
+StepsKeepSound = (old : StateOf) (seat : ℕ) (step : Step) (answer : Answer) (new : StateOf) → IsSound old → TableStep old seat step answer new → IsSound new
+
+abbrev pub OpeningIsSound : Type 0
+OpeningIsSound = (observers : List ObserverOf) (seats clock : ℕ) → clock < 2 ^ 64 → IsSound (opening observers seats clock)
+
+abbrev pub SoundHasData : Type 0
+SoundHasData = (state : StateOf) → IsSound state → KeepsData state
 
 abbrev pub HistoriesAreTold : Type 0
 HistoriesAreTold = (observers : List ObserverOf) (seats clock : ℕ) (journal : List Entry) (state : StateOf) → IsLegal observers seats clock journal state → TellsHistory journal state
@@ -24,3 +39,9 @@ TimestampsRise = (observers : List ObserverOf) (seats clock : ℕ) (journal : Li
 
 abbrev pub RunsAreCounted : Type 0
 RunsAreCounted = (observers : List ObserverOf) (seats clock : ℕ) (journal : List Entry) (state : StateOf) → IsLegal observers seats clock journal state → TellsRunCounts journal state
+
+abbrev pub JournalsAreSound : Type 0
+JournalsAreSound = (observers : List ObserverOf) (seats clock : ℕ) (journal : List Entry) (state : StateOf) → IsLegal observers seats clock journal state → TellsSoundness observers seats clock journal state
+
+abbrev pub CommitsAreOrdered : Type 0
+CommitsAreOrdered = (observers : List ObserverOf) (seats clock : ℕ) (journal : List Entry) (state : StateOf) → IsLegal observers seats clock journal state → TellsCommitOrder journal state

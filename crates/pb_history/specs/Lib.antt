@@ -1,8 +1,12 @@
 pub mod Places
 pub mod Journals
 pub mod History
+pub mod TableView
+pub mod Sound
 pub mod ReadsTold
 pub mod RunsTold
 pub mod Timestamps
 pub mod RunCounts
+pub mod SoundJournals
+pub mod CommitOrder
 pub mod Laws

@@ -1,5 +1,5 @@
 -- How many runs of an observer are committed.
-use Rattle.std.specs.Prelude.{◌≡◌, ℕ, ◌<◌, ◌==◌, ◌&&◌, Bool, true, false, count_by, List, [], ◌∷◌, length, Option, Some}
+use Rattle.std.specs.Prelude.{◌≡◌, ℕ, ◌<◌, ◌==◌, ◌&&◌, Bool, false, count_by, List, [], ◌∷◌, length, Option, Some, None}
 use Rattle.pb_base.specs.declared.names.Row.{Row}
 use Rattle.pb_steps.specs.declared.step.Work.TheVariants as works
 use Rattle.pb_steps.specs.declared.step.Step.{Step}
@@ -7,7 +7,7 @@ use Rattle.pb_steps.specs.declared.step.Step.TheVariants.{Begin}
 use Rattle.pb_steps.specs.declared.step.Answer.{Answer}
 use Rattle.pb_steps.specs.declared.step.Answer.TheVariants.{At}
 use Rattle.pb_steps.specs.declared.phase.Phase.{Phase}
-use Rattle.pb_steps.specs.declared.phase.Phase.TheVariants as phases
+use Rattle.pb_steps.specs.Phases.{is_committed}
 use Rattle.pb_steps.specs.State.{StateOf, phase_in}
 use Rattle.pb_steps.specs.Observers.{ObserverOf}
 use Rattle.pb_history.specs.declared.entry.Entry.{Entry}
@@ -30,13 +30,14 @@ pub record IsRunCount (observers : List ObserverOf) (journal : List Entry) (o n 
   pub whole : (m : Member) → InHistory observers journal m → IsRunOf m o → Has ms m
   pub rising : RiseByStart 0 ms
 
-abbrev pub is_committed : Option Phase → Bool
-is_committed (Some (phases.Committed c)) = true
-is_committed _ = false
+-- there is a phase, and it is committed
+abbrev pub has_committed : Option Phase → Bool
+has_committed None = false
+has_committed (Some phase) = is_committed phase
 
 -- a run of the observer began, and the state has it as committed
 abbrev pub begins_committed_run : StateOf → ℕ → Step → Answer → Bool
-begins_committed_run state o (Begin (works.Run p row)) (At s) = (p == o) && is_committed (phase_in state s.0)
+begins_committed_run state o (Begin (works.Run p row)) (At s) = (p == o) && has_committed (phase_in state s.0)
 begins_committed_run state o _ _ = false
 
 -- the count by entries that begin such runs

@@ -1,5 +1,20 @@
-//! What every legal journal tells.
+//! What every step keeps, and what every legal journal tells.
+ghost use Rattle.pb_history.specs.Laws.{StepsKeepSound, OpeningIsSound, SoundHasData};
+ghost use Rattle.pb_history.specs.Laws.{JournalsAreSound};
+ghost use Rattle.pb_history.specs.Laws.{CommitsAreOrdered};
 ghost use Rattle.pb_history.specs.Laws.{HistoriesAreTold, ReadsAreTold, RunsAreCounted, RunsAreTold, TimestampsRise};
+
+/// The table is sound as it is opened, and every step keeps it so.
+pub fn steps_keep_sound()
+    ensures step { StepsKeepSound }
+    ensures opening { OpeningIsSound }
+{}
+
+/// Where a lock or a write record stands in a sound table, its data stand; no transaction began above its clock, and that
+/// has 64 bits.
+pub fn sound_has_data()
+    ensures { SoundHasData }
+{}
 
 /// The committed transactions of a legal journal are those of the state that it leads to.
 pub fn histories_are_told()
@@ -26,4 +41,14 @@ pub fn timestamps_rise()
 /// committed.
 pub fn runs_are_counted()
     ensures { RunsAreCounted }
+{}
+
+/// A legal journal leads to a sound table, and so does every beginning of it.
+pub fn journals_are_sound()
+    ensures { JournalsAreSound }
+{}
+
+/// A transaction of a legal journal is committed above its start, and what begins after the answer has it in its snapshot.
+pub fn commits_are_ordered()
+    ensures { CommitsAreOrdered }
 {}

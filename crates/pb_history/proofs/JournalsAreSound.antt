@@ -1,0 +1,27 @@
+-- A legal journal leads to sound states.
+use Rattle.std.proofs.Common.{◌≡◌, ℕ, List, [], ◌∷◌, ◌++◌, sym, subst}
+use Rattle.pb_steps.specs.Observers.{ObserverOf}
+use Rattle.pb_steps.specs.State.{StateOf, opening}
+use Rattle.pb_history.specs.declared.entry.Entry.{Entry}
+use Rattle.pb_history.specs.Journals.{JournalLeads, IsLegal}
+use Rattle.pb_history.specs.Sound.{IsSound}
+use Rattle.pb_history.specs.SoundJournals.{LeadsToSound, TellsSoundness}
+use Rattle.pb_history.proofs.JournalParts.{parted}
+use Rattle.pb_history.proofs.StepsKeepSound.{steps_keep}
+use Rattle.pb_history.proofs.OpeningSound.{opening_sound}
+
+pub run_sound : (old : StateOf) (es : List Entry) (new : StateOf) → IsSound old → JournalLeads old es new → IsSound new
+run_sound old [] new i r = subst IsSound (sym r) i
+run_sound old (e ∷ es) new i r = run_sound r.0 es new (steps_keep old e.seat e.step e.answer r.0 i r.1) r.2
+
+pub legal_sound : (observers : List ObserverOf) (seats clock : ℕ) (journal : List Entry) (state : StateOf) → IsLegal observers seats clock journal state → IsSound state
+legal_sound observers seats clock journal state l = run_sound (opening observers seats clock) journal state (opening_sound observers seats clock l.fits) l.run
+
+beginning : (observers : List ObserverOf) (seats clock : ℕ) (journal : List Entry) (state : StateOf) → IsLegal observers seats clock journal state → (before after : List Entry) → journal ≡ before ++ after → LeadsToSound observers seats clock before
+beginning observers seats clock journal state l before after is =
+    let p = parted (opening observers seats clock) before after state (subst (λ j. JournalLeads (opening observers seats clock) j state) is l.run) in
+    let legal : IsLegal observers seats clock before p.0 = record { fits = l.fits; run = p.1 } in
+    record { state = p.0; legal = legal; sound = legal_sound observers seats clock before p.0 legal }
+
+pub tells_soundness : (observers : List ObserverOf) (seats clock : ℕ) (journal : List Entry) (state : StateOf) → IsLegal observers seats clock journal state → TellsSoundness observers seats clock journal state
+tells_soundness observers seats clock journal state l = record { sound = legal_sound observers seats clock journal state l; beginnings = beginning observers seats clock journal state l }

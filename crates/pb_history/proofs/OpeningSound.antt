@@ -1,0 +1,67 @@
+-- The table as it is opened is sound.
+use Rattle.std.proofs.Common.{◌≡◌, ℕ, ◌<◌, ◌^◌, false, List, [], None, sym, subst, inl, inr}
+use Rattle.std.specs.Ordering.{nat_cmp}
+use Rattle.std.specs.FinMap as map
+use Rattle.std.specs.Prelude.{option_map}
+use Rattle.pb_base.specs.Batch.{content_in, primary_in}
+use Rattle.pb_store.specs.Slot.{slot_cmp}
+use Rattle.pb_store.specs.Contents.{slot_at}
+use Rattle.pb_store.specs.declared.slot.Sort.TheVariants as sorts
+use Rattle.pb_steps.specs.Observers.{ObserverOf}
+use Rattle.pb_steps.specs.State.{TransactionOf, opening, is_in}
+use Rattle.pb_steps.specs.Readings.{data_of, primary_of, start_of}
+use Rattle.pb_history.specs.TableView.{TableView, declared_by, prewritten_by, reads_by, view_of}
+use Rattle.pb_history.specs.Sound.{HasStamp, IsSoundView, IsSound}
+
+empty_view : ℕ → TableView
+empty_view clock = record { clock = clock; phase = λ s. None; content = λ s x. None; primary = λ s. None; prewritten = λ s x. false; reads = λ s. []; lock = λ x s. None; stored = λ x s. None; write = λ x c. None }
+
+view_at_opening : (observers : List ObserverOf) (seats clock : ℕ) → view_of (opening observers seats clock) ≡ empty_view clock
+unfolding empty_view
+view_at_opening observers seats clock i = record {
+  clock = clock;
+  phase = λ s. option_map (λ (t : TransactionOf). t.phase) (map.get-empty nat_cmp s i);
+  content = λ s. content_in (declared_by (map.get-empty nat_cmp s i));
+  primary = λ s. primary_in (declared_by (map.get-empty nat_cmp s i));
+  prewritten = λ s. is_in (prewritten_by (map.get-empty nat_cmp s i));
+  reads = λ s. reads_by (map.get-empty nat_cmp s i);
+  lock = λ x s. primary_of (map.get-empty slot_cmp (slot_at x sorts.Lock s) i);
+  stored = λ x s. data_of (map.get-empty slot_cmp (slot_at x sorts.Data s) i);
+  write = λ x c. start_of (map.get-empty slot_cmp (slot_at x sorts.Write c) i);
+}
+
+no_stamp : (clock s c : ℕ) → HasStamp (empty_view clock) s c → ⊥
+unfolding empty_view
+no_stamp clock s c (inl e) = cc
+no_stamp clock s c (inr e) = cc
+
+holds_empty : (clock : ℕ) → clock < 2 ^ 64 → IsSoundView (empty_view clock)
+unfolding empty_view
+holds_empty clock small = record {
+  small = small;
+  begun = λ s h e. cc;
+  stamped = λ s c e. absurd (no_stamp clock s c e);
+  one_stamp = λ s u c e. absurd (no_stamp clock s c e);
+  was_declared = λ s x e. cc;
+  past_reading = λ s x e. cc;
+  primary_first = λ s x p e. cc;
+  all_prewritten = λ s c x k e. cc;
+  lock_prewritten = λ x s p e. cc;
+  lock_data = λ x s p e. cc;
+  one_lock = λ x s u p q e. cc;
+  all_locked = λ s p x e. cc;
+  record_committed = λ x c s e. cc;
+  record_data = λ x c s e. cc;
+  record_prewritten = λ x c s e. cc;
+  record_unlocked = λ x c s e. cc;
+  behind_lock = λ x s p c u e. cc;
+  apart = λ x c s d u e. cc;
+  stands = λ s c x k e. cc;
+  primary_stands = λ s c p e. cc;
+  read_begun = λ s r e. absurd e;
+  tells = λ s r e. absurd e;
+  settled = λ s r u c k e. absurd e;
+}
+
+pub opening_sound : (observers : List ObserverOf) (seats clock : ℕ) → clock < 2 ^ 64 → IsSound (opening observers seats clock)
+opening_sound observers seats clock small = subst IsSoundView (sym (view_at_opening observers seats clock)) (holds_empty clock small)

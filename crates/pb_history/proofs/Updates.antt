@@ -1,0 +1,139 @@
+-- Functions of a timestamp, and of a cell and a timestamp, changed at one place, and lists with an item more.
+use Rattle.std.proofs.Common.{◌≡◌, ◌≢◌, ℕ, Bool, true, false, cond, ◌⊎◌, ◌&&◌, List, [], ◌∷◌, ◌++◌, Option, Some, None, refl, sym, ap, ◌∙◌, inl, inr}
+use Rattle.std.specs.Prelude.{nat_eq}
+use Rattle.std.specs.Ordering.{is_eq, eq_by_cmp}
+use Rattle.std.specs.Cmp.{Equal-is, tied_itself}
+use Rattle.std.proofs.lemmas.Bool.{eqb-true, eq-eqb}
+use Rattle.pb_base.specs.declared.cell.Cell.{Cell}
+use Rattle.pb_base.specs.Cell.{cell_cmp, cell_cmp_total, cell_cmp-IsAntisymmetric}
+use Rattle.pb_history.specs.History.{Has}
+
+unfoldable pub same_cell : Cell → Cell → Bool
+same_cell x y = eq_by_cmp cell_cmp x y
+
+pub same_cell_is : (x y : Cell) → same_cell x y ≡ true → x ≡ y
+unfolding same_cell
+same_cell_is x y e = cell_cmp-IsAntisymmetric x y ((Equal-is (cell_cmp x y)).0 e)
+
+pub same_cell_itself : (x : Cell) → same_cell x x ≡ true
+unfolding same_cell
+same_cell_itself x = ap is_eq (tied_itself cell_cmp_total x)
+
+abbrev pub at_place : Cell → ℕ → Cell → ℕ → Bool
+at_place y u x s = same_cell y x && nat_eq u s
+
+abbrev pub Apart : Cell → ℕ → Cell → ℕ → Type 0
+Apart y u x s = y ≡ x → u ≡ s → ⊥
+
+and_true : (a b : Bool) → (a && b) ≡ true → (a ≡ true) × (b ≡ true)
+and_true true b e = (refl, e)
+and_true false b e = cc
+
+at_place_is : (y : Cell) (u : ℕ) (x : Cell) (s : ℕ) → at_place y u x s ≡ true → (y ≡ x) × (u ≡ s)
+at_place_is y u x s e = let p = and_true _ _ e in (same_cell_is y x p.0, eqb-true u s p.1)
+
+pub at_place_itself : (x : Cell) (s : ℕ) → at_place x s x s ≡ true
+at_place_itself x s = ap (λ b. b && nat_eq s s) (same_cell_itself x) ∙ eq-eqb s s refl
+
+pub decide : (y : Cell) (u : ℕ) (x : Cell) (s : ℕ) → ((y ≡ x) × (u ≡ s)) ⊎ Apart y u x s
+decide y u x s =
+    elim (at_place y u x s) as (λ b. at_place y u x s ≡ b → ((y ≡ x) × (u ≡ s)) ⊎ Apart y u x s) [
+      | true ↦ λ e. inl (at_place_is y u x s e)
+      | false ↦ λ e. inr (λ p q. let h : at_place y u x s ≡ true = (λ i. at_place (p i) (q i) x s) ∙ at_place_itself x s in cc)
+    ] refl
+
+pub not_true : (b : Bool) → (b ≡ true → ⊥) → b ≡ false
+not_true true h = absurd (h refl)
+not_true false h = refl
+
+pub apart_test : (y : Cell) (u : ℕ) (x : Cell) (s : ℕ) → Apart y u x s → at_place y u x s ≡ false
+apart_test y u x s h = not_true _ (λ e. let p = at_place_is y u x s e in h p.0 p.1)
+
+module _ {A : Type 0} where
+  abbrev pub set2 : (Cell → ℕ → A) → Cell → ℕ → A → Cell → ℕ → A
+  set2 f x s v = λ y u. cond (at_place y u x s) v (f y u)
+
+  pub set2_here : (f : Cell → ℕ → A) (x : Cell) (s : ℕ) (v : A) → set2 f x s v x s ≡ v
+  set2_here f x s v = ap (λ b. cond b v (f x s)) (at_place_itself x s)
+
+  pub set2_there : (f : Cell → ℕ → A) (x : Cell) (s : ℕ) (v : A) (y : Cell) (u : ℕ) → Apart y u x s → set2 f x s v y u ≡ f y u
+  set2_there f x s v y u h = ap (λ b. cond b v (f y u)) (apart_test y u x s h)
+
+  pub placed : (f : Cell → ℕ → Option A) (x : Cell) (s : ℕ) (v : A) (y : Cell) (u : ℕ) (w : A) → cond (at_place y u x s) (Some v) (f y u) ≡ Some w → ((y ≡ x) × (u ≡ s) × (v ≡ w)) ⊎ ((f y u ≡ Some w) × Apart y u x s)
+  placed f x s v y u w e = elim (decide y u x s) [
+    | inl p ↦ inl (p.0, p.1, (let h : cond (at_place y u x s) (Some v) (f y u) ≡ Some v = (λ i. cond (at_place (p.0 i) (p.1 i) x s) (Some v) (f y u)) ∙ ap (λ b. cond b (Some v) (f y u)) (at_place_itself x s) in cc))
+    | inr a ↦ inr (sym (ap (λ b. cond b (Some v) (f y u)) (apart_test y u x s a)) ∙ e, a)
+  ]
+
+  pub cleared : (f : Cell → ℕ → Option A) (x : Cell) (s : ℕ) (y : Cell) (u : ℕ) (w : A) → cond (at_place y u x s) None (f y u) ≡ Some w → (f y u ≡ Some w) × Apart y u x s
+  cleared f x s y u w e = elim (decide y u x s) [
+    | inl p ↦ (let h : cond (at_place y u x s) None (f y u) ≡ None = (λ i. cond (at_place (p.0 i) (p.1 i) x s) None (f y u)) ∙ ap (λ b. cond b None (f y u)) (at_place_itself x s) in cc)
+    | inr a ↦ (sym (ap (λ b. cond b None (f y u)) (apart_test y u x s a)) ∙ e, a)
+  ]
+
+  abbrev pub set1 : (ℕ → A) → ℕ → A → ℕ → A
+  set1 f s v = λ u. cond (nat_eq u s) v (f u)
+
+  pub set1_here : (f : ℕ → A) (s : ℕ) (v : A) → set1 f s v s ≡ v
+  set1_here f s v = ap (λ b. cond b v (f s)) (eq-eqb s s refl)
+
+  pub set1_there : (f : ℕ → A) (s : ℕ) (v : A) (u : ℕ) → (u ≡ s → ⊥) → set1 f s v u ≡ f u
+  set1_there f s v u h = ap (λ b. cond b v (f u)) (not_true _ (λ e. h (eqb-true u s e)))
+
+  -- what stands after a change, at the place or elsewhere
+  pub changed : (f : ℕ → A) (s : ℕ) (v : A) (u : ℕ) (w : A) → cond (nat_eq u s) v (f u) ≡ w → ((u ≡ s) × (v ≡ w)) ⊎ ((f u ≡ w) × (u ≡ s → ⊥))
+  changed f s v u w e =
+      elim (nat_eq u s) as (λ b. nat_eq u s ≡ b → cond b v (f u) ≡ w → ((u ≡ s) × (v ≡ w)) ⊎ ((f u ≡ w) × (u ≡ s → ⊥))) [
+        | true ↦ λ t h. inl (eqb-true u s t, h)
+        | false ↦ λ t h. inr (h, λ p. let q : nat_eq u s ≡ true = eq-eqb u s p in cc)
+      ] refl e
+
+  pub set2_none : (f : Cell → ℕ → Option A) (x : Cell) (s : ℕ) (y : Cell) (u : ℕ) → f y u ≡ None → cond (at_place y u x s) None (f y u) ≡ None
+  set2_none f x s y u e = elim (at_place y u x s) as (λ b. cond b None (f y u) ≡ None) [ true ↦ refl | false ↦ e ]
+
+pub none_if : {A : Type 0} (o : Option A) → ((w : A) → o ≡ Some w → ⊥) → o ≡ None
+none_if None h = refl
+none_if (Some w) h = absurd (h w refl)
+
+pub same_number : (a b : ℕ) → (a ≡ b) ⊎ (a ≢ b)
+same_number a b =
+    elim (nat_eq a b) as (λ t. nat_eq a b ≡ t → (a ≡ b) ⊎ (a ≢ b)) [
+      | true ↦ λ e. inl (eqb-true a b e)
+      | false ↦ λ e. inr (λ p. let q : nat_eq a b ≡ true = eq-eqb a b p in cc)
+    ] refl
+
+pub some_if : {A : Type 0} (o : Option A) → o ≢ None → (w : A) × (o ≡ Some w)
+some_if None h = absurd (h refl)
+some_if (Some w) h = (w, refl)
+
+set1_same_at : {A : Type 0} (f : ℕ → A) (s : ℕ) (v : A) → f s ≡ v → (u : ℕ) → set1 f s v u ≡ f u
+set1_same_at f s v e u = elim (same_number u s) [
+  | inl p ↦ (λ j. set1 f s v (p j)) ∙ set1_here f s v ∙ sym e ∙ ap f (sym p)
+  | inr n ↦ set1_there f s v u n
+]
+
+-- what stands there already
+pub set1_same : {A : Type 0} (f : ℕ → A) (s : ℕ) (v : A) → f s ≡ v → set1 f s v ≡ f
+set1_same f s v e i u = set1_same_at f s v e u i
+
+-- ---- a list with an item more
+
+pub has_front : {A : Type 0} (xs : List A) (y z : A) → Has xs z → Has (xs ++ y ∷ []) z
+has_front [] y z h = absurd h
+has_front (x ∷ xs) y z (inl e) = inl e
+has_front (x ∷ xs) y z (inr h) = inr (has_front xs y z h)
+
+pub has_before : {A : Type 0} (xs ys : List A) (z : A) → Has xs z → Has (xs ++ ys) z
+has_before [] ys z h = absurd h
+has_before (x ∷ xs) ys z (inl e) = inl e
+has_before (x ∷ xs) ys z (inr h) = inr (has_before xs ys z h)
+
+pub has_last : {A : Type 0} (xs : List A) (y : A) → Has (xs ++ y ∷ []) y
+has_last [] y = inl refl
+has_last (x ∷ xs) y = inr (has_last xs y)
+
+pub has_more : {A : Type 0} (xs : List A) (y z : A) → Has (xs ++ y ∷ []) z → (y ≡ z) ⊎ Has xs z
+has_more [] y z (inl e) = inl e
+has_more [] y z (inr h) = absurd h
+has_more (x ∷ xs) y z (inl e) = inr (inl e)
+has_more (x ∷ xs) y z (inr h) = elim (has_more xs y z h) [ inl e ↦ inl e | inr g ↦ inr (inr g) ]

@@ -1,0 +1,97 @@
+-- What holds of the table after every step (OSDI 2010, section 2.2): how transactions, locks, write records and data go
+-- together, and what a recorded read still tells.
+use Rattle.std.specs.Prelude.{◌≡◌, ◌≢◌, ℕ, ◌<◌, ◌≤◌, ◌^◌, ◌⊎◌, true, Some, None, is_some}
+use Rattle.std.specs.FinMap as map
+use Rattle.pb_base.specs.declared.cell.Cell.{Cell}
+use Rattle.pb_base.specs.declared.content.Content.{Content}
+use Rattle.pb_store.specs.Contents.{Entries}
+use Rattle.pb_steps.specs.declared.phase.Phase.{Phase}
+use Rattle.pb_steps.specs.declared.phase.Phase.TheVariants.{Reading, Stamped, Committed}
+use Rattle.pb_steps.specs.declared.seen.RecordedRead.{RecordedRead}
+use Rattle.pb_steps.specs.declared.step.Answer.{Answer}
+use Rattle.pb_steps.specs.declared.step.Answer.TheVariants.{Found, Absent}
+use Rattle.pb_steps.specs.State.{StateOf, TransactionOf}
+use Rattle.pb_steps.specs.Readings.{data_at, lock_at, write_at}
+use Rattle.pb_history.specs.History.{Has}
+use Rattle.pb_history.specs.TableView.{TableView, view_of}
+
+-- the transaction of start s has the commit timestamp c, and isn't committed
+abbrev pub IsStampedAt : TableView → ℕ → ℕ → Type 0
+IsStampedAt v s c = v.phase s ≡ Some (Stamped (record { 0 = c }))
+
+-- it is committed at c
+abbrev pub IsCommittedAt : TableView → ℕ → ℕ → Type 0
+IsCommittedAt v s c = v.phase s ≡ Some (Committed (record { 0 = c }))
+
+-- one of both
+abbrev pub HasStamp : TableView → ℕ → ℕ → Type 0
+HasStamp v s c = IsStampedAt v s c ⊎ IsCommittedAt v s c
+
+-- the write record of its commit c stands on x
+abbrev pub HasRecord : TableView → Cell → ℕ → ℕ → Type 0
+HasRecord v x c s = v.write x c ≡ Some s
+
+-- its lock stands on x
+abbrev pub HasLock : TableView → Cell → ℕ → Type 0
+HasLock v x s = (p : Cell) × (v.lock x s ≡ Some p)
+
+-- the lock on its primary is gone, or not there so far
+abbrev pub LacksPrimary : TableView → ℕ → Type 0
+LacksPrimary v s = (p : Cell) → v.primary s ≡ Some p → v.lock p s ≡ None
+
+-- a read of x in the snapshot at s tells the newest write record of a commit at most s with its data, or that there is none
+abbrev pub ReadTells : TableView → ℕ → Cell → Answer → Type 0
+ReadTells v s x (Found start commit content) = (commit.0 ≤ s) × HasRecord v x commit.0 start.0 × (v.stored x start.0 ≡ Some content) × ((c u : ℕ) → c ≤ s → HasRecord v x c u → c ≤ commit.0)
+ReadTells v s x Absent = (c u : ℕ) → c ≤ s → HasRecord v x c u → ⊥
+ReadTells v s x _ = ⊥
+
+pub record IsSoundView (v : TableView) : Type 0 where
+  -- timestamps: none was given out above the clock, and a commit is above its start and is one transaction's
+  pub small : v.clock < 2 ^ 64
+  pub begun : (s : ℕ) (h : Phase) → v.phase s ≡ Some h → s ≤ v.clock
+  pub stamped : (s c : ℕ) → HasStamp v s c → (s < c) × (c ≤ v.clock)
+  pub one_stamp : (s u c : ℕ) → HasStamp v s c → HasStamp v u c → s ≡ u
+  -- prewritten cells: they were declared, by a transaction that reads no more, the primary first, and all before the stamp
+  pub was_declared : (s : ℕ) (x : Cell) → v.prewritten s x ≡ true → (k : Content) × (v.content s x ≡ Some k)
+  pub past_reading : (s : ℕ) (x : Cell) → v.prewritten s x ≡ true → (v.phase s ≢ Some Reading) × (v.phase s ≢ None)
+  pub primary_first : (s : ℕ) (x p : Cell) → v.prewritten s x ≡ true → v.primary s ≡ Some p → v.prewritten s p ≡ true
+  pub all_prewritten : (s c : ℕ) (x : Cell) (k : Content) → IsStampedAt v s c → v.content s x ≡ Some k → v.prewritten s x ≡ true
+  -- locks: each names its transaction's primary and has its data beside it
+  pub lock_prewritten : (x : Cell) (s : ℕ) (p : Cell) → v.lock x s ≡ Some p → (v.prewritten s x ≡ true) × (v.primary s ≡ Some p)
+  pub lock_data : (x : Cell) (s : ℕ) (p : Cell) → v.lock x s ≡ Some p → v.stored x s ≡ v.content s x
+  -- a cell has one lock at most
+  pub one_lock : (x : Cell) (s u : ℕ) (p q : Cell) → v.lock x s ≡ Some p → v.lock x u ≡ Some q → s ≡ u
+  -- while the primary is locked, all that was prewritten is
+  pub all_locked : (s : ℕ) (p x : Cell) → v.primary s ≡ Some p → v.lock p s ≡ Some p → v.prewritten s x ≡ true → v.lock x s ≡ Some p
+  -- write records: each is a committed transaction's, with its commit and its data, on a cell that it prewrote and where
+  -- its lock is gone
+  pub record_committed : (x : Cell) (c s : ℕ) → HasRecord v x c s → IsCommittedAt v s c
+  pub record_data : (x : Cell) (c s : ℕ) → HasRecord v x c s → v.stored x s ≡ v.content s x
+  pub record_prewritten : (x : Cell) (c s : ℕ) → HasRecord v x c s → v.prewritten s x ≡ true
+  pub record_unlocked : (x : Cell) (c s : ℕ) → HasRecord v x c s → v.lock x s ≡ None
+  -- a locked cell has no write record at or after the start of the lock
+  pub behind_lock : (x : Cell) (s : ℕ) (p : Cell) (c u : ℕ) → v.lock x s ≡ Some p → HasRecord v x c u → c < s
+  -- of two transactions with write records on one cell, one was committed before the other began
+  pub apart : (x : Cell) (c s d u : ℕ) → HasRecord v x c s → HasRecord v x d u → s ≢ u → (c < u) ⊎ (d < s)
+  -- committed transactions: on each declared cell the write record stands or the lock, on the primary the write record
+  pub stands : (s c : ℕ) (x : Cell) (k : Content) → IsCommittedAt v s c → v.content s x ≡ Some k → HasRecord v x c s ⊎ HasLock v x s
+  pub primary_stands : (s c : ℕ) (p : Cell) → IsCommittedAt v s c → v.primary s ≡ Some p → HasRecord v p c s
+  -- recorded reads: each still tells the newest write record of its snapshot
+  pub read_begun : (s : ℕ) (r : RecordedRead) → Has (v.reads s) r → s ≤ v.clock
+  pub tells : (s : ℕ) (r : RecordedRead) → Has (v.reads s) r → ReadTells v s r.cell r.answer
+  -- and whoever writes the cell with a commit in that snapshot has its write record there, or never will be committed
+  pub settled : (s : ℕ) (r : RecordedRead) (u c : ℕ) (k : Content) → Has (v.reads s) r → HasStamp v u c → c ≤ s → v.content u r.cell ≡ Some k → HasRecord v r.cell c u ⊎ ((IsCommittedAt v u c → ⊥) × LacksPrimary v u)
+
+abbrev pub IsSound : StateOf → Type 0
+IsSound state = IsSoundView (view_of state)
+
+-- where a lock or a write record of a start stands, its data stand
+pub record HasData (e : Entries) : Type 0 where
+  pub locked : (x : Cell) (s : ℕ) (p : Cell) → lock_at e x s ≡ Some p → is_some (data_at e x s) ≡ true
+  pub written : (x : Cell) (c s : ℕ) → write_at e x c ≡ Some s → is_some (data_at e x s) ≡ true
+
+-- what a sound state is known to have: the data of what stands, starts up to its clock, and a clock of 64 bits
+pub record KeepsData (state : StateOf) : Type 0 where
+  pub whole : HasData state.entries
+  pub begun : (s : ℕ) (t : TransactionOf) → map.get state.transactions s ≡ Some t → s ≤ state.clock
+  pub fits : state.clock < 2 ^ 64

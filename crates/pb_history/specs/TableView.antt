@@ -1,0 +1,53 @@
+-- The state of the table as functions: of a start, what its transaction is, and of a cell and a timestamp, what stands
+-- there.
+use Rattle.std.specs.Prelude.{ℕ, Bool, List, [], Option, Some, None}
+use Rattle.std.specs.FinMap as map
+use Rattle.pb_base.specs.declared.cell.Cell.{Cell}
+use Rattle.pb_base.specs.declared.content.Content.{Content}
+use Rattle.pb_base.specs.Batch.{Writes, content_in, primary_in}
+use Rattle.pb_steps.specs.declared.phase.Phase.{Phase}
+use Rattle.pb_steps.specs.declared.seen.RecordedRead.{RecordedRead}
+use Rattle.pb_steps.specs.State.{StateOf, TransactionOf, phase_in, is_in}
+use Rattle.pb_steps.specs.Readings.{data_at, lock_at, write_at}
+
+pub record TableView : Type 0 where
+  -- the last timestamp given out
+  pub clock : ℕ
+  -- how far the transaction of a start has come, what it declared to write to a cell, its primary, whether it prewrote a
+  -- cell, and what it read
+  pub phase : ℕ → Option Phase
+  pub content : ℕ → Cell → Option Content
+  pub primary : ℕ → Option Cell
+  pub prewritten : ℕ → Cell → Bool
+  pub reads : ℕ → List RecordedRead
+  -- the primary named by the lock of a start on a cell, the data of a start there, and the start named by the write record
+  -- of a commit
+  pub lock : Cell → ℕ → Option Cell
+  pub stored : Cell → ℕ → Option Content
+  pub write : Cell → ℕ → Option ℕ
+
+-- what a transaction declared, prewrote and read, and nothing where there is none
+abbrev pub declared_by : Option TransactionOf → Writes
+declared_by None = []
+declared_by (Some t) = t.declared
+
+abbrev pub prewritten_by : Option TransactionOf → List Cell
+prewritten_by None = []
+prewritten_by (Some t) = t.prewritten
+
+abbrev pub reads_by : Option TransactionOf → List RecordedRead
+reads_by None = []
+reads_by (Some t) = t.reads
+
+abbrev pub view_of : StateOf → TableView
+view_of state = record {
+  clock = state.clock;
+  phase = phase_in state;
+  content = λ s. content_in (declared_by (map.get state.transactions s));
+  primary = λ s. primary_in (declared_by (map.get state.transactions s));
+  prewritten = λ s. is_in (prewritten_by (map.get state.transactions s));
+  reads = λ s. reads_by (map.get state.transactions s);
+  lock = lock_at state.entries;
+  stored = data_at state.entries;
+  write = write_at state.entries;
+}
