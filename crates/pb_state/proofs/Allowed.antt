@@ -1,6 +1,6 @@
 -- What holds where a step isn't refused.
 use Rattle.std.proofs.Common.{◌≡◌, ℕ, Bool, true, false, cond, not, ◌||◌, [], ◌∷◌, Option, Some, None, refl, sym, ap, ◌∙◌}
-use Rattle.std.specs.Prelude.{is_none, ◌==◌}
+use Rattle.std.specs.Prelude.{is_none, is_some, ◌==◌}
 use Rattle.std.specs.FinMap as map
 use Rattle.std.proofs.lemmas.Bool.{eqb-true}
 use Rattle.pb_base.specs.declared.cell.Cell.{Cell}
@@ -11,10 +11,10 @@ use Rattle.pb_base.specs.declared.names.Ts.{Ts}
 use Rattle.pb_base.specs.Batch.{Writes, content_in, primary_in}
 use Rattle.pb_steps.specs.declared.step.Work.{Work}
 use Rattle.pb_steps.specs.declared.step.Declared.{Declared}
-use Rattle.pb_steps.specs.declared.step.Step.TheVariants.{Begin, Read, Declare, Prewrite, Stamp, CommitPrimary}
+use Rattle.pb_steps.specs.declared.step.Step.TheVariants.{Begin, Read, Declare, Prewrite, Stamp, CommitPrimary, CommitSecondary}
 use Rattle.pb_steps.specs.declared.phase.Phase.{Phase}
 use Rattle.pb_steps.specs.declared.phase.Phase.TheVariants as phases
-use Rattle.pb_steps.specs.Phases.{is_reading, is_declared, is_stamped}
+use Rattle.pb_steps.specs.Phases.{is_reading, is_declared, is_stamped, is_committed}
 use Rattle.pb_steps.specs.State.{StateOf, TransactionOf, is_in}
 use Rattle.pb_steps.specs.Declarations.{is_its}
 use Rattle.pb_steps.specs.Reasons.{Reasons, IsOwn, if_of_seat, own_transaction, own_reasons, no_seat, is_out, reasons_of, first_reason}
@@ -24,6 +24,7 @@ use Rattle.pb_steps.specs.Declare.{declare_reasons}
 use Rattle.pb_steps.specs.Prewrite.{prewrite_reasons, is_early}
 use Rattle.pb_steps.specs.Stamp.{is_whole, unstamped_reasons}
 use Rattle.pb_steps.specs.CommitPrimary.{commit_reasons}
+use Rattle.pb_steps.specs.CommitSecondary.{secondary_reasons}
 use Rattle.pb_steps.specs.Steps.{step_reason}
 
 none_first : (r : Reason) (b : Bool) (rs : Reasons) → first_reason ((r, b) ∷ rs) ≡ None → (b ≡ false) × (first_reason rs ≡ None)
@@ -146,3 +147,31 @@ may_commit s seat start e =
     let o = owned s seat start.0 commit_reasons e in
     let p = stamp_in o.0.phase (not_false _ (none_first WrongPhase (not (is_stamped o.0.phase)) [] o.2).0) in
     (o.0, o.1, p.0, p.1)
+
+commit_in : (h : Phase) → is_committed h ≡ true → (c : Ts) × (h ≡ phases.Committed c)
+commit_in phases.Reading e = cc
+commit_in phases.Declared e = cc
+commit_in (phases.Stamped c) e = cc
+commit_in (phases.Committed c) e = (c, refl)
+commit_in phases.Failed e = cc
+
+not_none : {A : Type 0} (o : Option A) → is_none o ≡ false → is_some o ≡ true
+not_none None e = cc
+not_none (Some x) e = refl
+
+-- what a `CommitSecondary` finds
+pub record MayCommitSecondary (s : StateOf) (seat start : ℕ) (x : Cell) : Type 0 where
+  pub t : TransactionOf
+  pub own : IsOwn s seat start t
+  pub c : Ts
+  pub committed : t.phase ≡ phases.Committed c
+  pub declares : is_some (content_in t.declared x) ≡ true
+
+pub may_commit_secondary : (s : StateOf) (seat : ℕ) (start : Ts) (x : Cell) → step_reason s seat (CommitSecondary start x) ≡ None → MayCommitSecondary s seat start.0 x
+may_commit_secondary s seat start x e =
+    let o = owned s seat start.0 (secondary_reasons x) e in
+    let undeclared = is_none (content_in o.0.declared x) in
+    let a = none_first WrongPhase (not (is_committed o.0.phase)) ((NotDeclared, undeclared) ∷ []) o.2 in
+    let b = none_first NotDeclared undeclared [] a.1 in
+    let p = commit_in o.0.phase (not_false _ a.0) in
+    record { t = o.0; own = o.1; c = p.0; committed = p.1; declares = not_none _ b.0 }

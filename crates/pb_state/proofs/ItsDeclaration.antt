@@ -2,14 +2,14 @@
 use Rattle.std.proofs.Common.{◌≡◌, ℕ, Bool, true, false, cond, ◌&&◌, List, [], ◌∷◌, Option, Some, None, slice_get, refl, sym, ap}
 use Rattle.std.specs.Prelude.{◌==◌, nat_lt}
 use Rattle.std.specs.Ordering.{eq_by_cmp}
-use Rattle.std.specs.Cmp.{Equal-is}
 use Rattle.std.proofs.lemmas.Bool.{eqb-true, ltb-true}
 use Rattle.pb_base.specs.declared.cell.Cell.{Cell}
 use Rattle.pb_base.specs.declared.names.Row.{Row}
 use Rattle.pb_base.specs.declared.names.Ts.{Ts}
 use Rattle.pb_base.specs.declared.content.Version.{Version}
 use Rattle.pb_base.specs.declared.content.Content.TheVariants as contents
-use Rattle.pb_base.specs.Cell.{cell_cmp, cell_cmp-IsAntisymmetric}
+use Rattle.pb_base.specs.Cell.{cell_cmp}
+use Rattle.pb_state.proofs.SameCells.{same_cell}
 use Rattle.pb_base.specs.Same.{same, same_is}
 use Rattle.pb_vm.specs.Finished.{Meant, meant_code}
 use Rattle.pb_steps.specs.declared.seen.RecordedRead.{RecordedRead}
@@ -27,9 +27,6 @@ use Rattle.pb_steps.specs.Declarations.{WasSeen, IsItsRun, MayDeclare, seen_by, 
 both : (a b : Bool) → (a && b) ≡ true → (a ≡ true) × (b ≡ true)
 both true b e = (refl, e)
 both false b e = cc
-
-same_cell : (y x : Cell) → eq_by_cmp cell_cmp y x ≡ true → y ≡ x
-same_cell y x e = cell_cmp-IsAntisymmetric y x ((Equal-is (cell_cmp y x)).0 e)
 
 told_by : (v : Option Version) (a : Answer) (seen : Seen) → seen_by v a ≡ Some seen → (v ≡ Some seen.version) × (seen.acknowledged ≡ acknowledged_in a)
 told_by None a seen e = cc

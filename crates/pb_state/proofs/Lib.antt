@@ -1,13 +1,12 @@
 pub mod Taking
 pub mod Rising
 pub mod Outcomes
-pub mod Keeping
 pub mod Newest
 pub mod Allowed
 pub mod NewState
 pub mod ItsDeclaration
 pub mod ReadsTaken
 mod Walking
-mod Whole
 mod ObserversByNumber
 mod Runs
+mod SameCells

@@ -15,3 +15,11 @@ module _ (table table' : TableOf) (observers : List ObserverOf) (clock seats : �
   -- entries and one transaction changed
   pub new_state : (old : StateOf) → parts_as_state table observers clock seats ts ≡ old → After old
   new_state old is = subst After is (λ i. record { entries = (tables i).entries; marks = (tables i).marks; observers = observers; clock = clock; seats = seats; transactions = put i })
+
+module _ (table table' : TableOf) (observers : List ObserverOf) (clock seats : ℕ) (ts : Transactions) (f : Entries → Entries) (tables : table'.contents ≡ record table.contents { entries = f table.contents.entries }) where
+  abbrev AfterEntries : StateOf → Type 0
+  AfterEntries old = parts_as_state table' observers clock seats ts ≡ record old { entries = f old.entries }
+
+  -- entries alone changed
+  pub new_entries : (old : StateOf) → parts_as_state table observers clock seats ts ≡ old → AfterEntries old
+  new_entries old is = subst AfterEntries is (λ i. record { entries = (tables i).entries; marks = (tables i).marks; observers = observers; clock = clock; seats = seats; transactions = ts })

@@ -1,12 +1,14 @@
 //! A transaction begins.
 ghost use Rattle.std.specs.Prelude.{◌≡◌, IfOk, OnErr, None};
+ghost use Rattle.pb_history.specs.Sound.{IsSound};
 ghost use Rattle.pb_steps.specs.Begin.{begin_reasons, is_unknown};
 ghost use Rattle.pb_steps.specs.Reasons.{first_reason};
 ghost use Rattle.pb_steps.specs.Steps.{step_reason, TableStep};
 
-use crate::state::State;
+use crate::parts::Parts;
 use crate::transaction::Transaction;
 use pb_base::{NoMemory, Reason, Ts};
+use pb_history::sound_has_data;
 use pb_steps::{Answer, Observer, Step, Work};
 use pb_store::Tablet;
 
@@ -20,7 +22,7 @@ fn is_unknown(observers: &[Observer], work: Work) -> bool
     }
 }
 
-impl<T: Tablet> State<T> {
+impl<T: Tablet> Parts<T> {
     pub(crate) fn begin_reason(&self, seat: u32, work: Work) -> Option<Reason>
         ensures { result ≡ first_reason (begin_reasons self.now seat work) }
     {
@@ -37,10 +39,13 @@ impl<T: Tablet> State<T> {
     }
 
     pub(crate) fn begin(&mut self, seat: u32, work: Work) -> Result<Answer, NoMemory>
-        requires { step_reason self.old seat (Step.Begin work) ≡ None }
+        requires sound { IsSound self.old }
+        requires allowed { step_reason self.old seat (Step.Begin work) ≡ None }
         ensures taken { IfOk result (λ a. TableStep self.old seat (Step.Begin work) a self.new) }
         ensures same { OnErr result (self.new ≡ self.old) }
     {
+        // For the proof: no transaction began above the clock.
+        sound_has_data();
         let start = self.clock + 1;
         let transaction = Transaction::new(self.alloc, seat, work);
         self.transactions.add(Ts(start), transaction)?;

@@ -1,18 +1,19 @@
 //! The primary's lock is replaced by its write record.
 ghost use Rattle.std.specs.Prelude.{◌≡◌, IfOk, OnErr, None};
 ghost use Rattle.pb_store.specs.Contents.{Contents, AreEdits, after_edits};
-ghost use Rattle.pb_steps.specs.CommitPrimary.{commit_reasons, commit_lock};
+ghost use Rattle.pb_steps.specs.Commits.{commit_lock};
+ghost use Rattle.pb_steps.specs.CommitPrimary.{commit_reasons};
 ghost use Rattle.pb_steps.specs.Reasons.{own_reasons, first_reason};
 ghost use Rattle.pb_steps.specs.Steps.{step_reason, TableStep};
 
+use crate::parts::Parts;
 use crate::readings::{has_lock, slot_of};
-use crate::state::State;
 use pb_base::{Cell, NoMemory, Reason, Ts};
 use pb_steps::{Answer, Phase, Step};
 use pb_store::{Edit, Item, Sort, Tablet};
 
 // Replaces the lock of a start on a cell by its write record.
-fn commit_edits(cell: &Cell, start: Ts, commit: Ts) -> [Edit; 2]
+pub(crate) fn commit_edits(cell: &Cell, start: Ts, commit: Ts) -> [Edit; 2]
     ensures edits { AreEdits result }
     ensures committed { (c : Contents) → after_edits result c ≡ record c { entries = commit_lock c.entries cell.now start.0 commit.0 } }
 {
@@ -21,7 +22,7 @@ fn commit_edits(cell: &Cell, start: Ts, commit: Ts) -> [Edit; 2]
     [Edit::Erase(lock), Edit::Put(record, Item::Write(start))]
 }
 
-impl<T: Tablet> State<T> {
+impl<T: Tablet> Parts<T> {
     pub(crate) fn commit_reason(&self, seat: u32, start: Ts) -> Option<Reason>
         ensures { result ≡ first_reason (own_reasons self.now seat start.0 commit_reasons) }
     {

@@ -5,12 +5,12 @@ ghost use Rattle.pb_steps.specs.Reasons.{own_reasons, first_reason};
 ghost use Rattle.pb_steps.specs.Steps.{step_reason, TableStep};
 
 use crate::observed::{cells_of, is_its};
-use crate::state::State;
+use crate::parts::Parts;
 use pb_base::{NoMemory, Reason, Ts};
 use pb_steps::{Answer, Declaration, Declared, Step};
 use pb_store::Tablet;
 
-impl<T: Tablet> State<T> {
+impl<T: Tablet> Parts<T> {
     pub(crate) fn declare_reason(&self, seat: u32, start: Ts, what: &Declared) -> Option<Reason>
         ensures { result ≡ first_reason (own_reasons self.now seat start.0 (declare_reasons self.now.observers start.0 what.now)) }
     {

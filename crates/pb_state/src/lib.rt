@@ -3,12 +3,16 @@
 
 mod begin;
 mod cells;
+mod clear;
 mod commit_primary;
+mod commit_secondary;
 mod declare;
 mod observed;
+mod parts;
 mod prewrite;
 mod read;
 mod readings;
+mod settle;
 mod stamp;
 mod state;
 mod transaction;

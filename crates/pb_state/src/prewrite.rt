@@ -5,8 +5,8 @@ ghost use Rattle.pb_steps.specs.Prewrite.{prewrite_reasons, put_lock};
 ghost use Rattle.pb_steps.specs.Reasons.{own_reasons, first_reason};
 ghost use Rattle.pb_steps.specs.Steps.{step_reason, TableStep};
 
+use crate::parts::Parts;
 use crate::readings::{is_taken, slot_of};
-use crate::state::State;
 use pb_base::{Cell, Content, NoMemory, Reason, Ts};
 use pb_steps::{Answer, Phase, Step};
 use pb_store::{Edit, Item, Sort, Tablet};
@@ -24,7 +24,7 @@ fn lock_edits(cell: &Cell, start: Ts, content: Content, primary: Cell) -> [Edit;
     ]
 }
 
-impl<T: Tablet> State<T> {
+impl<T: Tablet> Parts<T> {
     pub(crate) fn prewrite_reason(&self, seat: u32, start: Ts, cell: &Cell) -> Option<Reason>
         ensures { result ≡ first_reason (own_reasons self.now seat start.0 (prewrite_reasons cell.now)) }
     {

@@ -1,16 +1,18 @@
 //! A read in a transaction's snapshot.
 ghost use Rattle.std.specs.Prelude.{◌≡◌, IfOk, OnErr, None};
+ghost use Rattle.pb_history.specs.Sound.{IsSound};
 ghost use Rattle.pb_steps.specs.Read.{read_reasons};
 ghost use Rattle.pb_steps.specs.Reasons.{own_reasons, first_reason};
 ghost use Rattle.pb_steps.specs.Steps.{step_reason, TableStep};
 
+use crate::parts::Parts;
 use crate::readings::{lock_on, version_of};
-use crate::state::State;
 use pb_base::{Cell, NoMemory, Reason, Ts};
+use pb_history::sound_has_data;
 use pb_steps::{Answer, Step};
 use pb_store::Tablet;
 
-impl<T: Tablet> State<T> {
+impl<T: Tablet> Parts<T> {
     pub(crate) fn read_reason(&self, seat: u32, start: Ts) -> Option<Reason>
         ensures { result ≡ first_reason (own_reasons self.now seat start.0 read_reasons) }
     {
@@ -24,10 +26,13 @@ impl<T: Tablet> State<T> {
     }
 
     pub(crate) fn read(&mut self, seat: u32, start: Ts, cell: &Cell) -> Result<Answer, NoMemory>
-        requires { step_reason self.old seat (Step.Read start cell.now) ≡ None }
+        requires sound { IsSound self.old }
+        requires allowed { step_reason self.old seat (Step.Read start cell.now) ≡ None }
         ensures taken { IfOk result (λ a. TableStep self.old seat (Step.Read start cell.now) a self.new) }
         ensures same { OnErr result (self.new ≡ self.old) }
     {
+        // For the proof: a write record's data stand.
+        sound_has_data();
         if let Some((lock, primary)) = lock_on(&self.table, cell, start) {
             return Ok(Answer::Locked {
                 start: lock,

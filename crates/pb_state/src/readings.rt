@@ -1,9 +1,10 @@
 //! What stands in a table, as transactions see it.
-ghost use Rattle.std.specs.Prelude.{◌≡◌, ◌<◌, ◌^◌, ◌⊎◌, is_some, MatchBool, MatchOption};
+ghost use Rattle.std.specs.Prelude.{◌≡◌, ◌<◌, ◌^◌, ◌⊎◌, is_some, Some, MatchBool, MatchOption};
 ghost use Rattle.std.specs.FinMap as map;
 ghost use Rattle.pb_store.specs.Contents.{slot_at};
-ghost use Rattle.pb_steps.specs.Readings.{SomeLock, SomeWriteFrom, NoLock, NoWriteFrom, IsLockUpTo, IsVersion, NoVersion, lock_at, lock_count, is_lock, data_of};
-ghost use Rattle.pb_state.specs.Keeping.{HasData};
+ghost use Rattle.pb_steps.specs.Readings.{SomeLock, SomeWriteFrom, NoLock, NoWriteFrom, IsLockUpTo, IsLockOn, IsVersion, NoVersion, lock_at, write_at, lock_count, is_lock, data_of};
+ghost use Rattle.pb_steps.specs.Clear.{NoWriteOf};
+ghost use Rattle.pb_history.specs.Sound.{HasData};
 
 use pb_base::{Cell, Content, Ts, Version};
 use pb_store::{Item, Slot, Sort, Table, Tablet};
@@ -56,6 +57,33 @@ pub(crate) fn version_of<T: Tablet>(table: &Table<T>, cell: &Cell, high: Ts) -> 
         commit,
         content,
     })
+}
+
+// The newest lock that stands on the cell, with its primary.
+pub(crate) fn any_lock_on<T: Tablet>(table: &Table<T>, cell: &Cell) -> Option<(Ts, Cell)>
+    ensures { MatchOption result (NoLock table.now.contents.entries cell.now) (λ l. IsLockOn table.now.contents.entries cell.now l.0.0 l.1) }
+{
+    match table.newest(*cell, Sort::Lock, LAST) {
+        Some((start, Item::Lock(primary))) => Some((start, primary)),
+        _ => None,
+    }
+}
+
+// The commit of the write record of this start on the cell: the last timestamp below which none is looked for falls.
+pub(crate) fn commit_of<T: Tablet>(table: &Table<T>, cell: &Cell, start: Ts) -> Option<Ts>
+    ensures { MatchOption result (NoWriteOf table.now.contents.entries cell.now start.0) (λ c. write_at table.now.contents.entries cell.now c.0 ≡ Some start.0) }
+{
+    let mut high = LAST;
+    while let Some((commit, Item::Write(named))) = table.newest(*cell, Sort::Write, high) {
+        if named == start {
+            return Some(commit);
+        }
+        if commit.0 == 0 {
+            return None;
+        }
+        high = Ts(commit.0 - 1);
+    }
+    None
 }
 
 // Whether a lock stands on the cell, or a write record of this timestamp or later.

@@ -4,12 +4,12 @@ ghost use Rattle.pb_steps.specs.Stamp.{stamp_reasons};
 ghost use Rattle.pb_steps.specs.Reasons.{first_reason};
 ghost use Rattle.pb_steps.specs.Steps.{step_reason, TableStep};
 
-use crate::state::State;
+use crate::parts::Parts;
 use pb_base::{Reason, Ts};
 use pb_steps::{Answer, Phase, Step};
 use pb_store::Tablet;
 
-impl<T: Tablet> State<T> {
+impl<T: Tablet> Parts<T> {
     pub(crate) fn stamp_reason(&self, seat: u32, start: Ts) -> Option<Reason>
         ensures { result ≡ first_reason (stamp_reasons self.now seat start.0) }
     {

@@ -1,10 +1,11 @@
 //! The state of the shared table, and the steps that it takes.
 ghost use Rattle.std.specs.Prelude.{◌≡◌};
 
+use crate::parts::Parts;
 use crate::readings::{count_locks, count_marks};
-use crate::transaction::Transaction;
 use crate::transactions::Transactions;
 use pb_base::{MAX_OBSERVERS, MAX_SEATS, NoMemory, Reason, Refusal, Ts};
+use pb_history::steps_keep_sound;
 use pb_steps::{Answer, Observer, Phase, Step};
 use pb_store::{Table, Tablet};
 use std::alloc::Global;
@@ -15,12 +16,7 @@ use std::marker::Model;
 ///
 /// A state ends by `close` alone.
 pub struct State<T: Tablet> {
-    pub(crate) alloc: Global,
-    pub(crate) table: Table<T>,
-    pub(crate) observers: Vec<Observer>,
-    pub(crate) clock: u64,
-    pub(crate) seats: u32,
-    pub(crate) transactions: Transactions,
+    parts: Parts<T>,
 }
 
 impl<T: Tablet> Model for State<T> {
@@ -30,22 +26,20 @@ impl<T: Tablet> Model for State<T> {
 
     ghost coded = { state_code };
 
-    ghost use Rattle.pb_state.specs.Keeping.{parts_as_state, StateKeeps, IsOfSize};
+    ghost use Rattle.pb_history.specs.Sound.{IsSound};
 
-    ghost view = { λ s. parts_as_state s.table s.observers.items s.clock s.seats s.transactions };
+    ghost view = { λ s. s.parts };
 
-    ghost invariant = { λ s. StateKeeps s.table.contents.entries s.clock s.transactions × IsOfSize s.observers.items s.seats };
+    ghost invariant = { λ s. IsSound s.parts };
 }
 
 impl<T: Tablet> State<T> {
     ghost use Rattle.std.specs.Prelude.{◌≤◌, ◌<◌, ◌^◌, OnErr, IfOk, None, Some, option_map, length};
     ghost use Rattle.std.specs.FinMap as map;
-    ghost use Rattle.std.specs.Option.{option_copied};
     ghost use Rattle.pb_base.specs.Reasons.{refusal_by};
     ghost use Rattle.pb_store.specs.Contents.{nothing};
     ghost use Rattle.pb_steps.specs.State.{opening, phase_in};
     ghost use Rattle.pb_steps.specs.Readings.{lock_count};
-    ghost use Rattle.pb_steps.specs.Reasons.{own_transaction};
     ghost use Rattle.pb_steps.specs.Steps.{step_reason, TableStep};
 
     /// A state over an empty table, with seats numbered from 0 and the last timestamp given out.
@@ -62,13 +56,18 @@ impl<T: Tablet> State<T> {
         requires numbered { length observers.items ≤ MAX_OBSERVERS }
         ensures { result ≡ opening observers.items seats last.0 }
     {
+        // For the proof: the state is sound as it is opened.
+        steps_keep_sound();
+        let Ts(clock) = last;
         State {
-            alloc,
-            table,
-            observers,
-            clock: last.0,
-            seats,
-            transactions: Transactions::new(alloc),
+            parts: Parts {
+                alloc,
+                table,
+                observers,
+                clock,
+                seats,
+                transactions: Transactions::new(alloc),
+            },
         }
     }
 
@@ -76,7 +75,7 @@ impl<T: Tablet> State<T> {
     pub fn clock(&self) -> Ts
         ensures { result.0 ≡ self.now.clock }
     {
-        Ts(self.clock)
+        Ts(self.parts.clock)
     }
 
     /// The observers, by their numbers.
@@ -84,7 +83,7 @@ impl<T: Tablet> State<T> {
         ensures observers { result.now ≡ self.now.observers }
         ensures few { length result.now ≤ MAX_OBSERVERS }
     {
-        &self.observers
+        &self.parts.observers
     }
 
     /// How many seats there are.
@@ -93,14 +92,14 @@ impl<T: Tablet> State<T> {
         ensures some { 1 ≤ result }
         ensures few { result ≤ MAX_SEATS }
     {
-        self.seats
+        self.parts.seats
     }
 
     /// How far the transaction of this start has come.
     pub fn phase(&self, start: Ts) -> Option<Phase>
         ensures { result ≡ phase_in self.now start.0 }
     {
-        match self.transactions.get(start) {
+        match self.parts.transactions.get(start) {
             Some(transaction) => Some(transaction.phase()),
             None => None,
         }
@@ -111,7 +110,7 @@ impl<T: Tablet> State<T> {
         ensures entries { result.now.contents.entries ≡ self.now.entries }
         ensures marks { result.now.contents.marks ≡ self.now.marks }
     {
-        &self.table
+        &self.parts.table
     }
 
     /// How many locks stand in the table. It asks for a table whose entries can be counted.
@@ -119,7 +118,7 @@ impl<T: Tablet> State<T> {
         requires { map.len self.now.entries < 2 ^ 64 }
         ensures { result ≡ lock_count self.now.entries }
     {
-        count_locks(&self.table)
+        count_locks(&self.parts.table)
     }
 
     /// How many cells are marked. It asks for a table whose marks can be counted.
@@ -127,7 +126,7 @@ impl<T: Tablet> State<T> {
         requires { map.len self.now.marks < 2 ^ 64 }
         ensures { result ≡ map.len self.now.marks }
     {
-        count_marks(&self.table)
+        count_marks(&self.parts.table)
     }
 
     /// The lowest of the numbers 40 to 43 and 45 to 47 that a step is refused with, if one applies.
@@ -144,33 +143,7 @@ impl<T: Tablet> State<T> {
     pub fn reason(&self, seat: u32, step: &Step) -> Option<Reason>
         ensures { result ≡ step_reason self.now seat step.now }
     {
-        match step {
-            Step::Begin(work) => self.begin_reason(seat, *work),
-            Step::Read(start, _) => self.read_reason(seat, *start),
-            Step::Declare(start, what) => self.declare_reason(seat, *start, what.get()),
-            Step::Prewrite(start, cell) => self.prewrite_reason(seat, *start, cell),
-            Step::Stamp(start) => self.stamp_reason(seat, *start),
-            Step::CommitPrimary(start) => self.commit_reason(seat, *start),
-        }
-    }
-
-    // The transaction of this start, if the table has this seat and it is one of it.
-    pub(crate) fn own(&self, seat: u32, start: Ts) -> Option<&Transaction>
-        ensures { option_copied result ≡ own_transaction self.now seat start.0 }
-    {
-        if seat >= self.seats {
-            return None;
-        }
-        match self.transactions.get(start) {
-            Some(transaction) => {
-                if transaction.seat() == seat {
-                    Some(transaction)
-                } else {
-                    None
-                }
-            }
-            None => None,
-        }
+        self.parts.reason(seat, step)
     }
 
     /// Takes a step that isn't refused. A commit of a primary answers `Lost` where its lock is gone.
@@ -179,26 +152,22 @@ impl<T: Tablet> State<T> {
         ensures taken { IfOk result (λ a. TableStep self.old seat step.now a self.new) }
         ensures same { OnErr result (self.new ≡ self.old) }
     {
-        match step {
-            Step::Begin(work) => self.begin(seat, *work),
-            Step::Read(start, cell) => self.read(seat, *start, cell),
-            Step::Declare(start, what) => self.declare(seat, *start, what),
-            Step::Prewrite(start, cell) => self.prewrite(seat, *start, cell),
-            Step::Stamp(start) => Ok(self.stamp(seat, *start)),
-            Step::CommitPrimary(start) => self.commit_primary(seat, *start),
-        }
+        // For the proof: every step keeps the table sound.
+        steps_keep_sound();
+        self.parts.take(seat, step)
     }
 
     /// Ends the table, with all that is in it.
     pub fn close(self) {
-        let State {
+        let State { parts } = self;
+        let Parts {
             alloc: _,
             table,
             observers: _,
             clock: _,
             seats: _,
             transactions: _,
-        } = self;
+        } = parts;
         table.close();
     }
 }

@@ -1,15 +1,11 @@
-use Rattle.std.proofs.Common.{◌≡◌, None, ap, ◌∙◌}
-use Rattle.std.specs.Ordering.{nat_cmp}
-use Rattle.std.specs.FinMap as map
-use Rattle.pb_store.specs.Contents.{Contents}
-use Rattle.pb_state.proofs.Whole.{whole_nothing}
+use Rattle.std.proofs.Common.{◌≡◌, sym, subst, rules}
+use Rattle.pb_steps.specs.State.{opening}
+use Rattle.pb_history.specs.Sound.{IsSound}
+use Rattle.pb_state.specs.Keeping.{parts_as_state}
 use Rattle.pb_state.proofs.state.State.new.Goals as goal
 
-pub invariant_of-result : goal.invariant_of-result
-invariant_of-result g c = (
-  record {
-    begun = λ s t is. let none : map.get c.new.result s ≡ None = ap (λ m. map.get m s) c.new.ensures ∙ map.get-empty nat_cmp s in absurd cc;
-    whole = whole_nothing _ (ap (λ (d : Contents). d.entries) c.requires.empty);
-  },
-  record { some = c.requires.some; few = c.requires.few; numbered = c.requires.numbered },
-)
+pub invariant_of-result-2 : goal.invariant_of-result-2
+invariant_of-result-2 g c =
+    let opened : parts_as_state c.args.table c.args.observers.items c.args.last.0 c.args.seats c.new.result ≡ opening c.args.observers.items c.args.seats c.args.last.0 =
+    λ i. record { entries = (c.requires.empty i).entries; marks = (c.requires.empty i).marks; observers = c.args.observers.items; clock = c.args.last.0; seats = c.args.seats; transactions = c.new.ensures i } in
+    subst IsSound (sym opened) (c.steps_keep_sound.ensures.opening c.args.observers.items c.args.seats c.args.last.0 (search rules))

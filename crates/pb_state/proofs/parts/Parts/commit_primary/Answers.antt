@@ -1,4 +1,4 @@
-use Rattle.std.proofs.Common.{◌≡◌, Some, refl, arith, sym, ap, ◌∙◌}
+use Rattle.std.proofs.Common.{◌≡◌, Some, refl, sym, ap, ◌∙◌}
 use Rattle.std.specs.FinMap as map
 use Rattle.pb_base.specs.Batch.{primary_in}
 use Rattle.pb_steps.specs.declared.phase.Phase.TheVariants as phases
@@ -6,24 +6,9 @@ use Rattle.pb_steps.specs.State.{StateOf}
 use Rattle.pb_state.proofs.Allowed.{may_commit}
 use Rattle.std.specs.Prelude.{is_some}
 use Rattle.pb_steps.specs.Readings.{lock_at}
-use Rattle.pb_steps.specs.CommitPrimary.{commit_lock}
+use Rattle.pb_steps.specs.Commits.{commit_lock}
 use Rattle.pb_state.proofs.NewState.{new_state}
-use Rattle.pb_store.specs.Contents.{Contents}
-use Rattle.pb_state.proofs.Whole.{whole_committed}
-use Rattle.pb_state.proofs.Keeping.{kept_change}
-use Rattle.pb_state.proofs.state.State.commit_primary.Goals as goal
-
-pub invariant_of-self : goal.invariant_of-self
-invariant_of-self g c =
-    let may = may_commit c.args.self.now c.args.seat c.args.start c.requires in
-    let held = ap (λ (s : StateOf). map.get s.transactions c.args.start.0) c.self.view_is ∙ may.1.there in
-    (kept_change c.self.inside.table.contents.entries _ c.self.inside.clock _ c.args.start.0 c.self.inside.transactions _ may.0 _ c.self.invariant.0 held (omega arith) (c.set_phase.ensures may.0 held) c.self.invariant.0.whole, c.self.invariant.1)
-
-pub invariant_of-self-2 : goal.invariant_of-self-2
-invariant_of-self-2 g c =
-    let may = may_commit c.args.self.now c.args.seat c.args.start c.requires in
-    let held = ap (λ (s : StateOf). map.get s.transactions c.args.start.0) c.self.view_is ∙ may.1.there in
-    (kept_change c.self.inside.table.contents.entries _ c.self.inside.clock _ c.args.start.0 c.self.inside.transactions _ may.0 _ c.self.invariant.0 held (omega arith) (c.set_phase-2.ensures may.0 held) (whole_committed c.self.inside.table.contents.entries _ c.in-Some-primary.primary c.args.start.0 c.in-Stamped.commit.0 c.self.invariant.0.whole (sym c.has_lock.ensures ∙ c.if-not-has_lock.false) (ap (λ (d : Contents). d.entries) (c.in_ok-apply.ensures.ok ∙ c.commit_edits.ensures.committed c.self.inside.table.contents))), c.self.invariant.1)
+use Rattle.pb_state.proofs.parts.Parts.commit_primary.Goals as goal
 
 pub returns-clause-taken : goal.returns-clause-taken
 returns-clause-taken g c =

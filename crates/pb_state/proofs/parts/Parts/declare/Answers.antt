@@ -1,4 +1,4 @@
-use Rattle.std.proofs.Common.{◌≡◌, Some, refl, arith, ap, ◌∙◌}
+use Rattle.std.proofs.Common.{◌≡◌, Some, refl, ap, ◌∙◌}
 use Rattle.std.specs.FinMap as map
 use Rattle.pb_steps.specs.declared.phase.Phase.TheVariants as phases
 use Rattle.pb_steps.specs.State.{StateOf, TransactionOf, cells_of}
@@ -6,14 +6,7 @@ use Rattle.pb_state.specs.Cells.{cells_in}
 use Rattle.pb_state.proofs.NewState.{new_state}
 use Rattle.pb_state.proofs.ItsDeclaration.{may_be_its}
 use Rattle.pb_state.proofs.Allowed.{may_declare}
-use Rattle.pb_state.proofs.Keeping.{kept_change}
-use Rattle.pb_state.proofs.state.State.declare.Goals as goal
-
-pub invariant_of-self : goal.invariant_of-self
-invariant_of-self g c =
-    let may = may_declare c.args.self.now c.args.seat c.args.start c.args.what.now c.requires in
-    let held = ap (λ (s : StateOf). map.get s.transactions c.args.start.0) c.self.view_is ∙ may.own.there in
-    (kept_change c.self.inside.table.contents.entries _ c.self.inside.clock _ c.args.start.0 c.self.inside.transactions _ may.t _ c.self.invariant.0 held (omega arith) (c.declare.ensures may.t held) c.self.invariant.0.whole, c.self.invariant.1)
+use Rattle.pb_state.proofs.parts.Parts.declare.Goals as goal
 
 pub returns-clause-taken : goal.returns-clause-taken
 returns-clause-taken g c =

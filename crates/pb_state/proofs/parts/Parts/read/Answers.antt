@@ -1,30 +1,23 @@
-use Rattle.std.proofs.Common.{◌≡◌, refl, arith, ap, subst, ◌∙◌}
+use Rattle.std.proofs.Common.{◌≡◌, refl, ap, subst, ◌∙◌}
 use Rattle.std.specs.FinMap as map
 use Rattle.pb_steps.specs.State.{StateOf}
 use Rattle.pb_state.proofs.Allowed.{may_read}
-use Rattle.pb_state.proofs.Keeping.{kept_change}
 use Rattle.pb_steps.specs.Readings.{NoLockUpTo, IsVersion, NoVersion}
 use Rattle.pb_state.proofs.NewState.{new_state}
 use Rattle.pb_state.proofs.ReadsTaken.{found, absent}
-use Rattle.pb_state.proofs.state.State.read.Goals as goal
-use Rattle.pb_state.proofs.state.State.read.Goals.{in-Some-version_of, in-None}
-
-pub invariant_of-self-2 : goal.invariant_of-self-2
-invariant_of-self-2 g c =
-    let may = may_read c.args.self.now c.args.seat c.args.start c.args.cell.now c.requires in
-    let held = ap (λ (s : StateOf). map.get s.transactions c.args.start.0) c.self.view_is ∙ may.1.there in
-    (kept_change c.self.inside.table.contents.entries _ c.self.inside.clock _ c.args.start.0 c.self.inside.transactions _ may.0 _ c.self.invariant.0 held (omega arith) (c.in_ok-record_read.ensures.ok may.0 held) c.self.invariant.0.whole, c.self.invariant.1)
+use Rattle.pb_state.proofs.parts.Parts.read.Goals as goal
+use Rattle.pb_state.proofs.parts.Parts.read.Goals.{in-Some-version_of, in-None}
 
 pub returns-clause-taken : goal.returns-clause-taken
 returns-clause-taken g c =
-    let may = may_read c.args.self.now c.args.seat c.args.start c.args.cell.now c.requires in
+    let may = may_read c.args.self.now c.args.seat c.args.start c.args.cell.now c.requires.allowed in
     let held = ap (λ (s : StateOf). map.get s.transactions c.args.start.0) c.self.view_is ∙ may.1.there in
     let put = new_state c.self.inside.table c.self.inside.table c.self.inside.observers.items c.self.inside.clock c.self.inside.seats c.self.inside.transactions c.record_read.new.self c.args.start.0 _ (λ m. m) refl (c.in_ok-record_read.ensures.ok may.0 held) c.args.self.now c.self.view_is in
     let e : c.self.inside.table.contents.entries ≡ c.args.self.now.entries = ap (λ (s : StateOf). s.entries) c.self.view_is in
     let unlocked = subst (λ m. NoLockUpTo m c.args.cell.now c.args.start.0) e c.in_default.ensures in
     elim c.match-version_of.branch [
-      | in-Some-version_of w ↦ found c.args.self.now _ c.args.seat c.args.start c.args.cell.now may.0 c.requires may.1 may.2 unlocked c.match-version_of.answer put
+      | in-Some-version_of w ↦ found c.args.self.now _ c.args.seat c.args.start c.args.cell.now may.0 c.requires.allowed may.1 may.2 unlocked c.match-version_of.answer put
           w.in-Some-version_of.version w.answer-is (subst (λ m. IsVersion m c.args.cell.now c.args.start.0 w.in-Some-version_of.version) e w.in-Some-version_of.ensures)
-      | in-None w ↦ absent c.args.self.now _ c.args.seat c.args.start c.args.cell.now may.0 c.requires may.1 may.2 unlocked c.match-version_of.answer put
+      | in-None w ↦ absent c.args.self.now _ c.args.seat c.args.start c.args.cell.now may.0 c.requires.allowed may.1 may.2 unlocked c.match-version_of.answer put
           w.answer-is (subst (λ m. NoVersion m c.args.cell.now c.args.start.0) e w.in-None.ensures)
     ]

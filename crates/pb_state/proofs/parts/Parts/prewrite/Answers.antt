@@ -1,4 +1,4 @@
-use Rattle.std.proofs.Common.{◌≡◌, Bool, true, false, Some, arith, ap, subst, ◌∙◌}
+use Rattle.std.proofs.Common.{◌≡◌, Bool, true, false, Some, ap, subst, ◌∙◌}
 use Rattle.std.specs.FinMap as map
 use Rattle.std.specs.Bool.{MatchBool}
 use Rattle.pb_base.specs.Batch.{content_in, primary_in}
@@ -7,22 +7,7 @@ use Rattle.pb_steps.specs.Readings.{NoLock, NoWriteFrom}
 use Rattle.pb_steps.specs.Prewrite.{put_lock}
 use Rattle.pb_state.proofs.NewState.{new_state}
 use Rattle.pb_state.proofs.Allowed.{may_prewrite}
-use Rattle.pb_store.specs.Contents.{Contents}
-use Rattle.pb_state.proofs.Whole.{whole_locked}
-use Rattle.pb_state.proofs.Keeping.{kept_change}
-use Rattle.pb_state.proofs.state.State.prewrite.Goals as goal
-
-pub invariant_of-self : goal.invariant_of-self
-invariant_of-self g c =
-    let may = may_prewrite c.args.self.now c.args.seat c.args.start c.args.cell.now c.requires in
-    let held = ap (λ (s : StateOf). map.get s.transactions c.args.start.0) c.self.view_is ∙ may.own.there in
-    (kept_change c.self.inside.table.contents.entries _ c.self.inside.clock _ c.args.start.0 c.self.inside.transactions _ may.t _ c.self.invariant.0 held (omega arith) (c.set_phase.ensures may.t held) c.self.invariant.0.whole, c.self.invariant.1)
-
-pub invariant_of-self-2 : goal.invariant_of-self-2
-invariant_of-self-2 g c =
-    let may = may_prewrite c.args.self.now c.args.seat c.args.start c.args.cell.now c.requires in
-    let held = ap (λ (s : StateOf). map.get s.transactions c.args.start.0) c.self.view_is ∙ may.own.there in
-    (kept_change c.self.inside.table.contents.entries _ c.self.inside.clock _ c.args.start.0 c.self.inside.transactions _ may.t _ c.self.invariant.0 held (omega arith) (c.in_ok-prewrite.ensures.ok may.t held) (whole_locked c.self.inside.table.contents.entries _ c.args.cell.now c.in-Some-primary.primary c.in-Some-content.content c.args.start.0 c.self.invariant.0.whole (ap (λ (d : Contents). d.entries) (c.in_ok-prewrite.ensures.applied ∙ c.lock_edits-edits.ensures.lock c.self.inside.table.contents))), c.self.invariant.1)
+use Rattle.pb_state.proofs.parts.Parts.prewrite.Goals as goal
 
 free_if : (b : Bool) (P Q : Type 0) → MatchBool b P Q → b ≡ false → Q
 free_if true P Q h e = cc
