@@ -16,3 +16,4 @@ pub mod SoundHasData
 pub mod JournalParts
 pub mod JournalsAreSound
 pub mod CommitsAreOrdered
+pub mod SnapshotsTold

@@ -39,7 +39,8 @@ HasLock v x s = (p : Cell) × (v.lock x s ≡ Some p)
 abbrev pub LacksPrimary : TableView → ℕ → Type 0
 LacksPrimary v s = (p : Cell) → v.primary s ≡ Some p → v.lock p s ≡ None
 
--- a read of x in the snapshot at s tells the newest write record of a commit at most s with its data, or that there is none
+-- a read of x in the snapshot at s tells the newest write record of a commit at most s with its data, or that there is
+-- none
 abbrev pub ReadTells : TableView → ℕ → Cell → Answer → Type 0
 ReadTells v s x (Found start commit content) = (commit.0 ≤ s) × HasRecord v x commit.0 start.0 × (v.stored x start.0 ≡ Some content) × ((c u : ℕ) → c ≤ s → HasRecord v x c u → c ≤ commit.0)
 ReadTells v s x Absent = (c u : ℕ) → c ≤ s → HasRecord v x c u → ⊥
@@ -51,7 +52,8 @@ pub record IsSoundView (v : TableView) : Type 0 where
   pub begun : (s : ℕ) (h : Phase) → v.phase s ≡ Some h → s ≤ v.clock
   pub stamped : (s c : ℕ) → HasStamp v s c → (s < c) × (c ≤ v.clock)
   pub one_stamp : (s u c : ℕ) → HasStamp v s c → HasStamp v u c → s ≡ u
-  -- prewritten cells: they were declared, by a transaction that reads no more, the primary first, and all before the stamp
+  -- prewritten cells: they were declared, by a transaction that reads no more, the primary first, and all before the
+  -- stamp
   pub was_declared : (s : ℕ) (x : Cell) → v.prewritten s x ≡ true → (k : Content) × (v.content s x ≡ Some k)
   pub past_reading : (s : ℕ) (x : Cell) → v.prewritten s x ≡ true → (v.phase s ≢ Some Reading) × (v.phase s ≢ None)
   pub primary_first : (s : ℕ) (x p : Cell) → v.prewritten s x ≡ true → v.primary s ≡ Some p → v.prewritten s p ≡ true
@@ -63,8 +65,8 @@ pub record IsSoundView (v : TableView) : Type 0 where
   pub one_lock : (x : Cell) (s u : ℕ) (p q : Cell) → v.lock x s ≡ Some p → v.lock x u ≡ Some q → s ≡ u
   -- while the primary is locked, all that was prewritten is
   pub all_locked : (s : ℕ) (p x : Cell) → v.primary s ≡ Some p → v.lock p s ≡ Some p → v.prewritten s x ≡ true → v.lock x s ≡ Some p
-  -- write records: each is a committed transaction's, with its commit and its data, on a cell that it prewrote and where
-  -- its lock is gone
+  -- write records: each is a committed transaction's, with its commit and its data, on a cell that it prewrote and
+  -- where its lock is gone
   pub record_committed : (x : Cell) (c s : ℕ) → HasRecord v x c s → IsCommittedAt v s c
   pub record_data : (x : Cell) (c s : ℕ) → HasRecord v x c s → v.stored x s ≡ v.content s x
   pub record_prewritten : (x : Cell) (c s : ℕ) → HasRecord v x c s → v.prewritten s x ≡ true
