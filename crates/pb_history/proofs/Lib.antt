@@ -17,3 +17,4 @@ pub mod JournalParts
 pub mod JournalsAreSound
 pub mod CommitsAreOrdered
 pub mod SnapshotsTold
+pub mod TransactionsTold

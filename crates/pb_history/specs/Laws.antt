@@ -18,6 +18,7 @@ use Rattle.pb_history.specs.SnapshotsTold.{TellsSnapshots}
 use Rattle.pb_history.specs.WritersTold.{TellsWriters}
 use Rattle.pb_history.specs.ScriptsTold.{TellsScripts}
 use Rattle.pb_history.specs.RecordsTold.{TellsRecords}
+use Rattle.pb_history.specs.TransactionsTold.{TellsTransactions}
 use Rattle.pb_history.specs.RunCounts.{TellsRunCounts}
 
 abbrev pub StepsKeepSound : Type 0
@@ -61,3 +62,6 @@ ScriptsWriteBatches = (observers : List ObserverOf) (seats clock : ℕ) (journal
 
 abbrev pub RecordsAreTold : Type 0
 RecordsAreTold = (observers : List ObserverOf) (seats clock : ℕ) (journal : List Entry) (state : StateOf) → IsLegal observers seats clock journal state → TellsRecords journal state
+
+abbrev pub TransactionsAreTold : Type 0
+TransactionsAreTold = (observers : List ObserverOf) (seats clock : ℕ) (journal : List Entry) (state : StateOf) → IsLegal observers seats clock journal state → TellsTransactions journal state

@@ -13,4 +13,5 @@ pub mod SnapshotsTold
 pub mod WritersTold
 pub mod ScriptsTold
 pub mod RecordsTold
+pub mod TransactionsTold
 pub mod Laws

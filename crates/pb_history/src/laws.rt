@@ -1,5 +1,6 @@
 //! What every step keeps, and what every legal journal tells.
 ghost use Rattle.pb_history.specs.Laws.{StepsKeepSound, OpeningIsSound, SoundHasData, JournalsAreSound};
+ghost use Rattle.pb_history.specs.Laws.{TransactionsAreTold};
 ghost use Rattle.pb_history.specs.Laws.{HistoriesAreTold, ReadsAreTold, RunsAreCounted, RunsAreTold, ScriptsWriteBatches};
 ghost use Rattle.pb_history.specs.Laws.{TimestampsRise, CommitsAreOrdered, ReadsTellSnapshots, WritersAreApart, RecordsAreTold};
 
@@ -72,4 +73,9 @@ pub fn scripts_write_batches()
 /// isn't committed has a write record nowhere.
 pub fn records_are_told()
     ensures { RecordsAreTold }
+{}
+
+/// What the table has of a transaction follows from the entries of a legal journal that name its start.
+pub fn transactions_are_told()
+    ensures { TransactionsAreTold }
 {}
