@@ -18,3 +18,4 @@ pub mod JournalsAreSound
 pub mod CommitsAreOrdered
 pub mod SnapshotsTold
 pub mod TransactionsTold
+pub mod ScriptsTold

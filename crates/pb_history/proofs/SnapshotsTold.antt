@@ -1,22 +1,16 @@
 -- The committed transactions of a legal journal are a history of snapshots.
-use Rattle.std.proofs.Common.{◌≡◌, ◌≢◌, ℕ, ◌<◌, ◌≤◌, ◌⊎◌, inl, inr, false, true, List, Option, Some, None, refl, sym, ap, subst, ◌∙◌, arith}
+use Rattle.std.proofs.Common.{◌≡◌, ◌≢◌, ℕ, ◌<◌, ◌≤◌, ◌⊎◌, inl, inr, List, Option, Some, None, refl, sym, ap, subst, ◌∙◌, arith}
 use Rattle.std.specs.Prelude.{option_map}
 use Rattle.pb_base.specs.declared.cell.Cell.{Cell}
 use Rattle.pb_base.specs.declared.content.Content.{Content}
 use Rattle.pb_base.specs.declared.names.Ts.{Ts}
-use Rattle.pb_base.specs.Batch.{content_in, is_batch}
+use Rattle.pb_base.specs.Batch.{content_in}
 use Rattle.pb_steps.specs.declared.phase.Phase.{Phase}
-use Rattle.pb_steps.specs.declared.seen.RecordedRead.{RecordedRead}
-use Rattle.pb_steps.specs.declared.step.Work.TheVariants as works
-use Rattle.pb_steps.specs.declared.step.Declared.{Declared}
-use Rattle.pb_steps.specs.declared.step.Declared.TheVariants as declared
 use Rattle.pb_steps.specs.declared.step.Step.TheVariants.{Read}
 use Rattle.pb_steps.specs.declared.step.Answer.{Answer}
 use Rattle.pb_steps.specs.declared.step.Answer.TheVariants.{Found, Absent}
 use Rattle.pb_steps.specs.Observers.{ObserverOf}
-use Rattle.pb_steps.specs.Phases.{is_reading}
-use Rattle.pb_steps.specs.Declarations.{IsKnown, MayDeclare}
-use Rattle.pb_steps.specs.State.{StateOf, TransactionOf, cells_of}
+use Rattle.pb_steps.specs.State.{StateOf, TransactionOf}
 use Rattle.pb_steps.specs.Readings.{lock_at, write_at}
 use Rattle.pb_history.specs.declared.entry.Entry.{Entry}
 use Rattle.pb_history.specs.Journals.{IsLegal}
@@ -25,7 +19,6 @@ use Rattle.pb_history.specs.TableView.{declared_by, reads_by, view_of}
 use Rattle.pb_history.specs.Sound.{IsSound}
 use Rattle.pb_history.specs.SnapshotsTold.{TellsSnapshot, TellsSnapshots}
 use Rattle.pb_history.specs.WritersTold.{AreApart, TellsWriters}
-use Rattle.pb_history.specs.ScriptsTold.{TellsScripts}
 use Rattle.pb_history.specs.RecordsTold.{WroteAt, TellsRecords}
 use Rattle.pb_history.proofs.Agreement.{read_of, Agrees}
 use Rattle.pb_history.proofs.StepsAgree.{legal_agrees}
@@ -117,30 +110,12 @@ module _ (journal : List Entry) (state : StateOf) (a : Agrees journal state) (i 
   read_tells seat s x Absent e = let told = a.told _ e in absent_at s.0 x (subst (λ o. Has (reads_by o) (read_of s.0 x Absent)) (sym told.1) told.2)
   read_tells seat s x _ e = tt
 
-  -- ---- scripts
-
-  batch_of : (reads : List RecordedRead) (s : ℕ) (what : Declared) → MayDeclare state.observers works.Script s reads what → IsKnown what → is_batch (cells_of state.observers works.Script s what) ≡ true
-  batch_of reads s (declared.Script batch) may known = known
-  batch_of reads s (declared.Run o f) may known = absurd may
-
-  script_writes : (m : Member) → InHistory state.observers journal m → m.work ≡ works.Script → is_batch m.writes ≡ true
-  script_writes m h script =
-      let k = is_committed journal state a m h in
-      let past : is_reading k.t.phase ≡ false = ap is_reading k.phase in
-      let d = (a.logged m.start k.t k.there).declared past in
-      let work : k.t.work ≡ works.Script = sym k.work ∙ script in
-      let writes : m.writes ≡ cells_of state.observers works.Script m.start d.0 = k.writes ∙ d.2 ∙ ap (λ w. cells_of state.observers w m.start d.0) work in
-      ap is_batch writes ∙ batch_of k.t.reads m.start d.0 (subst (λ w. MayDeclare state.observers w m.start k.t.reads d.0) work d.4) d.3
-
 module _ (observers : List ObserverOf) (seats clock : ℕ) (journal : List Entry) (state : StateOf) (l : IsLegal observers seats clock journal state) where
   pub tells_snapshots : TellsSnapshots journal state
   tells_snapshots = record { read = read_tells journal state (legal_agrees observers seats clock journal state l) (legal_sound observers seats clock journal state l) }
 
   pub tells_writers : TellsWriters journal state
   tells_writers = record { apart = apart journal state (legal_agrees observers seats clock journal state l) (legal_sound observers seats clock journal state l) }
-
-  pub tells_scripts : TellsScripts journal state
-  tells_scripts = record { batch = script_writes journal state (legal_agrees observers seats clock journal state l) (legal_sound observers seats clock journal state l) }
 
   pub tells_records : TellsRecords journal state
   tells_records = records journal state (legal_agrees observers seats clock journal state l) (legal_sound observers seats clock journal state l)

@@ -1,4 +1,4 @@
-use Rattle.pb_history.proofs.SnapshotsTold.{tells_scripts}
+use Rattle.pb_history.proofs.ScriptsTold.{tells_scripts}
 use Rattle.pb_history.proofs.laws.scripts_write_batches.Goals as goal
 
 pub returns : goal.returns
