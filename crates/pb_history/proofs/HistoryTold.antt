@@ -43,7 +43,7 @@ module _ (journal : List Entry) (state : StateOf) (a : Agrees journal state) whe
         writes = h.writes_are ∙ ap (λ w. cells_of state.observers w m.start h.what) work ∙ sym d.3 ∙ ap (λ (t : TransactionOf). t.declared) (one o c.0 d.0 c.1 d.1);
       }
 
-  is_member : (m : Member) → IsCommitted state m → InHistory state.observers journal m
+  pub is_member : (m : Member) → IsCommitted state m → InHistory state.observers journal m
   is_member m h =
       let l = a.logged m.start h.t h.there in
       let past : is_reading h.t.phase ≡ false = ap is_reading h.phase in

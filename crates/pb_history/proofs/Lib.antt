@@ -16,3 +16,6 @@ pub mod SoundHasData
 pub mod JournalParts
 pub mod JournalsAreSound
 pub mod CommitsAreOrdered
+pub mod SnapshotsTold
+pub mod TransactionsTold
+pub mod ScriptsTold

@@ -12,8 +12,8 @@ use Rattle.pb_history.specs.History.{IsEntry, Member, InHistory}
 abbrev pub commit_entry : Member → Entry
 commit_entry m = record { seat = m.seat; step = CommitPrimary (record { 0 = m.start }); answer = Committed }
 
--- A commit is above its start, and what begins after a transaction was answered `Committed` begins above its commit, and so
--- has it in its snapshot.
+-- A commit is above its start, and what begins after a transaction was answered `Committed` begins above its commit,
+-- and so has it in its snapshot.
 pub record TellsCommitOrder (journal : List Entry) (state : StateOf) : Type 0 where
   pub above : (m : Member) → InHistory state.observers journal m → m.start < m.commit
   pub seen : (m : Member) → InHistory state.observers journal m → (before after : List Entry) → journal ≡ before ++ commit_entry m ∷ after → (seat : ℕ) (work : Work) (s : Ts) → IsEntry after seat (Begin work) (At s) → m.commit < s.0

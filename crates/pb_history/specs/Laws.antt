@@ -14,6 +14,11 @@ use Rattle.pb_history.specs.RunsTold.{TellsRuns}
 use Rattle.pb_history.specs.Timestamps.{TellsTimestamps}
 use Rattle.pb_history.specs.SoundJournals.{TellsSoundness}
 use Rattle.pb_history.specs.CommitOrder.{TellsCommitOrder}
+use Rattle.pb_history.specs.SnapshotsTold.{TellsSnapshots}
+use Rattle.pb_history.specs.WritersTold.{TellsWriters}
+use Rattle.pb_history.specs.ScriptsTold.{TellsScripts}
+use Rattle.pb_history.specs.RecordsTold.{TellsRecords}
+use Rattle.pb_history.specs.TransactionsTold.{TellsTransactions}
 use Rattle.pb_history.specs.RunCounts.{TellsRunCounts}
 
 abbrev pub StepsKeepSound : Type 0
@@ -45,3 +50,18 @@ JournalsAreSound = (observers : List ObserverOf) (seats clock : ℕ) (journal : 
 
 abbrev pub CommitsAreOrdered : Type 0
 CommitsAreOrdered = (observers : List ObserverOf) (seats clock : ℕ) (journal : List Entry) (state : StateOf) → IsLegal observers seats clock journal state → TellsCommitOrder journal state
+
+abbrev pub ReadsTellSnapshots : Type 0
+ReadsTellSnapshots = (observers : List ObserverOf) (seats clock : ℕ) (journal : List Entry) (state : StateOf) → IsLegal observers seats clock journal state → TellsSnapshots journal state
+
+abbrev pub WritersAreApart : Type 0
+WritersAreApart = (observers : List ObserverOf) (seats clock : ℕ) (journal : List Entry) (state : StateOf) → IsLegal observers seats clock journal state → TellsWriters journal state
+
+abbrev pub ScriptsWriteBatches : Type 0
+ScriptsWriteBatches = (observers : List ObserverOf) (seats clock : ℕ) (journal : List Entry) (state : StateOf) → IsLegal observers seats clock journal state → TellsScripts journal state
+
+abbrev pub RecordsAreTold : Type 0
+RecordsAreTold = (observers : List ObserverOf) (seats clock : ℕ) (journal : List Entry) (state : StateOf) → IsLegal observers seats clock journal state → TellsRecords journal state
+
+abbrev pub TransactionsAreTold : Type 0
+TransactionsAreTold = (observers : List ObserverOf) (seats clock : ℕ) (journal : List Entry) (state : StateOf) → IsLegal observers seats clock journal state → TellsTransactions journal state

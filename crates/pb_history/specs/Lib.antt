@@ -9,4 +9,9 @@ pub mod Timestamps
 pub mod RunCounts
 pub mod SoundJournals
 pub mod CommitOrder
+pub mod SnapshotsTold
+pub mod WritersTold
+pub mod ScriptsTold
+pub mod RecordsTold
+pub mod TransactionsTold
 pub mod Laws

@@ -15,8 +15,8 @@ use Rattle.pb_steps.specs.Reads.{found_answer, acknowledged_in}
 use Rattle.pb_history.specs.declared.entry.Entry.{Entry}
 use Rattle.pb_history.specs.History.{IsEntry, Member, InHistory}
 
--- A committed run of an observer on a row: it found its cell newer than its acknowledgment, and wrote its acknowledgment,
--- with its start as the stamp, and then what its program means on the record of what it read.
+-- A committed run of an observer on a row: it found its cell newer than its acknowledgment, and wrote its
+-- acknowledgment, with its start as the stamp, and then what its program means on the record of what it read.
 pub record IsObserverRun (observers : List ObserverOf) (journal : List Entry) (m : Member) (o : ℕ) (row : Row) : Type 0 where
   pub observer : ObserverOf
   pub observer_is : slice_get observers o ≡ Some observer

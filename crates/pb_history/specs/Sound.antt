@@ -27,59 +27,84 @@ IsCommittedAt v s c = v.phase s ≡ Some (Committed (record { 0 = c }))
 abbrev pub HasStamp : TableView → ℕ → ℕ → Type 0
 HasStamp v s c = IsStampedAt v s c ⊎ IsCommittedAt v s c
 
--- the write record of its commit c stands on x
+-- the write record of commit c stands on x, and names start s
 abbrev pub HasRecord : TableView → Cell → ℕ → ℕ → Type 0
 HasRecord v x c s = v.write x c ≡ Some s
 
--- its lock stands on x
+-- the lock of s stands on x
 abbrev pub HasLock : TableView → Cell → ℕ → Type 0
 HasLock v x s = (p : Cell) × (v.lock x s ≡ Some p)
 
--- the lock on its primary is gone, or not there so far
+-- no lock of s stands on its primary
 abbrev pub LacksPrimary : TableView → ℕ → Type 0
 LacksPrimary v s = (p : Cell) → v.primary s ≡ Some p → v.lock p s ≡ None
 
--- a read of x in the snapshot at s tells the newest write record of a commit at most s with its data, or that there is none
+-- a read of x in the snapshot at s tells the newest write record of a commit at most s with its data, or that there is
+-- none
 abbrev pub ReadTells : TableView → ℕ → Cell → Answer → Type 0
 ReadTells v s x (Found start commit content) = (commit.0 ≤ s) × HasRecord v x commit.0 start.0 × (v.stored x start.0 ≡ Some content) × ((c u : ℕ) → c ≤ s → HasRecord v x c u → c ≤ commit.0)
 ReadTells v s x Absent = (c u : ℕ) → c ≤ s → HasRecord v x c u → ⊥
 ReadTells v s x _ = ⊥
 
 pub record IsSoundView (v : TableView) : Type 0 where
-  -- timestamps: none was given out above the clock, and a commit is above its start and is one transaction's
+  -- ---- timestamps
+
+  -- the clock has 64 bits
   pub small : v.clock < 2 ^ 64
+  -- no transaction began above the clock
   pub begun : (s : ℕ) (h : Phase) → v.phase s ≡ Some h → s ≤ v.clock
+  -- a commit is above its start and at most the clock
   pub stamped : (s c : ℕ) → HasStamp v s c → (s < c) × (c ≤ v.clock)
+  -- and is one transaction's
   pub one_stamp : (s u c : ℕ) → HasStamp v s c → HasStamp v u c → s ≡ u
-  -- prewritten cells: they were declared, by a transaction that reads no more, the primary first, and all before the stamp
+  -- ---- prewritten cells
+
+  -- what is prewritten was declared
   pub was_declared : (s : ℕ) (x : Cell) → v.prewritten s x ≡ true → (k : Content) × (v.content s x ≡ Some k)
+  -- by a transaction that reads no more
   pub past_reading : (s : ℕ) (x : Cell) → v.prewritten s x ≡ true → (v.phase s ≢ Some Reading) × (v.phase s ≢ None)
+  -- the primary comes before the other cells
   pub primary_first : (s : ℕ) (x p : Cell) → v.prewritten s x ≡ true → v.primary s ≡ Some p → v.prewritten s p ≡ true
+  -- a stamped transaction has prewritten all that it declared
   pub all_prewritten : (s c : ℕ) (x : Cell) (k : Content) → IsStampedAt v s c → v.content s x ≡ Some k → v.prewritten s x ≡ true
-  -- locks: each names its transaction's primary and has its data beside it
+  -- ---- locks
+
+  -- a lock stands on a prewritten cell, and names its transaction's primary
   pub lock_prewritten : (x : Cell) (s : ℕ) (p : Cell) → v.lock x s ≡ Some p → (v.prewritten s x ≡ true) × (v.primary s ≡ Some p)
+  -- beside it stands what its transaction declared to write
   pub lock_data : (x : Cell) (s : ℕ) (p : Cell) → v.lock x s ≡ Some p → v.stored x s ≡ v.content s x
   -- a cell has one lock at most
   pub one_lock : (x : Cell) (s u : ℕ) (p q : Cell) → v.lock x s ≡ Some p → v.lock x u ≡ Some q → s ≡ u
-  -- while the primary is locked, all that was prewritten is
+  -- while the lock of the primary stands, those on all cells that were prewritten do
   pub all_locked : (s : ℕ) (p x : Cell) → v.primary s ≡ Some p → v.lock p s ≡ Some p → v.prewritten s x ≡ true → v.lock x s ≡ Some p
-  -- write records: each is a committed transaction's, with its commit and its data, on a cell that it prewrote and where
-  -- its lock is gone
+  -- ---- write records
+
+  -- a write record is one of a committed transaction, at its commit
   pub record_committed : (x : Cell) (c s : ℕ) → HasRecord v x c s → IsCommittedAt v s c
-  pub record_data : (x : Cell) (c s : ℕ) → HasRecord v x c s → v.stored x s ≡ v.content s x
+  -- which prewrote the cell
   pub record_prewritten : (x : Cell) (c s : ℕ) → HasRecord v x c s → v.prewritten s x ≡ true
+  -- the data of that start are what its transaction declared to write
+  pub record_data : (x : Cell) (c s : ℕ) → HasRecord v x c s → v.stored x s ≡ v.content s x
+  -- and its lock is gone
   pub record_unlocked : (x : Cell) (c s : ℕ) → HasRecord v x c s → v.lock x s ≡ None
-  -- a locked cell has no write record at or after the start of the lock
+  -- the write records of a locked cell are of commits below the start of its lock
   pub behind_lock : (x : Cell) (s : ℕ) (p : Cell) (c u : ℕ) → v.lock x s ≡ Some p → HasRecord v x c u → c < s
   -- of two transactions with write records on one cell, one was committed before the other began
   pub apart : (x : Cell) (c s d u : ℕ) → HasRecord v x c s → HasRecord v x d u → s ≢ u → (c < u) ⊎ (d < s)
-  -- committed transactions: on each declared cell the write record stands or the lock, on the primary the write record
+  -- ---- committed transactions
+
+  -- each has its write record or its lock on every cell that it declared
   pub stands : (s c : ℕ) (x : Cell) (k : Content) → IsCommittedAt v s c → v.content s x ≡ Some k → HasRecord v x c s ⊎ HasLock v x s
+  -- and its write record on the primary
   pub primary_stands : (s c : ℕ) (p : Cell) → IsCommittedAt v s c → v.primary s ≡ Some p → HasRecord v p c s
-  -- recorded reads: each still tells the newest write record of its snapshot
+  -- ---- recorded reads
+
+  -- no transaction with a start above the clock has read
   pub read_begun : (s : ℕ) (r : RecordedRead) → Has (v.reads s) r → s ≤ v.clock
+  -- each read still tells the newest write record of its snapshot
   pub tells : (s : ℕ) (r : RecordedRead) → Has (v.reads s) r → ReadTells v s r.cell r.answer
-  -- and whoever writes the cell with a commit in that snapshot has its write record there, or never will be committed
+  -- and none will come to that snapshot: who writes the cell with a commit in it has its write record there, or is not
+  -- committed and never will be, since the lock on its primary is gone
   pub settled : (s : ℕ) (r : RecordedRead) (u c : ℕ) (k : Content) → Has (v.reads s) r → HasStamp v u c → c ≤ s → v.content u r.cell ≡ Some k → HasRecord v r.cell c u ⊎ ((IsCommittedAt v u c → ⊥) × LacksPrimary v u)
 
 abbrev pub IsSound : StateOf → Type 0

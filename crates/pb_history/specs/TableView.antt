@@ -13,15 +13,15 @@ use Rattle.pb_steps.specs.Readings.{data_at, lock_at, write_at}
 pub record TableView : Type 0 where
   -- the last timestamp given out
   pub clock : ℕ
-  -- how far the transaction of a start has come, what it declared to write to a cell, its primary, whether it prewrote a
-  -- cell, and what it read
+  -- how far the transaction of a start has come, what it declared to write to a cell, its primary, whether it prewrote
+  -- a cell, and what it read
   pub phase : ℕ → Option Phase
   pub content : ℕ → Cell → Option Content
   pub primary : ℕ → Option Cell
   pub prewritten : ℕ → Cell → Bool
   pub reads : ℕ → List RecordedRead
-  -- the primary named by the lock of a start on a cell, the data of a start there, and the start named by the write record
-  -- of a commit
+  -- the primary named by the lock of a start on a cell, the data of a start there, and the start named by the write
+  -- record of a commit
   pub lock : Cell → ℕ → Option Cell
   pub stored : Cell → ℕ → Option Content
   pub write : Cell → ℕ → Option ℕ

@@ -1,8 +1,8 @@
 //! What every step keeps, and what every legal journal tells.
-ghost use Rattle.pb_history.specs.Laws.{StepsKeepSound, OpeningIsSound, SoundHasData};
-ghost use Rattle.pb_history.specs.Laws.{JournalsAreSound};
-ghost use Rattle.pb_history.specs.Laws.{CommitsAreOrdered};
-ghost use Rattle.pb_history.specs.Laws.{HistoriesAreTold, ReadsAreTold, RunsAreCounted, RunsAreTold, TimestampsRise};
+ghost use Rattle.pb_history.specs.Laws.{StepsKeepSound, OpeningIsSound, SoundHasData, JournalsAreSound};
+ghost use Rattle.pb_history.specs.Laws.{TransactionsAreTold};
+ghost use Rattle.pb_history.specs.Laws.{HistoriesAreTold, ReadsAreTold, RunsAreCounted, RunsAreTold, ScriptsWriteBatches};
+ghost use Rattle.pb_history.specs.Laws.{TimestampsRise, CommitsAreOrdered, ReadsTellSnapshots, WritersAreApart, RecordsAreTold};
 
 /// The table is sound as it is opened, and every step keeps it so.
 pub fn steps_keep_sound()
@@ -51,4 +51,31 @@ pub fn journals_are_sound()
 /// A transaction of a legal journal is committed above its start, and what begins after the answer has it in its snapshot.
 pub fn commits_are_ordered()
     ensures { CommitsAreOrdered }
+{}
+
+/// Every read of a legal journal that found a version, or none, tells the snapshot at its start of the whole history,
+/// whatever was committed after it.
+pub fn reads_tell_snapshots()
+    ensures { ReadsTellSnapshots }
+{}
+
+/// Of two committed transactions of a legal journal that write one cell, one was committed before the other began.
+pub fn writers_are_apart()
+    ensures { WritersAreApart }
+{}
+
+/// A script's committed transaction writes a batch.
+pub fn scripts_write_batches()
+    ensures { ScriptsWriteBatches }
+{}
+
+/// A committed transaction of a legal journal has its lock or its write record on each cell that it wrote, and one that
+/// isn't committed has a write record nowhere.
+pub fn records_are_told()
+    ensures { RecordsAreTold }
+{}
+
+/// What the table has of a transaction follows from the entries of a legal journal that name its start.
+pub fn transactions_are_told()
+    ensures { TransactionsAreTold }
 {}

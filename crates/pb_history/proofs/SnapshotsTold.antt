@@ -1,0 +1,121 @@
+-- The committed transactions of a legal journal are a history of snapshots.
+use Rattle.std.proofs.Common.{◌≡◌, ◌≢◌, ℕ, ◌<◌, ◌≤◌, ◌⊎◌, inl, inr, List, Option, Some, None, refl, sym, ap, subst, ◌∙◌, arith}
+use Rattle.std.specs.Prelude.{option_map}
+use Rattle.pb_base.specs.declared.cell.Cell.{Cell}
+use Rattle.pb_base.specs.declared.content.Content.{Content}
+use Rattle.pb_base.specs.declared.names.Ts.{Ts}
+use Rattle.pb_base.specs.Batch.{content_in}
+use Rattle.pb_steps.specs.declared.phase.Phase.{Phase}
+use Rattle.pb_steps.specs.declared.step.Step.TheVariants.{Read}
+use Rattle.pb_steps.specs.declared.step.Answer.{Answer}
+use Rattle.pb_steps.specs.declared.step.Answer.TheVariants.{Found, Absent}
+use Rattle.pb_steps.specs.Observers.{ObserverOf}
+use Rattle.pb_steps.specs.State.{StateOf, TransactionOf}
+use Rattle.pb_steps.specs.Readings.{lock_at, write_at}
+use Rattle.pb_history.specs.declared.entry.Entry.{Entry}
+use Rattle.pb_history.specs.Journals.{IsLegal}
+use Rattle.pb_history.specs.History.{Has, IsEntry, Member, InHistory, WritesTo, IsSnapshot, NoSnapshot}
+use Rattle.pb_history.specs.TableView.{declared_by, reads_by, view_of}
+use Rattle.pb_history.specs.Sound.{IsSound}
+use Rattle.pb_history.specs.SnapshotsTold.{TellsSnapshot, TellsSnapshots}
+use Rattle.pb_history.specs.WritersTold.{AreApart, TellsWriters}
+use Rattle.pb_history.specs.RecordsTold.{WroteAt, TellsRecords}
+use Rattle.pb_history.proofs.Agreement.{read_of, Agrees}
+use Rattle.pb_history.proofs.StepsAgree.{legal_agrees}
+use Rattle.pb_history.proofs.HistoryTold.{is_committed, is_member}
+use Rattle.pb_history.proofs.PhasesKeepSound.{committed_at}
+use Rattle.pb_history.proofs.JournalsAreSound.{legal_sound}
+
+-- the transaction of a phase
+transaction_there : (o : Option TransactionOf) (h : Phase) → option_map (λ (t : TransactionOf). t.phase) o ≡ Some h → (t : TransactionOf) × (o ≡ Some t) × (t.phase ≡ h)
+transaction_there (Some t) h e = (t, refl, cc)
+transaction_there None h e = cc
+
+module _ (journal : List Entry) (state : StateOf) (a : Agrees journal state) (i : IsSound state) where
+  phase_in_view : (m : Member) → InHistory state.observers journal m → (view_of state).phase m.start ≡ Some (committed_at m.commit)
+  phase_in_view m h = let k = is_committed journal state a m h in ap (option_map (λ (t : TransactionOf). t.phase)) k.there ∙ ap Some k.phase
+
+  content_in_view : (m : Member) → InHistory state.observers journal m → (x : Cell) → (view_of state).content m.start x ≡ content_in m.writes x
+  content_in_view m h x = let k = is_committed journal state a m h in ap (λ o. content_in (declared_by o) x) k.there ∙ ap (λ ws. content_in ws x) (sym k.writes)
+
+  -- ---- what stands
+
+  stands_at : (m : Member) → InHistory state.observers journal m → (x : Cell) (k : Content) → WritesTo m x k → (write_at state.entries x m.commit ≡ Some m.start) ⊎ ((p : Cell) × (lock_at state.entries x m.start ≡ Some p))
+  stands_at m h x k w = i.stands m.start m.commit x k (phase_in_view m h) (content_in_view m h x ∙ w)
+
+  written_by : (x : Cell) (c s : ℕ) → write_at state.entries x c ≡ Some s → WroteAt state.observers journal x c s
+  written_by x c s e =
+      let t = transaction_there _ (committed_at c) (i.record_committed x c s e) in
+      let m : Member = record { start = s; commit = c; seat = t.0.seat; work = t.0.work; writes = t.0.declared } in
+      let h = is_member journal state a m (record { t = t.0; there = t.1; phase = t.2; seat = refl; work = refl; writes = refl }) in
+      let k = i.was_declared s x (i.record_prewritten x c s e) in
+      record { m = m; in_history = h; start_is = refl; commit_is = refl; content = k.0; writes = sym (content_in_view m h x) ∙ k.1 }
+
+  records : TellsRecords journal state
+  records = record {
+    stands = stands_at;
+    written = written_by;
+    uncommitted = λ s none x c e. let w = written_by x c s e in none w.m w.in_history w.start_is;
+  }
+
+  -- ---- two writers
+
+  apart : (m n : Member) → InHistory state.observers journal m → InHistory state.observers journal n → m.start ≢ n.start → (x : Cell) (j k : Content) → WritesTo m x j → WritesTo n x k → AreApart m n
+  apart m n hm hn other x j k wm wn = elim (stands_at m hm x j wm) [
+    | inl p ↦ elim (stands_at n hn x k wn) [
+      | inl q ↦ i.apart x m.commit m.start n.commit n.start p q other
+      | inr q ↦ inl (i.behind_lock x n.start q.0 m.commit m.start q.1 p)
+    ]
+    | inr p ↦ elim (stands_at n hn x k wn) [
+      | inl q ↦ inr (i.behind_lock x m.start p.0 n.commit n.start p.1 q)
+      | inr q ↦ absurd (other (i.one_lock x m.start n.start p.0 q.0 p.1 q.1))
+    ]
+  ]
+
+  -- ---- reads
+
+  -- a transaction that writes x with a commit at most s has its write record, where s has read x
+  recorded : (s : ℕ) (x : Cell) (answer : Answer) → Has ((view_of state).reads s) (read_of s x answer) → (m : Member) (k : Content) → InHistory state.observers journal m → WritesTo m x k → m.commit ≤ s → write_at state.entries x m.commit ≡ Some m.start
+  recorded s x answer r m k h w l =
+      elim (i.settled s (read_of s x answer) m.start m.commit k r (inr (phase_in_view m h)) l (content_in_view m h x ∙ w)) [
+        | inl q ↦ q
+        | inr q ↦ absurd (q.0 (phase_in_view m h))
+      ]
+
+  found_at : (s : ℕ) (x : Cell) (start commit : Ts) (content : Content) → Has ((view_of state).reads s) (read_of s x (Found start commit content)) → IsSnapshot state.observers journal s x start.0 commit.0 content
+  found_at s x start commit content r =
+      let t = i.tells s (read_of s x (Found start commit content)) r in
+      let w = written_by x commit.0 start.0 t.1 in
+      let kept_there : (view_of state).stored x start.0 ≡ (view_of state).content start.0 x = i.record_data x commit.0 start.0 t.1 in
+      record {
+        m = w.m;
+        in_history = w.in_history;
+        start_is = w.start_is;
+        commit_is = w.commit_is;
+        writes = sym (content_in_view w.m w.in_history x) ∙ ap (λ z. (view_of state).content z x) w.start_is ∙ sym kept_there ∙ t.2;
+        seen = t.0;
+        greatest = λ n k h v l. t.3 n.commit n.start l (recorded s x (Found start commit content) r n k h v l);
+      }
+
+  absent_at : (s : ℕ) (x : Cell) → Has ((view_of state).reads s) (read_of s x Absent) → NoSnapshot state.observers journal s x
+  absent_at s x r n k h w =
+      let t = i.tells s (read_of s x Absent) r in
+      elim (below n.commit s) [ inl l ↦ absurd (t n.commit n.start l (recorded s x Absent r n k h w l)) | inr l ↦ l ]
+    where
+      below : (a b : ℕ) → (a ≤ b) ⊎ (b < a)
+      below a b = grind arith
+
+  read_tells : (seat : ℕ) (s : Ts) (x : Cell) (answer : Answer) → IsEntry journal seat (Read s x) answer → TellsSnapshot state.observers journal s.0 x answer
+  read_tells seat s x (Found start commit content) e = let told = a.told _ e in found_at s.0 x start commit content (subst (λ o. Has (reads_by o) (read_of s.0 x (Found start commit content))) (sym told.1) told.2)
+  read_tells seat s x Absent e = let told = a.told _ e in absent_at s.0 x (subst (λ o. Has (reads_by o) (read_of s.0 x Absent)) (sym told.1) told.2)
+  read_tells seat s x _ e = tt
+
+module _ (observers : List ObserverOf) (seats clock : ℕ) (journal : List Entry) (state : StateOf) (l : IsLegal observers seats clock journal state) where
+  pub tells_snapshots : TellsSnapshots journal state
+  tells_snapshots = record { read = read_tells journal state (legal_agrees observers seats clock journal state l) (legal_sound observers seats clock journal state l) }
+
+  pub tells_writers : TellsWriters journal state
+  tells_writers = record { apart = apart journal state (legal_agrees observers seats clock journal state l) (legal_sound observers seats clock journal state l) }
+
+  pub tells_records : TellsRecords journal state
+  tells_records = records journal state (legal_agrees observers seats clock journal state l) (legal_sound observers seats clock journal state l)

@@ -1,0 +1,14 @@
+-- What the history of a legal journal tells of two transactions that write one cell (OSDI 2010, section 2.2).
+use Rattle.std.specs.Prelude.{◌≢◌, ◌<◌, ◌⊎◌, List}
+use Rattle.pb_base.specs.declared.cell.Cell.{Cell}
+use Rattle.pb_base.specs.declared.content.Content.{Content}
+use Rattle.pb_steps.specs.State.{StateOf}
+use Rattle.pb_history.specs.declared.entry.Entry.{Entry}
+use Rattle.pb_history.specs.History.{Member, InHistory, WritesTo}
+
+-- one was committed before the other began
+abbrev pub AreApart : Member → Member → Type 0
+AreApart m n = (m.commit < n.start) ⊎ (n.commit < m.start)
+
+pub record TellsWriters (journal : List Entry) (state : StateOf) : Type 0 where
+  pub apart : (m n : Member) → InHistory state.observers journal m → InHistory state.observers journal n → m.start ≢ n.start → (x : Cell) (j k : Content) → WritesTo m x j → WritesTo n x k → AreApart m n
