@@ -4,6 +4,7 @@ use Rattle.std.specs.FinMap as map
 use Rattle.pb_store.specs.declared.slot.Slot.{Slot}
 use Rattle.pb_store.specs.declared.slot.Item.{Item}
 use Rattle.pb_store.specs.Slot.{slot_cmp, slot_cmp_total}
+use Rattle.pb_base.specs.declared.cell.Cell.{Cell}
 use Rattle.pb_base.specs.Cell.{cell_cmp}
 use Rattle.pb_store.specs.Contents.{Entries}
 use Rattle.pb_steps.specs.declared.step.Step.{Step}
@@ -11,10 +12,12 @@ use Rattle.pb_steps.specs.declared.step.Step.TheVariants as steps
 use Rattle.pb_steps.specs.declared.step.Answer.{Answer}
 use Rattle.pb_steps.specs.declared.step.Answer.TheVariants as answers
 use Rattle.pb_steps.specs.State.{StateOf, opening}
+use Rattle.pb_steps.specs.CommitSecondary.{if_locked}
 use Rattle.pb_steps.specs.Steps.{StepCase}
 use Rattle.pb_history.specs.declared.entry.Entry.{Entry}
 use Rattle.pb_history.specs.Journals.{JournalLeads}
 use Rattle.pb_core.specs.Keeping.{SharedKeeps}
+use Rattle.pb_core.proofs.StepsKeep.{case_kept}
 
 at_most : (b : Bool) (n k : ℕ) → k ≡ cond b n (n + 1) → k ≤ n + 1
 at_most true n k is = omega arith
@@ -36,6 +39,13 @@ len_put_two m k l v w = let a = len_put m k v in let b = len_put (map.insert m k
 len_replaced : (m : Entries) (k l : Slot) (w : Item) → map.len (map.insert (map.remove m k) l w) ≤ map.len m + 2
 len_replaced m k l w = let a = len_erased m k in let b = len_put (map.remove m k) l w in omega arith
 
+len_erased_two : (m : Entries) (k l : Slot) → map.len (map.remove (map.remove m k) l) ≤ map.len m + 2
+len_erased_two m k l = let a = len_erased m k in let b = len_erased (map.remove m k) l in omega arith
+
+len_if_locked : (s : StateOf) (b : Bool) (x : Cell) (n c : ℕ) → map.len (if_locked s b x n c).entries ≤ map.len s.entries + 2
+len_if_locked s true x n c = len_replaced s.entries _ _ _
+len_if_locked s false x n c = omega arith
+
 same_len : (m n : Entries) → n ≡ m → map.len n ≤ map.len m + 2
 same_len m n is = rw is (omega arith)
 
@@ -50,20 +60,15 @@ case_entries s seat (steps.Prewrite n x) answers.Conflict t c = same_len _ _ (ap
 case_entries s seat (steps.Stamp n) (answers.At k) t c = same_len _ _ (ap (λ (x : StateOf). x.entries) c.new_is)
 case_entries s seat (steps.CommitPrimary n) answers.Committed t c = subst (λ (e : Entries). map.len e ≤ map.len s.entries + 2) (sym (ap (λ (x : StateOf). x.entries) c.new_is)) (len_replaced s.entries _ _ _)
 case_entries s seat (steps.CommitPrimary n) answers.Lost t c = same_len _ _ (ap (λ (x : StateOf). x.entries) c.new_is)
+case_entries s seat (steps.CommitSecondary n x) answers.Done t c = subst (λ (u : StateOf). map.len u.entries ≤ map.len s.entries + 2) (sym c.new_is) (len_if_locked s _ _ _ _)
+case_entries s seat (steps.Settle x) answers.Absent t c = same_len _ _ (ap (λ (x : StateOf). x.entries) c.new_is)
+case_entries s seat (steps.Settle x) (answers.Locked u p) t c = same_len _ _ (ap (λ (x : StateOf). x.entries) c.new_is)
+case_entries s seat (steps.Settle x) answers.RolledBack t c = subst (λ (e : Entries). map.len e ≤ map.len s.entries + 2) (sym (ap (λ (x : StateOf). x.entries) c.new_is)) (len_erased_two s.entries _ _)
+case_entries s seat (steps.Clear x) answers.Absent t c = same_len _ _ (ap (λ (x : StateOf). x.entries) c.new_is)
+case_entries s seat (steps.Clear x) answers.Waits t c = same_len _ _ (ap (λ (x : StateOf). x.entries) c.new_is)
+case_entries s seat (steps.Clear x) (answers.CommittedAt k) t c = subst (λ (e : Entries). map.len e ≤ map.len s.entries + 2) (sym (ap (λ (x : StateOf). x.entries) c.new_is)) (len_replaced s.entries _ _ _)
+case_entries s seat (steps.Clear x) answers.RolledBack t c = subst (λ (e : Entries). map.len e ≤ map.len s.entries + 2) (sym (ap (λ (x : StateOf). x.entries) c.new_is)) (len_erased_two s.entries _ _)
 case_entries s seat _ _ t c = absurd c
-
-case_marks : (s : StateOf) (seat : ℕ) (step : Step) (a : Answer) (t : StateOf) → StepCase s seat step a t → t.marks ≡ s.marks
-case_marks s seat (steps.Begin work) (answers.At n) t c = ap (λ (x : StateOf). x.marks) c.new_is
-case_marks s seat (steps.Read n x) (answers.Locked u p) t c = ap (λ (x : StateOf). x.marks) c.new_is
-case_marks s seat (steps.Read n x) (answers.Found u k d) t c = ap (λ (x : StateOf). x.marks) c.new_is
-case_marks s seat (steps.Read n x) answers.Absent t c = ap (λ (x : StateOf). x.marks) c.new_is
-case_marks s seat (steps.Declare n what) answers.Done t c = ap (λ (x : StateOf). x.marks) c.new_is
-case_marks s seat (steps.Prewrite n x) answers.Done t c = ap (λ (x : StateOf). x.marks) c.new_is
-case_marks s seat (steps.Prewrite n x) answers.Conflict t c = ap (λ (x : StateOf). x.marks) c.new_is
-case_marks s seat (steps.Stamp n) (answers.At k) t c = ap (λ (x : StateOf). x.marks) c.new_is
-case_marks s seat (steps.CommitPrimary n) answers.Committed t c = ap (λ (x : StateOf). x.marks) c.new_is
-case_marks s seat (steps.CommitPrimary n) answers.Lost t c = ap (λ (x : StateOf). x.marks) c.new_is
-case_marks s seat _ _ t c = absurd c
 
 run_entries : (s : StateOf) (es : List Entry) (t : StateOf) → JournalLeads s es t → map.len t.entries ≤ map.len s.entries + 2 * length es
 run_entries s [] t r = subst (λ (x : StateOf). map.len x.entries ≤ map.len s.entries + 0) (sym r) (omega arith)
@@ -74,7 +79,7 @@ run_entries s (e ∷ es) t r =
 
 run_marks : (s : StateOf) (es : List Entry) (t : StateOf) → JournalLeads s es t → t.marks ≡ s.marks
 run_marks s [] t r = ap (λ (x : StateOf). x.marks) r
-run_marks s (e ∷ es) t r = run_marks r.0 es t r.2 ∙ case_marks s e.seat e.step e.answer r.0 r.1.taken
+run_marks s (e ∷ es) t r = run_marks r.0 es t r.2 ∙ (case_kept s e.seat e.step e.answer r.0 r.1.taken).marks
 
 -- the entries of a table can be counted, and so can its marks
 pub few_entries : (j : List Entry) (bs : List (List ℕ)) (s : StateOf) (o l : ℕ) → SharedKeeps j bs s o l → map.len s.entries < 2 ^ 64

@@ -2,11 +2,9 @@
 use Rattle.std.proofs.Common.{◌≡◌, ◌≢◌, ℕ, ◌+◌, ◌<◌, Bool, true, false, eqb, cond, List, [], ◌∷◌, ◌++◌, length, length-append, length-set, get_or-set_same, get_or-set_other, slice_set, slice_index_or, Option, Some, None, refl, sym, ◌∙◌, ap, subst, arith, eq-eqb, ne_eqb, suc, nat_lt, add-zero}
 use Rattle.std.proofs.lemmas.Bool.{eqb-false, eqb-true}
 use Rattle.pb_steps.specs.declared.step.Step.{Step}
-use Rattle.pb_steps.specs.declared.step.Step.TheVariants as steps
 use Rattle.pb_steps.specs.declared.step.Answer.{Answer}
-use Rattle.pb_steps.specs.declared.step.Answer.TheVariants as answers
 use Rattle.pb_steps.specs.State.{StateOf, opening}
-use Rattle.pb_steps.specs.Steps.{TableStep, StepCase}
+use Rattle.pb_steps.specs.Steps.{TableStep}
 use Rattle.pb_base.specs.declared.refusal.Reason.{Reason}
 use Rattle.pb_base.specs.declared.refusal.Reason.TheVariants.{JournalFull}
 use Rattle.pb_base.specs.Reasons.{reason_code}
@@ -15,45 +13,18 @@ use Rattle.pb_history.specs.Places.{places_from}
 use Rattle.pb_core.specs.Calls.{or_full}
 use Rattle.pb_history.specs.Journals.{JournalLeads}
 use Rattle.pb_core.specs.Keeping.{SharedKeeps}
+use Rattle.pb_core.proofs.StepsKeep.{case_kept}
 
 -- a run goes on
 pub run_more : (s : StateOf) (es : List Entry) (t : StateOf) (e : Entry) (u : StateOf) → JournalLeads s es t → TableStep t e.seat e.step e.answer u → JournalLeads s (es ++ e ∷ []) u
 run_more s [] t e u r m = (u, subst (λ x. TableStep x e.seat e.step e.answer u) r m, refl)
 run_more s (d ∷ es) t e u r m = (r.0, r.1, run_more r.0 es t e u r.2 m)
 
--- no step changes the number of seats
-case_seats : (s : StateOf) (seat : ℕ) (step : Step) (a : Answer) (t : StateOf) → StepCase s seat step a t → t.seats ≡ s.seats
-case_seats s seat (steps.Begin work) (answers.At n) t c = ap (λ (x : StateOf). x.seats) c.new_is
-case_seats s seat (steps.Read n x) (answers.Locked u p) t c = ap (λ (x : StateOf). x.seats) c.new_is
-case_seats s seat (steps.Read n x) (answers.Found u k d) t c = ap (λ (x : StateOf). x.seats) c.new_is
-case_seats s seat (steps.Read n x) answers.Absent t c = ap (λ (x : StateOf). x.seats) c.new_is
-case_seats s seat (steps.Declare n what) answers.Done t c = ap (λ (x : StateOf). x.seats) c.new_is
-case_seats s seat (steps.Prewrite n x) answers.Done t c = ap (λ (x : StateOf). x.seats) c.new_is
-case_seats s seat (steps.Prewrite n x) answers.Conflict t c = ap (λ (x : StateOf). x.seats) c.new_is
-case_seats s seat (steps.Stamp n) (answers.At k) t c = ap (λ (x : StateOf). x.seats) c.new_is
-case_seats s seat (steps.CommitPrimary n) answers.Committed t c = ap (λ (x : StateOf). x.seats) c.new_is
-case_seats s seat (steps.CommitPrimary n) answers.Lost t c = ap (λ (x : StateOf). x.seats) c.new_is
-case_seats s seat _ _ t c = absurd c
-
--- no step changes the observers
-case_observers : (s : StateOf) (seat : ℕ) (step : Step) (a : Answer) (t : StateOf) → StepCase s seat step a t → t.observers ≡ s.observers
-case_observers s seat (steps.Begin work) (answers.At n) t c = ap (λ (x : StateOf). x.observers) c.new_is
-case_observers s seat (steps.Read n x) (answers.Locked u p) t c = ap (λ (x : StateOf). x.observers) c.new_is
-case_observers s seat (steps.Read n x) (answers.Found u k d) t c = ap (λ (x : StateOf). x.observers) c.new_is
-case_observers s seat (steps.Read n x) answers.Absent t c = ap (λ (x : StateOf). x.observers) c.new_is
-case_observers s seat (steps.Declare n what) answers.Done t c = ap (λ (x : StateOf). x.observers) c.new_is
-case_observers s seat (steps.Prewrite n x) answers.Done t c = ap (λ (x : StateOf). x.observers) c.new_is
-case_observers s seat (steps.Prewrite n x) answers.Conflict t c = ap (λ (x : StateOf). x.observers) c.new_is
-case_observers s seat (steps.Stamp n) (answers.At k) t c = ap (λ (x : StateOf). x.observers) c.new_is
-case_observers s seat (steps.CommitPrimary n) answers.Committed t c = ap (λ (x : StateOf). x.observers) c.new_is
-case_observers s seat (steps.CommitPrimary n) answers.Lost t c = ap (λ (x : StateOf). x.observers) c.new_is
-case_observers s seat _ _ t c = absurd c
-
 pub machine_seats : (s : StateOf) (seat : ℕ) (step : Step) (a : Answer) (t : StateOf) → TableStep s seat step a t → t.seats ≡ s.seats
-machine_seats s seat step a t m = case_seats s seat step a t m.taken
+machine_seats s seat step a t m = (case_kept s seat step a t m.taken).seats
 
 pub machine_observers : (s : StateOf) (seat : ℕ) (step : Step) (a : Answer) (t : StateOf) → TableStep s seat step a t → t.observers ≡ s.observers
-machine_observers s seat step a t m = case_observers s seat step a t m.taken
+machine_observers s seat step a t m = (case_kept s seat step a t m.taken).observers
 
 -- no reason is left where the lowest is none
 pub none_by_state : (r : Option Reason) (full : Bool) → or_full r full ≡ None → r ≡ None
