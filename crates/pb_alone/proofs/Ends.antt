@@ -17,7 +17,8 @@ use Rattle.pb_steps.specs.Reasons.{IsOwn, is_out, first_reason}
 use Rattle.pb_steps.specs.Steps.{step_reason, StepCase}
 use Rattle.pb_steps.specs.Prewrite.{prewrite_reasons, put_lock}
 use Rattle.pb_steps.specs.Stamp.{unstamped_reasons}
-use Rattle.pb_steps.specs.CommitPrimary.{commit_reasons, commit_lock}
+use Rattle.pb_steps.specs.CommitPrimary.{commit_reasons}
+use Rattle.pb_steps.specs.Commits.{commit_lock}
 use Rattle.pb_alone.specs.Alone.{IsClean, ts}
 use Rattle.pb_alone.proofs.OneChange.{no_lock_after, write_after, lock_there}
 use Rattle.pb_alone.proofs.Stages.{cell_itself, own_put, same_own, same_some, allowed_own, some_not_none}

@@ -14,7 +14,7 @@ use Rattle.pb_store.specs.Slot.{slot_cmp, slot_cmp_total, slot_cmp-IsAntisymmetr
 use Rattle.pb_store.specs.Contents.{Entries, slot_at}
 use Rattle.pb_steps.specs.Readings.{lock_at, write_at, primary_of, start_of}
 use Rattle.pb_steps.specs.Prewrite.{put_lock}
-use Rattle.pb_steps.specs.CommitPrimary.{commit_lock}
+use Rattle.pb_steps.specs.Commits.{commit_lock}
 
 -- ---- slots
 

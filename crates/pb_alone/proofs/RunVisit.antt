@@ -15,7 +15,7 @@ use Rattle.pb_steps.specs.declared.step.Declared.TheVariants as declared
 use Rattle.pb_steps.specs.declared.step.Step.{Step}
 use Rattle.pb_steps.specs.declared.step.Step.TheVariants.{Begin, Read, Declare, Prewrite, Stamp, CommitPrimary}
 use Rattle.pb_steps.specs.declared.step.Answer.{Answer}
-use Rattle.pb_steps.specs.declared.step.Answer.TheVariants.{At, Locked, Found, Absent, Done, Conflict, Committed, Lost}
+use Rattle.pb_steps.specs.declared.step.Answer.TheVariants.{At, Locked, Found, Absent, Done, Conflict, Committed, Lost, RolledBack, Waits, CommittedAt}
 use Rattle.pb_steps.specs.State.{StateOf}
 use Rattle.pb_steps.specs.Observers.{observed_cell, acknowledgment, column_or_zero, observed_column}
 use Rattle.pb_steps.specs.Reads.{found_answer, acknowledged_in}
@@ -88,6 +88,9 @@ module _ (s0 : SharedOf) (q0 : SeatOf) (o : ℕ) (row : Row) (program : JudgedOf
       not_found Conflict s h = absurd s
       not_found Committed s h = absurd s
       not_found Lost s h = absurd s
+      not_found RolledBack s h = absurd s
+      not_found Waits s h = absurd s
+      not_found (CommittedAt t) s h = absurd s
 
       -- the cell was absent
       pub absent : ((v : Version) → b1 ≡ found_answer v → ⊥) → TellsHistory s0.journal s0.state → TellsHistory s2.journal s2.state → Visits s0 q0.number o row s2

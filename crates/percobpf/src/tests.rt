@@ -17,6 +17,7 @@ use std::rt::HostRuntime;
 use std::sync::Arc;
 
 mod checks;
+mod clean_ups;
 mod helped_runs;
 mod programs;
 mod refused_calls;

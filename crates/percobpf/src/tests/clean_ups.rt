@@ -1,0 +1,292 @@
+//! Transactions of several cells, and what becomes of those that stop half way.
+ghost use Rattle.std.specs.Prelude.{◌≡◌, false};
+
+use super::{Boxed, Sheet};
+use crate::end_all;
+use pb_alone::report;
+use pb_base::{Batch, Cell, Column, Content, NoMemory, Row, Ts};
+use pb_core::{Answer, Declaration, Declared, OpenRefused, Seat, Shared, Step, Work};
+use pb_memtablet::ListTablet;
+use pb_store::{Table, Tablet};
+use std::alloc::Global;
+use std::process::Abort;
+use std::rt::HostRuntime;
+
+// A step of a seat, and what it is answered, or the number that it is refused with.
+type Told = (usize, Step, Result<Answer, u8>);
+
+fn cell(rt: &impl Abort, row: u64, number: u8) -> Cell {
+    Cell::Data(Row(row), Column::new(number).expect(rt, "a column"))
+}
+
+// A script's batch that writes these cells of row 7.
+fn batch_of(rt: &impl Abort, alloc: Global, columns: &[u8]) -> Declaration {
+    let mut writes = Vec::new(alloc);
+    for number in columns {
+        let column = Column::new(*number).expect(rt, "a column");
+        writes
+            .push((Row(7), column, Content::Deleted))
+            .expect(rt, "memory");
+    }
+    let batch = Batch::new(writes).ok().expect(rt, "a batch");
+    Declaration::new(alloc, Declared::Script(batch)).expect(rt, "memory")
+}
+
+// What a seat's step is answered.
+fn call<T: Tablet>(
+    shared: &mut Shared<T>,
+    seats: &mut Vec<Seat>,
+    number: usize,
+    step: &Step,
+) -> Result<Answer, u8> {
+    let Some(seat) = seats.get_mut(number) else {
+        return Err(0);
+    };
+    match shared.call(seat, step) {
+        Ok(answer) => Ok(answer),
+        Err(refusal) => Err(refusal.0),
+    }
+}
+
+// How many of the steps were answered as said, up to the first that wasn't.
+fn as_said<T: Tablet>(shared: Shared<T>, seats: Vec<Seat>, told: &[Told]) -> usize {
+    let mut shared = shared;
+    let mut seats = seats;
+    let mut count = 0;
+    for (number, step, wanted) in told {
+        if call(&mut shared, &mut seats, *number, step) != *wanted {
+            break;
+        }
+        count += 1;
+    }
+    shared.close();
+    count
+}
+
+// The same, on a table of these tablets with three seats.
+fn as_said_on<T: Tablet>(rt: &HostRuntime, parts: Vec<(Row, T)>, told: &[Told]) -> usize {
+    match Table::new(parts) {
+        Ok(table) => match Shared::open(rt.alloc(), table, Vec::new(rt.alloc()), 3, Ts(0), 100) {
+            Ok((shared, seats)) => as_said(shared, seats, told),
+            Err(
+                OpenRefused {
+                    table,
+                    observers: _,
+                    code: _,
+                },
+            ) => {
+                table.close();
+                0
+            }
+        },
+        Err((parts, _)) => {
+            end_all(parts);
+            0
+        }
+    }
+}
+
+fn tablets(rt: &HostRuntime) -> Result<Vec<(Row, Boxed)>, NoMemory> {
+    let mut parts: Vec<(Row, Boxed)> = Vec::new(rt.alloc());
+    parts.push((Row(0), Box::new(rt.alloc(), ListTablet::new(rt.alloc()))?))?;
+    Ok(parts)
+}
+
+#[test]
+fn a_rival_rolls_back(rt: HostRuntime) -> Result<(), NoMemory> {
+    let first = cell(&rt, 7, 1);
+    let second = cell(&rt, 7, 0);
+    let one = Ts(1);
+    let two = Ts(2);
+    let locked = Answer::Locked {
+        start: one,
+        primary: first,
+    };
+    let what = batch_of(&rt, rt.alloc(), &[1, 0]);
+    let mut told = Vec::new(rt.alloc());
+    told.push((1, Step::Begin(Work::Script), Ok(Answer::At(one))))?;
+    told.push((1, Step::Declare(one, what), Ok(Answer::Done)))?;
+    told.push((1, Step::Prewrite(one, second), Err(42)))?;
+    told.push((1, Step::Prewrite(one, first), Ok(Answer::Done)))?;
+    told.push((1, Step::Prewrite(one, first), Err(46)))?;
+    told.push((1, Step::Prewrite(one, cell(&rt, 8, 0)), Err(45)))?;
+    told.push((1, Step::Prewrite(one, second), Ok(Answer::Done)))?;
+    told.push((2, Step::Begin(Work::Script), Ok(Answer::At(two))))?;
+    told.push((2, Step::Read(two, second), Ok(locked)))?;
+    told.push((2, Step::Clear(second), Ok(Answer::Waits)))?;
+    told.push((2, Step::Settle(second), Ok(locked)))?;
+    told.push((2, Step::Settle(first), Ok(Answer::RolledBack)))?;
+    told.push((2, Step::Clear(second), Ok(Answer::RolledBack)))?;
+    told.push((2, Step::Read(two, second), Ok(Answer::Absent)))?;
+    told.push((2, Step::Read(one, second), Err(41)))?;
+    told.push((1, Step::CommitSecondary(one, second), Err(42)))?;
+    told.push((1, Step::Stamp(one), Ok(Answer::At(Ts(3)))))?;
+    told.push((1, Step::CommitPrimary(one), Ok(Answer::Lost)))?;
+    told.push((1, Step::CommitSecondary(one, second), Err(42)))?;
+    told.push((0, Step::Settle(first), Ok(Answer::Absent)))?;
+    told.push((0, Step::Clear(second), Ok(Answer::Absent)))?;
+    assert!(rt; as_said_on(&rt, tablets(&rt)?, &told) == told.len());
+    Ok(())
+}
+
+#[test]
+fn a_rival_finishes(rt: HostRuntime) -> Result<(), NoMemory> {
+    let first = cell(&rt, 7, 1);
+    let second = cell(&rt, 7, 0);
+    let one = Ts(1);
+    let found = Answer::Found {
+        start: one,
+        commit: Ts(2),
+        content: Content::Deleted,
+    };
+    let what = batch_of(&rt, rt.alloc(), &[1, 0]);
+    let mut told = Vec::new(rt.alloc());
+    told.push((1, Step::Begin(Work::Script), Ok(Answer::At(one))))?;
+    told.push((1, Step::Declare(one, what), Ok(Answer::Done)))?;
+    told.push((1, Step::Prewrite(one, first), Ok(Answer::Done)))?;
+    told.push((1, Step::Prewrite(one, second), Ok(Answer::Done)))?;
+    told.push((1, Step::Stamp(one), Ok(Answer::At(Ts(2)))))?;
+    told.push((0, Step::Clear(first), Ok(Answer::Waits)))?;
+    told.push((1, Step::CommitPrimary(one), Ok(Answer::Committed)))?;
+    told.push((2, Step::CommitSecondary(one, second), Err(41)))?;
+    told.push((1, Step::CommitSecondary(one, cell(&rt, 8, 0)), Err(45)))?;
+    told.push((2, Step::Clear(second), Ok(Answer::CommittedAt(Ts(2)))))?;
+    told.push((1, Step::CommitSecondary(one, second), Ok(Answer::Done)))?;
+    told.push((2, Step::Begin(Work::Script), Ok(Answer::At(Ts(3)))))?;
+    told.push((2, Step::Read(Ts(3), first), Ok(found)))?;
+    told.push((2, Step::Read(Ts(3), second), Ok(found)))?;
+    assert!(rt; as_said_on(&rt, tablets(&rt)?, &told) == told.len());
+    Ok(())
+}
+
+// The first steps of a change of columns 2, 0 and 1 of row 7, in the order of a worker.
+fn change_steps(rt: &impl Abort, alloc: Global, count: usize) -> Result<Vec<Step>, NoMemory> {
+    let first = cell(rt, 7, 2);
+    let second = cell(rt, 7, 0);
+    let third = cell(rt, 7, 1);
+    let mut steps = Vec::new(alloc);
+    steps.push(Step::Begin(Work::Script))?;
+    steps.push(Step::Declare(Ts(1), batch_of(rt, alloc, &[2, 0, 1])))?;
+    steps.push(Step::Prewrite(Ts(1), first))?;
+    steps.push(Step::Prewrite(Ts(1), second))?;
+    steps.push(Step::Prewrite(Ts(1), third))?;
+    steps.push(Step::Stamp(Ts(1)))?;
+    steps.push(Step::CommitPrimary(Ts(1)))?;
+    steps.push(Step::CommitSecondary(Ts(1), second))?;
+    steps.push(Step::CommitSecondary(Ts(1), third))?;
+    steps.truncate(count);
+    Ok(steps)
+}
+
+// Whether the report of the table is this.
+fn reports<T: Tablet>(alloc: Global, shared: &Shared<T>, text: &str) -> bool {
+    let mut sheet = Sheet {
+        bytes: Vec::new(alloc),
+        left: usize::MAX,
+        fails: true,
+        failed: false,
+    };
+    report(alloc, &mut sheet, shared).is_ok() && sheet.bytes.as_slice() == text.as_bytes()
+}
+
+// Makes each step by the seat of this number.
+fn call_all<T: Tablet>(
+    shared: &mut Shared<T>,
+    seats: &mut Vec<Seat>,
+    number: usize,
+    steps: &[Step],
+) {
+    for step in steps {
+        let _ = call(shared, seats, number, step);
+    }
+}
+
+// Whether a worker that stops after these steps leaves this, and another's steps leave that.
+fn leaves<T: Tablet>(
+    alloc: Global,
+    opened: (Shared<T>, Vec<Seat>),
+    steps: &[Step],
+    left: &str,
+    clean: &[Step],
+    cleaned: &str,
+) -> bool {
+    let (mut shared, mut seats) = opened;
+    call_all(&mut shared, &mut seats, 0, steps);
+    let stops_so = reports(alloc, &shared, left);
+    call_all(&mut shared, &mut seats, 1, clean);
+    let ends_so = reports(alloc, &shared, cleaned);
+    shared.close();
+    stops_so && ends_so
+}
+
+// The same, on a table of these tablets.
+fn leaves_on<T: Tablet>(
+    alloc: Global,
+    parts: Vec<(Row, T)>,
+    steps: &[Step],
+    left: &str,
+    clean: &[Step],
+    cleaned: &str,
+) -> bool {
+    match Table::new(parts) {
+        Ok(table) => match Shared::open(alloc, table, Vec::new(alloc), 2, Ts(0), 100) {
+            Ok(opened) => leaves(alloc, opened, steps, left, clean, cleaned),
+            Err(
+                OpenRefused {
+                    table,
+                    observers: _,
+                    code: _,
+                },
+            ) => {
+                table.close();
+                false
+            }
+        },
+        Err((parts, _)) => {
+            end_all(parts);
+            false
+        }
+    }
+}
+
+const WHOLE: &str =
+    "cell 7 0 commit 2 deleted\ncell 7 1 commit 2 deleted\ncell 7 2 commit 2 deleted\n";
+
+#[test]
+fn workers_stop_after_each_step(rt: HostRuntime) -> Result<(), NoMemory> {
+    // How many steps are made, whether the change is committed then, and the last line.
+    let table = [
+        (0, false, "quiet\n"),
+        (1, false, "quiet\n"),
+        (2, false, "quiet\n"),
+        (3, false, "marks 0 locks 1\n"),
+        (4, false, "marks 0 locks 2\n"),
+        (5, false, "marks 0 locks 3\n"),
+        (6, false, "marks 0 locks 3\n"),
+        (7, true, "marks 0 locks 2\n"),
+        (8, true, "marks 0 locks 1\n"),
+        (9, true, "quiet\n"),
+    ];
+    let clean = [
+        Step::Settle(cell(&rt, 7, 2)),
+        Step::Clear(cell(&rt, 7, 0)),
+        Step::Clear(cell(&rt, 7, 1)),
+    ];
+    for (count, is_committed, line) in table {
+        let steps = change_steps(&rt, rt.alloc(), count)?;
+        let cells = if is_committed { WHOLE } else { "" };
+        let left = format!(in rt.alloc(); "{cells}{line}").expect(&rt, "memory");
+        let cleaned = format!(in rt.alloc(); "{cells}quiet\n").expect(&rt, "memory");
+        let parts = tablets(&rt)?;
+        let is_so = leaves_on(
+            rt.alloc(),
+            parts,
+            &steps,
+            left.as_str(),
+            &clean,
+            cleaned.as_str(),
+        );
+        assert!(rt; is_so, "{count}");
+    }
+    Ok(())
+}
