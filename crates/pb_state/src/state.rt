@@ -58,13 +58,12 @@ impl<T: Tablet> State<T> {
     {
         // For the proof: the state is sound as it is opened.
         steps_keep_sound();
-        let Ts(clock) = last;
         State {
             parts: Parts {
                 alloc,
                 table,
                 observers,
-                clock,
+                clock: last.0,
                 seats,
                 transactions: Transactions::new(alloc),
             },

@@ -11,20 +11,64 @@ use std::alloc::Global;
 
 /// Column 0.
 pub fn column() -> Result<Column, NoMemory> {
-    match Column::new(0) {
+    column_of(0)
+}
+
+fn column_of(number: u8) -> Result<Column, NoMemory> {
+    match Column::new(number) {
         Some(column) => Ok(column),
         None => Err(NoMemory),
     }
 }
 
-/// A batch of one cell.
-pub fn batch(alloc: Global) -> Result<Batch, NoMemory> {
+// A cell of row 7.
+fn cell_of(number: u8) -> Result<Cell, NoMemory> {
+    Ok(Cell::Data(Row(7), column_of(number)?))
+}
+
+// A batch of the first columns of row 7.
+fn batch_of(alloc: Global, count: u8) -> Result<Batch, NoMemory> {
     let mut writes = Vec::new(alloc);
-    writes.push((Row(7), column()?, Content::Deleted))?;
+    for number in 0..count {
+        writes.push((Row(7), column_of(number)?, Content::Deleted))?;
+    }
     match Batch::new(writes) {
         Ok(batch) => Ok(batch),
         Err(_) => Err(NoMemory),
     }
+}
+
+/// A batch of one cell.
+pub fn batch(alloc: Global) -> Result<Batch, NoMemory> {
+    batch_of(alloc, 1)
+}
+
+// The declaration of such a batch.
+fn declares(alloc: Global, start: Ts, count: u8) -> Result<Step, NoMemory> {
+    let what = Declaration::new(alloc, Declared::Script(batch_of(alloc, count)?))?;
+    Ok(Step::Declare(start, what))
+}
+
+// A transaction of three cells, one of which is cleared by others once it is committed, and one of two cells that is undone.
+fn steps(alloc: Global) -> Result<Vec<Step>, NoMemory> {
+    let (one, three) = (Ts(1), Ts(3));
+    let mut steps = Vec::new(alloc);
+    steps.push(Step::Begin(Work::Script))?;
+    steps.push(declares(alloc, one, 3)?)?;
+    steps.push(Step::Prewrite(one, cell_of(0)?))?;
+    steps.push(Step::Prewrite(one, cell_of(1)?))?;
+    steps.push(Step::Prewrite(one, cell_of(2)?))?;
+    steps.push(Step::Stamp(one))?;
+    steps.push(Step::CommitPrimary(one))?;
+    steps.push(Step::CommitSecondary(one, cell_of(1)?))?;
+    steps.push(Step::Clear(cell_of(2)?))?;
+    steps.push(Step::Begin(Work::Script))?;
+    steps.push(declares(alloc, three, 2)?)?;
+    steps.push(Step::Prewrite(three, cell_of(0)?))?;
+    steps.push(Step::Prewrite(three, cell_of(1)?))?;
+    steps.push(Step::Settle(cell_of(0)?))?;
+    steps.push(Step::Clear(cell_of(1)?))?;
+    Ok(steps)
 }
 
 /// A table of one tablet.
@@ -115,15 +159,7 @@ fn applies(table: &mut Table<ListTablet>, slot: &Slot) -> bool {
 
 /// `State::take`.
 pub fn state_takes(alloc: Global) -> Result<bool, NoMemory> {
-    let declared = Declaration::new(alloc, Declared::Script(batch(alloc)?))?;
-    let cell = Cell::Data(Row(7), column()?);
-    let steps = [
-        Step::Begin(Work::Script),
-        Step::Declare(Ts(1), declared),
-        Step::Prewrite(Ts(1), cell),
-        Step::Stamp(Ts(1)),
-        Step::CommitPrimary(Ts(1)),
-    ];
+    let steps = steps(alloc)?;
     let mut state = State::new(alloc, table(alloc)?, Vec::new(alloc), 1, Ts(0));
     let mut held = true;
     for step in &steps {
@@ -148,15 +184,7 @@ fn takes(state: &mut State<ListTablet>, step: &Step) -> bool {
 
 /// `Shared::call`.
 pub fn shared_calls(alloc: Global) -> Result<bool, NoMemory> {
-    let declared = Declaration::new(alloc, Declared::Script(batch(alloc)?))?;
-    let cell = Cell::Data(Row(7), column()?);
-    let steps = [
-        Step::Begin(Work::Script),
-        Step::Declare(Ts(1), declared),
-        Step::Prewrite(Ts(1), cell),
-        Step::Stamp(Ts(1)),
-        Step::CommitPrimary(Ts(1)),
-    ];
+    let steps = steps(alloc)?;
     match Shared::open(alloc, table(alloc)?, Vec::new(alloc), 1, Ts(0), 100) {
         Ok((mut shared, mut seats)) => {
             let mut held = true;
@@ -186,10 +214,11 @@ pub fn calls(shared: &mut Shared<ListTablet>, seats: &mut Vec<Seat>, step: &Step
     };
     let count = shared.journal().len();
     let clock = shared.clock();
+    let locks = shared.locks();
     match shared.call(seat, step) {
         Ok(_) => true,
         Err(refusal) => {
-            let is_same = refusal.0 == 1 && shared.clock() == clock;
+            let is_same = refusal.0 == 1 && shared.clock() == clock && shared.locks() == locks;
             let is_kept = shared.journal().len() == count && seat.received().len() == count;
             is_same && is_kept && shared.call(seat, step).is_ok()
         }
