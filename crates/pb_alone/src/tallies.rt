@@ -1,7 +1,7 @@
 //! How often each observer ran.
 ghost use Rattle.std.specs.Prelude.{◌≡◌, IfOk, string_bytes};
 ghost use Rattle.pb_alone.specs.Tallies.{AreTallies, IsTally};
-ghost use Rattle.pb_history.specs.RunCounts.{IsRunCount, begins_committed_run, has_committed};
+ghost use Rattle.pb_history.specs.RunCounts.{IsRunCount, begins_committed_run, phase_is_committed};
 
 use pb_base::NoMemory;
 use pb_core::{Answer, Entry, Observer, Phase, Shared, Step, Work};
@@ -9,8 +9,8 @@ use pb_store::Tablet;
 use pb_texts::Tally;
 use std::alloc::Global;
 
-fn has_committed(phase: Option<Phase>) -> bool
-    ensures { result ≡ has_committed phase }
+fn phase_is_committed(phase: Option<Phase>) -> bool
+    ensures { result ≡ phase_is_committed phase }
 {
     matches!(phase, Some(Phase::Committed(_)))
 }
@@ -25,7 +25,7 @@ fn begins_committed_run<T: Tablet>(shared: &Shared<T>, number: usize, entry: &En
     let Answer::At(start) = &entry.answer else {
         return false;
     };
-    observer.number() as usize == number && has_committed(shared.phase(*start))
+    observer.number() as usize == number && phase_is_committed(shared.phase(*start))
 }
 
 fn run_count<T: Tablet>(shared: &Shared<T>, number: usize) -> usize

@@ -4,17 +4,17 @@ use Rattle.pb_steps.specs.Observers.{ObserverOf}
 use Rattle.pb_steps.specs.State.{StateOf, opening}
 use Rattle.pb_history.specs.declared.entry.Entry.{Entry}
 use Rattle.pb_history.specs.Journals.{JournalLeads, IsLegal}
-use Rattle.pb_history.specs.Sound.{IsSound}
+use Rattle.pb_history.specs.Sound.{IsSoundTable}
 use Rattle.pb_history.specs.SoundJournals.{LeadsToSound, TellsSoundness}
 use Rattle.pb_history.proofs.JournalParts.{parted}
 use Rattle.pb_history.proofs.StepsKeepSound.{steps_keep}
 use Rattle.pb_history.proofs.OpeningSound.{opening_sound}
 
-pub run_sound : (old : StateOf) (es : List Entry) (new : StateOf) → IsSound old → JournalLeads old es new → IsSound new
-run_sound old [] new i r = subst IsSound (sym r) i
+pub run_sound : (old : StateOf) (es : List Entry) (new : StateOf) → IsSoundTable old → JournalLeads old es new → IsSoundTable new
+run_sound old [] new i r = subst IsSoundTable (sym r) i
 run_sound old (e ∷ es) new i r = run_sound r.0 es new (steps_keep old e.seat e.step e.answer r.0 i r.1) r.2
 
-pub legal_sound : (observers : List ObserverOf) (seats clock : ℕ) (journal : List Entry) (state : StateOf) → IsLegal observers seats clock journal state → IsSound state
+pub legal_sound : (observers : List ObserverOf) (seats clock : ℕ) (journal : List Entry) (state : StateOf) → IsLegal observers seats clock journal state → IsSoundTable state
 legal_sound observers seats clock journal state l = run_sound (opening observers seats clock) journal state (opening_sound observers seats clock l.fits) l.run
 
 beginning : (observers : List ObserverOf) (seats clock : ℕ) (journal : List Entry) (state : StateOf) → IsLegal observers seats clock journal state → (before after : List Entry) → journal ≡ before ++ after → LeadsToSound observers seats clock before

@@ -11,7 +11,7 @@ use Rattle.pb_steps.specs.Observers.{ObserverOf}
 use Rattle.pb_steps.specs.State.{TransactionOf, opening, is_in}
 use Rattle.pb_steps.specs.Readings.{data_of, primary_of, start_of}
 use Rattle.pb_history.specs.TableView.{TableView, declared_by, prewritten_by, reads_by, view_of}
-use Rattle.pb_history.specs.Sound.{HasStamp, IsSoundView, IsSound}
+use Rattle.pb_history.specs.Sound.{HasStamp, IsSoundView, IsSoundTable}
 
 empty_view : ℕ → TableView
 empty_view clock = record { clock = clock; phase = λ s. None; content = λ s x. None; primary = λ s. None; prewritten = λ s x. false; reads = λ s. []; lock = λ x s. None; stored = λ x s. None; write = λ x c. None }
@@ -63,5 +63,5 @@ holds_empty clock small = record {
   settled = λ s r u c k e. absurd e;
 }
 
-pub opening_sound : (observers : List ObserverOf) (seats clock : ℕ) → clock < 2 ^ 64 → IsSound (opening observers seats clock)
+pub opening_sound : (observers : List ObserverOf) (seats clock : ℕ) → clock < 2 ^ 64 → IsSoundTable (opening observers seats clock)
 opening_sound observers seats clock small = subst IsSoundView (sym (view_at_opening observers seats clock)) (holds_empty clock small)

@@ -17,7 +17,7 @@ use Rattle.pb_history.specs.declared.entry.Entry.{Entry}
 use Rattle.pb_history.specs.Journals.{IsLegal}
 use Rattle.pb_history.specs.History.{Has, Member, InHistory, TellsHistory}
 use Rattle.pb_history.specs.Timestamps.{with_timestamp, timestamps, AreRising}
-use Rattle.pb_history.specs.RunCounts.{IsRunOf, RiseByStart, has_committed, begins_committed_run, run_count, TellsRunCounts}
+use Rattle.pb_history.specs.RunCounts.{IsRunOf, RiseByStart, phase_is_committed, begins_committed_run, run_count, TellsRunCounts}
 use Rattle.pb_history.proofs.Agreement.{ts, got, Agrees}
 use Rattle.pb_history.proofs.StepsAgree.{legal_agrees}
 use Rattle.pb_history.proofs.HistoryTold.{tells}
@@ -27,7 +27,7 @@ both : (a b : Bool) → (a && b) ≡ true → (a ≡ true) × (b ≡ true)
 both true b e = (refl, e)
 both false b e = cc
 
-committed_at : (h : Option Phase) → has_committed h ≡ true → (c : Ts) × (h ≡ Some (phases.Committed c))
+committed_at : (h : Option Phase) → phase_is_committed h ≡ true → (c : Ts) × (h ≡ Some (phases.Committed c))
 committed_at None e = cc
 committed_at (Some phases.Reading) e = cc
 committed_at (Some phases.Declared) e = cc
@@ -62,7 +62,7 @@ module _ (journal : List Entry) (state : StateOf) (a : Agrees journal state) (hi
 
   begun : (seat : ℕ) (step : Step) (answer : Answer) → Has journal (record { seat = seat; step = step; answer = answer }) → begins_committed_run state o step answer ≡ true → Begun step answer
   begun seat (Begin (works.Run p row)) (At s) has e =
-      let b = both (p == o) (has_committed (phase_in state s.0)) e in
+      let b = both (p == o) (phase_is_committed (phase_in state s.0)) e in
       let t = a.told _ has in
       let c = committed_at (phase_in state s.0) b.1 in
       let m : Member = record { start = s.0; commit = c.0.0; seat = t.0.seat; work = t.0.work; writes = t.0.declared } in
@@ -80,8 +80,8 @@ module _ (journal : List Entry) (state : StateOf) (a : Agrees journal state) (hi
       let c = history.committed m h in
       let phase : phase_in state m.start ≡ Some (phases.Committed (ts m.commit)) = ap (option_map (λ (u : TransactionOf). u.phase)) c.there ∙ ap Some c.phase in
       ap (λ w. begins_committed_run state o (Begin w) (At (ts m.start))) run.1
-      ∙ ap (λ b. b && has_committed (phase_in state m.start)) (eq-eqb o o refl)
-      ∙ ap has_committed phase
+      ∙ ap (λ b. b && phase_is_committed (phase_in state m.start)) (eq-eqb o o refl)
+      ∙ ap phase_is_committed phase
 
   -- a start is one transaction's
   same_member : (m n : Member) → InHistory state.observers journal m → InHistory state.observers journal n → m.start ≡ n.start → m ≡ n

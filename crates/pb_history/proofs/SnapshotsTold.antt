@@ -16,9 +16,9 @@ use Rattle.pb_history.specs.declared.entry.Entry.{Entry}
 use Rattle.pb_history.specs.Journals.{IsLegal}
 use Rattle.pb_history.specs.History.{Has, IsEntry, Member, InHistory, WritesTo, IsSnapshot, NoSnapshot}
 use Rattle.pb_history.specs.TableView.{declared_by, reads_by, view_of}
-use Rattle.pb_history.specs.Sound.{IsSound}
+use Rattle.pb_history.specs.Sound.{IsSoundTable}
 use Rattle.pb_history.specs.SnapshotsTold.{TellsSnapshot, TellsSnapshots}
-use Rattle.pb_history.specs.WritersTold.{AreApart, TellsWriters}
+use Rattle.pb_history.specs.WritersTold.{DoNotOverlap, TellsWriters}
 use Rattle.pb_history.specs.RecordsTold.{WroteAt, TellsRecords}
 use Rattle.pb_history.proofs.Agreement.{read_of, Agrees}
 use Rattle.pb_history.proofs.StepsAgree.{legal_agrees}
@@ -31,7 +31,7 @@ transaction_there : (o : Option TransactionOf) (h : Phase) → option_map (λ (t
 transaction_there (Some t) h e = (t, refl, cc)
 transaction_there None h e = cc
 
-module _ (journal : List Entry) (state : StateOf) (a : Agrees journal state) (i : IsSound state) where
+module _ (journal : List Entry) (state : StateOf) (a : Agrees journal state) (i : IsSoundTable state) where
   phase_in_view : (m : Member) → InHistory state.observers journal m → (view_of state).phase m.start ≡ Some (committed_at m.commit)
   phase_in_view m h = let k = is_committed journal state a m h in ap (option_map (λ (t : TransactionOf). t.phase)) k.there ∙ ap Some k.phase
 
@@ -60,7 +60,7 @@ module _ (journal : List Entry) (state : StateOf) (a : Agrees journal state) (i 
 
   -- ---- two writers
 
-  apart : (m n : Member) → InHistory state.observers journal m → InHistory state.observers journal n → m.start ≢ n.start → (x : Cell) (j k : Content) → WritesTo m x j → WritesTo n x k → AreApart m n
+  apart : (m n : Member) → InHistory state.observers journal m → InHistory state.observers journal n → m.start ≢ n.start → (x : Cell) (j k : Content) → WritesTo m x j → WritesTo n x k → DoNotOverlap m n
   apart m n hm hn other x j k wm wn = elim (stands_at m hm x j wm) [
     | inl p ↦ elim (stands_at n hn x k wn) [
       | inl q ↦ i.apart x m.commit m.start n.commit n.start p q other

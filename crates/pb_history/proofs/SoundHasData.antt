@@ -4,9 +4,9 @@ use Rattle.std.specs.Prelude.{is_some, option_map}
 use Rattle.pb_base.specs.declared.cell.Cell.{Cell}
 use Rattle.pb_steps.specs.State.{StateOf, TransactionOf}
 use Rattle.pb_steps.specs.Readings.{data_at, lock_at, write_at}
-use Rattle.pb_history.specs.Sound.{IsSound, KeepsData}
+use Rattle.pb_history.specs.Sound.{IsSoundTable, KeepsData}
 
-module _ (state : StateOf) (i : IsSound state) where
+module _ (state : StateOf) (i : IsSoundTable state) where
   locked_data : (x : Cell) (s : ℕ) (p : Cell) → lock_at state.entries x s ≡ Some p → is_some (data_at state.entries x s) ≡ true
   locked_data x s p e = ap is_some (i.lock_data x s p e ∙ (i.was_declared s x (i.lock_prewritten x s p e).0).1)
 

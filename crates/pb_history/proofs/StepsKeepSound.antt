@@ -32,7 +32,7 @@ use Rattle.pb_steps.specs.Settle.{Settles}
 use Rattle.pb_steps.specs.Clear.{ClearsCommitted, ClearsBack}
 use Rattle.pb_steps.specs.Steps.{StepCase, TableStep}
 use Rattle.pb_history.specs.TableView.{TableView, declared_by, prewritten_by, reads_by, view_of}
-use Rattle.pb_history.specs.Sound.{HasStamp, ReadTells, IsSoundView, IsSound}
+use Rattle.pb_history.specs.Sound.{HasStamp, ReadTells, IsSoundView, IsSoundTable}
 use Rattle.pb_history.proofs.Updates.{set1, set1_here, set1_same, none_if, some_if, same_cell, same_cell_is}
 use Rattle.pb_history.proofs.Agreement.{read_of}
 use Rattle.pb_history.proofs.PhaseTests.{reading_is, declared_is}
@@ -135,8 +135,8 @@ primary_or_after : (x : Cell) (prewritten : List Cell) (p : Cell) (writes : Writ
 primary_or_after x prewritten p writes is order =
     elim (neither (eq_by_cmp cell_cmp x p) (is_in prewritten p) (sym (ap (λ o. is_before_primary o prewritten x) is) ∙ order)) [ inl a ↦ inl (cell_is x p a) | inr b ↦ inr b ]
 
-module _ (old : StateOf) (i : IsSound old) (seat : ℕ) (new : StateOf) where
-  to : (w : TableView) → view_of new ≡ w → IsSoundView w → IsSound new
+module _ (old : StateOf) (i : IsSoundTable old) (seat : ℕ) (new : StateOf) where
+  to : (w : TableView) → view_of new ≡ w → IsSoundView w → IsSoundTable new
   to w e j = subst IsSoundView (sym e) j
 
   -- what stands in the table is of timestamps given out
@@ -154,7 +154,7 @@ module _ (old : StateOf) (i : IsSound old) (seat : ℕ) (new : StateOf) where
   fresh_small : (s : ℕ) → s ≡ old.clock + 1 → is_out old ≡ false → s < 2 ^ 64
   fresh_small s fresh left = let k = i.small in let n = not_last old.clock left in omega arith
 
-  begins_keep : (work : Work) (s : ℕ) → Begins old seat work s new → IsSound new
+  begins_keep : (work : Work) (s : ℕ) → Begins old seat work s new → IsSoundTable new
   begins_keep work s m =
       let unknown : map.get old.transactions s ≡ None = none_if _ (λ t e. let z = i.begun s t.phase (ap phase_by e) in let f = m.fresh in absurd (omega arith)) in
       let fresh = m.fresh in
@@ -172,7 +172,7 @@ module _ (old : StateOf) (i : IsSound old) (seat : ℕ) (new : StateOf) where
       }) (phase_kept (view_of old) i s phases.Reading plain_reading (λ c e. let z = ap phase_by unknown in cc) s (omega arith) (omega arith) (fresh_small s m.fresh m.left) (λ x e. absurd ((i.past_reading s x e).1 (ap phase_by unknown))))
 
   -- a read is recorded
-  read_keeps : (s : ℕ) (x : Cell) (answer : Answer) (was : TransactionOf) → map.get old.transactions s ≡ Some was → NoLockUpTo old.entries x s → ReadTells (view_of old) s x answer → new ≡ with_transaction old s (with_read was s x answer) → IsSound new
+  read_keeps : (s : ℕ) (x : Cell) (answer : Answer) (was : TransactionOf) → map.get old.transactions s ≡ Some was → NoLockUpTo old.entries x s → ReadTells (view_of old) s x answer → new ≡ with_transaction old s (with_read was s x answer) → IsSoundTable new
   read_keeps s x answer was is unlocked tells new_is =
       let t : TransactionOf = with_read was s x answer in
       to (has_read (view_of old) s (read_of s x answer)) (ap view_of new_is ∙ λ j. record {
@@ -187,18 +187,18 @@ module _ (old : StateOf) (i : IsSound old) (seat : ℕ) (new : StateOf) where
         write = (view_of old).write;
       }) (read_kept (view_of old) i s x answer (i.begun s was.phase (ap phase_by is)) unlocked tells)
 
-  found_keep : (s : ℕ) (x : Cell) (start commit : Ts) (content : Content) → ReadsFound old seat s x (record { start = start; commit = commit; content = content }) new → IsSound new
+  found_keep : (s : ℕ) (x : Cell) (start commit : Ts) (content : Content) → ReadsFound old seat s x (record { start = start; commit = commit; content = content }) new → IsSoundTable new
   found_keep s x start commit content m =
       let v = m.version in
       read_keeps s x (answers.Found start commit content) m.t m.own.there m.unlocked
       (v.low, v.written, v.content, λ c u l e. newest_at_most c commit.0 (λ above. let z = v.newest c above l in cc))
       m.new_is
 
-  absent_keep : (s : ℕ) (x : Cell) → ReadsAbsent old seat s x new → IsSound new
+  absent_keep : (s : ℕ) (x : Cell) → ReadsAbsent old seat s x new → IsSoundTable new
   absent_keep s x m = read_keeps s x answers.Absent m.t m.own.there m.unlocked (λ c u l e. let z = m.none c l in cc) m.new_is
 
   -- a phase alone changes, and no commit comes
-  fails_keep : (s : ℕ) (was : TransactionOf) → map.get old.transactions s ≡ Some was → ((c : ℕ) → was.phase ≢ committed_at c) → new ≡ with_transaction old s (record was { phase = phases.Failed }) → IsSound new
+  fails_keep : (s : ℕ) (was : TransactionOf) → map.get old.transactions s ≡ Some was → ((c : ℕ) → was.phase ≢ committed_at c) → new ≡ with_transaction old s (record was { phase = phases.Failed }) → IsSoundTable new
   fails_keep s was is open_still new_is =
       let t : TransactionOf = record was { phase = phases.Failed } in
       to (with_phase (view_of old) s phases.Failed old.clock) (ap view_of new_is ∙ λ j. record {
@@ -213,7 +213,7 @@ module _ (old : StateOf) (i : IsSound old) (seat : ℕ) (new : StateOf) where
         write = (view_of old).write;
       }) (phase_kept (view_of old) i s phases.Failed plain_failed (λ c e. open_still c (let z = ap phase_by is in cc)) old.clock (omega arith) (i.begun s was.phase (ap phase_by is)) i.small (λ x e f. cc))
 
-  declared_keep : (s : ℕ) (was : TransactionOf) (writes : Writes) → map.get old.transactions s ≡ Some was → was.phase ≡ phases.Reading → new ≡ with_transaction old s (record was { phase = phases.Declared; declared = writes }) → IsSound new
+  declared_keep : (s : ℕ) (was : TransactionOf) (writes : Writes) → map.get old.transactions s ≡ Some was → was.phase ≡ phases.Reading → new ≡ with_transaction old s (record was { phase = phases.Declared; declared = writes }) → IsSoundTable new
   declared_keep s was writes is phase new_is =
       let reading : (view_of old).phase s ≡ Some phases.Reading = ap phase_by is ∙ ap Some phase in
       let begun = phase_kept (view_of old) i s phases.Declared plain_declared (λ c e. cc) old.clock (omega arith) (i.begun s phases.Reading reading) i.small (λ x e f. cc) in
@@ -237,7 +237,7 @@ module _ (old : StateOf) (i : IsSound old) (seat : ℕ) (new : StateOf) where
       not_stamped c (inl e) = let n = now in cc
       not_stamped c (inr e) = let n = now in cc
 
-  prewrites_keep : (s : ℕ) (x : Cell) → Prewrites old seat s x new → IsSound new
+  prewrites_keep : (s : ℕ) (x : Cell) → Prewrites old seat s x new → IsSoundTable new
   prewrites_keep s x m =
       let is = m.own.there in
       let phase : m.t.phase ≡ phases.Declared = declared_is m.t.phase m.phase in
@@ -260,7 +260,7 @@ module _ (old : StateOf) (i : IsSound old) (seat : ℕ) (new : StateOf) where
       (λ u. none_if _ (λ q e. let z = m.unlocked u (lock_small x u q e) in cc))
       (λ c u e. is_below c s (λ at_least. let z = no_later c at_least (write_small x c u e) in cc)))
 
-  stamps_keep : (s c : ℕ) → Stamps old seat s c new → IsSound new
+  stamps_keep : (s c : ℕ) → Stamps old seat s c new → IsSoundTable new
   stamps_keep s c m =
       let is = m.own.there in
       let t : TransactionOf = record m.t { phase = stamped_at c } in
@@ -276,7 +276,7 @@ module _ (old : StateOf) (i : IsSound old) (seat : ℕ) (new : StateOf) where
         write = (view_of old).write;
       }) (stamp_kept (view_of old) i s c m.fresh (fresh_small c m.fresh m.left) (ap phase_by is ∙ ap Some (declared_is m.t.phase m.phase)) (λ x k e. ap (λ (f : Cell → Bool). f x) (ap cells_by is) ∙ each_in m.t.declared m.t.prewritten x k m.whole (sym (ap (λ (f : Cell → Option Content). f x) (ap content_by is)) ∙ e)))
 
-  primary_keep : (s : ℕ) → CommitsPrimary old seat s new → IsSound new
+  primary_keep : (s : ℕ) → CommitsPrimary old seat s new → IsSoundTable new
   primary_keep s m =
       let is = m.own.there in
       let t : TransactionOf = record m.t { phase = committed_at m.c } in
@@ -297,7 +297,7 @@ module _ (old : StateOf) (i : IsSound old) (seat : ℕ) (new : StateOf) where
       }) (record_kept (view_of old) i s m.c m.primary m.primary (held.1 ∙ ap Some same) (inr (ap phase_by is ∙ ap Some m.stamped, refl)))
 
   -- the lock of a committed transaction becomes its write record
-  lock_committed : (s c : ℕ) (x p : Cell) → (view_of old).phase s ≡ Some (committed_at c) → (view_of old).lock x s ≡ Some p → new ≡ commits old x s c → IsSound new
+  lock_committed : (s c : ℕ) (x p : Cell) → (view_of old).phase s ≡ Some (committed_at c) → (view_of old).lock x s ≡ Some p → new ≡ commits old x s c → IsSoundTable new
   lock_committed s c x p done locked new_is =
       to (with_record (view_of old) s x c) (ap view_of new_is ∙ λ j. record {
         clock = old.clock;
@@ -312,7 +312,7 @@ module _ (old : StateOf) (i : IsSound old) (seat : ℕ) (new : StateOf) where
       }) (record_kept (view_of old) i s c x p locked (inl done))
 
   -- the lock of one that isn't committed goes, with its data
-  lock_erased : (s : ℕ) (x p : Cell) → (view_of old).lock x s ≡ Some p → ((c : ℕ) → (view_of old).phase s ≢ Some (committed_at c)) → (x ≡ p) ⊎ ((view_of old).lock p s ≡ None) → new ≡ rolls_back old x s → IsSound new
+  lock_erased : (s : ℕ) (x p : Cell) → (view_of old).lock x s ≡ Some p → ((c : ℕ) → (view_of old).phase s ≢ Some (committed_at c)) → (x ≡ p) ⊎ ((view_of old).lock p s ≡ None) → new ≡ rolls_back old x s → IsSoundTable new
   lock_erased s x p locked open_still dead new_is =
       to (without_lock (view_of old) s x) (ap view_of new_is ∙ λ j. record {
         clock = old.clock;
@@ -326,32 +326,32 @@ module _ (old : StateOf) (i : IsSound old) (seat : ℕ) (new : StateOf) where
         write = write_after_back old.entries x s j;
       }) (rolled_back_kept (view_of old) i s x p locked open_still dead)
 
-  same_keep : new ≡ old → IsSound new
-  same_keep e = subst IsSound (sym e) i
+  same_keep : new ≡ old → IsSoundTable new
+  same_keep e = subst IsSoundTable (sym e) i
 
-  secondary_keep : (s : ℕ) (x : Cell) → CommitsSecondary old seat s x new → IsSound new
+  secondary_keep : (s : ℕ) (x : Cell) → CommitsSecondary old seat s x new → IsSoundTable new
   secondary_keep s x m =
-      elim (is_some (lock_at old.entries x s)) as (λ b. is_some (lock_at old.entries x s) ≡ b → new ≡ if_locked old b x s m.c → IsSound new) [
+      elim (is_some (lock_at old.entries x s)) as (λ b. is_some (lock_at old.entries x s) ≡ b → new ≡ if_locked old b x s m.c → IsSoundTable new) [
         | true ↦ λ e is. let p = some_is (lock_at old.entries x s) e in lock_committed s m.c x p.0 (ap phase_by m.own.there ∙ ap Some m.committed) p.1 is
         | false ↦ λ e is. same_keep is
       ] refl m.new_is
 
   -- a transaction whose primary is locked by it is not committed
-  settles_keep : (x : Cell) → Settles old x new → IsSound new
+  settles_keep : (x : Cell) → Settles old x new → IsSoundTable new
   settles_keep x m =
       let on = m.locked.locked in
       let own = i.lock_prewritten x m.start x on in
       lock_erased m.start x x on (λ c e. let z = i.record_unlocked x c m.start (i.primary_stands m.start c x e own.1) in cc) (inl refl) m.new_is
 
-  cleared_keep : (x : Cell) (c : ℕ) → ClearsCommitted old x c new → IsSound new
+  cleared_keep : (x : Cell) (c : ℕ) → ClearsCommitted old x c new → IsSoundTable new
   cleared_keep x c m = lock_committed m.start c x m.primary (i.record_committed m.primary c m.start m.written) m.locked.locked m.new_is
 
-  back_keep : (x : Cell) → ClearsBack old x new → IsSound new
+  back_keep : (x : Cell) → ClearsBack old x new → IsSoundTable new
   back_keep x m =
       let own = i.lock_prewritten x m.start m.primary m.locked.locked in
       lock_erased m.start x m.primary m.locked.locked (λ c e. let z = i.primary_stands m.start c m.primary e own.1 in m.none c (write_small m.primary c m.start z) z) (inr (none_is _ m.unlocked)) m.new_is
 
-  case_keeps : (step : Step) (answer : Answer) → StepCase old seat step answer new → IsSound new
+  case_keeps : (step : Step) (answer : Answer) → StepCase old seat step answer new → IsSoundTable new
   case_keeps (Begin work) (answers.At s) m = begins_keep work s.0 m
   case_keeps (Read s x) (answers.Locked start primary) m = same_keep m.new_is
   case_keeps (Read s x) (answers.Found start commit content) m = found_keep s.0 x start commit content m
@@ -372,5 +372,5 @@ module _ (old : StateOf) (i : IsSound old) (seat : ℕ) (new : StateOf) where
   case_keeps (Clear x) answers.RolledBack m = back_keep x m
   case_keeps _ _ m = absurd m
 
-pub steps_keep : (old : StateOf) (seat : ℕ) (step : Step) (answer : Answer) (new : StateOf) → IsSound old → TableStep old seat step answer new → IsSound new
+pub steps_keep : (old : StateOf) (seat : ℕ) (step : Step) (answer : Answer) (new : StateOf) → IsSoundTable old → TableStep old seat step answer new → IsSoundTable new
 steps_keep old seat step answer new i m = case_keeps old i seat new step answer m.taken

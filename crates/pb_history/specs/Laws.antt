@@ -8,7 +8,7 @@ use Rattle.pb_steps.specs.Steps.{TableStep}
 use Rattle.pb_history.specs.declared.entry.Entry.{Entry}
 use Rattle.pb_history.specs.Journals.{IsLegal}
 use Rattle.pb_history.specs.History.{TellsHistory}
-use Rattle.pb_history.specs.Sound.{IsSound, KeepsData}
+use Rattle.pb_history.specs.Sound.{IsSoundTable, KeepsData}
 use Rattle.pb_history.specs.ReadsTold.{TellsReads}
 use Rattle.pb_history.specs.RunsTold.{TellsRuns}
 use Rattle.pb_history.specs.Timestamps.{TellsTimestamps}
@@ -22,13 +22,13 @@ use Rattle.pb_history.specs.TransactionsTold.{TellsTransactions}
 use Rattle.pb_history.specs.RunCounts.{TellsRunCounts}
 
 abbrev pub StepsKeepSound : Type 0
-StepsKeepSound = (old : StateOf) (seat : ℕ) (step : Step) (answer : Answer) (new : StateOf) → IsSound old → TableStep old seat step answer new → IsSound new
+StepsKeepSound = (old : StateOf) (seat : ℕ) (step : Step) (answer : Answer) (new : StateOf) → IsSoundTable old → TableStep old seat step answer new → IsSoundTable new
 
 abbrev pub OpeningIsSound : Type 0
-OpeningIsSound = (observers : List ObserverOf) (seats clock : ℕ) → clock < 2 ^ 64 → IsSound (opening observers seats clock)
+OpeningIsSound = (observers : List ObserverOf) (seats clock : ℕ) → clock < 2 ^ 64 → IsSoundTable (opening observers seats clock)
 
 abbrev pub SoundHasData : Type 0
-SoundHasData = (state : StateOf) → IsSound state → KeepsData state
+SoundHasData = (state : StateOf) → IsSoundTable state → KeepsData state
 
 abbrev pub HistoriesAreTold : Type 0
 HistoriesAreTold = (observers : List ObserverOf) (seats clock : ℕ) (journal : List Entry) (state : StateOf) → IsLegal observers seats clock journal state → TellsHistory journal state

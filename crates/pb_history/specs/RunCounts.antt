@@ -31,13 +31,13 @@ pub record IsRunCount (observers : List ObserverOf) (journal : List Entry) (o n 
   pub rising : RiseByStart 0 ms
 
 -- there is a phase, and it is committed
-abbrev pub has_committed : Option Phase → Bool
-has_committed None = false
-has_committed (Some phase) = is_committed phase
+abbrev pub phase_is_committed : Option Phase → Bool
+phase_is_committed None = false
+phase_is_committed (Some phase) = is_committed phase
 
 -- a run of the observer began, and the state has it as committed
 abbrev pub begins_committed_run : StateOf → ℕ → Step → Answer → Bool
-begins_committed_run state o (Begin (works.Run p row)) (At s) = (p == o) && has_committed (phase_in state s.0)
+begins_committed_run state o (Begin (works.Run p row)) (At s) = (p == o) && phase_is_committed (phase_in state s.0)
 begins_committed_run state o _ _ = false
 
 -- the count by entries that begin such runs

@@ -107,8 +107,8 @@ pub record IsSoundView (v : TableView) : Type 0 where
   -- committed and never will be, since the lock on its primary is gone
   pub settled : (s : ℕ) (r : RecordedRead) (u c : ℕ) (k : Content) → Has (v.reads s) r → HasStamp v u c → c ≤ s → v.content u r.cell ≡ Some k → HasRecord v r.cell c u ⊎ ((IsCommittedAt v u c → ⊥) × LacksPrimary v u)
 
-abbrev pub IsSound : StateOf → Type 0
-IsSound state = IsSoundView (view_of state)
+abbrev pub IsSoundTable : StateOf → Type 0
+IsSoundTable state = IsSoundView (view_of state)
 
 -- where a lock or a write record of a start stands, its data stand
 pub record HasData (e : Entries) : Type 0 where

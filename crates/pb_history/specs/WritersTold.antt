@@ -7,8 +7,8 @@ use Rattle.pb_history.specs.declared.entry.Entry.{Entry}
 use Rattle.pb_history.specs.History.{Member, InHistory, WritesTo}
 
 -- one was committed before the other began
-abbrev pub AreApart : Member → Member → Type 0
-AreApart m n = (m.commit < n.start) ⊎ (n.commit < m.start)
+abbrev pub DoNotOverlap : Member → Member → Type 0
+DoNotOverlap m n = (m.commit < n.start) ⊎ (n.commit < m.start)
 
 pub record TellsWriters (journal : List Entry) (state : StateOf) : Type 0 where
-  pub apart : (m n : Member) → InHistory state.observers journal m → InHistory state.observers journal n → m.start ≢ n.start → (x : Cell) (j k : Content) → WritesTo m x j → WritesTo n x k → AreApart m n
+  pub apart : (m n : Member) → InHistory state.observers journal m → InHistory state.observers journal n → m.start ≢ n.start → (x : Cell) (j k : Content) → WritesTo m x j → WritesTo n x k → DoNotOverlap m n

@@ -1,6 +1,6 @@
 //! A transaction begins.
 ghost use Rattle.std.specs.Prelude.{◌≡◌, IfOk, OnErr, None};
-ghost use Rattle.pb_history.specs.Sound.{IsSound};
+ghost use Rattle.pb_history.specs.Sound.{IsSoundTable};
 ghost use Rattle.pb_steps.specs.Begin.{begin_reasons, is_unknown};
 ghost use Rattle.pb_steps.specs.Reasons.{first_reason};
 ghost use Rattle.pb_steps.specs.Steps.{step_reason, TableStep};
@@ -39,7 +39,7 @@ impl<T: Tablet> Parts<T> {
     }
 
     pub(crate) fn begin(&mut self, seat: u32, work: Work) -> Result<Answer, NoMemory>
-        requires sound { IsSound self.old }
+        requires sound { IsSoundTable self.old }
         requires allowed { step_reason self.old seat (Step.Begin work) ≡ None }
         ensures taken { IfOk result (λ a. TableStep self.old seat (Step.Begin work) a self.new) }
         ensures same { OnErr result (self.new ≡ self.old) }

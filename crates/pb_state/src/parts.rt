@@ -36,7 +36,7 @@ impl<T: Tablet> Model for Parts<T> {
 impl<T: Tablet> Parts<T> {
     ghost use Rattle.std.specs.Prelude.{OnErr, IfOk, None};
     ghost use Rattle.std.specs.Option.{option_copied};
-    ghost use Rattle.pb_history.specs.Sound.{IsSound};
+    ghost use Rattle.pb_history.specs.Sound.{IsSoundTable};
     ghost use Rattle.pb_steps.specs.Reasons.{own_transaction};
     ghost use Rattle.pb_steps.specs.Steps.{step_reason, TableStep};
 
@@ -77,7 +77,7 @@ impl<T: Tablet> Parts<T> {
 
     /// Takes a step that isn't refused.
     pub(crate) fn take(&mut self, seat: u32, step: &Step) -> Result<Answer, NoMemory>
-        requires sound { IsSound self.old }
+        requires sound { IsSoundTable self.old }
         requires allowed { step_reason self.old seat step.now ≡ None }
         ensures taken { IfOk result (λ a. TableStep self.old seat step.now a self.new) }
         ensures same { OnErr result (self.new ≡ self.old) }

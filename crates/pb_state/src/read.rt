@@ -1,6 +1,6 @@
 //! A read in a transaction's snapshot.
 ghost use Rattle.std.specs.Prelude.{◌≡◌, IfOk, OnErr, None};
-ghost use Rattle.pb_history.specs.Sound.{IsSound};
+ghost use Rattle.pb_history.specs.Sound.{IsSoundTable};
 ghost use Rattle.pb_steps.specs.Read.{read_reasons};
 ghost use Rattle.pb_steps.specs.Reasons.{own_reasons, first_reason};
 ghost use Rattle.pb_steps.specs.Steps.{step_reason, TableStep};
@@ -26,7 +26,7 @@ impl<T: Tablet> Parts<T> {
     }
 
     pub(crate) fn read(&mut self, seat: u32, start: Ts, cell: &Cell) -> Result<Answer, NoMemory>
-        requires sound { IsSound self.old }
+        requires sound { IsSoundTable self.old }
         requires allowed { step_reason self.old seat (Step.Read start cell.now) ≡ None }
         ensures taken { IfOk result (λ a. TableStep self.old seat (Step.Read start cell.now) a self.new) }
         ensures same { OnErr result (self.new ≡ self.old) }

@@ -26,11 +26,11 @@ impl<T: Tablet> Model for State<T> {
 
     ghost coded = { state_code };
 
-    ghost use Rattle.pb_history.specs.Sound.{IsSound};
+    ghost use Rattle.pb_history.specs.Sound.{IsSoundTable};
 
     ghost view = { λ s. s.parts };
 
-    ghost invariant = { λ s. IsSound s.parts };
+    ghost invariant = { λ s. IsSoundTable s.parts };
 }
 
 impl<T: Tablet> State<T> {
