@@ -48,26 +48,23 @@ fn call<T: Tablet>(
     }
 }
 
-// How many of the steps were answered as said, up to the first that wasn't.
-fn as_said<T: Tablet>(shared: Shared<T>, seats: Vec<Seat>, told: &[Told]) -> usize {
+// Whether each step is answered as said.
+fn are_told<T: Tablet>(shared: Shared<T>, seats: Vec<Seat>, told: &[Told]) -> bool {
     let mut shared = shared;
     let mut seats = seats;
-    let mut count = 0;
+    let mut held = true;
     for (number, step, wanted) in told {
-        if call(&mut shared, &mut seats, *number, step) != *wanted {
-            break;
-        }
-        count += 1;
+        held = held && call(&mut shared, &mut seats, *number, step) == *wanted;
     }
     shared.close();
-    count
+    held
 }
 
 // The same, on a table of these tablets with three seats.
-fn as_said_on<T: Tablet>(rt: &HostRuntime, parts: Vec<(Row, T)>, told: &[Told]) -> usize {
+fn are_told_on<T: Tablet>(rt: &HostRuntime, parts: Vec<(Row, T)>, told: &[Told]) -> bool {
     match Table::new(parts) {
         Ok(table) => match Shared::open(rt.alloc(), table, Vec::new(rt.alloc()), 3, Ts(0), 100) {
-            Ok((shared, seats)) => as_said(shared, seats, told),
+            Ok((shared, seats)) => are_told(shared, seats, told),
             Err(
                 OpenRefused {
                     table,
@@ -76,12 +73,12 @@ fn as_said_on<T: Tablet>(rt: &HostRuntime, parts: Vec<(Row, T)>, told: &[Told]) 
                 },
             ) => {
                 table.close();
-                0
+                false
             }
         },
         Err((parts, _)) => {
             end_all(parts);
-            0
+            false
         }
     }
 }
@@ -125,7 +122,7 @@ fn a_rival_rolls_back(rt: HostRuntime) -> Result<(), NoMemory> {
     told.push((1, Step::CommitSecondary(one, second), Err(42)))?;
     told.push((0, Step::Settle(first), Ok(Answer::Absent)))?;
     told.push((0, Step::Clear(second), Ok(Answer::Absent)))?;
-    assert!(rt; as_said_on(&rt, tablets(&rt)?, &told) == told.len());
+    assert!(rt; are_told_on(&rt, tablets(&rt)?, &told));
     Ok(())
 }
 
@@ -155,25 +152,22 @@ fn a_rival_finishes(rt: HostRuntime) -> Result<(), NoMemory> {
     told.push((2, Step::Begin(Work::Script), Ok(Answer::At(Ts(3)))))?;
     told.push((2, Step::Read(Ts(3), first), Ok(found)))?;
     told.push((2, Step::Read(Ts(3), second), Ok(found)))?;
-    assert!(rt; as_said_on(&rt, tablets(&rt)?, &told) == told.len());
+    assert!(rt; are_told_on(&rt, tablets(&rt)?, &told));
     Ok(())
 }
 
 // The first steps of a change of columns 2, 0 and 1 of row 7, in the order of a worker.
 fn change_steps(rt: &impl Abort, alloc: Global, count: usize) -> Result<Vec<Step>, NoMemory> {
-    let first = cell(rt, 7, 2);
-    let second = cell(rt, 7, 0);
-    let third = cell(rt, 7, 1);
     let mut steps = Vec::new(alloc);
     steps.push(Step::Begin(Work::Script))?;
     steps.push(Step::Declare(Ts(1), batch_of(rt, alloc, &[2, 0, 1])))?;
-    steps.push(Step::Prewrite(Ts(1), first))?;
-    steps.push(Step::Prewrite(Ts(1), second))?;
-    steps.push(Step::Prewrite(Ts(1), third))?;
+    steps.push(Step::Prewrite(Ts(1), cell(rt, 7, 2)))?;
+    steps.push(Step::Prewrite(Ts(1), cell(rt, 7, 0)))?;
+    steps.push(Step::Prewrite(Ts(1), cell(rt, 7, 1)))?;
     steps.push(Step::Stamp(Ts(1)))?;
     steps.push(Step::CommitPrimary(Ts(1)))?;
-    steps.push(Step::CommitSecondary(Ts(1), second))?;
-    steps.push(Step::CommitSecondary(Ts(1), third))?;
+    steps.push(Step::CommitSecondary(Ts(1), cell(rt, 7, 0)))?;
+    steps.push(Step::CommitSecondary(Ts(1), cell(rt, 7, 1)))?;
     steps.truncate(count);
     Ok(steps)
 }
