@@ -21,12 +21,12 @@ fn column_of(number: u8) -> Result<Column, NoMemory> {
     }
 }
 
-// A cell of row 7.
+// A cell of the one row here.
 fn cell_of(number: u8) -> Result<Cell, NoMemory> {
     Ok(Cell::Data(Row(7), column_of(number)?))
 }
 
-// A batch of the first columns of row 7.
+// A batch of the first columns of that row.
 fn batch_of(alloc: Global, count: u8) -> Result<Batch, NoMemory> {
     let mut writes = Vec::new(alloc);
     for number in 0..count {

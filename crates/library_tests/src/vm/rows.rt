@@ -23,7 +23,7 @@ fn judged(rt: &impl Abort, alloc: Global, slots: &[u64]) -> (usize, u8) {
     }
 }
 
-// What a run on a deleted cell of row 7 ends with, and how many instructions it does, where it asks and writes nothing.
+// What a run on a deleted cell ends with, and how many instructions it does, where it asks and writes nothing.
 fn ends(rt: &impl Abort, alloc: Global, slots: &[u64]) -> (u64, u16) {
     let program = coded(rt, alloc, slots);
     let (finished, taken) = run(
@@ -83,7 +83,7 @@ fn five_hundred_and_twelve_slots(rt: HostRuntime) {
     assert!(rt; judged(&rt, rt.alloc(), &longer) == (0, 11));
 }
 
-// Reads the cell of row 7 in column 1.
+// Reads the cell 7 1.
 const READ: [u64; 6] = [
     0xb7010000_07000000,
     0xb7020000_01000000,

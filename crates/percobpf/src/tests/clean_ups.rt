@@ -19,7 +19,7 @@ fn cell(rt: &impl Abort, row: u64, number: u8) -> Cell {
     Cell::Data(Row(row), Column::new(number).expect(rt, "a column"))
 }
 
-// A script's batch that writes these cells of row 7.
+// A script's batch that writes these columns of the one row here.
 fn batch_of(rt: &impl Abort, alloc: Global, columns: &[u8]) -> Declaration {
     let mut writes = Vec::new(alloc);
     for number in columns {
@@ -156,7 +156,7 @@ fn a_rival_finishes(rt: HostRuntime) -> Result<(), NoMemory> {
     Ok(())
 }
 
-// The first steps of a change of columns 2, 0 and 1 of row 7, in the order of a worker.
+// The first steps of a change of columns 2, 0 and 1 of that row, in the order of a worker.
 fn change_steps(rt: &impl Abort, alloc: Global, count: usize) -> Result<Vec<Step>, NoMemory> {
     let mut steps = Vec::new(alloc);
     steps.push(Step::Begin(Work::Script))?;
