@@ -58,7 +58,7 @@ module _ (journal : List Entry) (state : StateOf) (a : Agrees journal state) whe
       }
 
   is_declared_by : (seat start : ℕ) (what : Declared) → IsEntry journal seat (Declare (ts start) what) Done → IsDeclared state start what
-  is_declared_by seat start what h = let d = a.told _ h in record { t = d.0; there = d.1; declared = d.3; known = d.4; plain = d.5 }
+  is_declared_by seat start what h = let d = a.told _ h in record { t = d.0; there = d.1; declared = d.3; known = d.4; for_work = d.5; plain = d.6 }
 
 pub tells : (observers : List ObserverOf) (seats clock : ℕ) (journal : List Entry) (state : StateOf) → IsLegal observers seats clock journal state → TellsHistory journal state
 tells observers seats clock journal state l =

@@ -17,5 +17,8 @@ pub mod JournalParts
 pub mod JournalsAreSound
 pub mod CommitsAreOrdered
 pub mod SnapshotsTold
+pub mod TransactionAfter
+pub mod BeginsOnce
 pub mod TransactionsTold
 pub mod ScriptsTold
+pub mod StepsCanAnswer

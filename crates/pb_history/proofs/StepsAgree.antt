@@ -32,7 +32,7 @@ use Rattle.pb_steps.specs.Commits.{commits, rolls_back}
 use Rattle.pb_store.specs.Contents.{Entries}
 use Rattle.pb_history.specs.declared.entry.Entry.{Entry}
 use Rattle.pb_history.specs.Journals.{JournalLeads, IsLegal}
-use Rattle.pb_history.specs.History.{Has, IsEntry}
+use Rattle.pb_history.specs.History.{Has, IsEntry, IsForWork}
 use Rattle.pb_history.proofs.OnlyEntries.{OnlyEntries, only_entries, secondary_keeps}
 use Rattle.pb_history.proofs.Updates.{none_if, has_front, has_last, has_more}
 use Rattle.pb_history.proofs.PhaseTests.{reading_is}
@@ -46,6 +46,12 @@ plain_of observers works.Script s reads (declared.Script batch) may = may
 plain_of observers (works.Run p row) s reads (declared.Run o f) may = (ap (λ (z : Meant). z.talk) may.1.run, ap (λ (z : Meant). z.writes) may.1.run)
 plain_of observers works.Script s reads (declared.Run o f) may = absurd may
 plain_of observers (works.Run p row) s reads (declared.Script batch) may = absurd may
+
+for_work : (observers : List ObserverOf) (work : Work) (s : ℕ) (reads : List RecordedRead) (what : Declared) → MayDeclare observers work s reads what → IsForWork observers work what
+for_work observers works.Script s reads (declared.Script batch) may = tt
+for_work observers (works.Run p row) s reads (declared.Run o f) may = (may.0, may.1.seen.version, may.1.seen.acknowledged.0, ap (λ (z : Meant). z.bytes) may.1.run)
+for_work observers works.Script s reads (declared.Run o f) may = absurd may
+for_work observers (works.Run p row) s reads (declared.Script batch) may = absurd may
 
 no_stamp_declared : (h : Phase) → is_declared h ≡ true → (c : ℕ) → PastStamp h c → ⊥
 no_stamp_declared phases.Declared e c p = elim p [ inl q ↦ cc | inr r ↦ elim r [ inl q ↦ cc | inr q ↦ cc ] ]
@@ -117,7 +123,7 @@ module _ (journal : List Entry) (seat : ℕ) (old new : StateOf) (a : Agrees jou
       let low = a.early s.0 m.t was in
       agrees_change journal e old new a s.0 u (ap (λ (z : StateOf). z.transactions) m.new_is) (omega (arith, clock)) (omega (arith, clock, low)) obs m.t was
       (record { seat = refl; work = refl; past = λ h. cc; reads = λ r h. h; stamped = λ c p. let r = reading_is m.t.phase reading in absurd (elim p [ inl q ↦ cc | inr z ↦ elim z [ inl q ↦ cc | inr q ↦ cc ] ]); committed = λ c q. let r = reading_is m.t.phase reading in cc })
-      (λ h. (u, h, refl, sym (ap (λ o. cells_of o m.t.work s.0 what) obs), m.known, plain_of old.observers m.t.work s.0 m.t.reads what m.its))
+      (λ h. (u, h, refl, sym (ap (λ o. cells_of o m.t.work s.0 what) obs), m.known, subst (λ o. IsForWork o m.t.work what) (sym obs) (for_work old.observers m.t.work s.0 m.t.reads what m.its), plain_of old.observers m.t.work s.0 m.t.reads what m.its))
       (record {
         begun = has_front journal e _ (a.logged s.0 m.t was).begun;
         reads = λ r h. has_front journal e _ ((a.logged s.0 m.t was).reads r h);

@@ -1,108 +1,15 @@
 -- What a state has of a transaction follows from the entries that name its start.
-use Rattle.std.proofs.Common.{◌≡◌, ℕ, Bool, true, false, cond, List, [], ◌∷◌, ◌++◌, Option, Some, refl, sym, ap, ◌∙◌}
-use Rattle.std.specs.Prelude.{◌==◌, option_map}
+use Rattle.std.proofs.Common.{◌≡◌, ℕ, Bool, true, false, cond, List, [], ◌∷◌, Option, refl, sym, ap, ◌∙◌}
 use Rattle.std.specs.Ordering.{nat_cmp}
-use Rattle.std.specs.Cmp.{unsigned_tied, nat_cmp_total}
 use Rattle.std.specs.FinMap as map
-use Rattle.std.proofs.lemmas.Bool.{eqb-true}
-use Rattle.pb_steps.specs.declared.phase.Phase.TheVariants as phases
-use Rattle.pb_steps.specs.declared.step.Step.{Step}
-use Rattle.pb_steps.specs.declared.step.Step.TheVariants.{Begin, Read, Declare, Prewrite, Stamp, CommitPrimary, CommitSecondary, Settle, Clear}
-use Rattle.pb_steps.specs.declared.step.Answer.{Answer}
-use Rattle.pb_steps.specs.declared.step.Answer.TheVariants.{At, Locked, Found, Absent, Done, Conflict, Committed, Lost, RolledBack, Waits, CommittedAt}
 use Rattle.pb_steps.specs.Observers.{ObserverOf}
-use Rattle.pb_steps.specs.State.{StateOf, TransactionOf, opening, new_transaction, cells_of}
-use Rattle.pb_steps.specs.Read.{with_read}
-use Rattle.pb_steps.specs.Steps.{StepCase}
+use Rattle.pb_steps.specs.State.{StateOf, TransactionOf, opening}
 use Rattle.pb_history.specs.declared.entry.Entry.{Entry}
 use Rattle.pb_history.specs.Journals.{JournalLeads, IsLegal}
-use Rattle.pb_history.specs.TransactionsTold.{names_start, entries_naming, committed_phase, transaction_after, transaction_from, TellsTransactions}
-use Rattle.pb_history.proofs.OnlyEntries.{secondary_keeps}
+use Rattle.pb_history.specs.TransactionsTold.{names_start, entries_naming, transaction_after, transaction_from, TellsTransactions}
 use Rattle.pb_history.proofs.Agreement.{got}
-
--- the transaction of s after an entry, whether it names s or not
-abbrev told_after : List ObserverOf → ℕ → ℕ → Step → Answer → Option TransactionOf → Option TransactionOf
-told_after observers s seat step answer t = cond (names_start s step answer) (transaction_after observers seat step answer t) t
-
-same_both : {A : Type 0} (b : Bool) (x : A) → x ≡ cond b x x
-same_both true x = refl
-same_both false x = refl
-
-module _ (old : StateOf) (seat : ℕ) (new : StateOf) (s : ℕ) where
-  -- a step that changes one transaction
-  changes : (n : ℕ) (u : TransactionOf) → new.transactions ≡ map.insert old.transactions n u → (f : Option TransactionOf → Option TransactionOf) → f (got old n) ≡ Some u → got new s ≡ cond (s == n) (f (got old s)) (got old s)
-  changes n u is f after =
-      ap (λ m. map.get m s) is ∙ map.get-insert nat_cmp_total old.transactions n u s ∙ ap (λ b. cond b (Some u) (got old s)) (unsigned_tied s n)
-      ∙ (elim (s == n) as (λ b. (s == n) ≡ b → cond b (Some u) (got old s) ≡ cond b (f (got old s)) (got old s)) [
-        | true ↦ λ e. sym after ∙ ap (λ w. f (got old w)) (sym (eqb-true s n e))
-        | false ↦ λ e. refl
-      ] refl)
-
-  keeps : new.transactions ≡ old.transactions → got new s ≡ got old s
-  keeps is = ap (λ m. map.get m s) is
-
-  transactions_of : {to : StateOf} → new ≡ to → new.transactions ≡ to.transactions
-  transactions_of is = ap (λ (z : StateOf). z.transactions) is
-
-  case_tells : (step : Step) (answer : Answer) → StepCase old seat step answer new → got new s ≡ told_after old.observers s seat step answer (got old s)
-  case_tells (Begin work) (At n) m = changes n.0 (new_transaction seat work) (transactions_of m.new_is) (λ t. Some (new_transaction seat work)) refl
-  case_tells (Read n x) (Locked start primary) m = keeps (transactions_of m.new_is) ∙ same_both (s == n.0) (got old s)
-  case_tells (Read n x) (Found start commit content) m = changes n.0 (with_read m.t n.0 x (Found start commit content)) (transactions_of m.new_is) (option_map (λ u. with_read u n.0 x (Found start commit content))) (ap (option_map (λ u. with_read u n.0 x (Found start commit content))) m.own.there)
-  case_tells (Read n x) Absent m = changes n.0 (with_read m.t n.0 x Absent) (transactions_of m.new_is) (option_map (λ u. with_read u n.0 x Absent)) (ap (option_map (λ u. with_read u n.0 x Absent)) m.own.there)
-  case_tells (Declare n what) Done m =
-      let f : TransactionOf → TransactionOf = λ u. record u { phase = phases.Declared; declared = cells_of old.observers u.work n.0 what } in
-      changes n.0 (f m.t) (transactions_of m.new_is) (option_map f) (ap (option_map f) m.own.there)
-  case_tells (Prewrite n x) Done m =
-      let f : TransactionOf → TransactionOf = λ u. record u { prewritten = u.prewritten ++ x ∷ [] } in
-      changes n.0 (f m.t) (transactions_of m.new_is) (option_map f) (ap (option_map f) m.own.there)
-  case_tells (Prewrite n x) Conflict m =
-      let f : TransactionOf → TransactionOf = λ u. record u { phase = phases.Failed } in
-      changes n.0 (f m.t) (transactions_of m.new_is) (option_map f) (ap (option_map f) m.own.there)
-  case_tells (Stamp n) (At c) m =
-      let f : TransactionOf → TransactionOf = λ u. record u { phase = phases.Stamped c } in
-      changes n.0 (f m.t) (transactions_of m.new_is) (option_map f) (ap (option_map f) m.own.there)
-  case_tells (CommitPrimary n) Committed m =
-      let f : TransactionOf → TransactionOf = λ u. record u { phase = committed_phase u.phase } in
-      let done : TransactionOf = record m.t { phase = phases.Committed (record { 0 = m.c }) } in
-      let same : f m.t ≡ done = ap (λ h. record m.t { phase = committed_phase h }) m.stamped in
-      changes n.0 done (transactions_of m.new_is) (option_map f) (ap (option_map f) m.own.there ∙ ap Some same)
-  case_tells (CommitPrimary n) Lost m =
-      let f : TransactionOf → TransactionOf = λ u. record u { phase = phases.Failed } in
-      changes n.0 (f m.t) (transactions_of m.new_is) (option_map f) (ap (option_map f) m.own.there)
-  case_tells (CommitSecondary n x) Done m = keeps (secondary_keeps old seat n.0 x new m).transactions ∙ same_both (s == n.0) (got old s)
-  case_tells (Settle x) Absent m = keeps (transactions_of m.new_is)
-  case_tells (Settle x) (Locked start primary) m = keeps (transactions_of m.new_is)
-  case_tells (Settle x) RolledBack m = keeps (transactions_of m.new_is)
-  case_tells (Clear x) Absent m = keeps (transactions_of m.new_is)
-  case_tells (Clear x) Waits m = keeps (transactions_of m.new_is)
-  case_tells (Clear x) (CommittedAt c) m = keeps (transactions_of m.new_is)
-  case_tells (Clear x) RolledBack m = keeps (transactions_of m.new_is)
-  case_tells _ _ m = absurd m
-
-  -- the observers stay
-  observers_of : {to : StateOf} → new ≡ to → new.observers ≡ to.observers
-  observers_of is = ap (λ (z : StateOf). z.observers) is
-
-  case_observers : (step : Step) (answer : Answer) → StepCase old seat step answer new → new.observers ≡ old.observers
-  case_observers (Begin work) (At n) m = observers_of m.new_is
-  case_observers (Read n x) (Locked start primary) m = observers_of m.new_is
-  case_observers (Read n x) (Found start commit content) m = observers_of m.new_is
-  case_observers (Read n x) Absent m = observers_of m.new_is
-  case_observers (Declare n what) Done m = observers_of m.new_is
-  case_observers (Prewrite n x) Done m = observers_of m.new_is
-  case_observers (Prewrite n x) Conflict m = observers_of m.new_is
-  case_observers (Stamp n) (At c) m = observers_of m.new_is
-  case_observers (CommitPrimary n) Committed m = observers_of m.new_is
-  case_observers (CommitPrimary n) Lost m = observers_of m.new_is
-  case_observers (CommitSecondary n x) Done m = (secondary_keeps old seat n.0 x new m).observers
-  case_observers (Settle x) Absent m = observers_of m.new_is
-  case_observers (Settle x) (Locked start primary) m = observers_of m.new_is
-  case_observers (Settle x) RolledBack m = observers_of m.new_is
-  case_observers (Clear x) Absent m = observers_of m.new_is
-  case_observers (Clear x) Waits m = observers_of m.new_is
-  case_observers (Clear x) (CommittedAt c) m = observers_of m.new_is
-  case_observers (Clear x) RolledBack m = observers_of m.new_is
-  case_observers _ _ m = absurd m
+use Rattle.pb_history.proofs.TransactionAfter.{case_tells, case_observers}
+use Rattle.pb_history.proofs.BeginsOnce.{begins_once}
 
 -- the entries that name s, with one more before them
 from_first : (observers : List ObserverOf) (s : ℕ) (e : Entry) (es : List Entry) (t : Option TransactionOf) (b : Bool)
@@ -122,6 +29,7 @@ run_tells old (e ∷ es) new s r =
 
 pub tells_transactions : (observers : List ObserverOf) (seats clock : ℕ) (journal : List Entry) (state : StateOf) → IsLegal observers seats clock journal state → TellsTransactions journal state
 tells_transactions observers seats clock journal state l = record {
+  begins = begins_once observers seats clock journal state l;
   each = λ s.
       let on = run_tells (opening observers seats clock) journal state s l.run in
       on.1 ∙ (λ i. transaction_from (sym on.0 i) (map.get-empty {X = TransactionOf} nat_cmp s i) (entries_naming s journal));

@@ -3,16 +3,20 @@ use Rattle.std.specs.Prelude.{◌≡◌, ℕ, ◌<◌, ◌≤◌, ◌⊎◌, Lis
 use Rattle.std.specs.FinMap as map
 use Rattle.pb_base.specs.declared.cell.Cell.{Cell}
 use Rattle.pb_base.specs.declared.content.Content.{Content}
+use Rattle.pb_base.specs.declared.content.Version.{Version}
 use Rattle.pb_base.specs.Batch.{Writes, content_in}
+use Rattle.pb_helpers.specs.Record.{record_of}
 use Rattle.pb_steps.specs.declared.step.Work.{Work}
+use Rattle.pb_steps.specs.declared.step.Work.TheVariants as works
 use Rattle.pb_steps.specs.declared.step.Declared.{Declared}
+use Rattle.pb_steps.specs.declared.step.Declared.TheVariants as declared
 use Rattle.pb_steps.specs.declared.step.Step.{Step}
 use Rattle.pb_steps.specs.declared.step.Step.TheVariants.{Begin, Declare, Stamp, CommitPrimary}
 use Rattle.pb_steps.specs.declared.step.Answer.{Answer}
 use Rattle.pb_steps.specs.declared.step.Answer.TheVariants.{At, Done, Committed}
 use Rattle.pb_steps.specs.declared.phase.Phase.TheVariants as phases
 use Rattle.pb_steps.specs.State.{StateOf, TransactionOf, cells_of}
-use Rattle.pb_steps.specs.Observers.{ObserverOf}
+use Rattle.pb_steps.specs.Observers.{ObserverOf, observed_cell}
 use Rattle.pb_steps.specs.Declarations.{IsKnown, IsPlainRun}
 use Rattle.pb_history.specs.declared.entry.Entry.{Entry}
 
@@ -69,12 +73,19 @@ pub record IsCommitted (state : StateOf) (m : Member) : Type 0 where
   pub work : m.work ≡ t.work
   pub writes : m.writes ≡ t.declared
 
--- the state has what a declaration named, and that is known, and plain so far
+-- the declaration is one for this work: a script's batch, or a run of its observer on a record of the cell that it observes
+abbrev pub IsForWork : List ObserverOf → Work → Declared → Type 0
+IsForWork observers works.Script (declared.Script batch) = Unit {0}
+IsForWork observers (works.Run p row) (declared.Run o f) = (o ≡ p) × (v : Version) × (acknowledged : ℕ) × (f.bytes ≡ record_of (observed_cell observers p row) v acknowledged)
+IsForWork observers _ _ = ⊥
+
+-- the state has what a declaration named, and that is known, for its transaction's work, and plain so far
 pub record IsDeclared (state : StateOf) (start : ℕ) (what : Declared) : Type 0 where
   pub t : TransactionOf
   pub there : map.get state.transactions start ≡ Some t
   pub declared : t.declared ≡ cells_of state.observers t.work start what
   pub known : IsKnown what
+  pub for_work : IsForWork state.observers t.work what
   pub plain : IsPlainRun what
 
 -- the history of a journal, told by the state that it leads to

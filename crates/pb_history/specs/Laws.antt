@@ -4,6 +4,7 @@ use Rattle.pb_steps.specs.Observers.{ObserverOf}
 use Rattle.pb_steps.specs.declared.step.Step.{Step}
 use Rattle.pb_steps.specs.declared.step.Answer.{Answer}
 use Rattle.pb_steps.specs.State.{StateOf, opening}
+use Rattle.pb_steps.specs.Answers.{CanAnswer}
 use Rattle.pb_steps.specs.Steps.{TableStep}
 use Rattle.pb_history.specs.declared.entry.Entry.{Entry}
 use Rattle.pb_history.specs.Journals.{IsLegal}
@@ -65,3 +66,6 @@ RecordsAreTold = (observers : List ObserverOf) (seats clock : ℕ) (journal : Li
 
 abbrev pub TransactionsAreTold : Type 0
 TransactionsAreTold = (observers : List ObserverOf) (seats clock : ℕ) (journal : List Entry) (state : StateOf) → IsLegal observers seats clock journal state → TellsTransactions journal state
+
+abbrev pub StepsCanAnswer : Type 0
+StepsCanAnswer = (old : StateOf) (seat : ℕ) (step : Step) (answer : Answer) (new : StateOf) → TableStep old seat step answer new → CanAnswer step answer

@@ -1,7 +1,7 @@
 -- What a legal journal tells of each transaction: all that the table keeps of it follows from the entries that name its
 -- start.
-use Rattle.std.specs.Prelude.{◌≡◌, ℕ, Bool, false, ◌==◌, List, [], ◌∷◌, ◌++◌, Option, Some, None, option_map}
-use Rattle.std.specs.List.{filter}
+use Rattle.std.specs.Prelude.{◌≡◌, ℕ, Bool, true, false, ◌==◌, List, [], ◌∷◌, ◌++◌, Option, Some, None, option_map}
+use Rattle.std.specs.List.{filter, list_any}
 use Rattle.std.specs.FinMap as map
 use Rattle.pb_steps.specs.declared.phase.Phase.{Phase}
 use Rattle.pb_steps.specs.declared.phase.Phase.TheVariants as phases
@@ -56,6 +56,16 @@ transaction_from observers t (e ∷ es) = transaction_from observers (transactio
 abbrev pub transaction_by : List ObserverOf → List Entry → Option TransactionOf
 transaction_by observers entries = transaction_from observers None entries
 
+abbrev pub is_begin : Step → Bool
+is_begin (Begin work) = true
+is_begin _ = false
+
+-- the first of them begins the transaction, and no later one does
+abbrev pub BeginsOnce : List Entry → Type 0
+BeginsOnce [] = Unit {0}
+BeginsOnce (e ∷ es) = (is_begin e.step ≡ true) × (list_any (λ d. is_begin d.step) es ≡ false)
+
 -- the state has that transaction, or none where no entry names the start
 pub record TellsTransactions (journal : List Entry) (state : StateOf) : Type 0 where
+  pub begins : (s : ℕ) → BeginsOnce (entries_naming s journal)
   pub each : (s : ℕ) → map.get state.transactions s ≡ transaction_by state.observers (entries_naming s journal)

@@ -1,6 +1,6 @@
 //! What every step keeps, and what every legal journal tells.
 ghost use Rattle.pb_history.specs.Laws.{StepsKeepSound, OpeningIsSound, SoundHasData, JournalsAreSound};
-ghost use Rattle.pb_history.specs.Laws.{TransactionsAreTold};
+ghost use Rattle.pb_history.specs.Laws.{TransactionsAreTold, StepsCanAnswer};
 ghost use Rattle.pb_history.specs.Laws.{HistoriesAreTold, ReadsAreTold, RunsAreCounted, RunsAreTold, ScriptsWriteBatches};
 ghost use Rattle.pb_history.specs.Laws.{TimestampsRise, CommitsAreOrdered, ReadsTellSnapshots, WritersAreApart, RecordsAreTold};
 
@@ -8,6 +8,11 @@ ghost use Rattle.pb_history.specs.Laws.{TimestampsRise, CommitsAreOrdered, Reads
 pub fn steps_keep_sound()
     ensures step { StepsKeepSound }
     ensures opening { OpeningIsSound }
+{}
+
+/// What a step is answered is one of the answers of its kind.
+pub fn steps_can_answer()
+    ensures { StepsCanAnswer }
 {}
 
 /// Where a lock or a write record stands in a sound table, its data stand; no transaction began above its clock, and that

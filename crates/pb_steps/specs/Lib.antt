@@ -16,3 +16,4 @@ pub mod CommitSecondary
 pub mod Settle
 pub mod Clear
 pub mod Steps
+pub mod Answers

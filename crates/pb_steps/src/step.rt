@@ -3,7 +3,7 @@ ghost use Rattle.std.specs.Prelude.{◌≡◌, IfOk};
 
 use pb_base::{Batch, Cell, Content, NoMemory, ObserverNo, Row, Ts};
 use pb_vm::Finished;
-use std::alloc::Global;
+use std::alloc::{AllocFailed, Global};
 use std::marker::Model;
 use std::sync::Arc;
 
@@ -60,16 +60,19 @@ impl Declared {
 }
 
 impl Declaration {
-    ghost use Rattle.std.specs.Prelude.{◌≡◌, IfOk};
+    ghost use Rattle.std.specs.Prelude.{◌≡◌, IfOk, IfErr};
     ghost use Rattle.pb_steps.specs.Declarations.{IsKnown};
 
-    /// The first owner.
-    pub fn new(alloc: Global, declared: Declared) -> Result<Declaration, NoMemory>
-        ensures { IfOk result (λ d. d ≡ declared) }
+    /// The first owner. Refused, it hands back what was to be declared.
+    pub fn new(alloc: Global, declared: Declared) -> Result<Declaration, AllocFailed<Declared>>
+        ensures ok { IfOk result (λ d. d ≡ declared) }
+        ensures handed_back { IfErr result (λ f. f.value ≡ declared) }
     {
         declared.known();
-        let owner = Arc::new(alloc, declared)?;
-        Ok(Declaration { owner })
+        match Arc::new(alloc, declared) {
+            Ok(owner) => Ok(Declaration { owner }),
+            Err(failed) => Err(failed),
+        }
     }
 
     /// One more owner.

@@ -1,0 +1,115 @@
+-- A transaction begins once, before all other entries that name its start.
+use Rattle.std.proofs.Common.{◌≡◌, ℕ, ◌+◌, ◌≤◌, ◌⊎◌, inl, inr, Bool, true, false, cond, ◌||◌, List, [], ◌∷◌, Option, Some, None, refl, sym, ap, subst, ◌∙◌, arith}
+use Rattle.std.specs.Prelude.{◌==◌, option_map}
+use Rattle.std.specs.List.{list_any}
+use Rattle.std.specs.Ordering.{nat_cmp}
+use Rattle.std.specs.FinMap as map
+use Rattle.std.proofs.lemmas.Bool.{eqb-true}
+use Rattle.pb_steps.specs.declared.step.Step.{Step}
+use Rattle.pb_steps.specs.declared.step.Step.TheVariants.{Begin, Read, Declare, Prewrite, Stamp, CommitPrimary, CommitSecondary, Settle, Clear}
+use Rattle.pb_steps.specs.declared.step.Answer.{Answer}
+use Rattle.pb_steps.specs.declared.step.Answer.TheVariants.{At, Locked, Found, Absent, Done, Conflict, Committed, Lost, RolledBack, Waits, CommittedAt}
+use Rattle.pb_steps.specs.Observers.{ObserverOf}
+use Rattle.pb_steps.specs.State.{StateOf, TransactionOf, opening, new_transaction}
+use Rattle.pb_steps.specs.Steps.{StepCase}
+use Rattle.pb_history.specs.declared.entry.Entry.{Entry}
+use Rattle.pb_history.specs.Journals.{JournalLeads, IsLegal}
+use Rattle.pb_history.specs.Sound.{IsSoundTable}
+use Rattle.pb_history.specs.TransactionsTold.{names_start, entries_naming, transaction_after, is_begin, BeginsOnce}
+use Rattle.pb_history.proofs.Agreement.{got}
+use Rattle.pb_history.proofs.StepsKeepSound.{steps_keep}
+use Rattle.pb_history.proofs.OpeningSound.{opening_sound}
+use Rattle.pb_history.proofs.TransactionAfter.{case_tells}
+
+-- the state has a transaction of this start
+abbrev Has : StateOf → ℕ → Type 0
+Has state s = (t : TransactionOf) × (got state s ≡ Some t)
+
+both : (o : Option TransactionOf) (t : TransactionOf) → o ≡ Some t → o ≡ None → ⊥
+both o t p q = cc
+
+-- ---- one step
+
+module _ (old : StateOf) (seat : ℕ) (new : StateOf) (s : ℕ) where
+  there : (n : ℕ) (t : TransactionOf) → (s == n) ≡ true → got old n ≡ Some t → Has old s
+  there n t e h = (t, ap (got old) (eqb-true s n e) ∙ h)
+
+  -- what names s begins it, with a fresh start, or finds it there
+  named : (step : Step) (answer : Answer) → StepCase old seat step answer new → names_start s step answer ≡ true → ((is_begin step ≡ true) × (s ≡ old.clock + 1)) ⊎ ((is_begin step ≡ false) × Has old s)
+  named (Begin work) (At n) m e = inl (refl, eqb-true s n.0 e ∙ m.fresh)
+  named (Read n x) (Locked start primary) m e = inr (refl, there n.0 m.t e m.own.there)
+  named (Read n x) (Found start commit content) m e = inr (refl, there n.0 m.t e m.own.there)
+  named (Read n x) Absent m e = inr (refl, there n.0 m.t e m.own.there)
+  named (Declare n what) Done m e = inr (refl, there n.0 m.t e m.own.there)
+  named (Prewrite n x) Done m e = inr (refl, there n.0 m.t e m.own.there)
+  named (Prewrite n x) Conflict m e = inr (refl, there n.0 m.t e m.own.there)
+  named (Stamp n) (At c) m e = inr (refl, there n.0 m.t e m.own.there)
+  named (CommitPrimary n) Committed m e = inr (refl, there n.0 m.t e m.own.there)
+  named (CommitPrimary n) Lost m e = inr (refl, there n.0 m.t e m.own.there)
+  named (CommitSecondary n x) Done m e = inr (refl, there n.0 m.t e m.own.there)
+  named (Settle x) Absent m e = cc
+  named (Settle x) (Locked start primary) m e = cc
+  named (Settle x) RolledBack m e = cc
+  named (Clear x) Absent m e = cc
+  named (Clear x) Waits m e = cc
+  named (Clear x) (CommittedAt c) m e = cc
+  named (Clear x) RolledBack m e = cc
+  named _ _ m e = absurd m
+
+-- ---- the transaction after it
+
+begun : (observers : List ObserverOf) (seat s : ℕ) (step : Step) (answer : Answer) (o : Option TransactionOf) → is_begin step ≡ true → names_start s step answer ≡ true → (t : TransactionOf) × (transaction_after observers seat step answer o ≡ Some t)
+begun observers seat s (Begin work) (At n) o b e = (new_transaction seat work, refl)
+begun observers seat s (Begin work) _ o b e = absurd cc
+begun observers seat s _ _ o b e = absurd cc
+
+stays : (observers : List ObserverOf) (seat : ℕ) (step : Step) (answer : Answer) (t : TransactionOf) → (u : TransactionOf) × (transaction_after observers seat step answer (Some t) ≡ Some u)
+stays observers seat (Begin work) (At s) t = (_, refl)
+stays observers seat (Read s x) (Found start commit content) t = (_, refl)
+stays observers seat (Read s x) Absent t = (_, refl)
+stays observers seat (Declare s what) Done t = (_, refl)
+stays observers seat (Prewrite s x) Done t = (_, refl)
+stays observers seat (Prewrite s x) Conflict t = (_, refl)
+stays observers seat (Stamp s) (At c) t = (_, refl)
+stays observers seat (CommitPrimary s) Committed t = (_, refl)
+stays observers seat (CommitPrimary s) Lost t = (_, refl)
+stays observers seat _ _ t = (t, refl)
+
+stays_by : (observers : List ObserverOf) (seat : ℕ) (step : Step) (answer : Answer) (o : Option TransactionOf) → ((t : TransactionOf) × (o ≡ Some t)) → (u : TransactionOf) × (transaction_after observers seat step answer o ≡ Some u)
+stays_by observers seat step answer o h = subst (λ z. (u : TransactionOf) × (transaction_after observers seat step answer z ≡ Some u)) (sym h.1) (stays observers seat step answer h.0)
+
+-- ---- a run of steps
+
+early : (state : StateOf) (s : ℕ) → IsSoundTable state → Has state s → s ≤ state.clock
+early state s i h = i.begun s h.0.phase (ap (option_map (λ (u : TransactionOf). u.phase)) h.1)
+
+none_later : (old : StateOf) (es : List Entry) (new : StateOf) (s : ℕ) → IsSoundTable old → Has old s → JournalLeads old es new → list_any (λ d. is_begin d.step) (entries_naming s es) ≡ false
+none_later old [] new s i h r = refl
+none_later old (e ∷ es) new s i h r =
+    let on = none_later r.0 es new s (steps_keep old e.seat e.step e.answer r.0 i r.1) in
+    let after = case_tells old e.seat r.0 s e.step e.answer r.1.taken in
+    let told : Bool → Option TransactionOf = λ b. cond b (transaction_after old.observers e.seat e.step e.answer (got old s)) (got old s) in
+    elim (names_start s e.step e.answer) as (λ b. names_start s e.step e.answer ≡ b → list_any (λ d. is_begin d.step) (cond b (e ∷ entries_naming s es) (entries_naming s es)) ≡ false) [
+      | true ↦ λ n. elim (named old e.seat r.0 s e.step e.answer r.1.taken n) [
+        | inl f ↦ (let low = early old s i h in let is = f.1 in absurd (omega (arith, low, is)))
+        | inr f ↦ (let u = stays_by old.observers e.seat e.step e.answer (got old s) h in ap (λ b. b || list_any (λ d. is_begin d.step) (entries_naming s es)) f.0 ∙ on (u.0, after ∙ ap told n ∙ u.1) r.2)
+      ]
+      | false ↦ λ n. on (h.0, after ∙ ap told n ∙ h.1) r.2
+    ] refl
+
+begins_first : (old : StateOf) (es : List Entry) (new : StateOf) (s : ℕ) → IsSoundTable old → got old s ≡ None → JournalLeads old es new → BeginsOnce (entries_naming s es)
+begins_first old [] new s i h r = tt
+begins_first old (e ∷ es) new s i h r =
+    let sound = steps_keep old e.seat e.step e.answer r.0 i r.1 in
+    let after = case_tells old e.seat r.0 s e.step e.answer r.1.taken in
+    let told : Bool → Option TransactionOf = λ b. cond b (transaction_after old.observers e.seat e.step e.answer (got old s)) (got old s) in
+    elim (names_start s e.step e.answer) as (λ b. names_start s e.step e.answer ≡ b → BeginsOnce (cond b (e ∷ entries_naming s es) (entries_naming s es))) [
+      | true ↦ λ n. elim (named old e.seat r.0 s e.step e.answer r.1.taken n) [
+        | inl f ↦ (let u = begun old.observers e.seat s e.step e.answer (got old s) f.0 n in (f.0, none_later r.0 es new s sound (u.0, after ∙ ap told n ∙ u.1) r.2))
+        | inr f ↦ absurd (both (got old s) f.1.0 f.1.1 h)
+      ]
+      | false ↦ λ n. begins_first r.0 es new s sound (after ∙ ap told n ∙ h) r.2
+    ] refl
+
+pub begins_once : (observers : List ObserverOf) (seats clock : ℕ) (journal : List Entry) (state : StateOf) → IsLegal observers seats clock journal state → (s : ℕ) → BeginsOnce (entries_naming s journal)
+begins_once observers seats clock journal state l s = begins_first (opening observers seats clock) journal state s (opening_sound observers seats clock l.fits) (map.get-empty {X = TransactionOf} nat_cmp s) l.run
