@@ -6,7 +6,7 @@ use crate::seat::{Book, Seat};
 use pb_base::{MAX_ENTRIES, MAX_OBSERVERS, MAX_SEATS, NoMemory, Reason, Refusal, Ts};
 use pb_history::{
     Entry, Received, histories_are_told, reads_are_told, runs_are_counted, runs_are_told,
-    timestamps_rise,
+    steps_can_answer, timestamps_rise,
 };
 use pb_state::State;
 use pb_steps::{Answer, Observer, Phase, Step};
@@ -134,6 +134,7 @@ impl<T: Tablet> Shared<T> {
     ghost use Rattle.pb_base.specs.declared.refusal.Reason.TheVariants as reasons;
     ghost use Rattle.pb_steps.specs.State.{opening, phase_in};
     ghost use Rattle.pb_steps.specs.Readings.{lock_count};
+    ghost use Rattle.pb_steps.specs.Answers.{CanAnswer};
     ghost use Rattle.pb_core.specs.Calls.{AreSeats, Calls, call_reason};
     ghost use Rattle.pb_history.specs.Journals.{IsLegal};
     ghost use Rattle.pb_history.specs.History.{TellsHistory};
@@ -329,9 +330,11 @@ impl<T: Tablet> Shared<T> {
         ensures refused { (r : _) → call_reason self.old seat.old.number step.now ≡ Some r → result ≡ Err (refusal_by r) }
         ensures allowed { call_reason self.old seat.old.number step.now ≡ None → IfErr result (λ r. r ≡ refusal_by reasons.NoMemory) }
         ensures taken { IfOk result (λ a. Calls self.old seat.old step.now a self.new seat.new) }
+        ensures can { IfOk result (λ a. CanAnswer step.now a) }
         ensures table { OnErr result (self.new ≡ self.old) }
         ensures seat { OnErr result (seat.new ≡ seat.old) }
     {
+        steps_can_answer();
         if let Some(reason) = self.reason(seat.number, step) {
             return Err(reason.refusal());
         }

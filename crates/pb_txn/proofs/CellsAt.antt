@@ -1,0 +1,20 @@
+-- The cells of a run's declaration after its acknowledgment.
+use Rattle.std.proofs.Common.{◌≡◌, ℕ, zero, suc, ◌-◌, ◌<◌, ◌≢◌, List, [], ◌∷◌, length, map, Some, refl, slice_index_or, ap, ◌∙◌, arith}
+use Rattle.std.specs.Prelude.{slice_get}
+use Rattle.pb_base.specs.declared.cell.Cell.{Cell}
+use Rattle.pb_base.specs.declared.content.Content.{Content}
+use Rattle.pb_base.specs.Batch.{Writes}
+
+abbrev names : Writes → List Cell
+names ws = map (λ (w : Cell × Content). w.0) ws
+
+in_writes : (ws : Writes) (k : ℕ) (d : Cell × Content) → k < length (names ws) → slice_get (names ws) k ≡ Some (slice_index_or ws k d).0
+in_writes [] k d lt = absurd (omega (arith, lt))
+in_writes (w ∷ ws) zero d lt = refl
+in_writes (w ∷ ws) (suc k) d lt = in_writes ws k d (omega (arith, lt))
+
+pub after_first : (x : Cell) (ws : Writes) (k : ℕ) (d : Cell × Content) → k ≢ 0 → k < suc (length (names ws)) → slice_get (x ∷ names ws) k ≡ Some (slice_index_or ws (k - 1) d).0
+after_first x ws zero d n lt = absurd (n refl)
+after_first x ws (suc k) d n lt = in_writes ws k d (omega (arith, lt)) ∙ ap (λ m. Some (slice_index_or ws m d).0) (minus k) where
+  minus : (m : ℕ) → m ≡ suc m - 1
+  minus m = omega arith

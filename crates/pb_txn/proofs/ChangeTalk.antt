@@ -1,0 +1,89 @@
+-- What a change has asked is its begin, and then what its plan has asked.
+use Rattle.std.proofs.Common.{◌≡◌, ◌≢◌, ℕ, List, [], ◌∷◌, ◌++◌, Option, Some, None, refl, sym, ap, subst, ◌∙◌}
+use Rattle.pb_base.specs.declared.cell.Cell.{Cell}
+use Rattle.pb_base.specs.declared.content.Content.{Content}
+use Rattle.pb_base.specs.Batch.{Writes}
+use Rattle.pb_steps.specs.declared.step.Work.TheVariants as works
+use Rattle.pb_steps.specs.declared.step.Declared.TheVariants as declared
+use Rattle.pb_steps.specs.declared.step.Step.{Step}
+use Rattle.pb_steps.specs.declared.step.Step.TheVariants.{Begin}
+use Rattle.pb_steps.specs.declared.step.Answer.{Answer}
+use Rattle.pb_steps.specs.declared.step.Answer.TheVariants.{At, Locked, Found, Absent, Done, Conflict, Committed, Lost, RolledBack, Waits, CommittedAt}
+use Rattle.pb_steps.specs.Answers.{CanAnswer}
+use Rattle.pb_history.specs.declared.entry.Received.{Received}
+use Rattle.pb_txn.specs.declared.place.Outcome.{Outcome}
+use Rattle.pb_txn.specs.declared.place.Outcome.TheVariants as outcomes
+use Rattle.pb_txn.specs.Places.{declared_cells}
+use Rattle.pb_txn.specs.Plans.{PlanOf, fresh}
+use Rattle.pb_txn.specs.Plans as plans
+use Rattle.pb_txn.specs.Talks as talks
+use Rattle.pb_txn.specs.Talks.{told}
+use Rattle.pb_txn.specs.Forms.{IsWhole, PlansTalk, PlansEnd}
+use Rattle.pb_txn.specs.Changes.{ChangeOf, new_change, next_of, answered, outcome_of, outcome_in, Talks, IsWholeChange, ChangesTalk, ChangesEnd}
+use Rattle.pb_txn.proofs.Talk.{plans_talk, plans_end}
+
+-- a change that follows its plan
+abbrev following : Writes → PlanOf → ChangeOf
+following batch p = record { batch = batch; plan = Some p }
+
+some_other : {A : Type 0} (x : A) → Some x ≡ None → ⊥
+some_other x e = cc
+
+same_step : (s t : Step) → Some s ≡ Some t → s ≡ t
+same_step s t e = cc
+
+-- what it asks then is what its plan asks
+plan_talks : (batch : Writes) (p : PlanOf) (said : List Received) (q : ChangeOf) → Talks (following batch p) said q → (r : PlanOf) × (q ≡ following batch r) × talks.Talks p said r
+plan_talks batch p [] q t = (p, t, refl)
+plan_talks batch p (x ∷ xs) q t = let r = plan_talks batch (plans.answered p x.answer) xs q t.2 in (r.0, r.1, (t.0, t.1, r.2))
+
+-- its first answer is the start
+pub record HasBegun (batch : Writes) (r : Received) (rest : List Received) (q : ChangeOf) : Type 0 where
+  pub s : ℕ
+  pub first : r ≡ told (Begin works.Script) (At (record { 0 = s }))
+  pub plan : PlanOf
+  pub q_is : q ≡ following batch plan
+  pub said : talks.Talks (fresh s (declared.Script batch)) rest plan
+
+begun : (batch : Writes) (a : Answer) (rest : List Received) (q : ChangeOf) → CanAnswer (Begin works.Script) a → Talks (answered (new_change batch) a) rest q → HasBegun batch (told (Begin works.Script) a) rest q
+begun batch (At s) rest q can t = let p = plan_talks batch (fresh s.0 (declared.Script batch)) rest q t in record { s = s.0; first = refl; plan = p.0; q_is = p.1; said = p.2 }
+begun batch _ rest q can t = absurd can
+
+pub begins : (batch : Writes) (r : Received) (rest : List Received) (q : ChangeOf) → Talks (new_change batch) (r ∷ rest) q → HasBegun batch r rest q
+begins batch r rest q t =
+    let is : Begin works.Script ≡ r.step = same_step _ _ t.0 in
+    let b = begun batch r.answer rest q (subst (λ z. CanAnswer z r.answer) (sym is) t.1) t.2 in
+    subst (λ (z : Received). HasBegun batch z rest q) (λ i. record { step = is i; answer = r.answer }) b
+
+-- some way to make it
+whole : (batch : Writes) → batch ≢ [] → (rest : List Received) × (o : Outcome) × IsWhole (record { 0 = 0 }) (declared.Script batch) (declared_cells (declared.Script batch)) rest o
+whole [] some = absurd (some refl)
+whole (w ∷ ws) some = plans_talk 0 (declared.Script (w ∷ ws)) w.0 _ [] (fresh 0 (declared.Script (w ∷ ws))) refl refl
+
+on_from : (batch : Writes) (s : ℕ) (rest : List Received) (q : PlanOf) → batch ≢ [] → talks.Talks (fresh s (declared.Script batch)) rest q
+    → (more : List Received) × (o : Outcome) × IsWhole (record { 0 = s }) (declared.Script batch) (declared_cells (declared.Script batch)) (rest ++ more) o
+on_from [] s rest q some t = absurd (some refl)
+on_from (w ∷ ws) s rest q some t = plans_talk s (declared.Script (w ∷ ws)) w.0 _ rest q refl t
+
+at_end : (batch : Writes) (s : ℕ) (rest : List Received) (q : PlanOf) (o : Outcome) → batch ≢ [] → talks.Talks (fresh s (declared.Script batch)) rest q → plans.outcome_of q ≡ Some o
+    → IsWhole (record { 0 = s }) (declared.Script batch) (declared_cells (declared.Script batch)) rest o
+at_end [] s rest q o some t e = absurd (some refl)
+at_end (w ∷ ws) s rest q o some t e = plans_end s (declared.Script (w ∷ ws)) w.0 _ rest q o refl t e
+
+pub changes_talk : ChangesTalk
+changes_talk batch [] q some t =
+    let w = whole batch some in
+    (told (Begin works.Script) (At (record { 0 = 0 })) ∷ w.0, w.1, record { start = record { 0 = 0 }; rest = w.0; said_is = refl; whole = w.2 })
+changes_talk batch (r ∷ rest) q some t =
+    let b = begins batch r rest q t in
+    let w = on_from batch b.s rest b.plan some b.said in
+    (w.0, w.1, record { start = record { 0 = b.s }; rest = rest ++ w.0; said_is = ap (λ (z : Received). z ∷ rest ++ w.0) b.first; whole = w.2 })
+
+pub changes_end : ChangesEnd
+changes_end batch [] q o some t e = absurd (none_is q t e) where
+  none_is : (z : ChangeOf) → z ≡ new_change batch → outcome_of z ≡ Some o → ⊥
+  none_is z is h = let k : outcome_of z ≡ None = ap outcome_of is in cc
+changes_end batch (r ∷ rest) q o some t e =
+    let b = begins batch r rest q t in
+    let done : plans.outcome_of b.plan ≡ Some o = ap outcome_of (sym b.q_is) ∙ e in
+    record { start = record { 0 = b.s }; rest = rest; said_is = ap (λ (z : Received). z ∷ rest) b.first; whole = at_end batch b.s rest b.plan o some b.said done }

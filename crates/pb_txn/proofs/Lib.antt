@@ -1,0 +1,3 @@
+pub mod CellsAt
+pub mod Talk
+pub mod ChangeTalk

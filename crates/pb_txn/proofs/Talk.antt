@@ -1,0 +1,287 @@
+-- What a plan has asked at each place, and that it is a beginning of a whole conversation.
+use Rattle.std.proofs.Common.{◌≡◌, ℕ, zero, suc, ◌+◌, ◌<◌, ◌≤◌, Bool, true, false, List, [], ◌∷◌, ◌++◌, length, map, get_or, refl, sym, ◌∙◌, ap, subst, arith, append_assoc, append-nil, length-append, Option, Some, None, ltb, eqb, ne_eqb}
+use Rattle.std.proofs.lemmas.Bool.{lt-ltb, le-ltb}
+use Rattle.std.specs.Prelude.{slice_get, option_map}
+use Rattle.pb_base.specs.declared.cell.Cell.{Cell}
+use Rattle.pb_base.specs.declared.names.Ts.{Ts}
+use Rattle.pb_steps.specs.declared.step.Declared.{Declared}
+use Rattle.pb_steps.specs.declared.step.Step.{Step}
+use Rattle.pb_steps.specs.declared.step.Step.TheVariants.{Begin, Read, Declare, Prewrite, Stamp, CommitPrimary, CommitSecondary, Settle, Clear}
+use Rattle.pb_steps.specs.declared.step.Answer.{Answer}
+use Rattle.pb_steps.specs.declared.step.Answer.TheVariants.{At, Locked, Found, Absent, Done, Conflict, Committed, Lost, RolledBack, Waits, CommittedAt}
+use Rattle.pb_steps.specs.Answers.{CanAnswer}
+use Rattle.pb_history.specs.declared.entry.Received.{Received}
+use Rattle.pb_txn.specs.declared.place.Outcome.{Outcome}
+use Rattle.pb_txn.specs.declared.place.Outcome.TheVariants as outcomes
+use Rattle.pb_txn.specs.declared.place.Place.{Place}
+use Rattle.pb_txn.specs.declared.place.Place.TheVariants.{Declaring, Prewriting, Stamping, CommittingPrimary, CommittingSecondary, Settling, Clearing, Over}
+use Rattle.pb_txn.specs.Places.{declared_cells, place_after, after_prewrite, after_stamp, after_primary, prewrite_from, commit_from, clear_from, step_at}
+use Rattle.pb_txn.specs.Plans.{PlanOf, fresh, answered, outcome_at, outcome_of}
+use Rattle.pb_txn.specs.Talks.{told, Talks}
+use Rattle.pb_txn.specs.Forms.{prewrites, secondaries, AreCleared, IsWhole, committed, conflicted_first, conflicted_later, lost, IsBeginning, PlansTalk, PlansEnd}
+
+prewrites_append : (s : Ts) (xs ys : List Cell) → prewrites s (xs ++ ys) ≡ prewrites s xs ++ prewrites s ys
+prewrites_append s [] ys = refl
+prewrites_append s (x ∷ xs) ys = ap (λ rs. told (Prewrite s x) Done ∷ rs) (prewrites_append s xs ys)
+
+secondaries_append : (s : Ts) (xs ys : List Cell) → secondaries s (xs ++ ys) ≡ secondaries s xs ++ secondaries s ys
+secondaries_append s [] ys = refl
+secondaries_append s (x ∷ xs) ys = ap (λ rs. told (CommitSecondary s x) Done ∷ rs) (secondaries_append s xs ys)
+
+cleared_more : (xs : List Cell) (rs : List Received) (y : Cell) (a : Answer) → AreCleared xs rs → CanAnswer (Clear y) a → AreCleared (xs ++ y ∷ []) (rs ++ told (Clear y) a ∷ [])
+cleared_more [] rs y a c can = rw c (refl, can, refl)
+cleared_more (x ∷ xs) [] y a c can = absurd c
+cleared_more (x ∷ xs) (r ∷ rs) y a c can = (c.0, c.1, cleared_more xs rs y a c.2 can)
+
+-- some way to clear them
+clears : List Cell → List Received
+clears [] = []
+clears (x ∷ xs) = told (Clear x) Absent ∷ clears xs
+
+are_cleared : (xs ys : List Cell) (rs : List Received) → AreCleared xs rs → AreCleared (xs ++ ys) (rs ++ clears ys)
+unfolding clears
+are_cleared [] [] rs c = rw c refl
+are_cleared [] (y ∷ ys) rs c = rw c (refl, tt, are_cleared [] ys [] refl)
+are_cleared (x ∷ xs) ys [] c = absurd c
+are_cleared (x ∷ xs) ys (r ∷ rs) c = (c.0, c.1, are_cleared xs ys rs c.2)
+
+-- what stands after the first part of a list
+seam : {A : Type 0} (xs : List A) (y : A) (ys : List A) → slice_get (xs ++ y ∷ ys) (length xs) ≡ Some y
+seam [] y ys = refl
+seam (x ∷ xs) y ys = seam xs y ys
+
+none_some : {A : Type 0} (s : A) → None ≡ Some s → ⊥
+none_some s e = cc
+
+some_some : {A : Type 0} (s t : A) → Some s ≡ Some t → s ≡ t
+some_some s t e = cc
+
+module _ (s : Ts) (what : Declared) (x : Cell) (others : List Cell) where
+  abbrev cells : List Cell
+  cells = x ∷ others
+
+  abbrev Whole : List Received → Outcome → Type 0
+  Whole said o = IsWhole s what cells said o
+
+  abbrev declares : Received
+  declares = told (Declare s what) Done
+
+  -- all prewritten, and more
+  abbrev ready : List Received → List Received
+  ready more = declares ∷ prewrites s cells ++ more
+
+  -- the primary committed, and more
+  abbrev paid : Ts → List Received → List Received
+  paid c more = ready (told (Stamp s) (At c) ∷ told (CommitPrimary s) Committed ∷ more)
+
+  ready_more : (xs ys : List Received) → ready xs ++ ys ≡ ready (xs ++ ys)
+  ready_more xs ys = ap (λ rs. declares ∷ rs) (append_assoc (prewrites s cells) xs ys)
+
+  pub data SoFar : Place → List Received → Type 0 where
+    declaring : SoFar Declaring []
+    prewriting : (before : List Cell) (y : Cell) (after : List Cell) → cells ≡ before ++ y ∷ after → SoFar (Prewriting (length before)) (declares ∷ prewrites s before)
+    stamping : SoFar Stamping (declares ∷ prewrites s cells)
+    committing : (c : Ts) → SoFar (CommittingPrimary c) (ready (told (Stamp s) (At c) ∷ []))
+    finishing : (c : Ts) (done : List Cell) (y : Cell) (left : List Cell) → others ≡ done ++ y ∷ left → SoFar (CommittingSecondary c (suc (length done))) (paid c (secondaries s done))
+    settling : (before : List Cell) (y : Cell) (after : List Cell) → cells ≡ x ∷ before ++ y ∷ after
+        → SoFar (Settling (suc (length before))) (declares ∷ prewrites s (x ∷ before) ++ told (Prewrite s y) Conflict ∷ [])
+    clearing : (o : Outcome) (done : List Cell) (y : Cell) (left more : List Cell) (said cs : List Received) → cells ≡ x ∷ done ++ y ∷ (left ++ more)
+        → AreCleared done cs → ((all : List Received) → AreCleared (done ++ y ∷ left) all → Whole (said ++ all) o)
+        → SoFar (Clearing (suc (length done)) (suc (length (done ++ y ∷ left))) o) (said ++ cs)
+    over : (o : Outcome) (said : List Received) → Whole said o → SoFar (Over o) said
+
+  -- ---- the next place
+
+  -- the next prewrite, or the stamp
+  prewriting_next : (before after : List Cell) → cells ≡ before ++ after → SoFar (prewrite_from (length cells) (length before)) (declares ∷ prewrites s before)
+  prewriting_next before [] is =
+      let all : cells ≡ before = is ∙ append-nil before in
+      let no : ltb (length cells) (length cells) ≡ false = le-ltb (length cells) (length cells) (omega arith) in
+      subst (λ b. SoFar (prewrite_from (length cells) (length b)) (declares ∷ prewrites s b)) all (rw no stamping)
+  prewriting_next before (y ∷ after) is =
+      let yes : ltb (length before) (length cells) ≡ true = lt-ltb _ _ (omega (arith, ap length is, length-append before (y ∷ after))) in
+      rw yes (prewriting before y after is)
+
+  -- the next secondary to commit, or the end
+  finishing_next : (c : Ts) (done left : List Cell) → others ≡ done ++ left → SoFar (commit_from (length cells) c (suc (length done))) (paid c (secondaries s done))
+  finishing_next c done [] is =
+      let all : others ≡ done = is ∙ append-nil done in
+      let no : ltb (suc (length others)) (length cells) ≡ false = le-ltb _ _ (omega arith) in
+      subst (λ d. SoFar (commit_from (length cells) c (suc (length d))) (paid c (secondaries s d))) all (rw no (over (outcomes.Committed c) _ (committed x others c)))
+  finishing_next c done (y ∷ left) is =
+      let yes : ltb (suc (length done)) (length cells) ≡ true = lt-ltb _ _ (omega (arith, ap length is, length-append done (y ∷ left))) in
+      rw yes (finishing c done y left is)
+
+  -- the next to clear, or the end
+  clearing_next : (o : Outcome) (done left more : List Cell) (said cs : List Received) → cells ≡ x ∷ done ++ (left ++ more)
+      → AreCleared done cs → ((all : List Received) → AreCleared (done ++ left) all → Whole (said ++ all) o)
+      → SoFar (clear_from (suc (length done)) (suc (length (done ++ left))) o) (said ++ cs)
+  clearing_next o done [] more said cs is c ends =
+      let no : ltb (suc (length done)) (suc (length (done ++ []))) ≡ false = le-ltb _ _ (omega (arith, length-append done [])) in
+      rw no (over o (said ++ cs) (ends cs (rw append-nil c)))
+  clearing_next o done (y ∷ left) more said cs is c ends =
+      let yes : ltb (suc (length done)) (suc (length (done ++ y ∷ left))) ≡ true = lt-ltb _ _ (omega (arith, length-append done (y ∷ left))) in
+      rw yes (clearing o done y left more said cs is c ends)
+
+  -- ---- one more answer
+
+  first_more : (a : Answer) → CanAnswer (Declare s what) a → SoFar (prewrite_from (length cells) 0) (told (Declare s what) a ∷ [])
+  first_more Done can = prewriting_next [] cells refl
+  first_more _ can = absurd can
+
+  prewrite_more : (before : List Cell) (y : Cell) (after : List Cell) → cells ≡ before ++ y ∷ after → (a : Answer) → CanAnswer (Prewrite s y) a
+      → SoFar (after_prewrite (length cells) (length before) a) ((declares ∷ prewrites s before) ++ told (Prewrite s y) a ∷ [])
+  prewrite_more before y after is Done can =
+      let said : declares ∷ prewrites s (before ++ y ∷ []) ≡ (declares ∷ prewrites s before) ++ told (Prewrite s y) Done ∷ [] = ap (λ rs. declares ∷ rs) (prewrites_append s before (y ∷ [])) in
+      let count : length (before ++ y ∷ []) ≡ length before + 1 = omega (arith, length-append before (y ∷ [])) in
+      let next = prewriting_next (before ++ y ∷ []) after (is ∙ sym (append_assoc before (y ∷ []) after)) in
+      subst (λ rs. SoFar (prewrite_from (length cells) (length before + 1)) rs) said (subst (λ n. SoFar (prewrite_from (length cells) n) (declares ∷ prewrites s (before ++ y ∷ []))) count next)
+  prewrite_more [] y after is Conflict can =
+      let same : x ≡ y = cc in
+      subst (λ z. SoFar (Over outcomes.Conflicted) (declares ∷ told (Prewrite s z) Conflict ∷ [])) same (over _ _ (conflicted_first x others))
+  prewrite_more (b ∷ before) y after is Conflict can =
+      let same : b ≡ x = cc in
+      let no : eqb (suc (length before)) 0 ≡ false = ne_eqb (suc (length before)) 0 (λ e. cc) in
+      rw no (subst (λ z. SoFar (Settling (suc (length before))) (declares ∷ prewrites s (z ∷ before) ++ told (Prewrite s y) Conflict ∷ [])) (sym same)
+      (settling before y after (is ∙ ap (λ z. z ∷ before ++ y ∷ after) same)))
+  prewrite_more before y after is _ can = absurd can
+
+  stamp_more : (a : Answer) → CanAnswer (Stamp s) a → SoFar (after_stamp a) ((declares ∷ prewrites s cells) ++ told (Stamp s) a ∷ [])
+  stamp_more (At c) can = committing c
+  stamp_more _ can = absurd can
+
+  primary_more : (c : Ts) (a : Answer) → CanAnswer (CommitPrimary s) a → SoFar (after_primary (length cells) c a) (ready (told (Stamp s) (At c) ∷ []) ++ told (CommitPrimary s) a ∷ [])
+  primary_more c Committed can =
+      subst (λ rs. SoFar (commit_from (length cells) c 1) rs) (sym (ready_more (told (Stamp s) (At c) ∷ []) (told (CommitPrimary s) Committed ∷ []))) (finishing_next c [] others refl)
+  primary_more c Lost can =
+      let said = ready (told (Stamp s) (At c) ∷ []) ++ told (CommitPrimary s) Lost ∷ [] in
+      let is : (all : List Received) → said ++ all ≡ ready (told (Stamp s) (At c) ∷ told (CommitPrimary s) Lost ∷ all) =
+      λ all. ap (λ rs. rs ++ all) (ready_more (told (Stamp s) (At c) ∷ []) (told (CommitPrimary s) Lost ∷ [])) ∙ ready_more (told (Stamp s) (At c) ∷ told (CommitPrimary s) Lost ∷ []) all in
+      let ends : (all : List Received) → AreCleared others all → Whole (said ++ all) outcomes.Lost = λ all k. subst (λ rs. Whole rs outcomes.Lost) (sym (is all)) (lost x others c all k) in
+      subst (λ rs. SoFar (clear_from 1 (length cells) outcomes.Lost) rs) (append-nil said) (clearing_next outcomes.Lost [] others [] said [] (rw append-nil refl) refl ends)
+  primary_more c _ can = absurd can
+
+  secondary_more : (c : Ts) (done : List Cell) (y : Cell) (left : List Cell) → others ≡ done ++ y ∷ left → (a : Answer) → CanAnswer (CommitSecondary s y) a
+      → SoFar (commit_from (length cells) c (suc (length done) + 1)) (paid c (secondaries s done) ++ told (CommitSecondary s y) a ∷ [])
+  secondary_more c done y left is Done can =
+      let said : paid c (secondaries s (done ++ y ∷ [])) ≡ paid c (secondaries s done) ++ told (CommitSecondary s y) Done ∷ [] =
+      ap (paid c) (secondaries_append s done (y ∷ [])) ∙ sym (ready_more (told (Stamp s) (At c) ∷ told (CommitPrimary s) Committed ∷ secondaries s done) (told (CommitSecondary s y) Done ∷ [])) in
+      let count : suc (length (done ++ y ∷ [])) ≡ suc (length done) + 1 = omega (arith, length-append done (y ∷ [])) in
+      let next = finishing_next c (done ++ y ∷ []) left (is ∙ sym (append_assoc done (y ∷ []) left)) in
+      subst (λ rs. SoFar (commit_from (length cells) c (suc (length done) + 1)) rs) said (subst (λ n. SoFar (commit_from (length cells) c n) (paid c (secondaries s (done ++ y ∷ [])))) count next)
+  secondary_more c done y left is _ can = absurd can
+
+  settle_more : (before : List Cell) (y : Cell) (after : List Cell) → cells ≡ x ∷ before ++ y ∷ after → (a : Answer) → CanAnswer (Settle x) a
+      → SoFar (clear_from 1 (suc (length before)) outcomes.Conflicted) ((declares ∷ prewrites s (x ∷ before) ++ told (Prewrite s y) Conflict ∷ []) ++ told (Settle x) a ∷ [])
+  settle_more before y after is a can =
+      let put = declares ∷ prewrites s (x ∷ before) in
+      let said = (put ++ told (Prewrite s y) Conflict ∷ []) ++ told (Settle x) a ∷ [] in
+      let whole : (all : List Received) → said ++ all ≡ put ++ told (Prewrite s y) Conflict ∷ told (Settle x) a ∷ all =
+      λ all. append_assoc (put ++ told (Prewrite s y) Conflict ∷ []) (told (Settle x) a ∷ []) all ∙ append_assoc put (told (Prewrite s y) Conflict ∷ []) (told (Settle x) a ∷ all) in
+      let P : List Cell → List Received → Type 0 = λ cs all. IsWhole s what cs (declares ∷ prewrites s (x ∷ before) ++ told (Prewrite s y) Conflict ∷ told (Settle x) a ∷ all) outcomes.Conflicted in
+      let ends : (all : List Received) → AreCleared before all → Whole (said ++ all) outcomes.Conflicted =
+      λ all c. subst (λ rs. Whole rs outcomes.Conflicted) (sym (whole all)) (subst (λ cs. P cs all) (sym is) (conflicted_later x y before after a all can c)) in
+      subst (λ rs. SoFar (clear_from 1 (suc (length before)) outcomes.Conflicted) rs) (append-nil said) (clearing_next outcomes.Conflicted [] before (y ∷ after) said [] is refl ends)
+
+  clear_more : (o : Outcome) (done : List Cell) (y : Cell) (left more : List Cell) (said cs : List Received) → cells ≡ x ∷ done ++ y ∷ (left ++ more)
+      → AreCleared done cs → ((all : List Received) → AreCleared (done ++ y ∷ left) all → Whole (said ++ all) o)
+      → (a : Answer) → CanAnswer (Clear y) a
+      → SoFar (clear_from (suc (length done) + 1) (suc (length (done ++ y ∷ left))) o) ((said ++ cs) ++ told (Clear y) a ∷ [])
+  clear_more o done y left more said cs is c ends a can =
+      let split : (ys : List Cell) → (done ++ y ∷ []) ++ ys ≡ done ++ y ∷ ys = λ ys. append_assoc done (y ∷ []) ys in
+      let count : suc (length (done ++ y ∷ [])) ≡ suc (length done) + 1 = omega (arith, length-append done (y ∷ [])) in
+      let next = clearing_next o (done ++ y ∷ []) left more said (cs ++ told (Clear y) a ∷ []) (is ∙ ap (λ ys. x ∷ ys) (sym (split (left ++ more)))) (cleared_more done cs y a c can)
+      (λ all k. ends all (subst (λ ys. AreCleared ys all) (split left) k)) in
+      subst (λ rs. SoFar (clear_from (suc (length done) + 1) (suc (length (done ++ y ∷ left))) o) rs) (sym (append_assoc said cs (told (Clear y) a ∷ [])))
+      (subst (λ n. SoFar (clear_from n (suc (length (done ++ y ∷ left))) o) (said ++ (cs ++ told (Clear y) a ∷ []))) count
+      (subst (λ ys. SoFar (clear_from (suc (length (done ++ y ∷ []))) (suc (length ys)) o) (said ++ (cs ++ told (Clear y) a ∷ []))) (split left) next))
+
+  of_step : (t u : Step) → Some t ≡ Some u → t ≡ u
+  of_step t u e = cc
+
+  module _ (cells_are : declared_cells what ≡ cells) where
+    -- the cell of the declaration at the end of the first part of the cells
+    at_seam : (before : List Cell) (y : Cell) (after : List Cell) → cells ≡ before ++ y ∷ after → slice_get (declared_cells what) (length before) ≡ Some y
+    at_seam before y after at = ap (λ xs. slice_get xs (length before)) (cells_are ∙ at) ∙ seam before y after
+
+    pub said_more : (p : Place) (l : List Received) (t : Step) (a : Answer) → SoFar p l → step_at s.0 what p ≡ Some t → CanAnswer t a
+        → SoFar (place_after (length cells) p a) (l ++ told t a ∷ [])
+    said_more p l t a declaring e can =
+        subst (λ u. CanAnswer u a → SoFar (prewrite_from (length cells) 0) (told u a ∷ [])) (of_step (Declare s what) t e) (first_more a) can
+    said_more p l t a (prewriting before y after at) e can =
+        let is : Prewrite s y ≡ t = of_step _ t (ap (option_map (λ z. Prewrite s z)) (sym (at_seam before y after at)) ∙ e) in
+        subst (λ u. CanAnswer u a → SoFar (after_prewrite (length cells) (length before) a) ((declares ∷ prewrites s before) ++ told u a ∷ [])) is (prewrite_more before y after at a) can
+    said_more p l t a stamping e can =
+        subst (λ u. CanAnswer u a → SoFar (after_stamp a) ((declares ∷ prewrites s cells) ++ told u a ∷ [])) (of_step _ t e) (stamp_more a) can
+    said_more p l t a (committing c) e can =
+        subst (λ u. CanAnswer u a → SoFar (after_primary (length cells) c a) (ready (told (Stamp s) (At c) ∷ []) ++ told u a ∷ [])) (of_step _ t e) (primary_more c a) can
+    said_more p l t a (finishing c done y left at) e can =
+        let is : CommitSecondary s y ≡ t = of_step _ t (ap (option_map (λ z. CommitSecondary s z)) (sym (at_seam (x ∷ done) y left (ap (λ xs. x ∷ xs) at))) ∙ e) in
+        subst (λ u. CanAnswer u a → SoFar (commit_from (length cells) c (suc (length done) + 1)) (paid c (secondaries s done) ++ told u a ∷ [])) is (secondary_more c done y left at a) can
+    said_more p l t a (settling before y after at) e can =
+        let is : Settle x ≡ t = of_step _ t (ap (option_map (λ z. Settle z)) (sym (at_seam [] x others refl)) ∙ e) in
+        subst (λ u. CanAnswer u a → SoFar (clear_from 1 (suc (length before)) outcomes.Conflicted) ((declares ∷ prewrites s (x ∷ before) ++ told (Prewrite s y) Conflict ∷ []) ++ told u a ∷ [])) is (settle_more before y after at a) can
+    said_more p l t a (clearing o done y left more said cs at c ends) e can =
+        let is : Clear y ≡ t = of_step _ t (ap (option_map (λ z. Clear z)) (sym (at_seam (x ∷ done) y (left ++ more) at)) ∙ e) in
+        subst (λ u. CanAnswer u a → SoFar (clear_from (suc (length done) + 1) (suc (length (done ++ y ∷ left))) o) ((said ++ cs) ++ told u a ∷ [])) is (clear_more o done y left more said cs at c ends a) can
+    said_more p l t a (over o said whole) e can = absurd (none_some t e)
+
+    -- a talk goes on from what was said
+    pub said_all : (p q : PlanOf) (l said : List Received) → p.start ≡ s.0 → p.what ≡ what → SoFar p.place l → Talks p said q → SoFar q.place (l ++ said)
+    said_all p q l [] s-is w-is so t = rw append-nil (subst (λ z. SoFar z.place l) (sym t) so)
+    said_all p q l (r ∷ rs) s-is w-is so t =
+        let next : step_at s.0 what p.place ≡ Some r.step = (λ i. step_at (sym s-is i) (sym w-is i) p.place) ∙ t.0 in
+        let count : length (declared_cells p.what) ≡ length cells = ap (λ w. length (declared_cells w)) w-is ∙ ap length cells_are in
+        let here : SoFar (place_after (length (declared_cells p.what)) p.place r.answer) (l ++ r ∷ []) = subst (λ n. SoFar (place_after n p.place r.answer) (l ++ r ∷ [])) (sym count) (said_more p.place l r.step r.answer so next t.1) in
+        subst (λ ys. SoFar q.place ys) (append_assoc l (r ∷ []) rs) (said_all (answered p r.answer) q (l ++ r ∷ []) rs s-is w-is here t.2)
+
+  -- ---- what has been said can be ended
+
+  pub can_end : (p : Place) (l : List Received) → SoFar p l → (rest : List Received) × (o : Outcome) × Whole (l ++ rest) o
+  can_end p l declaring = (paid (record { 0 = 0 }) (secondaries s others), outcomes.Committed (record { 0 = 0 }), committed x others _)
+  can_end p l (prewriting before y after at) =
+      let c : Ts = record { 0 = 0 } in
+      let ends = told (Stamp s) (At c) ∷ told (CommitPrimary s) Committed ∷ secondaries s others in
+      let rest = prewrites s (y ∷ after) ++ ends in
+      let all : (declares ∷ prewrites s before) ++ rest ≡ paid c (secondaries s others) =
+      ap (λ rs. declares ∷ rs) (sym (append_assoc (prewrites s before) (prewrites s (y ∷ after)) ends) ∙ ap (λ rs. rs ++ ends) (sym (prewrites_append s before (y ∷ after)) ∙ ap (λ xs. prewrites s xs) (sym at))) in
+      (rest, outcomes.Committed c, subst (λ rs. Whole rs (outcomes.Committed c)) (sym all) (committed x others c))
+  can_end p l stamping = let c : Ts = record { 0 = 0 } in (told (Stamp s) (At c) ∷ told (CommitPrimary s) Committed ∷ secondaries s others, outcomes.Committed c, committed x others c)
+  can_end p l (committing c) =
+      let rest = told (CommitPrimary s) Committed ∷ secondaries s others in
+      (rest, outcomes.Committed c, subst (λ rs. Whole rs (outcomes.Committed c)) (sym (ready_more (told (Stamp s) (At c) ∷ []) rest)) (committed x others c))
+  can_end p l (finishing c done y left at) =
+      let rest = secondaries s (y ∷ left) in
+      let all : paid c (secondaries s done) ++ rest ≡ paid c (secondaries s others) =
+      ready_more (told (Stamp s) (At c) ∷ told (CommitPrimary s) Committed ∷ secondaries s done) rest ∙ ap (paid c) (sym (secondaries_append s done (y ∷ left)) ∙ ap (secondaries s) (sym at)) in
+      (rest, outcomes.Committed c, subst (λ rs. Whole rs (outcomes.Committed c)) (sym all) (committed x others c))
+  can_end p l (settling before y after at) =
+      let put = declares ∷ prewrites s (x ∷ before) in
+      let rest = told (Settle x) Absent ∷ clears before in
+      let P : List Cell → Type 0 = λ cs. IsWhole s what cs (declares ∷ prewrites s (x ∷ before) ++ told (Prewrite s y) Conflict ∷ rest) outcomes.Conflicted in
+      (rest, outcomes.Conflicted, subst (λ rs. Whole rs outcomes.Conflicted) (sym (append_assoc put (told (Prewrite s y) Conflict ∷ []) rest)) (subst P (sym at) (conflicted_later x y before after Absent (clears before) tt (are_cleared [] before [] refl))))
+  can_end p l (clearing o done y left more said cs at c ends) =
+      let rest = clears (y ∷ left) in
+      (rest, o, subst (λ rs. Whole rs o) (sym (append_assoc said cs rest)) (ends (cs ++ rest) (are_cleared done (y ∷ left) cs c)))
+  can_end p l (over o said whole) = ([], o, rw append-nil whole)
+
+  pub ended : (p : Place) (l : List Received) (o : Outcome) → SoFar p l → outcome_at p ≡ Some o → Whole l o
+  ended p l o declaring e = absurd (none_some o e)
+  ended p l o (prewriting before y after at) e = absurd (none_some o e)
+  ended p l o stamping e = absurd (none_some o e)
+  ended p l o (committing c) e = absurd (none_some o e)
+  ended p l o (finishing c done y left at) e = absurd (none_some o e)
+  ended p l o (settling before y after at) e = absurd (none_some o e)
+  ended p l o (clearing w done y left more said cs at c ends) e = absurd (none_some o e)
+  ended p l o (over w said whole) e = subst (λ z. Whole said z) (some_some w o e) whole
+
+pub plans_talk : PlansTalk
+plans_talk s what x others said q is t =
+    let so = said_all (record { 0 = s }) what x others is (fresh s what) q [] said refl refl declaring t in
+    let r = can_end (record { 0 = s }) what x others q.place said so in
+    (r.0, r.1, subst (λ cs. IsWhole (record { 0 = s }) what cs (said ++ r.0) r.1) (sym is) r.2)
+
+pub plans_end : PlansEnd
+plans_end s what x others said q o is t e =
+    subst (λ cs. IsWhole (record { 0 = s }) what cs said o) (sym is)
+    (ended (record { 0 = s }) what x others q.place said o (said_all (record { 0 = s }) what x others is (fresh s what) q [] said refl refl declaring t) e)

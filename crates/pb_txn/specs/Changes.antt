@@ -1,0 +1,92 @@
+-- Changes of a script: a transaction that begins and then follows its plan.
+use Rattle.std.specs.Prelude.{◌≡◌, ◌≢◌, List, [], ◌∷◌, ◌++◌, Option, Some, None}
+use Rattle.pb_base.specs.Batch.{Writes}
+use Rattle.pb_base.specs.declared.names.Ts.{Ts}
+use Rattle.pb_steps.specs.declared.step.Work.TheVariants as works
+use Rattle.pb_steps.specs.declared.step.Declared.{Declared}
+use Rattle.pb_steps.specs.declared.step.Declared.TheVariants as declared
+use Rattle.pb_steps.specs.declared.step.Step.{Step}
+use Rattle.pb_steps.specs.declared.step.Step.TheVariants.{Begin}
+use Rattle.pb_steps.specs.declared.step.Answer.{Answer}
+use Rattle.pb_steps.specs.declared.step.Answer.TheVariants.{At}
+use Rattle.pb_steps.specs.State.{batch_in}
+use Rattle.pb_steps.specs.Answers.{CanAnswer}
+use Rattle.pb_history.specs.declared.entry.Received.{Received}
+use Rattle.pb_txn.specs.declared.place.Outcome.{Outcome}
+use Rattle.pb_txn.specs.Places.{declared_cells}
+use Rattle.pb_txn.specs.Plans.{PlanOf, fresh}
+use Rattle.pb_txn.specs.Plans as plans
+use Rattle.pb_txn.specs.Talks.{told}
+use Rattle.pb_txn.specs.Forms.{IsWhole}
+
+-- what is written, and the plan once the transaction has begun
+pub record ChangeOf : Type 0 where
+  pub batch : Writes
+  pub plan : Option PlanOf
+
+-- before its first step
+abbrev pub new_change : Writes → ChangeOf
+new_change batch = record { batch = batch; plan = None }
+
+abbrev pub next_in : Option PlanOf → Option Step
+next_in None = Some (Begin works.Script)
+next_in (Some p) = plans.next_of p
+
+abbrev pub next_of : ChangeOf → Option Step
+next_of j = next_in j.plan
+
+-- the answer of the begin is the start
+abbrev pub begun_at : Writes → Answer → Option PlanOf
+begun_at batch (At s) = Some (fresh s.0 (declared.Script batch))
+begun_at batch _ = None
+
+abbrev pub plan_after : Writes → Option PlanOf → Answer → Option PlanOf
+plan_after batch None a = begun_at batch a
+plan_after batch (Some p) a = Some (plans.answered p a)
+
+abbrev pub answered : ChangeOf → Answer → ChangeOf
+answered j a = record j { plan = plan_after j.batch j.plan a }
+
+abbrev pub outcome_in : Option PlanOf → Option Outcome
+outcome_in None = None
+outcome_in (Some p) = plans.outcome_of p
+
+abbrev pub outcome_of : ChangeOf → Option Outcome
+outcome_of j = outcome_in j.plan
+
+-- ---- conversations
+
+-- from one place to another, each of its next steps was answered with one of its answers
+abbrev pub Talks : ChangeOf → List Received → ChangeOf → Type 0
+Talks p [] q = q ≡ p
+Talks p (r ∷ rs) q = (next_of p ≡ Some r.step) × CanAnswer r.step r.answer × Talks (answered p r.answer) rs q
+
+-- it begins, and the rest is that of a transaction of its cells
+pub record IsWholeChange (batch : Writes) (said : List Received) (o : Outcome) : Type 0 where
+  pub start : Ts
+  pub rest : List Received
+  pub said_is : said ≡ told (Begin works.Script) (At start) ∷ rest
+  pub whole : IsWhole start (declared.Script batch) (declared_cells (declared.Script batch)) rest o
+
+-- what a change of some cells has asked so far is a beginning of such a conversation
+abbrev pub ChangesTalk : Type 0
+ChangesTalk = (batch : Writes) (said : List Received) (q : ChangeOf) → batch ≢ [] → Talks (new_change batch) said q
+    → (rest : List Received) × (o : Outcome) × IsWholeChange batch (said ++ rest) o
+
+-- and where it is over, a whole one with its outcome
+abbrev pub ChangesEnd : Type 0
+ChangesEnd = (batch : Writes) (said : List Received) (q : ChangeOf) (o : Outcome) → batch ≢ [] → Talks (new_change batch) said q → outcome_of q ≡ Some o
+    → IsWholeChange batch said o
+
+-- ---- how a change is kept
+
+abbrev pub batch_by : Option Declared → Option PlanOf → Writes
+batch_by (Some what) plan = batch_in what
+batch_by None (Some p) = batch_in p.what
+batch_by None None = []
+
+-- until it has begun it keeps its declaration, and then its plan
+abbrev pub IsChange : Option Declared → Option PlanOf → Type 0
+IsChange (Some what) None = what ≡ declared.Script (batch_in what)
+IsChange None (Some p) = p.what ≡ declared.Script (batch_in p.what)
+IsChange _ _ = ⊥

@@ -1,0 +1,58 @@
+-- The conversations of a transaction (OSDI 2010, section 2.2).
+use Rattle.std.specs.Prelude.{◌≡◌, ℕ, List, [], ◌∷◌, ◌++◌, map, Some}
+use Rattle.pb_base.specs.declared.cell.Cell.{Cell}
+use Rattle.pb_base.specs.declared.names.Ts.{Ts}
+use Rattle.pb_steps.specs.declared.step.Declared.{Declared}
+use Rattle.pb_steps.specs.declared.step.Step.TheVariants.{Declare, Prewrite, Stamp, CommitPrimary, CommitSecondary, Settle, Clear}
+use Rattle.pb_steps.specs.declared.step.Answer.{Answer}
+use Rattle.pb_steps.specs.declared.step.Answer.TheVariants.{At, Done, Conflict, Committed, Lost}
+use Rattle.pb_steps.specs.Answers.{CanAnswer}
+use Rattle.pb_history.specs.declared.entry.Received.{Received}
+use Rattle.pb_txn.specs.declared.place.Outcome.{Outcome}
+use Rattle.pb_txn.specs.declared.place.Outcome.TheVariants as outcomes
+use Rattle.pb_txn.specs.Places.{declared_cells}
+use Rattle.pb_txn.specs.Plans.{PlanOf, fresh, outcome_of}
+use Rattle.pb_txn.specs.Talks.{told, Talks}
+
+-- each cell prewritten
+abbrev pub prewrites : Ts → List Cell → List Received
+prewrites s xs = map (λ x. told (Prewrite s x) Done) xs
+
+-- each cell committed
+abbrev pub secondaries : Ts → List Cell → List Received
+secondaries s xs = map (λ x. told (CommitSecondary s x) Done) xs
+
+-- each cell cleared, whatever the answers
+abbrev pub AreCleared : List Cell → List Received → Type 0
+AreCleared [] rs = rs ≡ []
+AreCleared (x ∷ xs) [] = ⊥
+AreCleared (x ∷ xs) (r ∷ rs) = (r.step ≡ Clear x) × CanAnswer r.step r.answer × AreCleared xs rs
+
+-- the conversation of a transaction of these cells, and how it ended
+pub data IsWhole (s : Ts) (what : Declared) : List Cell → List Received → Outcome → Type 0 where
+  -- all were prewritten, and the primary and then the others committed
+  committed : (x : Cell) (others : List Cell) (c : Ts)
+      → IsWhole s what (x ∷ others) (told (Declare s what) Done ∷ prewrites s (x ∷ others) ++ told (Stamp s) (At c) ∷ told (CommitPrimary s) Committed ∷ secondaries s others) (outcomes.Committed c)
+  -- a conflict on the primary
+  conflicted_first : (x : Cell) (after : List Cell)
+      → IsWhole s what (x ∷ after) (told (Declare s what) Done ∷ told (Prewrite s x) Conflict ∷ []) outcomes.Conflicted
+  -- a conflict on a later cell: the primary is settled, and what was prewritten besides is cleared
+  conflicted_later : (x y : Cell) (before after : List Cell) (a : Answer) (cs : List Received) → CanAnswer (Settle x) a → AreCleared before cs
+      → IsWhole s what (x ∷ before ++ y ∷ after) (told (Declare s what) Done ∷ prewrites s (x ∷ before) ++ told (Prewrite s y) Conflict ∷ told (Settle x) a ∷ cs) outcomes.Conflicted
+  -- the primary's lock was gone: the others are cleared
+  lost : (x : Cell) (others : List Cell) (c : Ts) (cs : List Received) → AreCleared others cs
+      → IsWhole s what (x ∷ others) (told (Declare s what) Done ∷ prewrites s (x ∷ others) ++ told (Stamp s) (At c) ∷ told (CommitPrimary s) Lost ∷ cs) outcomes.Lost
+
+-- a beginning of such a conversation
+abbrev pub IsBeginning : Ts → Declared → List Received → Type 0
+IsBeginning s what said = (rest : List Received) × (o : Outcome) × IsWhole s what (declared_cells what) (said ++ rest) o
+
+-- what a plan of some cells has asked so far is a beginning of such a conversation
+abbrev pub PlansTalk : Type 0
+PlansTalk = (s : ℕ) (what : Declared) (x : Cell) (others : List Cell) (said : List Received) (q : PlanOf) → declared_cells what ≡ x ∷ others → Talks (fresh s what) said q
+    → IsBeginning (record { 0 = s }) what said
+
+-- and where it is over, a whole one with its outcome
+abbrev pub PlansEnd : Type 0
+PlansEnd = (s : ℕ) (what : Declared) (x : Cell) (others : List Cell) (said : List Received) (q : PlanOf) (o : Outcome) → declared_cells what ≡ x ∷ others → Talks (fresh s what) said q
+    → outcome_of q ≡ Some o → IsWhole (record { 0 = s }) what (declared_cells what) said o

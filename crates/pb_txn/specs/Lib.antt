@@ -1,0 +1,5 @@
+pub mod Places
+pub mod Plans
+pub mod Talks
+pub mod Forms
+pub mod Changes

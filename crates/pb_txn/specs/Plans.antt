@@ -1,0 +1,57 @@
+-- Plans, as their owners see them.
+use Rattle.std.specs.Prelude.{◌≡◌, ℕ, [], length, Option, Some, None, MatchOption}
+use Rattle.pb_steps.specs.declared.step.Declared.{Declared}
+use Rattle.pb_steps.specs.declared.step.Declared.TheVariants as declared
+use Rattle.pb_steps.specs.declared.step.Step.{Step}
+use Rattle.pb_steps.specs.declared.step.Step.TheVariants as steps
+use Rattle.pb_steps.specs.declared.step.Answer.{Answer}
+use Rattle.pb_steps.specs.Answers.{CanAnswer}
+use Rattle.pb_txn.specs.declared.place.Outcome.{Outcome}
+use Rattle.pb_txn.specs.declared.place.Place.{Place}
+use Rattle.pb_txn.specs.declared.place.Place.TheVariants.{Declaring, Over}
+use Rattle.pb_txn.specs.Places.{declared_cells, place_after, later_step, step_at, Fits}
+
+-- a transaction's start, what it declares, and which step is next
+pub record PlanOf : Type 0 where
+  pub start : ℕ
+  pub what : Declared
+  pub place : Place
+
+-- before its first step
+abbrev pub fresh : ℕ → Declared → PlanOf
+fresh s what = record { start = s; what = what; place = Declaring }
+
+abbrev pub next_of : PlanOf → Option Step
+next_of p = step_at p.start p.what p.place
+
+-- after its next step was answered
+abbrev pub answered : PlanOf → Answer → PlanOf
+answered p a = record p { place = place_after (length (declared_cells p.what)) p.place a }
+
+abbrev pub outcome_at : Place → Option Outcome
+outcome_at (Over o) = Some o
+outcome_at _ = None
+
+abbrev pub outcome_of : PlanOf → Option Outcome
+outcome_of p = outcome_at p.place
+
+-- there is a next step, which can have this answer
+abbrev pub CanTake : Option Step → Answer → Type 0
+CanTake next a = MatchOption next ⊥ (λ s. CanAnswer s a)
+
+-- ---- how a plan is kept
+
+abbrev pub what_in : Step → Declared
+what_in (steps.Declare s what) = what
+what_in _ = declared.Script []
+
+-- the declaration is kept as its step, and each later step as it comes
+pub record IsPlan (s : ℕ) (declare : Step) (later : Option Step) (place : Place) : Type 0 where
+  pub declares : declare ≡ steps.Declare (record { 0 = s }) (what_in declare)
+  pub stored : later ≡ later_step s (declared_cells (what_in declare)) place
+  pub fits : Fits (length (declared_cells (what_in declare))) place
+
+-- the step is a declaration
+abbrev pub Declares : Step → Type 0
+Declares (steps.Declare s what) = Unit {0}
+Declares _ = ⊥

@@ -1,0 +1,15 @@
+-- What a plan has asked, step by step, with the answers.
+use Rattle.std.specs.Prelude.{◌≡◌, List, [], ◌∷◌, Some}
+use Rattle.pb_steps.specs.declared.step.Step.{Step}
+use Rattle.pb_steps.specs.declared.step.Answer.{Answer}
+use Rattle.pb_steps.specs.Answers.{CanAnswer}
+use Rattle.pb_history.specs.declared.entry.Received.{Received}
+use Rattle.pb_txn.specs.Plans.{PlanOf, next_of, answered}
+
+abbrev pub told : Step → Answer → Received
+told step answer = record { step = step; answer = answer }
+
+-- from one place to another, each of its next steps was answered with one of its answers
+abbrev pub Talks : PlanOf → List Received → PlanOf → Type 0
+Talks p [] q = q ≡ p
+Talks p (r ∷ rs) q = (next_of p ≡ Some r.step) × CanAnswer r.step r.answer × Talks (answered p r.answer) rs q

@@ -1,0 +1,12 @@
+//! The order of a transaction's steps (OSDI 2010, section 2.2), from its declaration to its end.
+#![tactic(auto)]
+
+mod change;
+mod laws;
+mod place;
+mod plan;
+
+pub use change::ChangeJob;
+pub use laws::{changes_talk, plans_talk};
+pub use place::Outcome;
+pub use plan::Plan;

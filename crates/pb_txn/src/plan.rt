@@ -1,0 +1,141 @@
+//! Plans.
+ghost use Rattle.std.specs.Prelude.{◌≡◌, ◌<◌, length, slice_get, Some};
+ghost use Rattle.pb_steps.specs.Declarations.{IsKnown};
+ghost use Rattle.pb_txn.specs.Places.{declared_cells, later_step, Fits};
+ghost use Rattle.pb_txn.specs.Plans.{what_in, Declares};
+
+use crate::place::{Outcome, Place, place_after};
+use pb_base::{Cell, Ts};
+use pb_steps::{Answer, Declaration, Declared, Step};
+use std::marker::Model;
+
+/// The steps of a transaction of this start, from its declaration to its end, one after another (OSDI 2010, section 2.2):
+/// it declares, prewrites each cell in declared order, the primary first, takes its commit timestamp, commits the primary
+/// and then the other cells. A conflict on the primary ends it; after one on a later cell it settles its primary, and
+/// clears what it prewrote besides. Where its primary was lost, it clears its other cells.
+///
+/// It takes no memory.
+#[derive(Drop)]
+pub struct Plan {
+    start: Ts,
+    declare: Step,
+    later: Option<Step>,
+    place: Place,
+}
+
+impl Model for Plan {
+    ghost use Rattle.pb_txn.specs.Plans.{PlanOf, what_in, IsPlan};
+
+    ghost Value = { PlanOf };
+
+    ghost view = { λ p. record { start = p.start.0; what = what_in p.declare; place = p.place } };
+
+    ghost invariant = { λ p. IsPlan p.start.0 p.declare p.later p.place };
+}
+
+// How many cells are written.
+fn cell_count(what: &Declared) -> usize
+    ensures { result ≡ length (declared_cells what.now) }
+{
+    match what {
+        Declared::Script(batch) => batch.len(),
+        Declared::Run(_, finished) => finished.writes().len() + 1,
+    }
+}
+
+// The cell at a place, the primary at the first.
+fn cell_at(what: &Declared, place: usize) -> Cell
+    requires { place < length (declared_cells what.now) }
+    ensures { slice_get (declared_cells what.now) place ≡ Some result }
+{
+    match what {
+        Declared::Script(batch) => {
+            let (cell, _) = batch.at(place);
+            cell
+        }
+        Declared::Run(observer, finished) => {
+            if place == 0 {
+                let record = finished.record();
+                return Cell::Ack(*observer, record.row(), record.column());
+            }
+            finished.writes()[place - 1].0
+        }
+    }
+}
+
+// What a step declares.
+fn declared_by(step: &Step) -> &Declared
+    requires { Declares step.now }
+    ensures { result.now ≡ what_in step.now }
+{
+    match step {
+        Step::Declare(_, what) => what.get(),
+        _ => unreachable!(),
+    }
+}
+
+// The step at a place, but for the declaration.
+fn step_at(start: Ts, what: &Declared, place: Place) -> Option<Step>
+    requires { Fits (length (declared_cells what.now)) place }
+    ensures { result ≡ later_step start.0 (declared_cells what.now) place }
+{
+    match place {
+        Place::Declaring => None,
+        Place::Prewriting(k) => Some(Step::Prewrite(start, cell_at(what, k))),
+        Place::Stamping => Some(Step::Stamp(start)),
+        Place::CommittingPrimary(_) => Some(Step::CommitPrimary(start)),
+        Place::CommittingSecondary(_, k) => Some(Step::CommitSecondary(start, cell_at(what, k))),
+        Place::Settling(_) => Some(Step::Settle(cell_at(what, 0))),
+        Place::Clearing(k, _, _) => Some(Step::Clear(cell_at(what, k))),
+        Place::Over(_) => None,
+    }
+}
+
+impl Plan {
+    ghost use Rattle.std.specs.Prelude.{◌≡◌, None, Some, MatchOption};
+    ghost use Rattle.pb_txn.specs.Plans.{fresh, next_of, answered, outcome_of, CanTake};
+
+    /// The plan of the transaction of this start, which declares this.
+    pub fn new(start: Ts, what: Declaration) -> Plan
+        ensures { result ≡ fresh start.0 what }
+    {
+        Plan {
+            start,
+            declare: Step::Declare(start, what),
+            later: None,
+            place: Place::Declaring,
+        }
+    }
+
+    /// The next step, if it isn't over.
+    pub fn next(&self) -> Option<&Step>
+        ensures { MatchOption result (next_of self.now ≡ None) (λ s. next_of self.now ≡ Some s.now) }
+    {
+        match self.place {
+            Place::Declaring => Some(&self.declare),
+            _ => self.later.as_ref(),
+        }
+    }
+
+    /// Takes the answer of the next step, which is one that such a step can have.
+    pub fn took(&mut self, answer: Answer)
+        requires { CanTake (next_of self.old) answer }
+        ensures { self.new ≡ answered self.old answer }
+    {
+        let what = declared_by(&self.declare);
+        let place = place_after(cell_count(what), self.place, answer);
+        let later = step_at(self.start, what, place);
+        self.later = later;
+        self.place = place;
+    }
+
+    /// How the transaction ended, if it is over.
+    pub fn outcome(&self) -> Option<Outcome>
+        ensures { result ≡ outcome_of self.now }
+    {
+        match self.place {
+            Place::Over(outcome) => Some(outcome),
+            _ => None,
+        }
+    }
+}
