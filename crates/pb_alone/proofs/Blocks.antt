@@ -8,14 +8,14 @@ use Rattle.pb_base.specs.Batch.{Writes}
 use Rattle.pb_steps.specs.declared.step.Declared.{Declared}
 use Rattle.pb_steps.specs.declared.step.Declared.TheVariants as declared
 use Rattle.pb_steps.specs.declared.step.Step.{Step}
-use Rattle.pb_steps.specs.declared.step.Step.TheVariants.{Begin, Declare, Prewrite, Stamp, CommitPrimary}
+use Rattle.pb_steps.specs.declared.step.Step.TheVariants.{Begin, Declare, Prewrite, Stamp, CommitPrimary, CommitSecondary}
 use Rattle.pb_steps.specs.declared.step.Answer.{Answer}
 use Rattle.pb_steps.specs.declared.step.Answer.TheVariants.{At, Done, Committed}
 use Rattle.pb_steps.specs.Observers.{ObserverOf}
 use Rattle.pb_steps.specs.State.{cells_of}
 use Rattle.pb_history.specs.declared.entry.Entry.{Entry}
 use Rattle.pb_history.specs.History.{Has, Member, InHistory, RiseFrom, IsHistory}
-use Rattle.pb_alone.specs.Alone.{ts, entry, change_entries, changes_from}
+use Rattle.pb_alone.specs.Alone.{ts, entry, change_entries, changes_from, secondary_writes}
 
 -- ---- lists of lists
 
@@ -55,8 +55,11 @@ in_map f (x ∷ xs) y (inr h) = in_map f xs y h
 abbrev prewrite_of : Member → Cell × Content → Entry
 prewrite_of m w = entry m.seat (Prewrite (ts m.start) w.0) Done
 
+abbrev secondary_of : Member → Cell × Content → Entry
+secondary_of m w = entry m.seat (CommitSecondary (ts m.start) w.0) Done
+
 abbrev ends_of : Member → List Entry
-ends_of m = entry m.seat (Stamp (ts m.start)) (At (ts m.commit)) ∷ entry m.seat (CommitPrimary (ts m.start)) Committed ∷ []
+ends_of m = entry m.seat (Stamp (ts m.start)) (At (ts m.commit)) ∷ entry m.seat (CommitPrimary (ts m.start)) Committed ∷ map (secondary_of m) (secondary_writes m.writes)
 
 stamp_in : (m : Member) → Has (change_entries m) (entry m.seat (Stamp (ts m.start)) (At (ts m.commit)))
 stamp_in m = inr (inr (has_right (map (prewrite_of m) m.writes) (ends_of m) _ (inl refl)))
@@ -72,6 +75,9 @@ pub record IsBegin (n : Member) (m : Member) : Type 0 where
 
 no_prewrite : (n : Member) (e : Entry) → Has (map (prewrite_of n) n.writes) e → ((w : Cell × Content) → prewrite_of n w ≡ e → ⊥) → ⊥
 no_prewrite n e h never = let p = in_map (prewrite_of n) n.writes e h in never p.0 p.1
+
+no_secondary : (n : Member) (e : Entry) → Has (map (secondary_of n) (secondary_writes n.writes)) e → ((w : Cell × Content) → secondary_of n w ≡ e → ⊥) → ⊥
+no_secondary n e h never = let p = in_map (secondary_of n) (secondary_writes n.writes) e h in never p.0 p.1
 
 abbrev step_of : Entry → Step
 step_of e = e.step
@@ -92,7 +98,7 @@ begin_is n m (inr (inr h)) = absurd (elim (has_which (map (prewrite_of n) n.writ
   | inl k ↦ no_prewrite n _ k (λ w e. let s : Prewrite (ts n.start) w.0 ≡ Begin m.work = ap step_of e in cc)
   | inr k ↦ elim k [
     | inl e ↦ let s : Stamp (ts n.start) ≡ Begin m.work = ap step_of e in cc
-    | inr j ↦ elim j [ inl e ↦ let s : CommitPrimary (ts n.start) ≡ Begin m.work = ap step_of e in cc | inr z ↦ z ]
+    | inr j ↦ elim j [ inl e ↦ (let s : CommitPrimary (ts n.start) ≡ Begin m.work = ap step_of e in cc) | inr z ↦ no_secondary n _ z (λ w e. let s : CommitSecondary (ts n.start) w.0 ≡ Begin m.work = ap step_of e in cc) ]
   ]
 ])
 
@@ -107,7 +113,7 @@ declare_is n m what (inr (inr h)) = absurd (elim (has_which (map (prewrite_of n)
   | inl k ↦ no_prewrite n _ k (λ w e. let s : Prewrite (ts n.start) w.0 ≡ Declare (ts m.start) what = ap step_of e in cc)
   | inr k ↦ elim k [
     | inl e ↦ let s : Stamp (ts n.start) ≡ Declare (ts m.start) what = ap step_of e in cc
-    | inr j ↦ elim j [ inl e ↦ let s : CommitPrimary (ts n.start) ≡ Declare (ts m.start) what = ap step_of e in cc | inr z ↦ z ]
+    | inr j ↦ elim j [ inl e ↦ (let s : CommitPrimary (ts n.start) ≡ Declare (ts m.start) what = ap step_of e in cc) | inr z ↦ no_secondary n _ z (λ w e. let s : CommitSecondary (ts n.start) w.0 ≡ Declare (ts m.start) what = ap step_of e in cc) ]
   ]
 ])
 
@@ -121,7 +127,7 @@ stamp_is n m (inr (inr h)) = elim (has_which (map (prewrite_of n) n.writes) (end
         let s : Stamp (ts n.start) ≡ Stamp (ts m.start) = ap step_of e in
         let k : ts n.start ≡ ts m.start = cc in
         (ap (λ (x : Ts). x.0) k, at_is n.commit m.commit (ap answer_of e))
-    | inr j ↦ absurd (elim j [ inl e ↦ let s : CommitPrimary (ts n.start) ≡ Stamp (ts m.start) = ap step_of e in cc | inr z ↦ z ])
+    | inr j ↦ absurd (elim j [ inl e ↦ (let s : CommitPrimary (ts n.start) ≡ Stamp (ts m.start) = ap step_of e in cc) | inr z ↦ no_secondary n _ z (λ w e. let s : CommitSecondary (ts n.start) w.0 ≡ Stamp (ts m.start) = ap step_of e in cc) ])
   ]
 ]
 

@@ -21,7 +21,7 @@ use Rattle.pb_steps.specs.CommitPrimary.{commit_reasons}
 use Rattle.pb_steps.specs.Commits.{commit_lock}
 use Rattle.pb_alone.specs.Alone.{IsClean, ts}
 use Rattle.pb_alone.proofs.OneChange.{no_lock_after, write_after, lock_there}
-use Rattle.pb_alone.proofs.Stages.{cell_itself, own_put, same_own, same_some, allowed_own, some_not_none}
+use Rattle.pb_alone.proofs.OwnTransactions.{cell_itself, own_put, same_own, same_some, allowed_own, some_not_none}
 
 -- s2 has a transaction of this seat, begun when the clock came to a, that declared x alone
 module _ (s2 : StateOf) (seat a : ℕ) (x : Cell) (k : Content) (t2 : TransactionOf) (own2 : IsOwn s2 seat a t2) (mine : t2.seat ≡ seat)

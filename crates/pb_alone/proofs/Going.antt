@@ -1,4 +1,4 @@
--- A table on its way through a change.
+-- A table on its way through a run.
 use Rattle.std.proofs.Common.{◌≡◌, ℕ, ◌⊎◌, inl, inr, Bool, true, false, List, [], ◌∷◌, ◌++◌, length, map, Some, None, refl, sym, ap, subst, ◌∙◌}
 use Rattle.std.specs.Prelude.{◌==◌}
 use Rattle.std.proofs.lemmas.Bool.{eqb-true}
@@ -11,6 +11,8 @@ use Rattle.pb_steps.specs.State.{StateOf}
 use Rattle.pb_steps.specs.Reasons.{is_out, first_reason}
 use Rattle.pb_steps.specs.Steps.{step_reason, StepCase}
 use Rattle.pb_steps.specs.declared.step.Work.{Work}
+use Rattle.pb_steps.specs.declared.step.Work.TheVariants as works
+use Rattle.pb_base.specs.declared.names.Row.{Row}
 use Rattle.pb_history.specs.declared.entry.Entry.{Entry}
 use Rattle.pb_history.specs.declared.entry.Received.{Received}
 use Rattle.pb_core.specs.Calls.{SharedOf, SeatOf, Calls, or_full, call_reason}
@@ -34,7 +36,7 @@ pub map_append : {A B : Type 0} (f : A → B) (xs ys : List A) → map f (xs ++ 
 map_append f [] ys = refl
 map_append f (x ∷ xs) ys = ap (λ l. f x ∷ l) (map_append f xs ys)
 
--- ---- from the start of a change to here
+-- ---- from the start of a run to here
 
 pub record AtStage (s0 : SharedOf) (q0 : SeatOf) (s : SharedOf) (q : SeatOf) (state : StateOf) (more : List Received) : Type 0 where
   pub state_is : s.state ≡ state
@@ -100,9 +102,12 @@ module _ (s0 : SharedOf) (q0 : SeatOf) (s : SharedOf) (q : SeatOf) (state : Stat
   pub begun : (ws : List Work) → works_in entries ≡ ws → HasBegun s0 ws s
   begun ws e = record { more = entries; journal = at.journal; works_are = e }
 
-  module _ (w : Work) (begins : BeginsWith w entries) (goes_on : is_over (answers_in entries) ≡ false) where
+  module _ (o : ℕ) (row : Row) (begins : BeginsWith (works.Run o row) entries) (goes_on : is_over (answers_in entries) ≡ false) where
+    abbrev w : Work
+    w = works.Run o row
+
     stops : (code : ℕ) → IsAtEnd s w entries code → HasStopped s0 (w ∷ []) s code
-    stops code end = record { before = []; rest = entries; journal = at.journal; work = w; later = []; works_are = refl; begins = begins; goes_on = goes_on; at_end = end }
+    stops code end = record { before = []; rest = entries; journal = at.journal; work = w; later = []; works_are = refl; stopped = record { begins = begins; goes_on = goes_on; at_end = end } }
 
     pub end_if_none : (step : Step) (f : RunFault) → step_reason state q0.number step ≡ None → IsRefusedBy s q.number step f → StopsIn s0 (w ∷ []) s f
     end_if_none step (faults.Refused n) none e =

@@ -1,7 +1,12 @@
 pub mod OneChange
-pub mod Stages
+pub mod OwnTransactions
 pub mod Going
-pub mod Upto
+pub mod Locks
+pub mod BatchCells
+pub mod ChangeStands
+pub mod ChangeSteps
+pub mod ChangeEnds
+pub mod ChangeAlong
 pub mod AllChanges
 pub mod Blocks
 pub mod Gathering

@@ -34,10 +34,10 @@ sort_of s = s.sort
 other_sort : (a b : Slot) → (sort_of a ≡ sort_of b → ⊥) → eq_by_cmp slot_cmp a b ≡ false
 other_sort a b h = not_true _ (λ e. h (ap sort_of (same_slot a b e)))
 
-get_insert_other : (e : Entries) (a b : Slot) (i : Item) → (sort_of a ≡ sort_of b → ⊥) → map.get (map.insert e b i) a ≡ map.get e a
+pub get_insert_other : (e : Entries) (a b : Slot) (i : Item) → (sort_of a ≡ sort_of b → ⊥) → map.get (map.insert e b i) a ≡ map.get e a
 get_insert_other e a b i h = map.get-insert slot_cmp_total e b i a ∙ ap (λ t. cond t (Some i) (map.get e a)) (other_sort a b h)
 
-get_remove_other : (e : Entries) (a b : Slot) → (sort_of a ≡ sort_of b → ⊥) → map.get (map.remove e b) a ≡ map.get e a
+pub get_remove_other : (e : Entries) (a b : Slot) → (sort_of a ≡ sort_of b → ⊥) → map.get (map.remove e b) a ≡ map.get e a
 get_remove_other e a b h = map.get-remove slot_cmp_total e b a ∙ ap (λ t. cond t None (map.get e a)) (other_sort a b h)
 
 -- ---- what one change leaves

@@ -29,7 +29,7 @@ use Rattle.pb_steps.specs.Steps.{step_reason, StepCase}
 use Rattle.pb_steps.specs.Read.{read_reasons, with_read}
 use Rattle.pb_steps.specs.Declare.{declare_reasons}
 use Rattle.pb_alone.specs.Alone.{ts}
-use Rattle.pb_alone.proofs.Stages.{cell_itself, own_put, same_own, allowed_own}
+use Rattle.pb_alone.proofs.OwnTransactions.{cell_itself, own_put, same_own, allowed_own}
 
 same_cells : (y z : Cell) → y ≡ z → eq_by_cmp cell_cmp y z ≡ true
 same_cells y z e = ap (eq_by_cmp cell_cmp y) (sym e) ∙ cell_itself y

@@ -63,7 +63,7 @@ module _ (s0 : SharedOf) (q0 : SeatOf) (o : ℕ) (row : Row) (ob : ObserverOf) (
   goes0 = goes s0 q0 s0 q0 z [] (stage0 s0 q0) refl refl
 
   pub end0 : (f : RunFault) → IsRefusedBy s0 q0.number (Begin (works.Run o row)) f → StopsIn s0 (works.Run o row ∷ []) s0 f
-  end0 f = end_if_out s0 q0 s0 q0 z [] (stage0 s0 q0) (works.Run o row) tt refl (Begin (works.Run o row)) f refl (stages.begin_refused z seat o row ob there x ack x_is ack_is seated)
+  end0 f = end_if_out s0 q0 s0 q0 z [] (stage0 s0 q0) o row tt refl (Begin (works.Run o row)) f refl (stages.begin_refused z seat o row ob there x ack x_is ack_is seated)
 
   module _ (ans1 : Answer) (s1 : SharedOf) (q1 : SeatOf) (c1 : Calls s0 q0 (Begin (works.Run o row)) ans1 s1 q1) where
     abbrev pub z1 : StateOf
@@ -86,7 +86,7 @@ module _ (s0 : SharedOf) (q0 : SeatOf) (o : ℕ) (row : Row) (ob : ObserverOf) (
       start_is = let e = is_start in cc
 
       pub end1 : (f : RunFault) → IsRefusedBy s1 q1.number (Read start x) f → StopsIn s0 (works.Run o row ∷ []) s1 f
-      end1 f h = end_if_none s0 q0 s1 q1 z1 e1 at1 (works.Run o row) refl refl (Read (ts a) x) f (stages.cell_refused z seat o row ob there x ack x_is ack_is seated) (subst (λ n. IsRefusedBy s1 q1.number (Read n x) f) start_is h)
+      end1 f h = end_if_none s0 q0 s1 q1 z1 e1 at1 o row refl refl (Read (ts a) x) f (stages.cell_refused z seat o row ob there x ack x_is ack_is seated) (subst (λ n. IsRefusedBy s1 q1.number (Read n x) f) start_is h)
 
       module _ (b1 : Answer) (s2 : SharedOf) (q2 : SeatOf) (c2 : Calls s1 q1 (Read start x) b1 s2 q2) where
         abbrev pub z2 : StateOf
@@ -112,7 +112,7 @@ module _ (s0 : SharedOf) (q0 : SeatOf) (o : ℕ) (row : Row) (ob : ObserverOf) (
         goes2 = goes s0 q0 s2 q2 z2 e2 at2 refl refl
 
         pub end2 : (v : Version) → b1 ≡ found_answer v → (f : RunFault) → IsRefusedBy s2 q2.number (Read start ack) f → StopsIn s0 (works.Run o row ∷ []) s2 f
-        end2 v saw f h = end_if_none s0 q0 s2 q2 z2 e2 at2 (works.Run o row) refl (subst (λ b. is_over (At (ts a) ∷ b ∷ []) ≡ false) (sym saw) refl) (Read (ts a) ack) f (stages.ack_refused z seat o row ob there x ack x_is ack_is seated b1) (subst (λ n. IsRefusedBy s2 q2.number (Read n ack) f) start_is h)
+        end2 v saw f h = end_if_none s0 q0 s2 q2 z2 e2 at2 o row refl (subst (λ b. is_over (At (ts a) ∷ b ∷ []) ≡ false) (sym saw) refl) (Read (ts a) ack) f (stages.ack_refused z seat o row ob there x ack x_is ack_is seated b1) (subst (λ n. IsRefusedBy s2 q2.number (Read n ack) f) start_is h)
 
         module _ (b2 : Answer) (s3 : SharedOf) (q3 : SeatOf) (c3 : Calls s2 q2 (Read start ack) b2 s3 q3) where
           abbrev pub z3 : StateOf
@@ -148,7 +148,7 @@ module _ (s0 : SharedOf) (q0 : SeatOf) (o : ℕ) (row : Row) (ob : ObserverOf) (
             helped unlike = subst (λ os. MayCallHelpers os (works.Run o row)) (sym (ap (λ (w : StateOf). w.observers) at3.state_is)) (ob, there, λ none. let e = alike none in cc)
 
             pub end3 : (g : RunFault) → IsRefusedBy s3 q3.number (Declare start (declared.Run o f)) g → StopsIn s0 (works.Run o row ∷ []) s3 g
-            end3 g h = end_if_unlike s0 q0 s3 q3 z3 e3 at3 (works.Run o row) refl (newer_goes_on (ts a) b1 b2 v [] saw newer refl) declare g is_unlike helped (stages.declare_refused z seat o row ob there x ack x_is ack_is seated b1 b2 f) (subst (λ n. IsRefusedBy s3 q3.number (Declare n (declared.Run o f)) g) start_is h)
+            end3 g h = end_if_unlike s0 q0 s3 q3 z3 e3 at3 o row refl (newer_goes_on (ts a) b1 b2 v [] saw newer refl) declare g is_unlike helped (stages.declare_refused z seat o row ob there x ack x_is ack_is seated b1 b2 f) (subst (λ n. IsRefusedBy s3 q3.number (Declare n (declared.Run o f)) g) start_is h)
 
             module _ (ans4 : Answer) (s4 : SharedOf) (q4 : SeatOf) (c4 : Calls s3 q3 (Declare start (declared.Run o f)) ans4 s4 q4) where
               abbrev pub z4 : StateOf
@@ -182,7 +182,7 @@ module _ (s0 : SharedOf) (q0 : SeatOf) (o : ℕ) (row : Row) (ob : ObserverOf) (
               past y c s h = let p = clean.past y c s h in omega (arith, p)
 
               pub end4 : (g : RunFault) → IsRefusedBy s4 q4.number (Prewrite start ack) g → StopsIn s0 (works.Run o row ∷ []) s4 g
-              end4 g h = end_if_none s0 q0 s4 q4 z4 e4 at4 (works.Run o row) refl (newer_goes_on (ts a) b1 b2 v (Done ∷ []) saw newer refl) (Prewrite (ts a) ack) g (ends.prewrite_refused z4 seat a ack (contents.Stamp (ts a)) t4 own4 refl refl alone refl refl seated) (subst (λ n. IsRefusedBy s4 q4.number (Prewrite n ack) g) start_is h)
+              end4 g h = end_if_none s0 q0 s4 q4 z4 e4 at4 o row refl (newer_goes_on (ts a) b1 b2 v (Done ∷ []) saw newer refl) (Prewrite (ts a) ack) g (ends.prewrite_refused z4 seat a ack (contents.Stamp (ts a)) t4 own4 refl refl alone refl refl seated) (subst (λ n. IsRefusedBy s4 q4.number (Prewrite n ack) g) start_is h)
 
               module _ (ans5 : Answer) (s5 : SharedOf) (q5 : SeatOf) (c5 : Calls s4 q4 (Prewrite start ack) ans5 s5 q5) where
                 abbrev pub z5 : StateOf
@@ -198,7 +198,7 @@ module _ (s0 : SharedOf) (q0 : SeatOf) (o : ℕ) (row : Row) (ob : ObserverOf) (
                 goes5 = goes s0 q0 s5 q5 z5 e5 at5 refl refl
 
                 pub end5 : (g : RunFault) → IsRefusedBy s5 q5.number (Stamp start) g → StopsIn s0 (works.Run o row ∷ []) s5 g
-                end5 g h = end_if_out s0 q0 s5 q5 z5 e5 at5 (works.Run o row) refl (newer_goes_on (ts a) b1 b2 v (Done ∷ Done ∷ []) saw newer refl) (Stamp (ts a)) g refl (ends.stamp_refused z4 seat a ack (contents.Stamp (ts a)) t4 own4 refl refl alone refl refl seated) (subst (λ n. IsRefusedBy s5 q5.number (Stamp n) g) start_is h)
+                end5 g h = end_if_out s0 q0 s5 q5 z5 e5 at5 o row refl (newer_goes_on (ts a) b1 b2 v (Done ∷ Done ∷ []) saw newer refl) (Stamp (ts a)) g refl (ends.stamp_refused z4 seat a ack (contents.Stamp (ts a)) t4 own4 refl refl alone refl refl seated) (subst (λ n. IsRefusedBy s5 q5.number (Stamp n) g) start_is h)
 
                 module _ (ans6 : Answer) (s6 : SharedOf) (q6 : SeatOf) (c6 : Calls s5 q5 (Stamp start) ans6 s6 q6) where
                   abbrev pub z6 : StateOf
@@ -214,7 +214,7 @@ module _ (s0 : SharedOf) (q0 : SeatOf) (o : ℕ) (row : Row) (ob : ObserverOf) (
                   goes6 = goes s0 q0 s6 q6 z6 e6 at6 refl refl
 
                   pub end6 : (g : RunFault) → IsRefusedBy s6 q6.number (CommitPrimary start) g → StopsIn s0 (works.Run o row ∷ []) s6 g
-                  end6 g h = end_if_none s0 q0 s6 q6 z6 e6 at6 (works.Run o row) refl (newer_goes_on (ts a) b1 b2 v (Done ∷ Done ∷ At (ts (a + 1)) ∷ []) saw newer refl) (CommitPrimary (ts a)) g (ends.commit_refused z4 seat a ack (contents.Stamp (ts a)) t4 own4 refl refl alone refl refl seated) (subst (λ n. IsRefusedBy s6 q6.number (CommitPrimary n) g) start_is h)
+                  end6 g h = end_if_none s0 q0 s6 q6 z6 e6 at6 o row refl (newer_goes_on (ts a) b1 b2 v (Done ∷ Done ∷ At (ts (a + 1)) ∷ []) saw newer refl) (CommitPrimary (ts a)) g (ends.commit_refused z4 seat a ack (contents.Stamp (ts a)) t4 own4 refl refl alone refl refl seated) (subst (λ n. IsRefusedBy s6 q6.number (CommitPrimary n) g) start_is h)
 
                   module _ (ans7 : Answer) (s7 : SharedOf) (q7 : SeatOf) (c7 : Calls s6 q6 (CommitPrimary start) ans7 s7 q7) where
                     abbrev pub z7 : StateOf

@@ -31,7 +31,7 @@ use Rattle.pb_alone.specs.Stops.{StopsIn}
 use Rattle.pb_alone.specs.Visits.{IsObserver, Visits}
 use Rattle.pb_alone.proofs.RunStages.{IsSeen}
 use Rattle.pb_alone.proofs.Extending.{got_there, member_of, extends_none, extends_one}
-use Rattle.pb_alone.proofs.Stages.{got_here}
+use Rattle.pb_alone.proofs.OwnTransactions.{got_here}
 use Rattle.pb_alone.proofs.Going.{AtStage, begun}
 use Rattle.pb_alone.proofs.RunUpto as upto
 

@@ -7,13 +7,13 @@ use Rattle.pb_base.specs.declared.content.Content.{Content}
 use Rattle.pb_base.specs.declared.cell.Cell.{Cell}
 use Rattle.pb_steps.specs.declared.step.Work.{Work}
 use Rattle.pb_steps.specs.declared.step.Work.TheVariants as works
-use Rattle.pb_steps.specs.declared.step.Step.TheVariants.{Prewrite}
+use Rattle.pb_steps.specs.declared.step.Step.TheVariants.{Prewrite, CommitSecondary}
 use Rattle.pb_steps.specs.declared.step.Answer.TheVariants.{Done}
 use Rattle.pb_history.specs.declared.entry.Entry.{Entry}
 use Rattle.pb_core.specs.Calls.{SharedOf}
 use Rattle.pb_alone.specs.declared.fault.RunFault.{RunFault}
 use Rattle.pb_alone.specs.declared.fault.RunFault.TheVariants as faults
-use Rattle.pb_alone.specs.Alone.{Changes, change_entries, changes_from, entry, ts}
+use Rattle.pb_alone.specs.Alone.{Changes, change_entries, changes_from, entry, ts, secondary_writes}
 use Rattle.pb_alone.specs.Stops.{work_of, works_in, changes_for, HasBegun, HasStopped, StopsIn}
 use Rattle.pb_alone.proofs.Going.{append_assoc, append_nil}
 
@@ -44,9 +44,7 @@ stopped_later a ws b vs c code g h = record {
   work = h.work;
   later = h.later;
   works_are = ap (λ l. l ++ (h.work ∷ h.later)) (works_join g.more h.before ∙ ap (λ l. l ++ works_in h.before) g.works_are) ∙ append_assoc ws (works_in h.before) (h.work ∷ h.later) ∙ ap (λ l. ws ++ l) h.works_are;
-  begins = h.begins;
-  goes_on = h.goes_on;
-  at_end = h.at_end;
+  stopped = h.stopped;
 }
 
 stopped_before : (a : SharedOf) (ws vs : List Work) (c : SharedOf) (code : ℕ) → HasStopped a ws c code → HasStopped a (ws ++ vs) c code
@@ -57,9 +55,7 @@ stopped_before a ws vs c code h = record {
   work = h.work;
   later = h.later ++ vs;
   works_are = sym (append_assoc (works_in h.before) (h.work ∷ h.later) vs) ∙ ap (λ l. l ++ vs) h.works_are;
-  begins = h.begins;
-  goes_on = h.goes_on;
-  at_end = h.at_end;
+  stopped = h.stopped;
 }
 
 pub stops_later : (a : SharedOf) (ws : List Work) (b : SharedOf) (vs : List Work) (c : SharedOf) (f : RunFault) → HasBegun a ws b → StopsIn b vs c f → StopsIn a (ws ++ vs) c f
@@ -94,12 +90,17 @@ prewrites_begin_none : (seat start : ℕ) (ws : Writes) (more : List Entry) → 
 prewrites_begin_none seat start [] more = refl
 prewrites_begin_none seat start (w ∷ ws) more = prewrites_begin_none seat start ws more
 
+secondaries_begin_none : (seat start : ℕ) (ws : Writes) (more : List Entry) → works_in (map (λ (w : Cell × Content). entry seat (CommitSecondary (ts start) w.0) Done) ws ++ more) ≡ works_in more
+secondaries_begin_none seat start [] more = refl
+secondaries_begin_none seat start (w ∷ ws) more = secondaries_begin_none seat start ws more
+
 changes_begin : (seat clock : ℕ) (bs : List Writes) → works_in (flat_map change_entries (changes_from seat clock bs)) ≡ changes_for bs
 changes_begin seat clock [] = refl
 changes_begin seat clock (b ∷ bs) =
     ap (λ l. works.Script ∷ l)
     (ap works_in (append_assoc (map (λ (w : Cell × Content). entry seat (Prewrite (ts (clock + 1)) w.0) Done) b) _ (flat_map change_entries (changes_from seat (clock + 2) bs)))
     ∙ prewrites_begin_none seat (clock + 1) b _
+    ∙ secondaries_begin_none seat (clock + 1) (secondary_writes b) _
     ∙ changes_begin seat (clock + 2) bs)
 
 pub changes_begun : (a : SharedOf) (seat : ℕ) (bs : List Writes) (b : SharedOf) → Changes a seat bs b → HasBegun a (changes_for bs) b

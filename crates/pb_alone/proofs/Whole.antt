@@ -1,6 +1,6 @@
 -- A whole script made on a fresh table.
 use Rattle.std.proofs.Common.{◌≡◌, ℕ, ◌+◌, ◌*◌, ◌≤◌, inl, inr, arith, suc, length, map, refl, ◌∷◌, Bool, false, List, [], ◌++◌, Option, Some, None, Ok, Err, sym, ap, subst, ◌∙◌}
-use Rattle.std.specs.List.{All, flat_map}
+use Rattle.std.specs.List.{flat_map}
 use Rattle.std.specs.FinMap as finite
 use Rattle.pb_base.specs.Batch.{Writes}
 use Rattle.pb_store.specs.declared.slot.Slot.{Slot}
@@ -20,10 +20,9 @@ use Rattle.pb_alone.specs.Rounds.{AreDone, RiseBetween, Works}
 use Rattle.pb_alone.specs.Visits.{Extends}
 use Rattle.pb_alone.proofs.OneRound.{has_left, has_right, has_which, rise_on}
 use Rattle.pb_texts.specs.ScriptLines.{script_of}
-use Rattle.pb_texts.specs.Scripts.{IsSmallBatch}
 use Rattle.pb_alone.specs.declared.fault.ReportFault.{ReportFault}
 use Rattle.pb_alone.specs.declared.fault.ReportFault.TheVariants as ends
-use Rattle.pb_alone.specs.Alone.{IsClean, IsSmall, change_entries, changes_from}
+use Rattle.pb_alone.specs.Alone.{IsClean, change_entries, changes_from}
 use Rattle.pb_alone.specs.declared.fault.RunFault.{RunFault}
 use Rattle.pb_alone.specs.declared.fault.RunFault.TheVariants as faults
 use Rattle.pb_alone.specs.Faults.{of_report}
@@ -49,9 +48,6 @@ pub clean_fresh : (observers : List ObserverOf) (seats clock : ℕ) (journal : L
 clean_fresh observers seats clock journal state empty legal =
     let first : IsLegal observers seats clock [] state = subst (λ j. IsLegal observers seats clock j state) empty legal in
     subst IsClean (sym first.run) (clean_opened observers seats clock)
-
-pub all_small : (batches : List Writes) → All IsSmallBatch batches → All IsSmall batches
-all_small batches h = λ k d lt. (h k d lt).1
 
 rises : (low seat clock : ℕ) (bs : List Writes) → low ≤ clock → RiseBetween low (clock + 2 * length bs) (changes_from seat clock bs)
 rises low seat clock [] le = omega (arith, le)

@@ -7,7 +7,7 @@ use Rattle.pb_base.specs.Batch.{Writes}
 use Rattle.pb_steps.specs.declared.step.Work.TheVariants as works
 use Rattle.pb_steps.specs.declared.step.Declared.TheVariants as declared
 use Rattle.pb_steps.specs.declared.step.Step.{Step}
-use Rattle.pb_steps.specs.declared.step.Step.TheVariants.{Begin, Declare, Prewrite, Stamp, CommitPrimary}
+use Rattle.pb_steps.specs.declared.step.Step.TheVariants.{Begin, Declare, Prewrite, Stamp, CommitPrimary, CommitSecondary}
 use Rattle.pb_steps.specs.declared.step.Answer.{Answer}
 use Rattle.pb_steps.specs.declared.step.Answer.TheVariants.{At, Done, Committed}
 use Rattle.pb_steps.specs.State.{StateOf}
@@ -16,10 +16,6 @@ use Rattle.pb_history.specs.declared.entry.Entry.{Entry}
 use Rattle.pb_history.specs.declared.entry.Received.{Received}
 use Rattle.pb_core.specs.Calls.{SharedOf, SeatOf}
 use Rattle.pb_history.specs.History.{Member}
-
--- a batch of one cell
-abbrev pub IsSmall : Writes → Type 0
-IsSmall batch = length batch ≡ 1
 
 -- no lock stands, and no write record is later than the clock
 pub record IsClean (state : StateOf) : Type 0 where
@@ -32,13 +28,19 @@ ts n = record { 0 = n }
 abbrev pub entry : ℕ → Step → Answer → Entry
 entry seat step answer = record { seat = seat; step = step; answer = answer }
 
+-- all but the primary
+abbrev pub secondary_writes : Writes → Writes
+secondary_writes [] = []
+secondary_writes (w ∷ ws) = ws
+
 -- the entries of a change that commits without a conflict
 abbrev pub change_entries : Member → List Entry
 change_entries m =
     entry m.seat (Begin m.work) (At (ts m.start))
     ∷ entry m.seat (Declare (ts m.start) (declared.Script m.writes)) Done
     ∷ (map (λ w. entry m.seat (Prewrite (ts m.start) w.0) Done) m.writes
-    ++ (entry m.seat (Stamp (ts m.start)) (At (ts m.commit)) ∷ entry m.seat (CommitPrimary (ts m.start)) Committed ∷ []))
+    ++ (entry m.seat (Stamp (ts m.start)) (At (ts m.commit)) ∷ entry m.seat (CommitPrimary (ts m.start)) Committed
+    ∷ map (λ w. entry m.seat (CommitSecondary (ts m.start) w.0) Done) (secondary_writes m.writes)))
 
 -- a change of a seat that began when the clock stood there
 abbrev pub change_at : ℕ → ℕ → Writes → Member

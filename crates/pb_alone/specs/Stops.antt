@@ -1,7 +1,8 @@
--- Where a run stops before its end: a work that isn't over, and the end of the clock or of the journal that it came to.
+-- Where a run of a script stops before its end: a work that isn't over, and the end of the clock or of the journal that it came to.
 use Rattle.std.specs.Prelude.{◌≡◌, ◌≢◌, ℕ, ◌⊎◌, Bool, true, false, not, ◌||◌, nat_lt, List, [], ◌∷◌, ◌++◌, length, map, Some, slice_get}
 use Rattle.std.specs.List.{flat_map}
 use Rattle.pb_base.specs.declared.names.Row.{Row}
+use Rattle.pb_base.specs.declared.refusal.Reason.{Reason}
 use Rattle.pb_base.specs.declared.refusal.Reason.TheVariants.{OutOfTimestamps, NotItsDeclaration, JournalFull}
 use Rattle.pb_base.specs.Reasons.{reason_code}
 use Rattle.pb_base.specs.Batch.{Writes}
@@ -15,9 +16,12 @@ use Rattle.pb_steps.specs.declared.step.Answer.TheVariants.{At, Found, Absent, C
 use Rattle.pb_steps.specs.Observers.{ObserverOf}
 use Rattle.pb_steps.specs.Reads.{acknowledged_in}
 use Rattle.pb_history.specs.declared.entry.Entry.{Entry}
-use Rattle.pb_core.specs.Calls.{SharedOf}
+use Rattle.pb_history.specs.declared.entry.Received.{Received}
+use Rattle.pb_core.specs.Calls.{SharedOf, call_reason}
+use Rattle.pb_txn.specs.Changes.{ChangeOf, new_change, next_of, Talks}
 use Rattle.pb_alone.specs.declared.fault.RunFault.{RunFault}
 use Rattle.pb_alone.specs.declared.fault.RunFault.TheVariants as faults
+use Rattle.pb_alone.specs.Alone.{entry}
 use Rattle.pb_alone.specs.Due.{due}
 
 -- ---- the works that are begun, in order
@@ -45,7 +49,25 @@ pub record HasBegun (old : SharedOf) (ws : List Work) (new : SharedOf) : Type 0 
   pub journal : new.journal ≡ old.journal ++ more
   pub works_are : works_in more ≡ ws
 
--- ---- the work that isn't over
+-- ---- a change that isn't over
+
+-- The change of a batch asked these steps and was answered so; its next step was refused with this number, for want of a
+-- timestamp or of room in the journal.
+pub record ChangeStopped (shared : SharedOf) (rest : List Entry) (code : ℕ) : Type 0 where
+  pub batch : Writes
+  pub seat : ℕ
+  pub said : List Received
+  pub rest_is : rest ≡ map (λ r. entry seat r.step r.answer) said
+  pub job : ChangeOf
+  pub talk : Talks (new_change batch) said job
+  pub step : Step
+  pub next : next_of job ≡ Some step
+  pub why : Reason
+  pub refused : call_reason shared seat step ≡ Some why
+  pub at_end : (why ≡ OutOfTimestamps) ⊎ (why ≡ JournalFull)
+  pub told : code ≡ reason_code why
+
+-- ---- a run that isn't over
 
 abbrev pub has_committed : List Answer → Bool
 has_committed [] = false
@@ -70,7 +92,7 @@ abbrev pub is_prewrite : Step → Bool
 is_prewrite (Prewrite s x) = true
 is_prewrite _ = false
 
--- whether the next step takes a timestamp: the first one, or the one after a prewrite, since each writes one cell
+-- whether the next step takes a timestamp: the first one, or the one after a prewrite, since a run writes one cell so far
 abbrev pub takes_timestamp : List Entry → Bool
 takes_timestamp [] = true
 takes_timestamp (e ∷ []) = is_prewrite e.step
@@ -91,8 +113,17 @@ IsAtEnd shared work rest code =
     ⊎ (((code ≡ reason_code JournalFull) × (length shared.journal ≡ shared.limit))
     ⊎ ((code ≡ reason_code NotItsDeclaration) × MayCallHelpers shared.state.observers work))
 
--- The works before this one were begun, in order; of this one there are these entries, perhaps none, and it isn't over; its
--- next step was refused with this number.
+-- the run has these entries, perhaps none, and isn't over; its next step was refused with this number
+pub record RunStopped (shared : SharedOf) (work : Work) (rest : List Entry) (code : ℕ) : Type 0 where
+  pub begins : BeginsWith work rest
+  pub goes_on : is_over (answers_in rest) ≡ false
+  pub at_end : IsAtEnd shared work rest code
+
+abbrev pub WorkStopped : SharedOf → Work → List Entry → ℕ → Type 0
+WorkStopped shared works.Script rest code = ChangeStopped shared rest code
+WorkStopped shared (works.Run o row) rest code = RunStopped shared (works.Run o row) rest code
+
+-- the works before this one were begun, in order; of this one there are these entries, and it stopped there
 pub record HasStopped (old : SharedOf) (ws : List Work) (new : SharedOf) (code : ℕ) : Type 0 where
   pub before : List Entry
   pub rest : List Entry
@@ -100,9 +131,7 @@ pub record HasStopped (old : SharedOf) (ws : List Work) (new : SharedOf) (code :
   pub work : Work
   pub later : List Work
   pub works_are : works_in before ++ (work ∷ later) ≡ ws
-  pub begins : BeginsWith work rest
-  pub goes_on : is_over (answers_in rest) ≡ false
-  pub at_end : IsAtEnd new work rest code
+  pub stopped : WorkStopped new work rest code
 
 -- why these works are not whole; for want of memory they may end anywhere
 abbrev pub StopsIn : SharedOf → List Work → SharedOf → RunFault → Type 0

@@ -1,30 +1,32 @@
 //! One change after another, by one seat.
-ghost use Rattle.std.specs.Prelude.{◌≡◌, ◌<◌, ◌∷◌, [], length, IfOk, IfErr, OnOk, OnErr};
-ghost use Rattle.std.specs.List.{All};
+ghost use Rattle.std.specs.Prelude.{◌≡◌, ◌<◌, ◌∷◌, [], IfOk, IfErr, OnOk, OnErr};
 ghost use Rattle.pb_core.specs.Calls.{Calls};
-ghost use Rattle.pb_alone.specs.Alone.{IsClean, Goes, Changes, IsSmall};
+ghost use Rattle.pb_alone.specs.Alone.{IsClean, Goes, Changes};
 ghost use Rattle.pb_alone.specs.Faults.{IsRefusedBy};
 ghost use Rattle.pb_alone.specs.Stops.{StopsIn, changes_for};
+ghost use Rattle.pb_steps.specs.Answers.{CanAnswer};
 ghost use Rattle.pb_steps.specs.declared.step.Work.TheVariants as works;
 
 use crate::fault::RunFault;
 use pb_base::{Batch, Reason};
-use pb_core::{Answer, Declaration, Declared, Seat, Shared, Step, Work};
+use pb_core::{Answer, Seat, Shared, Step};
 use pb_store::Tablet;
+use pb_txn::{ChangeJob, changes_talk};
 use std::alloc::Global;
 
 // One call, its refusal as a fault.
 pub(crate) fn take<T: Tablet>(
     shared: &mut Shared<T>,
     seat: &mut Seat,
-    step: Step,
+    step: &Step,
 ) -> Result<Answer, RunFault>
-    ensures ok { IfOk result (λ a. Calls shared.old seat.old step a shared.new seat.new) }
-    ensures fault { IfErr result (IsRefusedBy shared.old seat.old.number step) }
+    ensures ok { IfOk result (λ a. Calls shared.old seat.old step.now a shared.new seat.new) }
+    ensures can { IfOk result (λ a. CanAnswer step.now a) }
+    ensures fault { IfErr result (IsRefusedBy shared.old seat.old.number step.now) }
     ensures table { OnErr result (shared.new ≡ shared.old) }
     ensures seat { OnErr result (seat.new ≡ seat.old) }
 {
-    match shared.call(seat, &step) {
+    match shared.call(seat, step) {
         Ok(answer) => Ok(answer),
         Err(refusal) => {
             if refusal.0 == Reason::NoMemory.code() {
@@ -45,20 +47,20 @@ fn change<T: Tablet>(
 ) -> Result<(), RunFault>
     requires clean { IsClean shared.old.state }
     requires seated { seat.old.number < shared.old.state.seats }
-    requires small { IsSmall batch }
     ensures goes { Goes shared.old seat.old shared.new seat.new }
     ensures ok { OnOk result (Changes shared.old seat.old.number (batch ∷ []) shared.new) }
     ensures err { IfErr result (StopsIn shared.old (works.Script ∷ []) shared.new) }
 {
-    let cell = batch.primary();
-    let what = Declaration::new(alloc, Declared::Script(batch))?;
-    let Answer::At(start) = take(shared, seat, Step::Begin(Work::Script))? else {
-        unreachable!()
+    // For the proof: a batch has some cells, each named once; and what a change has asked at its end.
+    let _ = batch.len();
+    changes_talk();
+    let Ok(mut job) = ChangeJob::new(alloc, batch) else {
+        return Err(RunFault::NoMemory);
     };
-    take(shared, seat, Step::Declare(start, what))?;
-    take(shared, seat, Step::Prewrite(start, cell))?;
-    take(shared, seat, Step::Stamp(start))?;
-    take(shared, seat, Step::CommitPrimary(start))?;
+    while let Some(step) = job.next() {
+        let answer = take(shared, seat, step)?;
+        job.took(answer);
+    }
     Ok(())
 }
 
@@ -71,7 +73,6 @@ pub fn change_all<T: Tablet>(
 ) -> Result<(), RunFault>
     requires clean { IsClean shared.old.state }
     requires seated { seat.old.number < shared.old.state.seats }
-    requires small { All IsSmall batches.now }
     ensures goes { Goes shared.old seat.old shared.new seat.new }
     ensures ok { OnOk result (Changes shared.old seat.old.number batches.now shared.new) }
     ensures err { IfErr result (StopsIn shared.old (changes_for batches.now) shared.new) }

@@ -7,6 +7,7 @@ ghost use Rattle.pb_alone.specs.Faults.{of_report};
 use pb_base::NoMemory;
 use pb_registry::RegistryFault;
 use pb_texts::ScriptFault;
+use std::alloc::AllocFailed;
 use thiserror::Error;
 
 /// Why a run ended before its report was written.
@@ -64,6 +65,14 @@ impl From<NoMemory> for RunFault {
     ghost from_gives = { λ _ e. e ≡ faults.NoMemory };
 
     fn from(_e: NoMemory) -> RunFault {
+        RunFault::NoMemory
+    }
+}
+
+impl<T: Drop> From<AllocFailed<T>> for RunFault {
+    ghost from_gives = { λ _ e. e ≡ faults.NoMemory };
+
+    fn from(_e: AllocFailed<T>) -> RunFault {
         RunFault::NoMemory
     }
 }

@@ -104,14 +104,14 @@ pub fn visit<T: Tablet>(
     let (program, column) = observer_of(shared, number)?;
     let cell = Cell::Data(row, column);
     let acknowledgment = Cell::Ack(number, row, column);
-    let Answer::At(start) = take(shared, seat, Step::Begin(Work::Run(number, row)))? else {
+    let Answer::At(start) = take(shared, seat, &Step::Begin(Work::Run(number, row)))? else {
         unreachable!()
     };
     let Answer::Found {
         start: of,
         commit,
         content,
-    } = take(shared, seat, Step::Read(start, cell))?
+    } = take(shared, seat, &Step::Read(start, cell))?
     else {
         let _ = shared.journal();
         return Ok(());
@@ -121,7 +121,7 @@ pub fn visit<T: Tablet>(
         commit,
         content,
     };
-    let acknowledged = acknowledged_in(take(shared, seat, Step::Read(start, acknowledgment))?);
+    let acknowledged = acknowledged_in(take(shared, seat, &Step::Read(start, acknowledgment))?);
     if !is_newer(&version, acknowledged) {
         let _ = shared.journal();
         return Ok(());
@@ -129,10 +129,10 @@ pub fn visit<T: Tablet>(
     let change = Record::new(cell, &version, acknowledged);
     let finished = finished_of(alloc, &program, change, start)?;
     let what = Declaration::new(alloc, Declared::Run(number, finished))?;
-    take(shared, seat, Step::Declare(start, what))?;
-    take(shared, seat, Step::Prewrite(start, acknowledgment))?;
-    take(shared, seat, Step::Stamp(start))?;
-    take(shared, seat, Step::CommitPrimary(start))?;
+    take(shared, seat, &Step::Declare(start, what))?;
+    take(shared, seat, &Step::Prewrite(start, acknowledgment))?;
+    take(shared, seat, &Step::Stamp(start))?;
+    take(shared, seat, &Step::CommitPrimary(start))?;
     let _ = shared.journal();
     Ok(())
 }

@@ -3,8 +3,7 @@ ghost use Rattle.std.specs.Prelude.{◌≡◌, ◌<◌, [], false, Ok, IfOk, IfE
 ghost use Rattle.pb_core.specs.Calls.{AreSeats};
 ghost use Rattle.pb_texts.specs.ScriptLines.{script_of};
 ghost use Rattle.pb_alone.specs.Runs.{IsUnread, Runs, KeepsSeats};
-ghost use Rattle.std.specs.List.{All};
-ghost use Rattle.pb_alone.specs.Alone.{IsClean, Goes, IsSmall};
+ghost use Rattle.pb_alone.specs.Alone.{IsClean, Goes};
 ghost use Rattle.pb_alone.specs.Stops.{StopsIn, works_for};
 ghost use Rattle.pb_alone.specs.Rounds.{Works};
 
@@ -16,7 +15,7 @@ use crate::output::report;
 use pb_base::{Batch, Reason, Sink};
 use pb_core::{Seat, Shared};
 use pb_store::Tablet;
-use pb_texts::{parse_script, reads_small_batches};
+use pb_texts::parse_script;
 use std::alloc::Global;
 
 // The script's batches, its fault as one of the run.
@@ -45,7 +44,6 @@ fn work<T: Tablet>(
 ) -> Result<(), RunFault>
     requires clean { IsClean shared.old.state }
     requires seated { seat.old.number < shared.old.state.seats }
-    requires small { All IsSmall batches.now }
     ensures goes { Goes shared.old seat.old shared.new seat.new }
     ensures ok { OnOk result (Works shared.old seat.old.number batches.now shared.new) }
     ensures err { IfErr result (StopsIn shared.old (works_for shared.old.state.observers batches.now) shared.new) }
@@ -70,7 +68,6 @@ fn run<T: Tablet, S: Sink>(
     ensures runs { Runs text.now shared.old shared.new (S.taken sink.old) (S.taken sink.new) (S.failed sink.new) result }
     ensures keeps { KeepsSeats shared.old shared.new seats.new.items }
 {
-    reads_small_batches();
     let batches = read(alloc, text)?;
     prove!(shared.journal().is_empty());
     prove!(shared.seats() > 0);

@@ -1,25 +1,22 @@
 -- What a change has asked is its begin, and then what its plan has asked.
-use Rattle.std.proofs.Common.{◌≡◌, ◌≢◌, ℕ, List, [], ◌∷◌, ◌++◌, Option, Some, None, refl, sym, ap, subst, ◌∙◌}
-use Rattle.pb_base.specs.declared.cell.Cell.{Cell}
-use Rattle.pb_base.specs.declared.content.Content.{Content}
+use Rattle.std.proofs.Common.{◌≡◌, ◌≢◌, ℕ, List, [], ◌∷◌, ◌++◌, Some, None, refl, sym, ap, subst, ◌∙◌}
 use Rattle.pb_base.specs.Batch.{Writes}
 use Rattle.pb_steps.specs.declared.step.Work.TheVariants as works
 use Rattle.pb_steps.specs.declared.step.Declared.TheVariants as declared
 use Rattle.pb_steps.specs.declared.step.Step.{Step}
 use Rattle.pb_steps.specs.declared.step.Step.TheVariants.{Begin}
 use Rattle.pb_steps.specs.declared.step.Answer.{Answer}
-use Rattle.pb_steps.specs.declared.step.Answer.TheVariants.{At, Locked, Found, Absent, Done, Conflict, Committed, Lost, RolledBack, Waits, CommittedAt}
+use Rattle.pb_steps.specs.declared.step.Answer.TheVariants.{At}
 use Rattle.pb_steps.specs.Answers.{CanAnswer}
 use Rattle.pb_history.specs.declared.entry.Received.{Received}
 use Rattle.pb_txn.specs.declared.place.Outcome.{Outcome}
-use Rattle.pb_txn.specs.declared.place.Outcome.TheVariants as outcomes
 use Rattle.pb_txn.specs.Places.{declared_cells}
 use Rattle.pb_txn.specs.Plans.{PlanOf, fresh}
 use Rattle.pb_txn.specs.Plans as plans
 use Rattle.pb_txn.specs.Talks as talks
 use Rattle.pb_txn.specs.Talks.{told}
-use Rattle.pb_txn.specs.Forms.{IsWhole, PlansTalk, PlansEnd}
-use Rattle.pb_txn.specs.Changes.{ChangeOf, new_change, next_of, answered, outcome_of, outcome_in, Talks, IsWholeChange, ChangesTalk, ChangesEnd}
+use Rattle.pb_txn.specs.Forms.{IsWhole}
+use Rattle.pb_txn.specs.Changes.{ChangeOf, new_change, answered, Talks, IsWholeChange, ChangesTalk, ChangesEnd}
 use Rattle.pb_txn.proofs.Talk.{plans_talk, plans_end}
 
 -- a change that follows its plan
@@ -33,6 +30,10 @@ same_step : (s t : Step) → Some s ≡ Some t → s ≡ t
 same_step s t e = cc
 
 -- what it asks then is what its plan asks
+start_stays : (p : PlanOf) (said : List Received) (q : PlanOf) → talks.Talks p said q → q.start ≡ p.start
+start_stays p [] q t = ap (λ (z : PlanOf). z.start) t
+start_stays p (x ∷ xs) q t = start_stays (plans.answered p x.answer) xs q t.2
+
 plan_talks : (batch : Writes) (p : PlanOf) (said : List Received) (q : ChangeOf) → Talks (following batch p) said q → (r : PlanOf) × (q ≡ following batch r) × talks.Talks p said r
 plan_talks batch p [] q t = (p, t, refl)
 plan_talks batch p (x ∷ xs) q t = let r = plan_talks batch (plans.answered p x.answer) xs q t.2 in (r.0, r.1, (t.0, t.1, r.2))
@@ -73,17 +74,23 @@ at_end (w ∷ ws) s rest q o some t e = plans_end s (declared.Script (w ∷ ws))
 pub changes_talk : ChangesTalk
 changes_talk batch [] q some t =
     let w = whole batch some in
-    (told (Begin works.Script) (At (record { 0 = 0 })) ∷ w.0, w.1, record { start = record { 0 = 0 }; rest = w.0; said_is = refl; whole = w.2 })
+    (record { 0 = 0 }, told (Begin works.Script) (At (record { 0 = 0 })) ∷ w.0, w.1, record { rest = w.0; said_is = refl; whole = w.2 })
 changes_talk batch (r ∷ rest) q some t =
     let b = begins batch r rest q t in
     let w = on_from batch b.s rest b.plan some b.said in
-    (w.0, w.1, record { start = record { 0 = b.s }; rest = rest ++ w.0; said_is = ap (λ (z : Received). z ∷ rest ++ w.0) b.first; whole = w.2 })
+    (record { 0 = b.s }, w.0, w.1, record { rest = rest ++ w.0; said_is = ap (λ (z : Received). z ∷ rest ++ w.0) b.first; whole = w.2 })
+
+none_is : (batch : Writes) (z : ChangeOf) (p : PlanOf) → z ≡ new_change batch → z.plan ≡ Some p → ⊥
+none_is batch z p is h = let k : z.plan ≡ None = ap (λ (j : ChangeOf). j.plan) is in cc
+
+same_plan : (p q : PlanOf) → Some p ≡ Some q → p ≡ q
+same_plan p q e = cc
 
 pub changes_end : ChangesEnd
-changes_end batch [] q o some t e = absurd (none_is q t e) where
-  none_is : (z : ChangeOf) → z ≡ new_change batch → outcome_of z ≡ Some o → ⊥
-  none_is z is h = let k : outcome_of z ≡ None = ap outcome_of is in cc
-changes_end batch (r ∷ rest) q o some t e =
+changes_end batch [] q p o some t e done = absurd (none_is batch q p t e)
+changes_end batch (r ∷ rest) q p o some t e done =
     let b = begins batch r rest q t in
-    let done : plans.outcome_of b.plan ≡ Some o = ap outcome_of (sym b.q_is) ∙ e in
-    record { start = record { 0 = b.s }; rest = rest; said_is = ap (λ (z : Received). z ∷ rest) b.first; whole = at_end batch b.s rest b.plan o some b.said done }
+    let same : b.plan ≡ p = same_plan b.plan p (ap (λ (j : ChangeOf). j.plan) (sym b.q_is) ∙ e) in
+    let start : p.start ≡ b.s = ap (λ (z : PlanOf). z.start) (sym same) ∙ start_stays (fresh b.s (declared.Script batch)) rest b.plan b.said in
+    subst (λ n. IsWholeChange batch (record { 0 = n }) (r ∷ rest) o) (sym start)
+    (record { rest = rest; said_is = ap (λ (z : Received). z ∷ rest) b.first; whole = at_end batch b.s rest b.plan o some b.said (ap plans.outcome_of same ∙ done) })

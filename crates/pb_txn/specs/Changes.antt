@@ -61,9 +61,8 @@ abbrev pub Talks : ChangeOf → List Received → ChangeOf → Type 0
 Talks p [] q = q ≡ p
 Talks p (r ∷ rs) q = (next_of p ≡ Some r.step) × CanAnswer r.step r.answer × Talks (answered p r.answer) rs q
 
--- it begins, and the rest is that of a transaction of its cells
-pub record IsWholeChange (batch : Writes) (said : List Received) (o : Outcome) : Type 0 where
-  pub start : Ts
+-- it begins at this start, and the rest is that of a transaction of its cells
+pub record IsWholeChange (batch : Writes) (start : Ts) (said : List Received) (o : Outcome) : Type 0 where
   pub rest : List Received
   pub said_is : said ≡ told (Begin works.Script) (At start) ∷ rest
   pub whole : IsWhole start (declared.Script batch) (declared_cells (declared.Script batch)) rest o
@@ -71,12 +70,12 @@ pub record IsWholeChange (batch : Writes) (said : List Received) (o : Outcome) :
 -- what a change of some cells has asked so far is a beginning of such a conversation
 abbrev pub ChangesTalk : Type 0
 ChangesTalk = (batch : Writes) (said : List Received) (q : ChangeOf) → batch ≢ [] → Talks (new_change batch) said q
-    → (rest : List Received) × (o : Outcome) × IsWholeChange batch (said ++ rest) o
+    → (start : Ts) × (rest : List Received) × (o : Outcome) × IsWholeChange batch start (said ++ rest) o
 
--- and where it is over, a whole one with its outcome
+-- and where it is over, a whole one, with the start of its plan and its outcome
 abbrev pub ChangesEnd : Type 0
-ChangesEnd = (batch : Writes) (said : List Received) (q : ChangeOf) (o : Outcome) → batch ≢ [] → Talks (new_change batch) said q → outcome_of q ≡ Some o
-    → IsWholeChange batch said o
+ChangesEnd = (batch : Writes) (said : List Received) (q : ChangeOf) (p : PlanOf) (o : Outcome) → batch ≢ [] → Talks (new_change batch) said q → q.plan ≡ Some p → plans.outcome_of p ≡ Some o
+    → IsWholeChange batch (record { 0 = p.start }) said o
 
 -- ---- how a change is kept
 

@@ -22,6 +22,7 @@ mod helped_runs;
 mod programs;
 mod refused_calls;
 mod run_ends;
+mod whole_changes;
 
 type Boxed = Box<dyn Tablet + Send + Drop>;
 
@@ -198,12 +199,6 @@ fn scripts_run(rt: HostRuntime) {
         ),
         ("", 0, "quiet\n", ""),
         ("put 7 16 2a\n", 1, "", "script: line 1 code 71\n"),
-        (
-            "put 7 0 2a; put 7 1 2a\n",
-            1,
-            "",
-            "script: line 1 code 76\n",
-        ),
         (
             "put 7 0 2a\nput 07 0 2a\n",
             1,

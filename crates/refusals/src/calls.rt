@@ -38,6 +38,11 @@ fn batch_of(alloc: Global, count: u8) -> Result<Batch, NoMemory> {
     }
 }
 
+/// A batch of three cells.
+pub fn three_cells(alloc: Global) -> Result<Batch, NoMemory> {
+    batch_of(alloc, 3)
+}
+
 /// A batch of one cell.
 pub fn batch(alloc: Global) -> Result<Batch, NoMemory> {
     batch_of(alloc, 1)
@@ -83,8 +88,8 @@ pub fn table(alloc: Global) -> Result<Table<ListTablet>, NoMemory>
     }
 }
 
-// Whether two batches write the same first cell.
-fn is_same(batch: &Batch, copy: &Batch) -> bool {
+/// Whether two batches write as many cells, and the same to the first.
+pub fn is_same(batch: &Batch, copy: &Batch) -> bool {
     batch.len() == copy.len() && batch.at(0) == copy.at(0)
 }
 

@@ -6,6 +6,7 @@
 #![tactic(auto)]
 
 mod calls;
+mod jobs;
 mod machines;
 mod observers;
 mod page;
@@ -24,7 +25,7 @@ fn all(rt: &HostRuntime) -> Result<bool, NoMemory> {
     let table = calls::table_applies(alloc)?
         && tablets::chunks_are_parted(alloc)?
         && calls::state_takes(alloc)?;
-    let shared = calls::shared_calls(alloc)?;
+    let shared = calls::shared_calls(alloc)? && jobs::changes_are_made(alloc)?;
     let runs = runs::script_parses(alloc)?
         && runs::shared_opens(alloc)?
         && runs::script_runs(alloc)?;

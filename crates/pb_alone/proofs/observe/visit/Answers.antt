@@ -60,7 +60,7 @@ returns-in_err-take-2-clause-err g c =
     (c.new-change.ensures ∙ ap (λ (t : Ts). record_of (Data c.args.row c.in_ok-program.column) (record { start = c.in-Found.of; commit = c.in-Found.commit; content = c.in-Found.content }) t.0) c.acknowledged_in-acknowledged.ensures) in
     let p = err_from_is_err_and c.from_residual-in_err-take-2.result c.from_residual-in_err-take-2.ensures.1 in
     rw (p.1, p.2) (subst (λ (s : SharedOf). StopsIn c.args.shared.now (works.Run c.args.number c.args.row ∷ []) s c.in_err-take-2.field-0.0) (sym c.in_err-take-2.ensures.table)
-    (visits.end3 c.args.shared.now c.args.seat.now c.args.number c.args.row c.in_ok-program.program.value c.in_ok-program.column c.in_ok-program.ensures c.requires.clean c.requires.seated _ c.take.new.shared c.take.new.seat c.in_ok-start.ensures.ok c.in-At.start c.in-At.is _ c.take-2.new.shared c.take-2.new.seat c.in_ok-of.ensures.ok _ c.take-3.new.shared c.take-3.new.seat c.in_ok-take.ensures.ok (record { start = c.in-Found.of; commit = c.in-Found.commit; content = c.in-Found.content }) c.in-Found.is newer c.in_ok-finished.finished made c.in_ok-what.what c.in_ok-what.ensures c.in_err-take-2.field-0.0 c.in_err-take-2.ensures.fault))
+    (visits.end3 c.args.shared.now c.args.seat.now c.args.number c.args.row c.in_ok-program.program.value c.in_ok-program.column c.in_ok-program.ensures c.requires.clean c.requires.seated _ c.take.new.shared c.take.new.seat c.in_ok-start.ensures.ok c.in-At.start c.in-At.is _ c.take-2.new.shared c.take-2.new.seat c.in_ok-of.ensures.ok _ c.take-3.new.shared c.take-3.new.seat c.in_ok-take.ensures.ok (record { start = c.in-Found.of; commit = c.in-Found.commit; content = c.in-Found.content }) c.in-Found.is newer c.in_ok-finished.finished made c.in_ok-what.what c.in_ok-what.ensures.ok c.in_err-take-2.field-0.0 c.in_err-take-2.ensures.fault))
 
 pub returns-in_err-take-3-clause-goes : goal.returns-in_err-take-3-clause-goes
 returns-in_err-take-3-clause-goes g c =
@@ -69,7 +69,7 @@ returns-in_err-take-3-clause-goes g c =
     let made = λ (none : c.in_ok-program.program.value.helpers ≡ no_helpers). c.in_ok-finished.ensures none
     ∙ ap (λ b. plain_run c.in_ok-program.program.value b c.in-At.start.0 c.in_ok-finished.finished.result)
     (c.new-change.ensures ∙ ap (λ (t : Ts). record_of (Data c.args.row c.in_ok-program.column) (record { start = c.in-Found.of; commit = c.in-Found.commit; content = c.in-Found.content }) t.0) c.acknowledged_in-acknowledged.ensures) in
-    rw (c.in_err-take-3.ensures.table, c.in_err-take-3.ensures.seat) (visits.goes4 c.args.shared.now c.args.seat.now c.args.number c.args.row c.in_ok-program.program.value c.in_ok-program.column c.in_ok-program.ensures c.requires.clean c.requires.seated _ c.take.new.shared c.take.new.seat c.in_ok-start.ensures.ok c.in-At.start c.in-At.is _ c.take-2.new.shared c.take-2.new.seat c.in_ok-of.ensures.ok _ c.take-3.new.shared c.take-3.new.seat c.in_ok-take.ensures.ok (record { start = c.in-Found.of; commit = c.in-Found.commit; content = c.in-Found.content }) c.in-Found.is newer c.in_ok-finished.finished made c.in_ok-what.what c.in_ok-what.ensures _ c.take-4.new.shared c.take-4.new.seat c.in_ok-take-2.ensures.ok)
+    rw (c.in_err-take-3.ensures.table, c.in_err-take-3.ensures.seat) (visits.goes4 c.args.shared.now c.args.seat.now c.args.number c.args.row c.in_ok-program.program.value c.in_ok-program.column c.in_ok-program.ensures c.requires.clean c.requires.seated _ c.take.new.shared c.take.new.seat c.in_ok-start.ensures.ok c.in-At.start c.in-At.is _ c.take-2.new.shared c.take-2.new.seat c.in_ok-of.ensures.ok _ c.take-3.new.shared c.take-3.new.seat c.in_ok-take.ensures.ok (record { start = c.in-Found.of; commit = c.in-Found.commit; content = c.in-Found.content }) c.in-Found.is newer c.in_ok-finished.finished made c.in_ok-what.what c.in_ok-what.ensures.ok _ c.take-4.new.shared c.take-4.new.seat c.in_ok-take-2.ensures.ok)
 
 pub returns-in_err-take-3-clause-err : goal.returns-in_err-take-3-clause-err
 returns-in_err-take-3-clause-err g c =
@@ -80,7 +80,7 @@ returns-in_err-take-3-clause-err g c =
     (c.new-change.ensures ∙ ap (λ (t : Ts). record_of (Data c.args.row c.in_ok-program.column) (record { start = c.in-Found.of; commit = c.in-Found.commit; content = c.in-Found.content }) t.0) c.acknowledged_in-acknowledged.ensures) in
     let p = err_from_is_err_and c.from_residual-in_err-take-3.result c.from_residual-in_err-take-3.ensures.1 in
     rw (p.1, p.2) (subst (λ (s : SharedOf). StopsIn c.args.shared.now (works.Run c.args.number c.args.row ∷ []) s c.in_err-take-3.field-0.0) (sym c.in_err-take-3.ensures.table)
-    (visits.end4 c.args.shared.now c.args.seat.now c.args.number c.args.row c.in_ok-program.program.value c.in_ok-program.column c.in_ok-program.ensures c.requires.clean c.requires.seated _ c.take.new.shared c.take.new.seat c.in_ok-start.ensures.ok c.in-At.start c.in-At.is _ c.take-2.new.shared c.take-2.new.seat c.in_ok-of.ensures.ok _ c.take-3.new.shared c.take-3.new.seat c.in_ok-take.ensures.ok (record { start = c.in-Found.of; commit = c.in-Found.commit; content = c.in-Found.content }) c.in-Found.is newer c.in_ok-finished.finished made c.in_ok-what.what c.in_ok-what.ensures _ c.take-4.new.shared c.take-4.new.seat c.in_ok-take-2.ensures.ok c.in_err-take-3.field-0.0 c.in_err-take-3.ensures.fault))
+    (visits.end4 c.args.shared.now c.args.seat.now c.args.number c.args.row c.in_ok-program.program.value c.in_ok-program.column c.in_ok-program.ensures c.requires.clean c.requires.seated _ c.take.new.shared c.take.new.seat c.in_ok-start.ensures.ok c.in-At.start c.in-At.is _ c.take-2.new.shared c.take-2.new.seat c.in_ok-of.ensures.ok _ c.take-3.new.shared c.take-3.new.seat c.in_ok-take.ensures.ok (record { start = c.in-Found.of; commit = c.in-Found.commit; content = c.in-Found.content }) c.in-Found.is newer c.in_ok-finished.finished made c.in_ok-what.what c.in_ok-what.ensures.ok _ c.take-4.new.shared c.take-4.new.seat c.in_ok-take-2.ensures.ok c.in_err-take-3.field-0.0 c.in_err-take-3.ensures.fault))
 
 pub returns-in_err-take-4-clause-goes : goal.returns-in_err-take-4-clause-goes
 returns-in_err-take-4-clause-goes g c =
@@ -89,7 +89,7 @@ returns-in_err-take-4-clause-goes g c =
     let made = λ (none : c.in_ok-program.program.value.helpers ≡ no_helpers). c.in_ok-finished.ensures none
     ∙ ap (λ b. plain_run c.in_ok-program.program.value b c.in-At.start.0 c.in_ok-finished.finished.result)
     (c.new-change.ensures ∙ ap (λ (t : Ts). record_of (Data c.args.row c.in_ok-program.column) (record { start = c.in-Found.of; commit = c.in-Found.commit; content = c.in-Found.content }) t.0) c.acknowledged_in-acknowledged.ensures) in
-    rw (c.in_err-take-4.ensures.table, c.in_err-take-4.ensures.seat) (visits.goes5 c.args.shared.now c.args.seat.now c.args.number c.args.row c.in_ok-program.program.value c.in_ok-program.column c.in_ok-program.ensures c.requires.clean c.requires.seated _ c.take.new.shared c.take.new.seat c.in_ok-start.ensures.ok c.in-At.start c.in-At.is _ c.take-2.new.shared c.take-2.new.seat c.in_ok-of.ensures.ok _ c.take-3.new.shared c.take-3.new.seat c.in_ok-take.ensures.ok (record { start = c.in-Found.of; commit = c.in-Found.commit; content = c.in-Found.content }) c.in-Found.is newer c.in_ok-finished.finished made c.in_ok-what.what c.in_ok-what.ensures _ c.take-4.new.shared c.take-4.new.seat c.in_ok-take-2.ensures.ok _ c.take-5.new.shared c.take-5.new.seat c.in_ok-take-3.ensures.ok)
+    rw (c.in_err-take-4.ensures.table, c.in_err-take-4.ensures.seat) (visits.goes5 c.args.shared.now c.args.seat.now c.args.number c.args.row c.in_ok-program.program.value c.in_ok-program.column c.in_ok-program.ensures c.requires.clean c.requires.seated _ c.take.new.shared c.take.new.seat c.in_ok-start.ensures.ok c.in-At.start c.in-At.is _ c.take-2.new.shared c.take-2.new.seat c.in_ok-of.ensures.ok _ c.take-3.new.shared c.take-3.new.seat c.in_ok-take.ensures.ok (record { start = c.in-Found.of; commit = c.in-Found.commit; content = c.in-Found.content }) c.in-Found.is newer c.in_ok-finished.finished made c.in_ok-what.what c.in_ok-what.ensures.ok _ c.take-4.new.shared c.take-4.new.seat c.in_ok-take-2.ensures.ok _ c.take-5.new.shared c.take-5.new.seat c.in_ok-take-3.ensures.ok)
 
 pub returns-in_err-take-4-clause-err : goal.returns-in_err-take-4-clause-err
 returns-in_err-take-4-clause-err g c =
@@ -100,7 +100,7 @@ returns-in_err-take-4-clause-err g c =
     (c.new-change.ensures ∙ ap (λ (t : Ts). record_of (Data c.args.row c.in_ok-program.column) (record { start = c.in-Found.of; commit = c.in-Found.commit; content = c.in-Found.content }) t.0) c.acknowledged_in-acknowledged.ensures) in
     let p = err_from_is_err_and c.from_residual-in_err-take-4.result c.from_residual-in_err-take-4.ensures.1 in
     rw (p.1, p.2) (subst (λ (s : SharedOf). StopsIn c.args.shared.now (works.Run c.args.number c.args.row ∷ []) s c.in_err-take-4.field-0.0) (sym c.in_err-take-4.ensures.table)
-    (visits.end5 c.args.shared.now c.args.seat.now c.args.number c.args.row c.in_ok-program.program.value c.in_ok-program.column c.in_ok-program.ensures c.requires.clean c.requires.seated _ c.take.new.shared c.take.new.seat c.in_ok-start.ensures.ok c.in-At.start c.in-At.is _ c.take-2.new.shared c.take-2.new.seat c.in_ok-of.ensures.ok _ c.take-3.new.shared c.take-3.new.seat c.in_ok-take.ensures.ok (record { start = c.in-Found.of; commit = c.in-Found.commit; content = c.in-Found.content }) c.in-Found.is newer c.in_ok-finished.finished made c.in_ok-what.what c.in_ok-what.ensures _ c.take-4.new.shared c.take-4.new.seat c.in_ok-take-2.ensures.ok _ c.take-5.new.shared c.take-5.new.seat c.in_ok-take-3.ensures.ok c.in_err-take-4.field-0.0 c.in_err-take-4.ensures.fault))
+    (visits.end5 c.args.shared.now c.args.seat.now c.args.number c.args.row c.in_ok-program.program.value c.in_ok-program.column c.in_ok-program.ensures c.requires.clean c.requires.seated _ c.take.new.shared c.take.new.seat c.in_ok-start.ensures.ok c.in-At.start c.in-At.is _ c.take-2.new.shared c.take-2.new.seat c.in_ok-of.ensures.ok _ c.take-3.new.shared c.take-3.new.seat c.in_ok-take.ensures.ok (record { start = c.in-Found.of; commit = c.in-Found.commit; content = c.in-Found.content }) c.in-Found.is newer c.in_ok-finished.finished made c.in_ok-what.what c.in_ok-what.ensures.ok _ c.take-4.new.shared c.take-4.new.seat c.in_ok-take-2.ensures.ok _ c.take-5.new.shared c.take-5.new.seat c.in_ok-take-3.ensures.ok c.in_err-take-4.field-0.0 c.in_err-take-4.ensures.fault))
 
 pub returns-in_err-take-5-clause-goes : goal.returns-in_err-take-5-clause-goes
 returns-in_err-take-5-clause-goes g c =
@@ -109,7 +109,7 @@ returns-in_err-take-5-clause-goes g c =
     let made = λ (none : c.in_ok-program.program.value.helpers ≡ no_helpers). c.in_ok-finished.ensures none
     ∙ ap (λ b. plain_run c.in_ok-program.program.value b c.in-At.start.0 c.in_ok-finished.finished.result)
     (c.new-change.ensures ∙ ap (λ (t : Ts). record_of (Data c.args.row c.in_ok-program.column) (record { start = c.in-Found.of; commit = c.in-Found.commit; content = c.in-Found.content }) t.0) c.acknowledged_in-acknowledged.ensures) in
-    rw (c.in_err-take-5.ensures.table, c.in_err-take-5.ensures.seat) (visits.goes6 c.args.shared.now c.args.seat.now c.args.number c.args.row c.in_ok-program.program.value c.in_ok-program.column c.in_ok-program.ensures c.requires.clean c.requires.seated _ c.take.new.shared c.take.new.seat c.in_ok-start.ensures.ok c.in-At.start c.in-At.is _ c.take-2.new.shared c.take-2.new.seat c.in_ok-of.ensures.ok _ c.take-3.new.shared c.take-3.new.seat c.in_ok-take.ensures.ok (record { start = c.in-Found.of; commit = c.in-Found.commit; content = c.in-Found.content }) c.in-Found.is newer c.in_ok-finished.finished made c.in_ok-what.what c.in_ok-what.ensures _ c.take-4.new.shared c.take-4.new.seat c.in_ok-take-2.ensures.ok _ c.take-5.new.shared c.take-5.new.seat c.in_ok-take-3.ensures.ok _ c.take-6.new.shared c.take-6.new.seat c.in_ok-take-4.ensures.ok)
+    rw (c.in_err-take-5.ensures.table, c.in_err-take-5.ensures.seat) (visits.goes6 c.args.shared.now c.args.seat.now c.args.number c.args.row c.in_ok-program.program.value c.in_ok-program.column c.in_ok-program.ensures c.requires.clean c.requires.seated _ c.take.new.shared c.take.new.seat c.in_ok-start.ensures.ok c.in-At.start c.in-At.is _ c.take-2.new.shared c.take-2.new.seat c.in_ok-of.ensures.ok _ c.take-3.new.shared c.take-3.new.seat c.in_ok-take.ensures.ok (record { start = c.in-Found.of; commit = c.in-Found.commit; content = c.in-Found.content }) c.in-Found.is newer c.in_ok-finished.finished made c.in_ok-what.what c.in_ok-what.ensures.ok _ c.take-4.new.shared c.take-4.new.seat c.in_ok-take-2.ensures.ok _ c.take-5.new.shared c.take-5.new.seat c.in_ok-take-3.ensures.ok _ c.take-6.new.shared c.take-6.new.seat c.in_ok-take-4.ensures.ok)
 
 pub returns-in_err-take-5-clause-err : goal.returns-in_err-take-5-clause-err
 returns-in_err-take-5-clause-err g c =
@@ -120,7 +120,7 @@ returns-in_err-take-5-clause-err g c =
     (c.new-change.ensures ∙ ap (λ (t : Ts). record_of (Data c.args.row c.in_ok-program.column) (record { start = c.in-Found.of; commit = c.in-Found.commit; content = c.in-Found.content }) t.0) c.acknowledged_in-acknowledged.ensures) in
     let p = err_from_is_err_and c.from_residual-in_err-take-5.result c.from_residual-in_err-take-5.ensures.1 in
     rw (p.1, p.2) (subst (λ (s : SharedOf). StopsIn c.args.shared.now (works.Run c.args.number c.args.row ∷ []) s c.in_err-take-5.field-0.0) (sym c.in_err-take-5.ensures.table)
-    (visits.end6 c.args.shared.now c.args.seat.now c.args.number c.args.row c.in_ok-program.program.value c.in_ok-program.column c.in_ok-program.ensures c.requires.clean c.requires.seated _ c.take.new.shared c.take.new.seat c.in_ok-start.ensures.ok c.in-At.start c.in-At.is _ c.take-2.new.shared c.take-2.new.seat c.in_ok-of.ensures.ok _ c.take-3.new.shared c.take-3.new.seat c.in_ok-take.ensures.ok (record { start = c.in-Found.of; commit = c.in-Found.commit; content = c.in-Found.content }) c.in-Found.is newer c.in_ok-finished.finished made c.in_ok-what.what c.in_ok-what.ensures _ c.take-4.new.shared c.take-4.new.seat c.in_ok-take-2.ensures.ok _ c.take-5.new.shared c.take-5.new.seat c.in_ok-take-3.ensures.ok _ c.take-6.new.shared c.take-6.new.seat c.in_ok-take-4.ensures.ok c.in_err-take-5.field-0.0 c.in_err-take-5.ensures.fault))
+    (visits.end6 c.args.shared.now c.args.seat.now c.args.number c.args.row c.in_ok-program.program.value c.in_ok-program.column c.in_ok-program.ensures c.requires.clean c.requires.seated _ c.take.new.shared c.take.new.seat c.in_ok-start.ensures.ok c.in-At.start c.in-At.is _ c.take-2.new.shared c.take-2.new.seat c.in_ok-of.ensures.ok _ c.take-3.new.shared c.take-3.new.seat c.in_ok-take.ensures.ok (record { start = c.in-Found.of; commit = c.in-Found.commit; content = c.in-Found.content }) c.in-Found.is newer c.in_ok-finished.finished made c.in_ok-what.what c.in_ok-what.ensures.ok _ c.take-4.new.shared c.take-4.new.seat c.in_ok-take-2.ensures.ok _ c.take-5.new.shared c.take-5.new.seat c.in_ok-take-3.ensures.ok _ c.take-6.new.shared c.take-6.new.seat c.in_ok-take-4.ensures.ok c.in_err-take-5.field-0.0 c.in_err-take-5.ensures.fault))
 
 pub returns-clause-goes : goal.returns-clause-goes
 returns-clause-goes g c =
@@ -129,7 +129,7 @@ returns-clause-goes g c =
     let made = λ (none : c.in_ok-program.program.value.helpers ≡ no_helpers). c.in_ok-finished.ensures none
     ∙ ap (λ b. plain_run c.in_ok-program.program.value b c.in-At.start.0 c.in_ok-finished.finished.result)
     (c.new-change.ensures ∙ ap (λ (t : Ts). record_of (Data c.args.row c.in_ok-program.column) (record { start = c.in-Found.of; commit = c.in-Found.commit; content = c.in-Found.content }) t.0) c.acknowledged_in-acknowledged.ensures) in
-    visits.goes7 c.args.shared.now c.args.seat.now c.args.number c.args.row c.in_ok-program.program.value c.in_ok-program.column c.in_ok-program.ensures c.requires.clean c.requires.seated _ c.take.new.shared c.take.new.seat c.in_ok-start.ensures.ok c.in-At.start c.in-At.is _ c.take-2.new.shared c.take-2.new.seat c.in_ok-of.ensures.ok _ c.take-3.new.shared c.take-3.new.seat c.in_ok-take.ensures.ok (record { start = c.in-Found.of; commit = c.in-Found.commit; content = c.in-Found.content }) c.in-Found.is newer c.in_ok-finished.finished made c.in_ok-what.what c.in_ok-what.ensures _ c.take-4.new.shared c.take-4.new.seat c.in_ok-take-2.ensures.ok _ c.take-5.new.shared c.take-5.new.seat c.in_ok-take-3.ensures.ok _ c.take-6.new.shared c.take-6.new.seat c.in_ok-take-4.ensures.ok _ c.take-7.new.shared c.take-7.new.seat c.in_ok-take-5.ensures.ok
+    visits.goes7 c.args.shared.now c.args.seat.now c.args.number c.args.row c.in_ok-program.program.value c.in_ok-program.column c.in_ok-program.ensures c.requires.clean c.requires.seated _ c.take.new.shared c.take.new.seat c.in_ok-start.ensures.ok c.in-At.start c.in-At.is _ c.take-2.new.shared c.take-2.new.seat c.in_ok-of.ensures.ok _ c.take-3.new.shared c.take-3.new.seat c.in_ok-take.ensures.ok (record { start = c.in-Found.of; commit = c.in-Found.commit; content = c.in-Found.content }) c.in-Found.is newer c.in_ok-finished.finished made c.in_ok-what.what c.in_ok-what.ensures.ok _ c.take-4.new.shared c.take-4.new.seat c.in_ok-take-2.ensures.ok _ c.take-5.new.shared c.take-5.new.seat c.in_ok-take-3.ensures.ok _ c.take-6.new.shared c.take-6.new.seat c.in_ok-take-4.ensures.ok _ c.take-7.new.shared c.take-7.new.seat c.in_ok-take-5.ensures.ok
 
 pub returns-clause-ok : goal.returns-clause-ok
 returns-clause-ok g c =
@@ -138,4 +138,4 @@ returns-clause-ok g c =
     let made = λ (none : c.in_ok-program.program.value.helpers ≡ no_helpers). c.in_ok-finished.ensures none
     ∙ ap (λ b. plain_run c.in_ok-program.program.value b c.in-At.start.0 c.in_ok-finished.finished.result)
     (c.new-change.ensures ∙ ap (λ (t : Ts). record_of (Data c.args.row c.in_ok-program.column) (record { start = c.in-Found.of; commit = c.in-Found.commit; content = c.in-Found.content }) t.0) c.acknowledged_in-acknowledged.ensures) in
-    visits.ran c.args.shared.now c.args.seat.now c.args.number c.args.row c.in_ok-program.program.value c.in_ok-program.column c.in_ok-program.ensures c.requires.clean c.requires.seated _ c.take.new.shared c.take.new.seat c.in_ok-start.ensures.ok c.in-At.start c.in-At.is _ c.take-2.new.shared c.take-2.new.seat c.in_ok-of.ensures.ok _ c.take-3.new.shared c.take-3.new.seat c.in_ok-take.ensures.ok (record { start = c.in-Found.of; commit = c.in-Found.commit; content = c.in-Found.content }) c.in-Found.is newer c.in_ok-finished.finished made c.in_ok-what.what c.in_ok-what.ensures _ c.take-4.new.shared c.take-4.new.seat c.in_ok-take-2.ensures.ok _ c.take-5.new.shared c.take-5.new.seat c.in_ok-take-3.ensures.ok _ c.take-6.new.shared c.take-6.new.seat c.in_ok-take-4.ensures.ok _ c.take-7.new.shared c.take-7.new.seat c.in_ok-take-5.ensures.ok c.journal.ensures.history c.journal-2.ensures.history
+    visits.ran c.args.shared.now c.args.seat.now c.args.number c.args.row c.in_ok-program.program.value c.in_ok-program.column c.in_ok-program.ensures c.requires.clean c.requires.seated _ c.take.new.shared c.take.new.seat c.in_ok-start.ensures.ok c.in-At.start c.in-At.is _ c.take-2.new.shared c.take-2.new.seat c.in_ok-of.ensures.ok _ c.take-3.new.shared c.take-3.new.seat c.in_ok-take.ensures.ok (record { start = c.in-Found.of; commit = c.in-Found.commit; content = c.in-Found.content }) c.in-Found.is newer c.in_ok-finished.finished made c.in_ok-what.what c.in_ok-what.ensures.ok _ c.take-4.new.shared c.take-4.new.seat c.in_ok-take-2.ensures.ok _ c.take-5.new.shared c.take-5.new.seat c.in_ok-take-3.ensures.ok _ c.take-6.new.shared c.take-6.new.seat c.in_ok-take-4.ensures.ok _ c.take-7.new.shared c.take-7.new.seat c.in_ok-take-5.ensures.ok c.journal.ensures.history c.journal-2.ensures.history
