@@ -1,25 +1,22 @@
 -- What a change has asked is its begin, and then what its plan has asked.
-use Rattle.std.proofs.Common.{◌≡◌, ◌≢◌, ℕ, List, [], ◌∷◌, ◌++◌, Option, Some, None, refl, sym, ap, subst, ◌∙◌}
-use Rattle.pb_base.specs.declared.cell.Cell.{Cell}
-use Rattle.pb_base.specs.declared.content.Content.{Content}
+use Rattle.std.proofs.Common.{◌≡◌, ◌≢◌, ℕ, List, [], ◌∷◌, ◌++◌, Some, None, refl, sym, ap, subst, ◌∙◌}
 use Rattle.pb_base.specs.Batch.{Writes}
 use Rattle.pb_steps.specs.declared.step.Work.TheVariants as works
 use Rattle.pb_steps.specs.declared.step.Declared.TheVariants as declared
 use Rattle.pb_steps.specs.declared.step.Step.{Step}
 use Rattle.pb_steps.specs.declared.step.Step.TheVariants.{Begin}
 use Rattle.pb_steps.specs.declared.step.Answer.{Answer}
-use Rattle.pb_steps.specs.declared.step.Answer.TheVariants.{At, Locked, Found, Absent, Done, Conflict, Committed, Lost, RolledBack, Waits, CommittedAt}
+use Rattle.pb_steps.specs.declared.step.Answer.TheVariants.{At}
 use Rattle.pb_steps.specs.Answers.{CanAnswer}
 use Rattle.pb_history.specs.declared.entry.Received.{Received}
 use Rattle.pb_txn.specs.declared.place.Outcome.{Outcome}
-use Rattle.pb_txn.specs.declared.place.Outcome.TheVariants as outcomes
 use Rattle.pb_txn.specs.Places.{declared_cells}
 use Rattle.pb_txn.specs.Plans.{PlanOf, fresh}
 use Rattle.pb_txn.specs.Plans as plans
 use Rattle.pb_txn.specs.Talks as talks
 use Rattle.pb_txn.specs.Talks.{told}
-use Rattle.pb_txn.specs.Forms.{IsWhole, PlansTalk, PlansEnd}
-use Rattle.pb_txn.specs.Changes.{ChangeOf, new_change, next_of, answered, outcome_of, outcome_in, Talks, IsWholeChange, ChangesTalk, ChangesEnd}
+use Rattle.pb_txn.specs.Forms.{IsWhole}
+use Rattle.pb_txn.specs.Changes.{ChangeOf, new_change, answered, outcome_of, Talks, ChangesTalk, ChangesEnd}
 use Rattle.pb_txn.proofs.Talk.{plans_talk, plans_end}
 
 -- a change that follows its plan

@@ -1,14 +1,14 @@
 -- What a plan has asked at each place, and that it is a beginning of a whole conversation.
-use Rattle.std.proofs.Common.{◌≡◌, ℕ, zero, suc, ◌+◌, ◌<◌, ◌≤◌, Bool, true, false, List, [], ◌∷◌, ◌++◌, length, map, get_or, refl, sym, ◌∙◌, ap, subst, arith, append_assoc, append-nil, length-append, Option, Some, None, ltb, eqb, ne_eqb}
+use Rattle.std.proofs.Common.{◌≡◌, suc, ◌+◌, true, false, List, [], ◌∷◌, ◌++◌, length, refl, sym, ◌∙◌, ap, subst, arith, append_assoc, append-nil, length-append, Some, None, ltb, eqb, ne_eqb}
 use Rattle.std.proofs.lemmas.Bool.{lt-ltb, le-ltb}
 use Rattle.std.specs.Prelude.{slice_get, option_map}
 use Rattle.pb_base.specs.declared.cell.Cell.{Cell}
 use Rattle.pb_base.specs.declared.names.Ts.{Ts}
 use Rattle.pb_steps.specs.declared.step.Declared.{Declared}
 use Rattle.pb_steps.specs.declared.step.Step.{Step}
-use Rattle.pb_steps.specs.declared.step.Step.TheVariants.{Begin, Read, Declare, Prewrite, Stamp, CommitPrimary, CommitSecondary, Settle, Clear}
+use Rattle.pb_steps.specs.declared.step.Step.TheVariants.{Declare, Prewrite, Stamp, CommitPrimary, CommitSecondary, Settle, Clear}
 use Rattle.pb_steps.specs.declared.step.Answer.{Answer}
-use Rattle.pb_steps.specs.declared.step.Answer.TheVariants.{At, Locked, Found, Absent, Done, Conflict, Committed, Lost, RolledBack, Waits, CommittedAt}
+use Rattle.pb_steps.specs.declared.step.Answer.TheVariants.{At, Absent, Done, Conflict, Committed, Lost}
 use Rattle.pb_steps.specs.Answers.{CanAnswer}
 use Rattle.pb_history.specs.declared.entry.Received.{Received}
 use Rattle.pb_txn.specs.declared.place.Outcome.{Outcome}
@@ -16,9 +16,9 @@ use Rattle.pb_txn.specs.declared.place.Outcome.TheVariants as outcomes
 use Rattle.pb_txn.specs.declared.place.Place.{Place}
 use Rattle.pb_txn.specs.declared.place.Place.TheVariants.{Declaring, Prewriting, Stamping, CommittingPrimary, CommittingSecondary, Settling, Clearing, Over}
 use Rattle.pb_txn.specs.Places.{declared_cells, place_after, after_prewrite, after_stamp, after_primary, prewrite_from, commit_from, clear_from, step_at}
-use Rattle.pb_txn.specs.Plans.{PlanOf, fresh, answered, outcome_at, outcome_of}
+use Rattle.pb_txn.specs.Plans.{PlanOf, fresh, answered, outcome_at}
 use Rattle.pb_txn.specs.Talks.{told, Talks}
-use Rattle.pb_txn.specs.Forms.{prewrites, secondaries, AreCleared, IsWhole, committed, conflicted_first, conflicted_later, lost, IsBeginning, PlansTalk, PlansEnd}
+use Rattle.pb_txn.specs.Forms.{prewrites, secondaries, AreCleared, IsWhole, committed, conflicted_first, conflicted_later, lost, PlansTalk, PlansEnd}
 
 prewrites_append : (s : Ts) (xs ys : List Cell) → prewrites s (xs ++ ys) ≡ prewrites s xs ++ prewrites s ys
 prewrites_append s [] ys = refl
