@@ -1,3 +1,10 @@
 pub mod CellsAt
 pub mod Talk
 pub mod ChangeTalk
+pub mod DeclaredCells
+pub mod DistinctCells
+pub mod WithoutReads
+pub mod PlanPlaces
+pub mod PlanTransactions
+pub mod ObserversStay
+pub mod Allowed

@@ -3,3 +3,4 @@ pub mod Plans
 pub mod Talks
 pub mod Forms
 pub mod Changes
+pub mod Allowed

@@ -1,6 +1,9 @@
-//! What the steps of plans are.
+//! What the steps of plans are, and that the table takes them.
 ghost use Rattle.pb_txn.specs.Forms.{PlansTalk, PlansEnd};
 ghost use Rattle.pb_txn.specs.Changes.{ChangesTalk, ChangesEnd};
+ghost use Rattle.pb_txn.specs.Allowed.{PlansAreAllowed};
+
+use pb_history::{histories_are_told, transactions_are_told};
 
 /// What a plan has asked is a beginning of a transaction's conversation, and at its end a whole one.
 pub fn plans_talk()
@@ -13,3 +16,12 @@ pub fn changes_talk()
     ensures talks { ChangesTalk }
     ensures ends { ChangesEnd }
 {}
+
+/// Where the entries of a legal journal that name a start, reads aside, are those of its plan, the plan's next step isn't
+/// refused with 42, 45 or 46.
+pub fn plans_are_allowed()
+    ensures { PlansAreAllowed }
+{
+    histories_are_told();
+    transactions_are_told();
+}

@@ -7,6 +7,6 @@ mod place;
 mod plan;
 
 pub use change::ChangeJob;
-pub use laws::{changes_talk, plans_talk};
+pub use laws::{changes_talk, plans_are_allowed, plans_talk};
 pub use place::Outcome;
 pub use plan::Plan;

@@ -1,0 +1,182 @@
+-- No step of a plan comes at a wrong time.
+use Rattle.std.proofs.Common.{◌≡◌, ℕ, Bool, true, false, cond, not, ◌||◌, [], ◌∷◌, take, Option, Some, None, refl, sym, ap, subst, ◌∙◌}
+use Rattle.std.specs.Prelude.{slice_get, ◌==◌, is_none}
+use Rattle.std.specs.List.{list_all}
+use Rattle.std.specs.FinMap as finite
+use Rattle.pb_base.specs.declared.refusal.Reason.{Reason}
+use Rattle.pb_base.specs.declared.refusal.Reason.TheVariants.{NotOfSeat, NotItsDeclaration, OutOfTimestamps, WrongPhase, NotDeclared, AlreadyPrewritten}
+use Rattle.pb_base.specs.declared.cell.Cell.{Cell}
+use Rattle.pb_base.specs.Batch.{content_in}
+use Rattle.pb_steps.specs.declared.step.Declared.{Declared}
+use Rattle.pb_steps.specs.declared.step.Step.{Step}
+use Rattle.pb_steps.specs.declared.step.Step.TheVariants.{Declare, Prewrite, Stamp, CommitPrimary, CommitSecondary, Settle, Clear}
+use Rattle.pb_steps.specs.Phases.{is_reading, is_declared, is_stamped, is_committed}
+use Rattle.pb_steps.specs.Declarations.{is_its}
+use Rattle.pb_steps.specs.Declare.{declare_reasons}
+use Rattle.pb_steps.specs.Prewrite.{prewrite_reasons, is_early}
+use Rattle.pb_steps.specs.Stamp.{unstamped_reasons, is_whole}
+use Rattle.pb_steps.specs.CommitPrimary.{commit_reasons}
+use Rattle.pb_steps.specs.CommitSecondary.{secondary_reasons}
+use Rattle.pb_steps.specs.State.{StateOf, TransactionOf, is_in}
+use Rattle.pb_steps.specs.Reasons.{Reasons, first_reason, is_out, no_seat, if_of_seat, own_transaction, reasons_of, own_reasons}
+use Rattle.pb_steps.specs.Steps.{step_reason}
+use Rattle.pb_history.specs.Laws.{HistoriesAreTold, TransactionsAreTold}
+use Rattle.pb_txn.specs.declared.place.Place.{Place}
+use Rattle.pb_txn.specs.declared.place.Place.TheVariants.{Declaring, Prewriting, Stamping, CommittingPrimary, CommittingSecondary, Settling, Clearing, Over}
+use Rattle.pb_txn.specs.Places.{declared_cells, step_at}
+use Rattle.pb_txn.specs.Plans.{fresh}
+use Rattle.pb_txn.specs.Allowed.{IsInRange, IsTimely, PlansAreAllowed}
+use Rattle.pb_txn.proofs.DistinctCells.{cells_in, has_content, not_before, in_order, all_in}
+use Rattle.pb_txn.proofs.WithoutReads.{bare}
+use Rattle.pb_txn.proofs.PlanPlaces.{IsAt, cell_of}
+use Rattle.pb_txn.proofs.ObserversStay.{observers_stay}
+use Rattle.pb_txn.proofs.PlanTransactions.{HasCells, HasCellsAt, keeps, cells_by_now, stands}
+
+-- ---- reasons
+
+timely_if : (r why : Reason) → IsTimely r → Some r ≡ Some why → IsTimely why
+timely_if r why t e = let is : r ≡ why = cc in subst IsTimely is t
+
+not_of_seat : IsTimely NotOfSeat
+not_of_seat = record { phase = λ e. cc; declared = λ e. cc; once = λ e. cc }
+
+not_its : IsTimely NotItsDeclaration
+not_its = record { phase = λ e. cc; declared = λ e. cc; once = λ e. cc }
+
+out : IsTimely OutOfTimestamps
+out = record { phase = λ e. cc; declared = λ e. cc; once = λ e. cc }
+
+no_reason : (why : Reason) → ◌≡◌ {A = Option Reason} None (Some why) → ⊥
+no_reason why e = cc
+
+-- the first applies, and is timely, or it is one of the others
+either : (b : Bool) (r why : Reason) (rest : Option Reason) → IsTimely r → (rest ≡ Some why → IsTimely why) → cond b (Some r) rest ≡ Some why → IsTimely why
+either true r why rest t h e = timely_if r why t e
+either false r why rest t h e = h e
+
+-- a step that names a start is refused for its transaction's reasons, or since that isn't one of the seat's
+of_own : (o : Option TransactionOf) (reasons : TransactionOf → Reasons) (why : Reason) → ((t : TransactionOf) → o ≡ Some t → first_reason (reasons t) ≡ Some why → IsTimely why)
+    → first_reason (reasons_of o reasons) ≡ Some why → IsTimely why
+of_own None reasons why h e = timely_if NotOfSeat why not_of_seat e
+of_own (Some t) reasons why h e = h t refl e
+
+of_seat : (seat : ℕ) (o : Option TransactionOf) (t : TransactionOf) → if_of_seat seat o ≡ Some t → o ≡ Some t
+of_seat seat None t e = e
+of_seat seat (Some u) t e = by (u.seat == seat) e where
+  by : (b : Bool) → cond b (Some u) None ≡ Some t → Some u ≡ Some t
+  by true h = h
+  by false h = absurd cc
+
+there : (absent : Bool) (seat : ℕ) (o : Option TransactionOf) (t : TransactionOf) → cond absent None (if_of_seat seat o) ≡ Some t → o ≡ Some t
+there true seat o t e = absurd cc
+there false seat o t e = of_seat seat o t e
+
+seat_alone : (b : Bool) (why : Reason) → first_reason ((NotOfSeat, b) ∷ []) ≡ Some why → IsTimely why
+seat_alone b why e = either b NotOfSeat why None not_of_seat (λ f. absurd (no_reason why f)) e
+
+-- none of these applies
+none_of_one : (r why : Reason) (a : Bool) → a ≡ false → first_reason ((r, a) ∷ []) ≡ Some why → ⊥
+none_of_one r why true p e = absurd cc
+none_of_one r why false p e = no_reason why e
+
+none_of_two : (r q why : Reason) (a b : Bool) → a ≡ false → b ≡ false → first_reason ((r, a) ∷ (q, b) ∷ []) ≡ Some why → ⊥
+none_of_two r q why true b p u e = absurd cc
+none_of_two r q why false b p u e = none_of_one q why b u e
+
+none_of_three : (r q v why : Reason) (a b c : Bool) → a ≡ false → b ≡ false → c ≡ false → first_reason ((r, a) ∷ (q, b) ∷ (v, c) ∷ []) ≡ Some why → ⊥
+none_of_three r q v why true b c p u w e = absurd cc
+none_of_three r q v why false b c p u w e = none_of_two q v why b c u w e
+
+second_alone : (a b : Bool) (why : Reason) → a ≡ true → first_reason ((WrongPhase, not a) ∷ (NotItsDeclaration, b) ∷ []) ≡ Some why → IsTimely why
+second_alone true b why p e = either b NotItsDeclaration why None not_its (λ h. absurd (no_reason why h)) e
+second_alone false b why p e = absurd cc
+
+neither : (a b : Bool) → a ≡ true → b ≡ false → (not a || b) ≡ false
+neither true b p q = q
+neither false b p q = absurd cc
+
+nor : (a b : Bool) → a ≡ true → b ≡ true → (not a || not b) ≡ false
+nor true true p q = refl
+nor true false p q = absurd cc
+nor false b p q = absurd cc
+
+-- ---- the steps at their places
+
+module _ (t : TransactionOf) (what : Declared) (why : Reason) where
+  at_declare : (state : StateOf) (s : ℕ) → IsAt (declared_cells what) Declaring (bare t) → first_reason (declare_reasons state.observers s what t) ≡ Some why → IsTimely why
+  at_declare state s at e = second_alone (is_reading t.phase) (not (is_its state.observers t.work s t.reads what)) why (ap is_reading at.0) e
+
+  at_prewrite : (k : ℕ) (x : Cell) → slice_get (declared_cells what) k ≡ Some x → IsAt (declared_cells what) (Prewriting k) (bare t) → HasCells what t
+      → first_reason (prewrite_reasons x t) ≡ Some why → ⊥
+  at_prewrite k x here at has e =
+      let here-in : slice_get (cells_in t.declared) k ≡ Some x = ap (λ xs. slice_get xs k) has.are ∙ here in
+      let put : t.prewritten ≡ take k (cells_in t.declared) = at.1 ∙ ap (take k) (sym has.are) in
+      let early : is_early t x ≡ false = subst (λ xs. is_early (record t { prewritten = xs }) x ≡ false) (sym put) (in_order t.declared k x here-in) in
+      let once : is_in t.prewritten x ≡ false = ap (λ xs. is_in xs x) put ∙ not_before t.declared k x has.apart here-in in
+      none_of_three WrongPhase NotDeclared AlreadyPrewritten why (not (is_declared t.phase) || is_early t x) (is_none (content_in t.declared x)) (is_in t.prewritten x)
+      (neither (is_declared t.phase) (is_early t x) (ap is_declared at.0) early) (has_content t.declared k x here-in) once e
+
+  at_stamp : IsAt (declared_cells what) Stamping (bare t) → HasCells what t → first_reason (unstamped_reasons t) ≡ Some why → ⊥
+  at_stamp at has e =
+      let all : is_whole t ≡ true = ap (λ xs. list_all (λ w. is_in xs w.0) t.declared) (at.1 ∙ sym has.are) ∙ all_in t.declared in
+      none_of_one WrongPhase why (not (is_declared t.phase) || not (is_whole t)) (nor (is_declared t.phase) (is_whole t) (ap is_declared at.0) all) e
+
+  at_primary : is_stamped t.phase ≡ true → first_reason (commit_reasons t) ≡ Some why → ⊥
+  at_primary at e = none_of_one WrongPhase why (not (is_stamped t.phase)) (ap not at) e
+
+  at_secondary : (k : ℕ) (x : Cell) → slice_get (declared_cells what) k ≡ Some x → is_committed t.phase ≡ true → HasCells what t → first_reason (secondary_reasons x t) ≡ Some why → ⊥
+  at_secondary k x here at has e =
+      let here-in : slice_get (cells_in t.declared) k ≡ Some x = ap (λ xs. slice_get xs k) has.are ∙ here in
+      none_of_two WrongPhase NotDeclared why (not (is_committed t.phase)) (is_none (content_in t.declared x)) (ap not at) (has_content t.declared k x here-in) e
+
+-- ---- the step at a place
+
+same_step : (t u : Step) → Some t ≡ Some u → t ≡ u
+same_step t u e = cc
+
+module _ (state : StateOf) (seat s : ℕ) (what : Declared) (why : Reason) where
+  -- what its transaction has come to, if there is one
+  abbrev Stands : Place → Type 0
+  Stands p = (t : TransactionOf) → finite.get state.transactions s ≡ Some t → IsAt (declared_cells what) p (bare t) × HasCellsAt p what t
+
+  own : (reasons : TransactionOf → Reasons) → ((t : TransactionOf) → finite.get state.transactions s ≡ Some t → first_reason (reasons t) ≡ Some why → IsTimely why)
+      → first_reason (own_reasons state seat s reasons) ≡ Some why → IsTimely why
+  own reasons h e =
+      of_own (own_transaction state seat s) reasons why (λ t is f. h t (there (no_seat state seat) seat (finite.get state.transactions s) t is) f) e
+
+  abbrev Timely : Step → Type 0
+  Timely z = step_reason state seat z ≡ Some why → IsTimely why
+
+  at_place : (p : Place) (step : Step) → Stands p → step_at s what p ≡ Some step → Timely step
+  at_place Declaring step is e =
+      subst Timely (same_step (Declare (record { 0 = s }) what) step e) (own (declare_reasons state.observers s what) (λ t h f. at_declare t what why state s (is t h).0 f))
+  at_place (Prewriting k) step is e =
+      let x = cell_of (λ z. Prewrite (record { 0 = s }) z) (slice_get (declared_cells what) k) step e in
+      subst Timely x.2 (own (prewrite_reasons x.0) (λ t h f. absurd (at_prewrite t what why k x.0 x.1 (is t h).0 (is t h).1 f)))
+  at_place Stamping step is e =
+      subst Timely (same_step (Stamp (record { 0 = s })) step e)
+      (either (is_out state) OutOfTimestamps why (first_reason (own_reasons state seat s unstamped_reasons)) out (own unstamped_reasons (λ t h f. absurd (at_stamp t what why (is t h).0 (is t h).1 f))))
+  at_place (CommittingPrimary c) step is e =
+      subst Timely (same_step (CommitPrimary (record { 0 = s })) step e) (own commit_reasons (λ t h f. absurd (at_primary t what why (is t h).0 f)))
+  at_place (CommittingSecondary c k) step is e =
+      let x = cell_of (λ z. CommitSecondary (record { 0 = s }) z) (slice_get (declared_cells what) k) step e in
+      subst Timely x.2 (own (secondary_reasons x.0) (λ t h f. absurd (at_secondary t what why k x.0 x.1 (is t h).0 (is t h).1 f)))
+  at_place (Settling k) step is e =
+      let x = cell_of (λ z. Settle z) (slice_get (declared_cells what) 0) step e in
+      subst Timely x.2 (seat_alone (no_seat state seat) why)
+  at_place (Clearing k end o) step is e =
+      let x = cell_of (λ z. Clear z) (slice_get (declared_cells what) k) step e in
+      subst Timely x.2 (seat_alone (no_seat state seat) why)
+  at_place (Over o) step is e = absurd cc
+
+pub plans_allowed : HistoriesAreTold → TransactionsAreTold → PlansAreAllowed
+plans_allowed histories transactions observers seats clock journal state legal seat s what said q step why range talk has next refused =
+    let k = keeps (fresh s what) q said talk in
+    let here : step_at s what q.place ≡ Some step = (λ i. step_at (sym k.0 i) (sym k.1 i) q.place) ∙ next in
+    let history = histories observers seats clock journal state legal in
+    let os-is = observers_stay observers seats clock journal state legal in
+    let told = transactions observers seats clock journal state legal in
+    at_place state seat s what why q.place step (λ t h. (
+      stands journal state seat s what said q t told h talk has,
+      cells_by_now seat s what journal state said q t history h (subst (λ os. IsInRange os t.work) (sym os-is) (range t h)) talk has,
+    )) here refused

@@ -1,0 +1,168 @@
+-- What a transaction has come to at each place of its plan.
+use Rattle.std.proofs.Common.{◌≡◌, ℕ, ◌+◌, ◌≤◌, Bool, true, false, cond, List, [], ◌∷◌, ◌++◌, length, map, take, Option, Some, None, refl, sym, ap, subst, ◌∙◌, arith, add-one}
+use Rattle.std.proofs.lemmas.Bool.{eq-eqb}
+use Rattle.std.specs.Prelude.{slice_get, option_map, ◌==◌, nat_lt}
+use Rattle.std.specs.List.{filter}
+use Rattle.pb_base.specs.declared.cell.Cell.{Cell}
+use Rattle.pb_base.specs.declared.names.Ts.{Ts}
+use Rattle.pb_steps.specs.declared.phase.Phase.TheVariants as phases
+use Rattle.pb_steps.specs.declared.step.Declared.{Declared}
+use Rattle.pb_steps.specs.declared.step.Step.{Step}
+use Rattle.pb_steps.specs.declared.step.Step.TheVariants.{Declare, Prewrite, Stamp, CommitPrimary, CommitSecondary, Settle, Clear}
+use Rattle.pb_steps.specs.declared.step.Answer.{Answer}
+use Rattle.pb_steps.specs.declared.step.Answer.TheVariants.{At, Done, Conflict, Committed, Lost}
+use Rattle.pb_steps.specs.Answers.{CanAnswer}
+use Rattle.pb_steps.specs.Phases.{is_stamped, is_committed}
+use Rattle.pb_steps.specs.Observers.{ObserverOf}
+use Rattle.pb_steps.specs.State.{TransactionOf, cells_of}
+use Rattle.pb_history.specs.declared.entry.Entry.{Entry}
+use Rattle.pb_history.specs.declared.entry.Received.{Received}
+use Rattle.pb_history.specs.TransactionsTold.{committed_phase, transaction_from}
+use Rattle.pb_txn.specs.declared.place.Outcome.{Outcome}
+use Rattle.pb_txn.specs.declared.place.Outcome.TheVariants as outcomes
+use Rattle.pb_txn.specs.declared.place.Place.{Place}
+use Rattle.pb_txn.specs.declared.place.Place.TheVariants.{Declaring, Prewriting, Stamping, CommittingPrimary, CommittingSecondary, Settling, Clearing, Over}
+use Rattle.pb_txn.specs.Places.{declared_cells, place_after, after_prewrite, after_stamp, after_primary, prewrite_from, commit_from, clear_from, step_at}
+use Rattle.pb_txn.specs.Plans.{PlanOf, answered}
+use Rattle.pb_txn.specs.Talks.{Talks}
+use Rattle.pb_txn.specs.Allowed.{names}
+use Rattle.pb_txn.proofs.DistinctCells.{take_one, take_all}
+
+same_step : (t u : Step) → Some t ≡ Some u → t ≡ u
+same_step t u e = cc
+
+same_transaction : (t u : TransactionOf) → Some t ≡ Some u → t ≡ u
+same_transaction t u e = cc
+
+-- the cell that a step is about
+pub cell_of : (f : Cell → Step) (o : Option Cell) (t : Step) → option_map f o ≡ Some t → (x : Cell) × (o ≡ Some x) × (f x ≡ t)
+cell_of f None t e = absurd cc
+cell_of f (Some x) t e = (x, refl, same_step (f x) t e)
+
+itself : (n : ℕ) → (n == n) ≡ true
+itself n = eq-eqb n n refl
+
+-- the cells have this phase, and these are prewritten
+abbrev pub IsAt : List Cell → Place → TransactionOf → Type 0
+IsAt cells Declaring u = (u.phase ≡ phases.Reading) × (u.prewritten ≡ [])
+IsAt cells (Prewriting k) u = (u.phase ≡ phases.Declared) × (u.prewritten ≡ take k cells)
+IsAt cells Stamping u = (u.phase ≡ phases.Declared) × (u.prewritten ≡ cells)
+IsAt cells (CommittingPrimary c) u = is_stamped u.phase ≡ true
+IsAt cells (CommittingSecondary c k) u = is_committed u.phase ≡ true
+IsAt cells _ u = Unit {0}
+
+abbrev pub entry_of : ℕ → Received → Entry
+entry_of seat r = record { seat = seat; step = r.step; answer = r.answer }
+
+pub map_cond : {A B : Type 0} (f : A → B) (b : Bool) (x : A) (xs : List A) → map f (cond b (x ∷ xs) xs) ≡ cond b (f x ∷ map f xs) (map f xs)
+map_cond f true x xs = refl
+map_cond f false x xs = refl
+
+module _ (observers : List ObserverOf) (seat s : ℕ) (what : Declared) where
+  abbrev cells : List Cell
+  cells = declared_cells what
+
+  abbrev start : Ts
+  start = record { 0 = s }
+
+  -- ---- where an answer leads
+
+  prewriting_next : (k : ℕ) (u : TransactionOf) → u.phase ≡ phases.Declared → u.prewritten ≡ take k cells → IsAt cells (prewrite_from (length cells) k) u
+  prewriting_next k u phase put = elim (nat_lt k (length cells)) as (λ b. nat_lt k (length cells) ≡ b → IsAt cells (cond b (Prewriting k) Stamping) u) [
+    | true ↦ λ e. (phase, put)
+    | false ↦ λ e. (phase, put ∙ take_all cells k (past k (length cells) e))
+  ] refl
+    where
+      past : (a b : ℕ) → nat_lt a b ≡ false → b ≤ a
+      past a b e = grind (arith, e)
+
+  by_lt : (b : Bool) (p q : Place) (u : TransactionOf) → IsAt cells p u → IsAt cells q u → IsAt cells (cond b p q) u
+  by_lt true p q u i j = i
+  by_lt false p q u i j = j
+
+  -- ---- one answered step
+
+  -- the transaction that it makes
+  pub record Makes (place : Place) (step : Step) (answer : Answer) (u : TransactionOf) : Type 0 where
+    pub v : TransactionOf
+    pub at : IsAt cells place v
+    pub told : (es : List Entry)
+        → transaction_from observers (Some u) (cond (names s step) (record { seat = seat; step = step; answer = answer } ∷ es) es) ≡ transaction_from observers (Some v) es
+
+  after_declare : (u : TransactionOf) (a : Answer) → IsAt cells Declaring u → CanAnswer (Declare start what) a → Makes (prewrite_from (length cells) 0) (Declare start what) a u
+  after_declare u Done i can =
+      let v : TransactionOf = record u { phase = phases.Declared; declared = cells_of observers u.work s what } in
+      record { v = v; at = prewriting_next 0 v refl i.1; told = λ es. rw (itself s) refl }
+  after_declare u _ i can = absurd can
+
+  prewrites : (k : ℕ) (x : Cell) (u : TransactionOf) (a : Answer) → slice_get cells k ≡ Some x → IsAt cells (Prewriting k) u → CanAnswer (Prewrite start x) a
+      → Makes (after_prewrite (length cells) k a) (Prewrite start x) a u
+  prewrites k x u Done here i can =
+      let v : TransactionOf = record u { prewritten = u.prewritten ++ x ∷ [] } in
+      let put : u.prewritten ++ x ∷ [] ≡ take (k + 1) cells = ap (λ ys. ys ++ x ∷ []) i.1 ∙ take_one cells k x here ∙ ap (λ n. take n cells) (sym (add-one k)) in
+      record { v = v; at = prewriting_next (k + 1) v i.0 put; told = λ es. rw (itself s) refl }
+  prewrites k x u Conflict here i can =
+      let v : TransactionOf = record u { phase = phases.Failed } in
+      record { v = v; at = by_lt (k == 0) (Over outcomes.Conflicted) (Settling k) v tt tt; told = λ es. rw (itself s) refl }
+  prewrites k x u _ here i can = absurd can
+
+  after_stamped : (u : TransactionOf) (a : Answer) → IsAt cells Stamping u → CanAnswer (Stamp start) a → Makes (after_stamp a) (Stamp start) a u
+  after_stamped u (At c) i can = record { v = record u { phase = phases.Stamped c }; at = refl; told = λ es. rw (itself s) refl }
+  after_stamped u _ i can = absurd can
+
+  then_committed : (h : phases.the_data) → is_stamped h ≡ true → is_committed (committed_phase h) ≡ true
+  then_committed (phases.Stamped c) e = refl
+  then_committed _ e = absurd cc
+
+  commits : (c : Ts) (u : TransactionOf) (a : Answer) → IsAt cells (CommittingPrimary c) u → CanAnswer (CommitPrimary start) a
+      → Makes (after_primary (length cells) c a) (CommitPrimary start) a u
+  commits c u Committed i can =
+      let v : TransactionOf = record u { phase = committed_phase u.phase } in
+      record { v = v; at = by_lt (nat_lt 1 (length cells)) (CommittingSecondary c 1) (Over (outcomes.Committed c)) v (then_committed u.phase i) tt; told = λ es. rw (itself s) refl }
+  commits c u Lost i can =
+      let v : TransactionOf = record u { phase = phases.Failed } in
+      record { v = v; at = by_lt (nat_lt 1 (length cells)) (Clearing 1 (length cells) outcomes.Lost) (Over outcomes.Lost) v tt tt; told = λ es. rw (itself s) refl }
+  commits c u _ i can = absurd can
+
+  finishes : (c : Ts) (k : ℕ) (x : Cell) (u : TransactionOf) (a : Answer) → IsAt cells (CommittingSecondary c k) u → CanAnswer (CommitSecondary start x) a
+      → Makes (commit_from (length cells) c (k + 1)) (CommitSecondary start x) a u
+  finishes c k x u Done i can =
+      record { v = u; at = by_lt (nat_lt (k + 1) (length cells)) (CommittingSecondary c (k + 1)) (Over (outcomes.Committed c)) u i tt; told = λ es. rw (itself s) refl }
+  finishes c k x u _ i can = absurd can
+
+  clears : (k end : ℕ) (o : Outcome) (u : TransactionOf) → IsAt cells (clear_from k end o) u
+  clears k end o u = by_lt (nat_lt k end) (Clearing k end o) (Over o) u tt tt
+
+  one : (p : Place) (u : TransactionOf) (t : Step) (a : Answer) → IsAt cells p u → step_at s what p ≡ Some t → CanAnswer t a → Makes (place_after (length cells) p a) t a u
+  one Declaring u t a i e can =
+      subst (λ z. CanAnswer z a → Makes (prewrite_from (length cells) 0) z a u) (same_step (Declare start what) t e) (after_declare u a i) can
+  one (Prewriting k) u t a i e can =
+      let is = cell_of (λ x. Prewrite start x) (slice_get cells k) t e in
+      subst (λ z. CanAnswer z a → Makes (after_prewrite (length cells) k a) z a u) is.2 (prewrites k is.0 u a is.1 i) can
+  one Stamping u t a i e can = subst (λ z. CanAnswer z a → Makes (after_stamp a) z a u) (same_step (Stamp start) t e) (after_stamped u a i) can
+  one (CommittingPrimary c) u t a i e can =
+      subst (λ z. CanAnswer z a → Makes (after_primary (length cells) c a) z a u) (same_step (CommitPrimary start) t e) (commits c u a i) can
+  one (CommittingSecondary c k) u t a i e can =
+      let is = cell_of (λ x. CommitSecondary start x) (slice_get cells k) t e in
+      subst (λ z. CanAnswer z a → Makes (commit_from (length cells) c (k + 1)) z a u) is.2 (finishes c k is.0 u a i) can
+  one (Settling k) u t a i e can =
+      let is = cell_of (λ x. Settle x) (slice_get cells 0) t e in
+      subst (λ z. Makes (clear_from 1 k outcomes.Conflicted) z a u) is.2 (record { v = u; at = clears 1 k outcomes.Conflicted u; told = λ es. refl })
+  one (Clearing k end o) u t a i e can =
+      let is = cell_of (λ x. Clear x) (slice_get cells k) t e in
+      subst (λ z. Makes (clear_from (k + 1) end o) z a u) is.2 (record { v = u; at = clears (k + 1) end o u; told = λ es. refl })
+  one (Over o) u t a i e can = absurd cc
+
+  -- ---- all of them
+
+  pub stays : (p q : PlanOf) (said : List Received) (u t : TransactionOf) → p.start ≡ s → p.what ≡ what → IsAt cells p.place u → Talks p said q
+      → transaction_from observers (Some u) (map (entry_of seat) (filter (λ r. names s r.step) said)) ≡ Some t → IsAt cells q.place t
+  stays p q [] u t s-is w-is i talk told = subst (λ (z : PlanOf). IsAt cells z.place t) (sym talk) (subst (IsAt cells p.place) (same_transaction u t told) i)
+  stays p q (r ∷ rs) u t s-is w-is i talk told =
+      let next : step_at s what p.place ≡ Some r.step = (λ j. step_at (sym s-is j) (sym w-is j) p.place) ∙ talk.0 in
+      let m = one p.place u r.step r.answer i next talk.1 in
+      let on = map (entry_of seat) (filter (λ x. names s x.step) rs) in
+      let at : IsAt cells (answered p r.answer).place m.v = subst (λ w. IsAt cells (place_after (length (declared_cells w)) p.place r.answer) m.v) (sym w-is) m.at in
+      let rest : transaction_from observers (Some m.v) on ≡ Some t =
+      sym (m.told on) ∙ ap (transaction_from observers (Some u)) (sym (map_cond (entry_of seat) (names s r.step) r (filter (λ x. names s x.step) rs))) ∙ told in
+      stays (answered p r.answer) q rs m.v t s-is w-is at talk.2 rest

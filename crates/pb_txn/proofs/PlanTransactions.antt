@@ -1,0 +1,124 @@
+-- The transaction of a plan, whose entries are the plan's conversation, has come to where the plan stands.
+use Rattle.std.proofs.Common.{◌≡◌, ℕ, inl, inr, Bool, true, false, cond, ◌&&◌, List, [], ◌∷◌, length, map, Option, Some, refl, sym, ap, subst, ◌∙◌}
+use Rattle.std.proofs.lemmas.Bool.{eq-eqb}
+use Rattle.std.specs.Prelude.{◌==◌, nat_lt, nat_le}
+use Rattle.std.specs.List.{filter, list_all}
+use Rattle.std.specs.FinMap as finite
+use Rattle.pb_base.specs.Batch.{Writes, is_unstamped, are_distinct}
+use Rattle.pb_base.specs.declared.limits.TheConstants.{MAX_CELLS}
+use Rattle.pb_steps.specs.declared.step.Work.{Work}
+use Rattle.pb_steps.specs.declared.step.Work.TheVariants as works
+use Rattle.pb_steps.specs.declared.step.Declared.{Declared}
+use Rattle.pb_steps.specs.declared.step.Declared.TheVariants as declared
+use Rattle.pb_steps.specs.declared.step.Step.{Step}
+use Rattle.pb_steps.specs.declared.step.Step.TheVariants.{Declare}
+use Rattle.pb_steps.specs.declared.step.Answer.{Answer}
+use Rattle.pb_steps.specs.declared.step.Answer.TheVariants.{Done}
+use Rattle.pb_steps.specs.Answers.{CanAnswer}
+use Rattle.pb_steps.specs.Declarations.{IsKnown, IsPlainRun}
+use Rattle.pb_steps.specs.Observers.{ObserverOf}
+use Rattle.pb_steps.specs.State.{StateOf, TransactionOf, new_transaction, cells_of}
+use Rattle.pb_history.specs.declared.entry.Entry.{Entry}
+use Rattle.pb_history.specs.declared.entry.Received.{Received}
+use Rattle.pb_history.specs.History.{Has, IsEntry, IsForWork, TellsHistory}
+use Rattle.pb_history.specs.TransactionsTold.{TellsTransactions, transaction_from}
+use Rattle.pb_txn.specs.declared.place.Place.{Place}
+use Rattle.pb_txn.specs.declared.place.Place.TheVariants.{Declaring}
+use Rattle.pb_txn.specs.Places.{declared_cells}
+use Rattle.pb_txn.specs.Plans.{PlanOf, fresh, answered}
+use Rattle.pb_txn.specs.Talks.{Talks}
+use Rattle.pb_txn.specs.Allowed.{names, HasSaid, IsInRange}
+use Rattle.pb_txn.proofs.DeclaredCells.{cells_are}
+use Rattle.pb_txn.proofs.WithoutReads.{bare, named_in, follows}
+use Rattle.pb_txn.proofs.PlanPlaces.{IsAt, entry_of, stays}
+
+same_step : (t u : Step) → Some t ≡ Some u → t ≡ u
+same_step t u e = cc
+
+same_transaction : (o : Option TransactionOf) (t u : TransactionOf) → o ≡ Some t → o ≡ Some u → t ≡ u
+same_transaction o t u p q = cc
+
+-- a plan keeps its start and its declaration
+pub keeps : (p q : PlanOf) (said : List Received) → Talks p said q → (q.start ≡ p.start) × (q.what ≡ p.what)
+keeps p q [] talk = (ap (λ (z : PlanOf). z.start) talk, ap (λ (z : PlanOf). z.what) talk)
+keeps p q (r ∷ rs) talk = keeps (answered p r.answer) q rs talk.2
+
+-- ---- what was declared
+
+-- distinct cells, those of the plan
+pub record HasCells (what : Declared) (t : TransactionOf) : Type 0 where
+  pub are : map (λ w. w.0) t.declared ≡ declared_cells what
+  pub apart : are_distinct t.declared ≡ true
+
+-- needed once the declaration was answered
+abbrev pub HasCellsAt : Place → Declared → TransactionOf → Type 0
+HasCellsAt Declaring what t = Unit {0}
+HasCellsAt _ what t = HasCells what t
+
+has_cells : (p : Place) (what : Declared) (t : TransactionOf) → HasCells what t → HasCellsAt p what t
+has_cells Declaring what t h = tt
+has_cells _ what t h = h
+
+last_of : (a b c d : Bool) → (a && b && c && d) ≡ true → d ≡ true
+last_of true true true d e = e
+last_of true true false d e = absurd cc
+last_of true false c d e = absurd cc
+last_of false b c d e = absurd cc
+
+distinct : (observers : List ObserverOf) (work : Work) (s : ℕ) (what : Declared) → IsKnown what → IsForWork observers work what → IsPlainRun what → are_distinct (cells_of observers work s what) ≡ true
+distinct observers works.Script s (declared.Script batch) known f plain = last_of (nat_lt 0 (length batch)) (nat_le (length batch) MAX_CELLS) (list_all (λ w. is_unstamped w.1) batch) (are_distinct batch) known
+distinct observers works.Script s (declared.Run o m) known f plain = absurd f
+distinct observers (works.Run p row) s (declared.Script batch) known f plain = absurd f
+distinct observers (works.Run p row) s (declared.Run o m) known f plain = rw plain.1 refl
+
+in_filter : (s : ℕ) (journal : List Entry) (e : Entry) → Has (named_in s journal) e → Has journal e
+in_filter s [] e h = absurd h
+in_filter s (d ∷ ds) e h = elim (names s d.step) as (λ b. Has (cond b (d ∷ named_in s ds) (named_in s ds)) e → Has (d ∷ ds) e) [
+  | true ↦ λ k. elim k [ inl is ↦ inl is | inr on ↦ inr (in_filter s ds e on) ]
+  | false ↦ λ k. inr (in_filter s ds e k)
+] h
+
+module _ (seat s : ℕ) (what : Declared) where
+  abbrev declaration : Entry
+  declaration = record { seat = seat; step = Declare (record { 0 = s }) what; answer = Done }
+
+  -- a conversation begins with its declaration
+  first_said : (a : Answer) (rest : List Received) → CanAnswer (Declare (record { 0 = s }) what) a
+      → Has (map (entry_of seat) (cond (s == s) (record { step = Declare (record { 0 = s }) what; answer = a } ∷ rest) rest)) declaration
+  first_said Done rest can = rw (eq-eqb s s refl) (inl refl)
+  first_said _ rest can = absurd can
+
+  is_declared : (journal : List Entry) (r : Received) (rs : List Received) → Some (Declare (record { 0 = s }) what) ≡ Some r.step → CanAnswer r.step r.answer → HasSaid journal seat s (r ∷ rs)
+      → IsEntry journal seat (Declare (record { 0 = s }) what) Done
+  is_declared journal r rs next can has =
+      let rest = filter (λ x. names s x.step) rs in
+      let first = subst (λ z. CanAnswer z r.answer → Has (map (entry_of seat) (cond (names s z) (record { step = z; answer = r.answer } ∷ rest) rest)) declaration) (same_step _ r.step next) (λ c. first_said r.answer rest c) can in
+      in_filter s journal declaration (subst (λ l. Has l declaration) (sym has) first)
+
+  cells_at : (journal : List Entry) (state : StateOf) (t : TransactionOf) → TellsHistory journal state → finite.get state.transactions s ≡ Some t → IsInRange state.observers t.work
+      → IsEntry journal seat (Declare (record { 0 = s }) what) Done → HasCells what t
+  cells_at journal state t tells there range said =
+      let d = tells.declared seat s what said in
+      let is : d.t ≡ t = same_transaction (finite.get state.transactions s) d.t t d.there there in
+      let work : d.t.work ≡ t.work = ap (λ (u : TransactionOf). u.work) is in
+      let has : t.declared ≡ cells_of state.observers t.work s what = ap (λ (u : TransactionOf). u.declared) (sym is) ∙ d.declared ∙ ap (λ w. cells_of state.observers w s what) work in
+      let fits : IsForWork state.observers t.work what = subst (λ w. IsForWork state.observers w what) work d.for_work in
+      record {
+        are = ap (λ (ws : Writes). map (λ w. w.0) ws) has ∙ cells_are state.observers t.work s what fits range;
+        apart = ap are_distinct has ∙ distinct state.observers t.work s what d.known fits d.plain;
+      }
+
+  pub cells_by_now : (journal : List Entry) (state : StateOf) (said : List Received) (q : PlanOf) (t : TransactionOf) → TellsHistory journal state → finite.get state.transactions s ≡ Some t
+      → IsInRange state.observers t.work → Talks (fresh s what) said q → HasSaid journal seat s said → HasCellsAt q.place what t
+  cells_by_now journal state [] q t tells there range talk has = subst (λ (z : PlanOf). HasCellsAt z.place what t) (sym talk) tt
+  cells_by_now journal state (r ∷ rs) q t tells there range talk has =
+      has_cells q.place what t (cells_at journal state t tells there range (is_declared journal r rs talk.0 talk.1 has))
+
+-- ---- where it stands
+
+pub stands : (journal : List Entry) (state : StateOf) (seat s : ℕ) (what : Declared) (said : List Received) (q : PlanOf) (t : TransactionOf) → TellsTransactions journal state
+    → finite.get state.transactions s ≡ Some t → Talks (fresh s what) said q → HasSaid journal seat s said → IsAt (declared_cells what) q.place (bare t)
+stands journal state seat s what said q t tells there talk has =
+    let f = follows state.observers s journal t (tells.begins s) (sym (tells.each s) ∙ there) in
+    let told = ap (transaction_from state.observers (Some (new_transaction f.seat f.work))) (sym has) ∙ f.is in
+    stays state.observers seat s what (fresh s what) q said (new_transaction f.seat f.work) (bare t) refl refl (refl, refl) talk told

@@ -1,0 +1,52 @@
+-- No step of a plan comes at a wrong time: in a legal journal it isn't refused for its phase, for its cell, or as prewritten
+-- already.
+use Rattle.std.specs.Prelude.{◌≡◌, ◌≢◌, ℕ, ◌<◌, ◌^◌, Bool, false, ◌==◌, List, map, Some}
+use Rattle.std.specs.List.{filter}
+use Rattle.std.specs.FinMap as finite
+use Rattle.pb_base.specs.declared.refusal.Reason.{Reason}
+use Rattle.pb_base.specs.declared.refusal.Reason.TheVariants.{WrongPhase, NotDeclared, AlreadyPrewritten}
+use Rattle.pb_steps.specs.declared.step.Work.{Work}
+use Rattle.pb_steps.specs.declared.step.Work.TheVariants as works
+use Rattle.pb_steps.specs.declared.step.Declared.{Declared}
+use Rattle.pb_steps.specs.declared.step.Step.{Step}
+use Rattle.pb_steps.specs.declared.step.Step.TheVariants.{Declare, Prewrite, Stamp, CommitPrimary, CommitSecondary}
+use Rattle.pb_steps.specs.Observers.{ObserverOf, observed_column}
+use Rattle.pb_steps.specs.State.{StateOf, TransactionOf}
+use Rattle.pb_steps.specs.Steps.{step_reason}
+use Rattle.pb_history.specs.declared.entry.Entry.{Entry}
+use Rattle.pb_history.specs.declared.entry.Received.{Received}
+use Rattle.pb_history.specs.Journals.{IsLegal}
+use Rattle.pb_txn.specs.Plans.{PlanOf, fresh, next_of}
+use Rattle.pb_txn.specs.Talks.{Talks}
+
+-- the step names the start, and is no read
+abbrev pub names : ℕ → Step → Bool
+names s (Declare start what) = s == start.0
+names s (Prewrite start x) = s == start.0
+names s (Stamp start) = s == start.0
+names s (CommitPrimary start) = s == start.0
+names s (CommitSecondary start x) = s == start.0
+names s _ = false
+
+-- the entries whose steps name the start, reads aside, are this seat's, and those of this conversation that do
+abbrev pub HasSaid : List Entry → ℕ → ℕ → List Received → Type 0
+HasSaid journal seat s said =
+    filter (λ e. names s e.step) journal ≡ map (λ r. record { seat = seat; step = r.step; answer = r.answer }) (filter (λ r. names s r.step) said)
+
+-- row and column are numbers that a record has room for
+abbrev pub IsInRange : List ObserverOf → Work → Type 0
+IsInRange observers works.Script = Unit {0}
+IsInRange observers (works.Run o row) = (row.0 < 2 ^ 64) × (observed_column observers o < 2 ^ 64)
+
+-- not 42, 45 or 46
+pub record IsTimely (why : Reason) : Type 0 where
+  pub phase : why ≢ WrongPhase
+  pub declared : why ≢ NotDeclared
+  pub once : why ≢ AlreadyPrewritten
+
+abbrev pub PlansAreAllowed : Type 0
+PlansAreAllowed = (observers : List ObserverOf) (seats clock : ℕ) (journal : List Entry) (state : StateOf) → IsLegal observers seats clock journal state
+    → (seat s : ℕ) (what : Declared) (said : List Received) (q : PlanOf) (step : Step) (why : Reason)
+    → ((t : TransactionOf) → finite.get state.transactions s ≡ Some t → IsInRange observers t.work)
+    → Talks (fresh s what) said q → HasSaid journal seat s said → next_of q ≡ Some step
+    → step_reason state seat step ≡ Some why → IsTimely why
