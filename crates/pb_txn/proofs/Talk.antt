@@ -18,7 +18,7 @@ use Rattle.pb_txn.specs.declared.place.Place.TheVariants.{Declaring, Prewriting,
 use Rattle.pb_txn.specs.Places.{declared_cells, place_after, after_prewrite, after_stamp, after_primary, prewrite_from, commit_from, clear_from, step_at}
 use Rattle.pb_txn.specs.Plans.{PlanOf, fresh, answered, outcome_at}
 use Rattle.pb_txn.specs.Talks.{told, Talks}
-use Rattle.pb_txn.specs.Forms.{prewrites, secondaries, AreCleared, IsWhole, committed, conflicted_first, conflicted_later, lost, PlansTalk, PlansEnd}
+use Rattle.pb_txn.specs.Forms.{prewrites, secondaries, AreCleared, IsWhole, committed, conflicted_first, conflicted_later, lost, PlansTalk, PlansEnd, PlansStop}
 
 prewrites_append : (s : Ts) (xs ys : List Cell) → prewrites s (xs ++ ys) ≡ prewrites s xs ++ prewrites s ys
 prewrites_append s [] ys = refl
@@ -52,6 +52,9 @@ seam (x ∷ xs) y ys = seam xs y ys
 
 none_some : {A : Type 0} (s : A) → None ≡ Some s → ⊥
 none_some s e = cc
+
+some_none : {A : Type 0} (x : A) → Some x ≡ None → ⊥
+some_none x e = cc
 
 some_some : {A : Type 0} (s t : A) → Some s ≡ Some t → s ≡ t
 some_some s t e = cc
@@ -226,6 +229,20 @@ module _ (s : Ts) (what : Declared) (x : Cell) (others : List Cell) where
         subst (λ u. CanAnswer u a → SoFar (clear_from (suc (length done) + 1) (suc (length (done ++ y ∷ left))) o) ((said ++ cs) ++ told u a ∷ [])) is (clear_more o done y left more said cs at c ends a) can
     said_more p l t a (over o said whole) e can = absurd (none_some t e)
 
+    no_step : {A : Type 0} (f : Cell → A) (before : List Cell) (y : Cell) (after : List Cell) → cells ≡ before ++ y ∷ after → option_map f (slice_get (declared_cells what) (length before)) ≡ None → ⊥
+    no_step f before y after at e = some_none _ (ap (option_map f) (sym (at_seam before y after at)) ∙ e)
+
+    -- where there is no step, it is over
+    pub stops : (p : Place) (l : List Received) → SoFar p l → step_at s.0 what p ≡ None → (o : Outcome) × (outcome_at p ≡ Some o)
+    stops p l declaring e = absurd (some_none _ e)
+    stops p l (prewriting before y after at) e = absurd (no_step (λ z. Prewrite s z) before y after at e)
+    stops p l stamping e = absurd (some_none _ e)
+    stops p l (committing c) e = absurd (some_none _ e)
+    stops p l (finishing c done y left at) e = absurd (no_step (λ z. CommitSecondary s z) (x ∷ done) y left (ap (λ xs. x ∷ xs) at) e)
+    stops p l (settling before y after at) e = absurd (no_step (λ z. Settle z) [] x others refl e)
+    stops p l (clearing o done y left more said cs at c ends) e = absurd (no_step (λ z. Clear z) (x ∷ done) y (left ++ more) at e)
+    stops p l (over o said whole) e = (o, refl)
+
     -- a talk goes on from what was said
     pub said_all : (p q : PlanOf) (l said : List Received) → p.start ≡ s.0 → p.what ≡ what → SoFar p.place l → Talks p said q → SoFar q.place (l ++ said)
     said_all p q l [] s-is w-is so t = rw append-nil (subst (λ z. SoFar z.place l) (sym t) so)
@@ -285,3 +302,12 @@ pub plans_end : PlansEnd
 plans_end s what x others said q o is t e =
     subst (λ cs. IsWhole (record { 0 = s }) what cs said o) (sym is)
     (ended (record { 0 = s }) what x others q.place said o (said_all (record { 0 = s }) what x others is (fresh s what) q [] said refl refl declaring t) e)
+
+stays : (p : PlanOf) (said : List Received) (q : PlanOf) → Talks p said q → (q.start ≡ p.start) × (q.what ≡ p.what)
+stays p [] q t = (ap (λ (z : PlanOf). z.start) t, ap (λ (z : PlanOf). z.what) t)
+stays p (r ∷ rs) q t = stays (answered p r.answer) rs q t.2
+
+pub plans_stop : PlansStop
+plans_stop s what x others said q is t e =
+    let same = stays (fresh s what) said q t in
+    stops (record { 0 = s }) what x others is q.place said (said_all (record { 0 = s }) what x others is (fresh s what) q [] said refl refl declaring t) ((λ i. step_at (sym same.0 i) (sym same.1 i) q.place) ∙ e)

@@ -1,5 +1,5 @@
 -- The conversations of a transaction (OSDI 2010, section 2.2).
-use Rattle.std.specs.Prelude.{◌≡◌, ℕ, List, [], ◌∷◌, ◌++◌, map, Some}
+use Rattle.std.specs.Prelude.{◌≡◌, ℕ, List, [], ◌∷◌, ◌++◌, map, Some, None}
 use Rattle.pb_base.specs.declared.cell.Cell.{Cell}
 use Rattle.pb_base.specs.declared.names.Ts.{Ts}
 use Rattle.pb_steps.specs.declared.step.Declared.{Declared}
@@ -11,7 +11,7 @@ use Rattle.pb_history.specs.declared.entry.Received.{Received}
 use Rattle.pb_txn.specs.declared.place.Outcome.{Outcome}
 use Rattle.pb_txn.specs.declared.place.Outcome.TheVariants as outcomes
 use Rattle.pb_txn.specs.Places.{declared_cells}
-use Rattle.pb_txn.specs.Plans.{PlanOf, fresh, outcome_of}
+use Rattle.pb_txn.specs.Plans.{PlanOf, fresh, next_of, outcome_of}
 use Rattle.pb_txn.specs.Talks.{told, Talks}
 
 -- each cell prewritten
@@ -56,3 +56,8 @@ PlansTalk = (s : ℕ) (what : Declared) (x : Cell) (others : List Cell) (said : 
 abbrev pub PlansEnd : Type 0
 PlansEnd = (s : ℕ) (what : Declared) (x : Cell) (others : List Cell) (said : List Received) (q : PlanOf) (o : Outcome) → declared_cells what ≡ x ∷ others → Talks (fresh s what) said q
     → outcome_of q ≡ Some o → IsWhole (record { 0 = s }) what (declared_cells what) said o
+
+-- a plan without a next step is over
+abbrev pub PlansStop : Type 0
+PlansStop = (s : ℕ) (what : Declared) (x : Cell) (others : List Cell) (said : List Received) (q : PlanOf) → declared_cells what ≡ x ∷ others → Talks (fresh s what) said q
+    → next_of q ≡ None → (o : Outcome) × (outcome_of q ≡ Some o)

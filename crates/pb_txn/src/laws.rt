@@ -1,14 +1,16 @@
 //! What the steps of plans are, and that the table takes them.
-ghost use Rattle.pb_txn.specs.Forms.{PlansTalk, PlansEnd};
+ghost use Rattle.pb_txn.specs.Forms.{PlansTalk, PlansEnd, PlansStop};
 ghost use Rattle.pb_txn.specs.Changes.{ChangesTalk, ChangesEnd};
 ghost use Rattle.pb_txn.specs.Allowed.{PlansAreAllowed};
 
 use pb_history::{histories_are_told, transactions_are_told};
 
-/// What a plan has asked is a beginning of a transaction's conversation, and at its end a whole one.
+/// What a plan has asked is a beginning of a transaction's conversation, and at its end a whole one. Without a next step
+/// it is at its end.
 pub fn plans_talk()
     ensures talks { PlansTalk }
     ensures ends { PlansEnd }
+    ensures stops { PlansStop }
 {}
 
 /// What a change has asked is its begin, and then a beginning of a transaction's conversation; at its end a whole one.
