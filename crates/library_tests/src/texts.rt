@@ -30,13 +30,89 @@ fn scripts(rt: HostRuntime) {
         ("put 1 1", (1, 70)),
         ("put 1 1 2a 3", (1, 70)),
         ("put 1 1 2a\r", (1, 72)),
-        ("put 7 0 2a; put 7 1 2a", (1, 76)),
-        ("put 7 0 2a; x", (1, 76)),
-        ("put 7 16 2a; put 7 1 2a", (1, 71)),
-        ("put 1 1 2a;del 1 1", (1, 72)),
     ];
     for (text, wanted) in table {
         assert!(rt; told(&rt, text) == wanted, "{text}");
+    }
+}
+
+#[test]
+fn operations(rt: HostRuntime) {
+    let table = [
+        ("put 7 0 2a; put 7 1 2a", (0, 1)),
+        ("del 1 2; del 2 1; put 2 2 00", (0, 1)),
+        ("del 7 0; del 7 1\n\ndel 7 0; del 7 1\n", (0, 2)),
+        ("# del 7 0; x", (0, 0)),
+        // The first fault, wherever it is, and whatever stands behind it.
+        ("put 7 16 2a; put 7 1 2a", (1, 71)),
+        ("put 7 0 2a; x", (1, 70)),
+        ("put 7 0 2a; put 07 1 2a", (1, 70)),
+        ("put 7 0 2a; put 18446744073709551616 1 2a", (1, 71)),
+        ("put 7 0 2a; put 7 16 2a", (1, 71)),
+        ("put 7 0 2a; put 7 1 2A", (1, 72)),
+        ("del 1 1; del 2 2; del 3", (1, 70)),
+        ("del 1 1; del 2 2; del 3 16", (1, 71)),
+        ("del 1 1; del 2 2; put 3 3 2", (1, 72)),
+        ("del 1 1; del 2 16; x", (1, 71)),
+        ("del 1 1\ndel 1 1; del 2 16\nx", (2, 71)),
+        // A cell named before, after the operation's own faults.
+        ("put 7 0 2a; put 7 0 2a", (1, 73)),
+        ("put 7 0 2a; del 7 0", (1, 73)),
+        ("del 7 0; del 7 1; del 7 0; x", (1, 73)),
+        ("x; del 7 0; del 7 0", (1, 70)),
+        ("del 7 0; put 7 0 2A", (1, 72)),
+        ("del 7 0; del 7 0 x", (1, 70)),
+        // Joints.
+        ("put 1 1 2a;del 1 2", (1, 72)),
+        ("del 1 1;del 1 2", (1, 70)),
+        ("put 1 1 2a;", (1, 72)),
+        ("put 1 1 2a;  del 1 2", (1, 70)),
+        ("put 1 1 2a ; del 1 2", (1, 70)),
+        ("put 1 1 ; del 1 2", (1, 72)),
+        ("put 1 1 2a; ", (1, 70)),
+        ("; put 1 1 2a", (1, 70)),
+        ("del 1 1; ; del 1 2", (1, 70)),
+        ("; ", (1, 70)),
+        ("del 1 1; # x", (1, 70)),
+    ];
+    for (text, wanted) in table {
+        assert!(rt; told(&rt, text) == wanted, "{text}");
+    }
+}
+
+// Deletions in column 0 of this many rows from 0 on, and then more, all in one line.
+fn deletions(rt: &impl Abort, alloc: Global, count: u64, more: &str) -> String {
+    let mut line = String::new(alloc);
+    for row in 0..count {
+        let joint = if row == 0 { "" } else { "; " };
+        let operation = format!(in alloc; "{joint}del {row} 0").expect(rt, "memory");
+        line.push_str(operation.as_str()).expect(rt, "memory");
+    }
+    line.push_str(more).expect(rt, "memory");
+    line
+}
+
+#[test]
+fn cells_of_a_line_are_counted(rt: HostRuntime) {
+    let table = [
+        (2, "", (0, 1)),
+        (15, "", (0, 1)),
+        (16, "", (0, 1)),
+        (17, "", (1, 74)),
+        (15, "; del 14 0", (1, 73)),
+        (15, "; put 0 0 2a", (1, 73)),
+        (16, "; del 0 1", (1, 74)),
+        (16, "; del 3 0", (1, 73)),
+        (16, "; put 15 0 2a", (1, 73)),
+        (16, "; put 16 0 2A", (1, 72)),
+        (16, "; del 16 16", (1, 71)),
+        (16, "; ", (1, 70)),
+        (17, "; del 0 0", (1, 74)),
+        (17, "; x", (1, 74)),
+    ];
+    for (count, more, wanted) in table {
+        let line = deletions(&rt, rt.alloc(), count, more);
+        assert!(rt; told(&rt, line.as_str()) == wanted, "{line}");
     }
 }
 
@@ -49,12 +125,26 @@ fn value(bytes: &[u8]) -> Content
 }
 
 fn put(rt: &impl Abort, row: u64, column: u8, commit: u64, content: Content) -> Put {
-    let column = Column::new(column).expect(rt, "a column");
     Put {
-        cell: Cell::Data(Row(row), column),
+        cell: data(rt, row, column),
         commit: Ts(commit),
         content,
     }
+}
+
+fn data(rt: &impl Abort, row: u64, column: u8) -> Cell {
+    Cell::Data(Row(row), Column::new(column).expect(rt, "a column"))
+}
+
+#[test]
+fn operations_are_kept_in_order(rt: HostRuntime) {
+    let text = "put 7 0 2a; del 7 15; put 0 3 00ff\n# x\ndel 7 0";
+    let batches = parse_script(rt.alloc(), text).expect(&rt, "a script");
+    assert!(rt; batches.len() == 2 && batches[0].len() == 3 && batches[1].len() == 1);
+    assert!(rt; batches[0].at(0) == (data(&rt, 7, 0), value(&[42])));
+    assert!(rt; batches[0].at(1) == (data(&rt, 7, 15), Content::Deleted));
+    assert!(rt; batches[0].at(2) == (data(&rt, 0, 3), value(&[0, 255])));
+    assert!(rt; batches[1].at(0) == (data(&rt, 7, 0), Content::Deleted));
 }
 
 #[test]
@@ -117,11 +207,24 @@ fn runs_stand_before_the_last_line(rt: HostRuntime) {
 fn changes_are_counted(rt: HostRuntime) {
     let mut text = String::new(rt.alloc());
     for _ in 0..10_000u32 {
-        text.push_str("del 0 0\n").expect(&rt, "memory");
+        text.push_str("del 0 0; del 1 0\n").expect(&rt, "memory");
     }
     assert!(rt; told(&rt, text.as_str()) == (0, 10_000));
-    text.push_str("del 0 0\n").expect(&rt, "memory");
-    assert!(rt; told(&rt, text.as_str()) == (10_001, 75));
+    let table = [
+        ("del 0 0", 75),
+        ("del 0 0; del 1 0", 75),
+        ("x", 70),
+        ("del 0 0; del 1 16", 71),
+        ("del 0 0; put 1 0 2A", 72),
+        ("del 0 0; del 0 0", 73),
+    ];
+    for (line, code) in table {
+        let more = format!(in rt.alloc(); "{text}{line}").expect(&rt, "memory");
+        assert!(rt; told(&rt, more.as_str()) == (10_001, code), "{line}");
+    }
+    let seventeen = deletions(&rt, rt.alloc(), 17, "");
+    text.push_str(seventeen.as_str()).expect(&rt, "memory");
+    assert!(rt; told(&rt, text.as_str()) == (10_001, 74));
 }
 
 // The status of a command line that is refused or asks for help, -1 for one that is taken.

@@ -1,22 +1,24 @@
 -- What the operations of a line make is a batch, however many they are.
-use Rattle.std.proofs.Common.{◌≡◌, ℕ, ◌+◌, ◌<◌, ◌≤◌, Bool, true, false, cond, List, [], ◌∷◌, ◌++◌, length, Option, Some, None, Result, Ok, Err, refl, sym, ap, subst, ◌∙◌, arith, inl, inr, length-append}
-use Rattle.std.specs.Prelude.{◌==◌, ◌⊎◌, ◌&&◌, nat_le, nat_lt, is_some, is_none, codes}
+use Rattle.std.proofs.Common.{◌≡◌, ℕ, ◌+◌, ◌<◌, ◌≤◌, Bool, true, false, cond, List, [], ◌∷◌, ◌++◌, length, Option, Some, None, Result, Ok, Err, refl, sym, ap, subst, ◌∙◌, arith, inl, inr, append_assoc, length-append}
+use Rattle.std.specs.Prelude.{◌==◌, ◌⊎◌, ◌&&◌, nat_le, is_some, is_none, codes}
 use Rattle.std.specs.Cmp.{eq_by_cmp_equiv}
 use Rattle.std.specs.List.{list_all, onto_first, slice_split}
 use Rattle.std.specs.Ordering.{eq_by_cmp}
 use Rattle.std.specs.Str.{bytes_eq}
 use Rattle.std.proofs.lemmas.Bool.{and_parts, leb-false, le-leb, lt-ltb}
+use Rattle.std.proofs.lemmas.List.{append-nil, length-map, map-append}
 use Rattle.pb_base.specs.Cell.{cell_cmp, cell_cmp_total}
 use Rattle.pb_base.specs.declared.cell.Cell.{Cell}
 use Rattle.pb_base.specs.declared.content.Content.{Content}
 use Rattle.pb_base.specs.declared.content.Content.TheVariants.{Value, Deleted}
 use Rattle.pb_base.specs.Batch.{Writes, content_in, is_unstamped, are_distinct, is_batch}
 use Rattle.pb_texts.specs.declared.script.code.Code.{Code}
-use Rattle.pb_texts.specs.declared.script.code.Code.TheVariants.{Second, Twice, Seventeenth}
-use Rattle.pb_base.specs.Reading.{◌>>=◌}
+use Rattle.pb_texts.specs.declared.script.code.Code.TheVariants.{Twice, Seventeenth}
 use Rattle.pb_base.specs.Reading.{◌>>=◌, in_turn}
+use Rattle.pb_base.specs.declared.limits.TheConstants.{MAX_CELLS}
 use Rattle.pb_texts.specs.ScriptWords.{put_of, del_of, write_of, operation, cell_at, field, content_of, ended}
 use Rattle.pb_texts.specs.ScriptLines.{cut, with_operation, batch_of}
+use Rattle.pb_texts.specs.Operations.{Say}
 
 pub bind_ok : {A B : Type 0} (r : Result A Code) (f : A → Result B Code) (y : B) → (r >>= f) ≡ Ok y → (x : A) × (r ≡ Ok x) × (f x ≡ Ok y)
 bind_ok (Ok x) f y h = (x, refl, h)
@@ -59,7 +61,7 @@ plain_write words w h =
 
 -- ---- one write more
 
-none_of : {A : Type 0} (o : Option A) → is_none o ≡ true → o ≡ None
+pub none_of : {A : Type 0} (o : Option A) → is_none o ≡ true → o ≡ None
 none_of None h = refl
 none_of (Some x) h = absurd cc
 
@@ -88,43 +90,66 @@ plain_more : (ws : Writes) (w : Cell × Content) → list_all (λ v. is_unstampe
 plain_more [] w h p = rw p refl
 plain_more (v ∷ vs) w h p = let q = and_parts (is_unstamped v.1) (list_all (λ v. is_unstamped v.1) vs) h in rw (q.0, plain_more vs w q.1 p) refl
 
--- a batch, or nothing yet
-pub record IsOpen (ws : Writes) : Type 0 where
-  pub few : length ws ≤ 16
+-- the texts say these writes, which are a batch, or none yet
+pub record IsOpen (texts : List (List ℕ)) (ws : Writes) : Type 0 where
+  pub said : Say texts ws
+  pub few : length ws ≤ MAX_CELLS
   pub plain : list_all (λ w. is_unstamped w.1) ws ≡ true
   pub distinct : are_distinct ws ≡ true
 
-grown : (ws : Writes) (w : Cell × Content) → IsOpen ws → length ws < 16 → is_unstamped w.1 ≡ true → content_in ws w.0 ≡ None → IsOpen (ws ++ w ∷ []) × (0 < length (ws ++ w ∷ []))
-grown ws w o lt p n =
-    (record { few = simp length-append (omega arith); plain = plain_more ws w o.plain p; distinct = distinct_more ws w o.distinct n }, simp length-append (omega arith))
+-- what one more operation added
+pub record IsAdded (before after : Writes) (text : List ℕ) : Type 0 where
+  pub write : Cell × Content
+  pub read : operation text ≡ Ok write
+  pub new : content_in before write.0 ≡ None
+  pub room : length before < MAX_CELLS
+  pub all : before ++ write ∷ [] ≡ after
 
-open_more : (before after : Writes) (text : List ℕ) → IsOpen before → with_operation before text ≡ Ok after → IsOpen after × (0 < length after)
+added : (before after : Writes) (text : List ℕ) → with_operation before text ≡ Ok after → IsAdded before after text
 unfolding with_operation
-open_more before after text o h =
-    elim (chosen (nat_lt 0 (length before)) (Err Second) _ (Ok after) h) [
-      | inl two ↦ let no = two.1 in absurd cc
-      | inr read ↦ let a = bind_ok (operation text) _ after read.1 in
-          elim (chosen (is_some (content_in before a.0.0)) (Err Twice) _ (Ok after) a.2) [
-            | inl twice ↦ let no = twice.1 in absurd cc
-            | inr new ↦ elim (chosen (nat_le 16 (length before)) (Err Seventeenth) (Ok (before ++ a.0 ∷ [])) (Ok after) new.1) [
-              | inl full ↦ let no = full.1 in absurd cc
-              | inr room ↦ subst (λ (ws : Writes). IsOpen ws × (0 < length ws)) (ok_same {E = Code} (before ++ a.0 ∷ []) after room.1)
-                  (grown before a.0 o (leb-false _ _ room.0) (plain_write (slice_split (λ b. b == 32) text) a.0 a.1) (not_some (content_in before a.0.0) new.0))
-            ]
-          ]
+added before after text h =
+    let a = bind_ok (operation text) _ after h in
+    elim (chosen (is_some (content_in before a.0.0)) (Err Twice) _ (Ok after) a.2) [
+      | inl twice ↦ let no = twice.1 in absurd cc
+      | inr new ↦ elim (chosen (nat_le MAX_CELLS (length before)) (Err Seventeenth) (Ok (before ++ a.0 ∷ [])) (Ok after) new.1) [
+        | inl full ↦ let no = full.1 in absurd cc
+        | inr room ↦ record {
+          write = a.0;
+          read = a.1;
+          new = not_some (content_in before a.0.0) new.0;
+          room = leb-false _ _ room.0;
+          all = ok_same {E = Code} (before ++ a.0 ∷ []) after room.1;
+        }
+      ]
     ]
+
+say_more : (texts : List (List ℕ)) (ws : Writes) (text : List ℕ) (w : Cell × Content) → Say texts ws → operation text ≡ Ok w → Say (texts ++ text ∷ []) (ws ++ w ∷ [])
+say_more texts ws text w said read = simp map-append (rw (said, read) refl)
+
+grown : (texts : List (List ℕ)) (before after : Writes) (text : List ℕ) → IsOpen texts before → IsAdded before after text → IsOpen (texts ++ text ∷ []) after
+grown texts before after text o a =
+    subst (IsOpen (texts ++ text ∷ [])) a.all (record {
+      said = say_more texts before text a.write o.said a.read;
+      few = let room = a.room in simp length-append (omega arith);
+      plain = plain_more before a.write o.plain (plain_write (slice_split (λ b. b == 32) text) a.write a.read);
+      distinct = distinct_more before a.write o.distinct a.new;
+    })
 
 -- ---- operations in turn
 
-turn_open : (before after : Writes) (r : Result Writes Code) (more : Writes → Result Writes Code) → ((s : Writes) → r ≡ Ok s → more s ≡ Ok after → IsOpen after × (0 < length after)) → (r >>= more) ≡ Ok after → IsOpen after × (0 < length after)
-turn_open before after (Ok s) more f h = f s refl h
-turn_open before after (Err e) more f h = absurd cc
+turn_open : (texts : List (List ℕ)) (after : Writes) (r : Result Writes Code) (more : Writes → Result Writes Code) → ((s : Writes) → r ≡ Ok s → more s ≡ Ok after → IsOpen texts after) → (r >>= more) ≡ Ok after → IsOpen texts after
+turn_open texts after (Ok s) more f h = f s refl h
+turn_open texts after (Err e) more f h = absurd cc
 
-all_open : (n : ℕ) (before after : Writes) (texts : List (List ℕ)) → IsOpen before → 0 < length before → in_turn (λ _. with_operation) n before texts ≡ Ok after → IsOpen after × (0 < length after)
-all_open n before after [] o p h = subst (λ (ws : Writes). IsOpen ws × (0 < length ws)) (ok_same {E = Code} before after h) (o, p)
-all_open n before after (t ∷ ts) o p h =
-    turn_open before after (with_operation before t) (λ s. in_turn (λ _. with_operation) (n + 1) s ts)
-    (λ s is k. let g = open_more before s t o is in all_open (n + 1) s after ts g.0 g.1 k) h
+-- operations in turn after others
+pub all_open : (n : ℕ) (front : List (List ℕ)) (before after : Writes) (texts : List (List ℕ)) → IsOpen front before → in_turn (λ _. with_operation) n before texts ≡ Ok after → IsOpen (front ++ texts) after
+all_open n front before after [] o h = rw append-nil (subst (IsOpen front) (ok_same {E = Code} before after h) o)
+all_open n front before after (t ∷ ts) o h =
+    turn_open (front ++ t ∷ ts) after (with_operation before t) (λ s. in_turn (λ _. with_operation) (n + 1) s ts)
+    (λ s is k. subst (λ (texts : List (List ℕ)). IsOpen texts after) (append_assoc front (t ∷ []) ts) (all_open (n + 1) (front ++ t ∷ []) s after ts (grown front before s t o (added before s t is)) k)) h
+
+pub nothing_open : IsOpen [] []
+nothing_open = record { said = refl; few = omega arith; plain = refl; distinct = refl }
 
 onto_some : (b : ℕ) (xs : List (List ℕ)) → (x : List ℕ) × (ys : List (List ℕ)) × (onto_first b xs ≡ x ∷ ys)
 onto_some b [] = (b ∷ [], [], refl)
@@ -134,20 +159,22 @@ cut_choice : (k : Bool) (x y : List (List ℕ)) → (a : List ℕ) × (ys : List
 cut_choice true x y h = ([], x, refl)
 cut_choice false x y h = h
 
-pub cut_some : (line : List ℕ) → (x : List ℕ) × (ys : List (List ℕ)) × (cut line ≡ x ∷ ys)
+cut_some : (line : List ℕ) → (x : List ℕ) × (ys : List (List ℕ)) × (cut line ≡ x ∷ ys)
 cut_some [] = ([], [], refl)
 cut_some (b ∷ []) = (b ∷ [], [], refl)
 cut_some (b ∷ c ∷ bs) = cut_choice ((b == 59) && (c == 32)) (cut bs) (onto_first b (cut (c ∷ bs))) (onto_some b (cut (c ∷ bs)))
 
-closed : (ws : Writes) → IsOpen ws → 0 < length ws → is_batch ws ≡ true
-closed ws o some = rw (lt-ltb 0 (length ws) some, le-leb (length ws) 16 o.few, o.plain, o.distinct) refl
+closed : (texts : List (List ℕ)) (ws : Writes) → IsOpen texts ws → 0 < length texts → is_batch ws ≡ true
+closed texts ws o some =
+    let same : length ws ≡ length texts = sym (length-map {B = Result (Cell × Content) Code} ws (λ w. Ok w)) ∙ sym (ap length o.said) ∙ length-map texts operation in
+    rw (lt-ltb 0 (length ws) (omega (arith, same)), le-leb (length ws) MAX_CELLS o.few, o.plain, o.distinct) refl
 
--- what a line is read as is a batch
+-- what a line is read as is what its operations say
+pub line_is_open : (line : List ℕ) (batch : Writes) → batch_of line ≡ Ok batch → IsOpen (cut line) batch
+line_is_open line batch h = all_open 0 [] [] batch (cut line) nothing_open h
+
+-- and it is a batch
 pub line_is_batch : (line : List ℕ) (batch : Writes) → batch_of line ≡ Ok batch → is_batch batch ≡ true
 line_is_batch line batch h =
     let c = cut_some line in
-    let k : in_turn (λ _. with_operation) 0 [] (c.0 ∷ c.1) ≡ Ok batch = sym (ap (in_turn (λ _. with_operation) 0 []) c.2) ∙ h in
-    let nothing : IsOpen [] = record { few = omega arith; plain = refl; distinct = refl } in
-    let g = turn_open [] batch (with_operation [] c.0) (λ s. in_turn (λ _. with_operation) 1 s c.1)
-    (λ s is m. let a = open_more [] s c.0 nothing is in all_open 1 s batch c.1 a.0 a.1 m) k in
-    closed batch g.0 g.1
+    closed (cut line) batch (line_is_open line batch h) (rw c.2 (omega arith))

@@ -11,7 +11,6 @@ script_code script_codes.Hex = 72
 script_code script_codes.Twice = 73
 script_code script_codes.Seventeenth = 74
 script_code script_codes.TooMany = 75
-script_code script_codes.Second = 76
 
 -- the code of want of memory
 abbrev pub is_memory : script.Code → Bool

@@ -2,6 +2,7 @@ pub mod Codes
 pub mod FirstFault
 pub mod ScriptWords
 pub mod ScriptLines
+pub mod Operations
 pub mod Scripts
 pub mod Sinks
 pub mod ReportLines

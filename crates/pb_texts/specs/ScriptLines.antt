@@ -1,10 +1,10 @@
 -- A line, and a text of lines.
-use Rattle.std.specs.Prelude.{ℕ, ◌+◌, Bool, ◌&&◌, ◌||◌, ◌==◌, nat_le, nat_lt, if◌then◌else◌, is_some, List, [], ◌∷◌, ◌++◌, length, slice_index, Result, Ok, Err}
+use Rattle.std.specs.Prelude.{ℕ, ◌&&◌, ◌==◌, nat_le, if◌then◌else◌, is_some, List, [], ◌∷◌, ◌++◌, length, Result, Ok, Err}
 use Rattle.std.specs.List.{onto_first}
 use Rattle.pb_base.specs.declared.limits.TheConstants.{MAX_CELLS, MAX_CHANGES}
 use Rattle.pb_base.specs.Batch.{Writes, content_in}
 use Rattle.pb_texts.specs.declared.script.code.Code.{Code}
-use Rattle.pb_texts.specs.declared.script.code.Code.TheVariants.{Twice, Seventeenth, TooMany, Second}
+use Rattle.pb_texts.specs.declared.script.code.Code.TheVariants.{Twice, Seventeenth, TooMany}
 use Rattle.pb_texts.specs.Codes.{script_code}
 use Rattle.pb_base.specs.Reading.{◌>>=◌, in_turn, is_skipped, lines_of, numbered}
 use Rattle.pb_texts.specs.ScriptWords.{operation}
@@ -15,9 +15,9 @@ cut [] = [] ∷ []
 cut (b ∷ []) = (b ∷ []) ∷ []
 cut (b ∷ c ∷ bs) = if (b == 59) && (c == 32) then [] ∷ cut bs else onto_first b (cut (c ∷ bs))
 
--- The writes of a line so far, with one more operation. A second operation is refused unread, as long as lines have one.
+-- the writes of a line so far, with one more operation
 unfoldable pub with_operation : Writes → List ℕ → Result Writes Code
-with_operation before text = if nat_lt 0 (length before) then Err Second else do
+with_operation before text = do
   w ← operation text
   if is_some (content_in before w.0) then Err Twice else if nat_le MAX_CELLS (length before) then Err Seventeenth else Ok (before ++ w ∷ [])
 

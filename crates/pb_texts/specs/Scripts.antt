@@ -3,7 +3,7 @@ use Rattle.std.specs.Prelude.{◌≡◌, ◌≢◌, ℕ, ◌+◌, ◌≤◌, ◌
 use Rattle.std.specs.Global.{Vec}
 use Rattle.std.specs.List.{slice_split, All}
 use Rattle.pb_base.specs.declared.limits.TheConstants.{MAX_CHANGES}
-use Rattle.pb_base.specs.Batch.{Writes, is_batch}
+use Rattle.pb_base.specs.Batch.{is_batch}
 use Rattle.pb_base.specs.declared.batch.Batch.{Batch}
 use Rattle.pb_texts.specs.declared.script.code.Code.{Code}
 use Rattle.pb_texts.specs.declared.script.code.Code.TheVariants.{Memory}
@@ -33,9 +33,6 @@ pub record StopsAt (text : List ℕ) (line code : ℕ) : Type 0 where
   pub told : code ≡ script_code cause
   pub by_text : cause ≢ Memory
 
--- a transaction of one cell
-abbrev pub IsSmallBatch : Writes → Type 0
-IsSmallBatch batch = (is_batch batch ≡ true) × (length batch ≡ 1)
-
-abbrev pub AreSmallBatches : Batches → Type 0
-AreSmallBatches batches = (length batches ≤ MAX_CHANGES) × All IsSmallBatch batches
+-- no more transactions than a script may have, each of them a batch
+abbrev pub AreBatches : Batches → Type 0
+AreBatches batches = (length batches ≤ MAX_CHANGES) × All (λ batch. is_batch batch ≡ true) batches

@@ -3,4 +3,7 @@ mod code;
 mod lines;
 mod words;
 
-pub use lines::{ScriptFault, fault_is_first, parse_script, reads_small_batches};
+pub use lines::{
+    ScriptFault, fault_is_first, operation_fault_is_first, parse_script, reads_batches,
+    reads_operations,
+};

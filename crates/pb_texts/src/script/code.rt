@@ -22,8 +22,6 @@ pub enum Code {
     Seventeenth,
     /// Over 10,000 changes.
     TooMany,
-    /// A second operation in the line.
-    Second,
 }
 
 impl Code {
@@ -39,7 +37,6 @@ impl Code {
             Code::Twice => 73,
             Code::Seventeenth => 74,
             Code::TooMany => 75,
-            Code::Second => 76,
         }
     }
 }

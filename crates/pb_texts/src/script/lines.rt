@@ -1,5 +1,5 @@
 //! A line, and a text of lines.
-ghost use Rattle.std.specs.Prelude.{◌≡◌, ◌≢◌, ◌==◌, ◌+◌, ◌<◌, ◌≤◌, IfOk, OnOk, true, is_some, ℕ, List, length, Ok, Err};
+ghost use Rattle.std.specs.Prelude.{◌≡◌, ◌≢◌, ◌==◌, ◌+◌, ◌<◌, ◌≤◌, ◌↔◌, IfOk, OnOk, true, is_some, ℕ, List, length, Ok, Err};
 ghost use Rattle.std.specs.List.{slice_split};
 ghost use Rattle.pb_base.specs.Batch.{Writes, writes_of, content_in, is_batch};
 ghost use Rattle.pb_texts.specs.Codes.{script_code};
@@ -8,12 +8,13 @@ ghost use Rattle.pb_texts.specs.Codes.{is_memory};
 ghost use Rattle.pb_texts.specs.ScriptWords.{plain};
 ghost use Rattle.pb_texts.specs.ScriptLines.{Batches, cut, with_operation, batch_of, with_line, script_of};
 ghost use Rattle.pb_base.specs.Reading.{is_skipped};
-ghost use Rattle.pb_texts.specs.Scripts.{Reads, StopsAt, AreSmallBatches};
+ghost use Rattle.pb_texts.specs.Operations.{Say, StopsWith};
+ghost use Rattle.pb_texts.specs.Scripts.{Reads, StopsAt, AreBatches};
 ghost use Rattle.pb_texts.specs.declared.script.code.Code.TheVariants.{Memory};
 
 use crate::script::code::Code;
 use crate::script::words::{Change, operation};
-use pb_base::{Batch, Cell, MAX_CHANGES};
+use pb_base::{Batch, Cell, MAX_CELLS, MAX_CHANGES};
 use std::alloc::{AllocError, Global};
 use thiserror::Error;
 
@@ -43,19 +44,16 @@ fn names(writes: &[Change], cell: Cell) -> bool
     false
 }
 
-// Takes one more operation of a line. Until lines of several are taken, a second one is refused unread.
+// Takes one more operation of a line.
 #[tactic(auto, unfolding(crate::specs::ScriptLines::with_operation))]
 fn add(alloc: Global, writes: &mut Vec<Change>, text: &str) -> Result<(), Code>
     ensures { Gives is_memory (λ _. writes_of writes.new.items) result (with_operation (writes_of writes.old.items) text.now) }
 {
-    if !writes.is_empty() {
-        return Err(Code::Second);
-    }
     let write = operation(alloc, text)?;
     if names(writes, Cell::Data(write.0, write.1)) {
         return Err(Code::Twice);
     }
-    if writes.len() >= 16 {
+    if writes.len() >= MAX_CELLS {
         return Err(Code::Seventeenth);
     }
     writes.push(write)?;
@@ -108,7 +106,7 @@ fn add_line(alloc: Global, batches: &mut Vec<Batch>, line: &str) -> Result<(), C
 
 /// The line at which a script is at fault, from 1, and the code: 70 not of the form, 71 row or column out of range,
 /// 72 not 2 to 64 lower-case hexadecimal digits, even in number, 73 a cell named before in the line, 74 a 17th cell,
-/// 75 over 10,000 changes, 76 a second operation in the line. Where memory ran out it is line 0 with code 1.
+/// 75 over 10,000 changes. Where memory ran out it is line 0 with code 1.
 #[derive(Clone, Copy, Debug, PartialEq, Eq, Drop, Error)]
 #[error("line {line} code {code}")]
 pub struct ScriptFault {
@@ -140,7 +138,7 @@ fn lines_of(alloc: Global, text: &str) -> Result<Vec<&str>, AllocError>
     text.split('\n').collect(alloc)
 }
 
-/// The transactions of a script, one a line: `put ROW COL HEX` or `del ROW COL`.
+/// The transactions of a script, one a line: operations joined by `; `, each `put ROW COL HEX` or `del ROW COL`.
 pub fn parse_script(alloc: Global, text: &str) -> Result<Vec<Batch>, ScriptFault>
     ensures { Reads result (script_of text.now) }
 {
@@ -161,7 +159,19 @@ pub fn fault_is_first()
     ensures { (text : List ℕ) (line code : ℕ) → script_of text ≡ Err (line, code) → StopsAt text line code }
 {}
 
-/// What a script is read as is at most 10,000 transactions, each of them a batch of one cell.
-pub fn reads_small_batches()
-    ensures { (text : List ℕ) (batches : Batches) → script_of text ≡ Ok batches → AreSmallBatches batches }
+/// What a script is read as is at most 10,000 transactions, each of them a batch: 1 to 16 distinct cells.
+pub fn reads_batches()
+    ensures { (text : List ℕ) (batches : Batches) → script_of text ≡ Ok batches → AreBatches batches }
+{}
+
+/// A line is read as a transaction exactly where each of its operations is read, and what they write is a batch; the
+/// transaction is then what they write, in their order.
+pub fn reads_operations()
+    ensures { (line : List ℕ) (batch : Writes) → (batch_of line ≡ Ok batch) ↔ (Say (cut line) batch × (is_batch batch ≡ true)) }
+{}
+
+/// The fault of a line is that of its first operation at fault: those before it are read, of distinct cells. It is the
+/// operation's own (70, 71 or 72), or else 73 where one before it names its cell, or else 74 where there are 16 before it.
+pub fn operation_fault_is_first()
+    ensures { (line : List ℕ) (cause : Code) → batch_of line ≡ Err cause → StopsWith line cause }
 {}

@@ -1,4 +1,4 @@
-use Rattle.pb_texts.proofs.First.{stops}
+use Rattle.pb_texts.proofs.FirstLine.{stops}
 use Rattle.pb_texts.proofs.script.lines.fault_is_first.Goals as goal
 
 pub returns : goal.returns
