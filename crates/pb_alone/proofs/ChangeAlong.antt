@@ -21,7 +21,7 @@ use Rattle.pb_alone.specs.declared.fault.RunFault.TheVariants as faults
 use Rattle.pb_alone.specs.Alone.{IsClean, Goes, Changes, ts, entry, change_at, change_entries}
 use Rattle.pb_alone.specs.Faults.{IsRefusedBy}
 use Rattle.pb_alone.specs.Stops.{StopsIn}
-use Rattle.pb_alone.proofs.Going.{append_assoc, append_nil, map_append}
+use Rattle.pb_alone.proofs.Going.{append_assoc, append_nil, map_append, full_is, out_or_full}
 use Rattle.pb_alone.proofs.BatchCells.{names}
 use Rattle.pb_alone.proofs.ChangeStands.{StandsAt}
 use Rattle.pb_alone.proofs.ChangeEnds as ends
@@ -85,14 +85,8 @@ module _ (s0 : SharedOf) (q0 : SeatOf) (batch : Writes) where
 
     -- ---- where it stops
 
-    full_is : (full : Bool) (why : Reason) → or_full None full ≡ Some why → why ≡ JournalFull
-    full_is true why e = cc
-    full_is false why e = cc
-
-    out_or_full : (out full : Bool) (why : Reason) → or_full (first_reason ((OutOfTimestamps, out) ∷ [])) full ≡ Some why → (why ≡ OutOfTimestamps) ⊎ (why ≡ JournalFull)
-    out_or_full true true why e = inl cc
-    out_or_full true false why e = inl cc
-    out_or_full false full why e = inr (full_is full why e)
+    either_end : (full out : Bool) (why : Reason) → or_full (first_reason ((OutOfTimestamps, out) ∷ [])) full ≡ Some why → (why ≡ OutOfTimestamps) ⊎ (why ≡ JournalFull)
+    either_end full out why e = elim (out_or_full out full why e) [ inl p ↦ inl p.0 | inr p ↦ inr p.0 ]
 
     pub stops : q0.number < s0.state.seats → (step : Step) → next_of job ≡ Some step → (f : RunFault) → IsRefusedBy s q.number step f → StopsIn s0 (works.Script ∷ []) s f
     stops seated step e (faults.Refused n) h =
@@ -117,8 +111,8 @@ module _ (s0 : SharedOf) (q0 : SeatOf) (batch : Writes) where
             why = h.0;
             refused = refused;
             at_end = elim (ends.stands_refused s0.state q0.number batch some distinct clean seated job.plan s.state along.stands step e) [
-              | inl none ↦ inr (full_is full h.0 (ap (λ r. or_full r full) (sym none) ∙ refused))
-              | inr out ↦ out_or_full (is_out s.state) full h.0 (ap (λ r. or_full r full) (sym out) ∙ refused)
+              | inl none ↦ inr (full_is full h.0 (ap (λ r. or_full r full) (sym none) ∙ refused)).0
+              | inr out ↦ either_end full (is_out s.state) h.0 (ap (λ r. or_full r full) (sym out) ∙ refused)
             ];
             told = h.2;
           };

@@ -1,5 +1,5 @@
 -- How a transaction that declared one cell ends: the cell is prewritten, it is stamped, and it commits.
-use Rattle.std.proofs.Common.{◌≡◌, ℕ, ◌+◌, ◌<◌, ◌≤◌, inl, inr, true, false, cond, not, ◌&&◌, ◌||◌, [], ◌∷◌, ◌++◌, Option, Some, None, refl, ap, ◌∙◌, arith}
+use Rattle.std.proofs.Common.{◌≡◌, ℕ, ◌+◌, ◌<◌, ◌≤◌, inl, inr, true, false, cond, not, ◌&&◌, ◌||◌, [], ◌∷◌, ◌++◌, Option, Some, None, refl, sym, ap, ◌∙◌, arith}
 use Rattle.std.specs.Prelude.{is_some, is_none}
 use Rattle.std.specs.FinMap as map
 use Rattle.pb_base.specs.declared.cell.Cell.{Cell}
@@ -20,7 +20,7 @@ use Rattle.pb_steps.specs.Stamp.{unstamped_reasons}
 use Rattle.pb_steps.specs.CommitPrimary.{commit_reasons}
 use Rattle.pb_steps.specs.Commits.{commit_lock}
 use Rattle.pb_alone.specs.Alone.{IsClean, ts}
-use Rattle.pb_alone.proofs.OneChange.{no_lock_after, write_after, lock_there}
+use Rattle.pb_alone.proofs.Locks.{put_there, put_writes, commit_writes, no_lock_after}
 use Rattle.pb_alone.proofs.OwnTransactions.{cell_itself, own_put, same_own, same_some, allowed_own, some_not_none}
 
 -- s2 has a transaction of this seat, begun when the clock came to a, that declared x alone
@@ -80,10 +80,10 @@ module _ (s2 : StateOf) (seat a : ℕ) (x : Cell) (k : Content) (t2 : Transactio
 
     pub clean_after : IsClean s5
     clean_after = record {
-      unlocked = λ y u. no_lock_after s2.entries x x k a (a + 1) y u (unlocked y u);
-      past = λ y d w h. elim (write_after s2.entries x x k a (a + 1) y d w h) [
+      unlocked = no_lock_after s2.entries x x k a (a + 1) unlocked;
+      past = λ y d w h. elim (commit_writes s3.entries x a (a + 1) y d w h) [
         | inl same ↦ omega (arith, same)
-        | inr old ↦ let p = past y d w old in omega (arith, p)
+        | inr old ↦ let p = past y d w (sym (put_writes s2.entries x x k a y d) ∙ old) in omega (arith, p)
       ];
     }
 
@@ -108,7 +108,7 @@ module _ (s2 : StateOf) (seat a : ℕ) (x : Cell) (k : Content) (t2 : Transactio
       let t-is : m.t ≡ t4 = same_own _ _ _ t4 m.t own4 m.own in
       let first : primary_in m.t.declared ≡ Some x = ap (λ (t : TransactionOf). primary_in t.declared) t-is ∙ first_of in
       let p-is : m.primary ≡ x = same_some _ x m.primary first m.primary_is in
-      let there : is_some (lock_at s3.entries m.primary a) ≡ true = ap (λ p. is_some (lock_at s3.entries p a)) p-is ∙ ap is_some (lock_there s2.entries x x k a (a + 1)) in
+      let there : is_some (lock_at s3.entries m.primary a) ≡ true = ap (λ p. is_some (lock_at s3.entries p a)) p-is ∙ ap is_some (put_there s2.entries x x k a) in
       let gone = m.unlocked in
       absurd cc
   commits _ new m = absurd m

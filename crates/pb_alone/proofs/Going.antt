@@ -36,6 +36,17 @@ pub map_append : {A B : Type 0} (f : A → B) (xs ys : List A) → map f (xs ++ 
 map_append f [] ys = refl
 map_append f (x ∷ xs) ys = ap (λ l. f x ∷ l) (map_append f xs ys)
 
+-- ---- why a call is refused that only the ends of clock and journal refuse
+
+pub full_is : (full : Bool) (why : Reason) → or_full None full ≡ Some why → (why ≡ JournalFull) × (full ≡ true)
+full_is true why e = (cc, refl)
+full_is false why e = cc
+
+pub out_or_full : (out full : Bool) (why : Reason) → or_full (first_reason ((OutOfTimestamps, out) ∷ [])) full ≡ Some why → ((why ≡ OutOfTimestamps) × (out ≡ true)) ⊎ ((why ≡ JournalFull) × (full ≡ true))
+out_or_full true true why e = inl (cc, refl)
+out_or_full true false why e = inl (cc, refl)
+out_or_full false full why e = inr (full_is full why e)
+
 -- ---- from the start of a run to here
 
 pub record AtStage (s0 : SharedOf) (q0 : SeatOf) (s : SharedOf) (q : SeatOf) (state : StateOf) (more : List Received) : Type 0 where
@@ -84,15 +95,6 @@ module _ (s0 : SharedOf) (q0 : SeatOf) (s : SharedOf) (q : SeatOf) (state : Stat
 
   refused_here : (step : Step) (why : Reason) → call_reason s q.number step ≡ Some why → or_full (step_reason state q0.number step) (length s.journal == s.limit) ≡ Some why
   refused_here step why e = subst (λ k. or_full (step_reason state k step) (length s.journal == s.limit) ≡ Some why) at.number (subst (λ z. or_full (step_reason z q.number step) (length s.journal == s.limit) ≡ Some why) at.state_is e)
-
-  full_is : (full : Bool) (why : Reason) → or_full None full ≡ Some why → (why ≡ JournalFull) × (full ≡ true)
-  full_is true why e = (cc, refl)
-  full_is false why e = cc
-
-  out_or_full : (out full : Bool) (why : Reason) → or_full (first_reason ((OutOfTimestamps, out) ∷ [])) full ≡ Some why → ((why ≡ OutOfTimestamps) × (out ≡ true)) ⊎ ((why ≡ JournalFull) × (full ≡ true))
-  out_or_full true true why e = inl (cc, refl)
-  out_or_full true false why e = inl (cc, refl)
-  out_or_full false full why e = inr (full_is full why e)
 
   -- ---- what was begun, and where it stopped
 

@@ -1,4 +1,4 @@
-pub mod OneChange
+pub mod SlotsPut
 pub mod OwnTransactions
 pub mod Going
 pub mod Locks

@@ -14,7 +14,7 @@ use Rattle.pb_store.specs.Contents.{Entries, slot_at}
 use Rattle.pb_steps.specs.Readings.{lock_at, write_at, primary_of, start_of}
 use Rattle.pb_steps.specs.Prewrite.{put_lock}
 use Rattle.pb_steps.specs.Commits.{commit_lock}
-use Rattle.pb_alone.proofs.OneChange.{same_slot, slot_itself, get_insert_other, get_remove_other}
+use Rattle.pb_alone.proofs.SlotsPut.{same_slot, slot_itself, get_insert_other, get_remove_other}
 
 same_place : (y x : Cell) (u s : ℕ) → slot_at y sorts.Lock u ≡ slot_at x sorts.Lock s → (y ≡ x) × (u ≡ s)
 same_place y x u s e = (ap (λ (a : Slot). a.cell) e, ap (λ (a : Slot). a.ts.0) e)
@@ -94,3 +94,15 @@ module _ (e : Entries) (x : Cell) (s c : ℕ) where
         | inl same ↦ inl (let z = same_slot q r same in ap (λ (a : Slot). a.ts.0) z)
         | inr old ↦ inr (ap start_of (sym two) ∙ old)
       ]
+
+-- ---- a cell put and committed
+
+pub past_none : (o : Option Cell) → ((q : Cell) → o ≡ Some q → ⊥) → o ≡ None
+past_none None h = refl
+past_none (Some q) h = absurd (h q refl)
+
+-- the lock that was put is gone again, and no other came
+pub no_lock_after : (e : Entries) (x p : Cell) (k : Content) (s c : ℕ) → ((y : Cell) (u : ℕ) → lock_at e y u ≡ None) → (y : Cell) (u : ℕ) → lock_at (commit_lock (put_lock e x s k p) x s c) y u ≡ None
+no_lock_after e x p k s c none y u = past_none _ (λ q h.
+    let o = commit_only (put_lock e x s k p) x s c y u q h in
+    elim (put_only e x p k s y u q o.0) [ inl new ↦ o.1 new.0 new.1 | inr old ↦ (let n = none y u in cc) ])

@@ -100,4 +100,3 @@ module _ (old : StateOf) (seat : ℕ) (new : StateOf) (s : ℕ) where
   case_observers (Clear x) (CommittedAt c) m = observers_of m.new_is
   case_observers (Clear x) RolledBack m = observers_of m.new_is
   case_observers _ _ m = absurd m
-
