@@ -62,7 +62,15 @@ fn operations(rt: HostRuntime) {
         ("x; del 7 0; del 7 0", (1, 70)),
         ("del 7 0; put 7 0 2A", (1, 72)),
         ("del 7 0; del 7 0 x", (1, 70)),
-        // Joints.
+    ];
+    for (text, wanted) in table {
+        assert!(rt; told(&rt, text) == wanted, "{text}");
+    }
+}
+
+#[test]
+fn joints(rt: HostRuntime) {
+    let table = [
         ("put 1 1 2a;del 1 2", (1, 72)),
         ("del 1 1;del 1 2", (1, 70)),
         ("put 1 1 2a;", (1, 72)),
@@ -124,16 +132,16 @@ fn value(bytes: &[u8]) -> Content
     Content::Value(value)
 }
 
+fn data(rt: &impl Abort, row: u64, column: u8) -> Cell {
+    Cell::Data(Row(row), Column::new(column).expect(rt, "a column"))
+}
+
 fn put(rt: &impl Abort, row: u64, column: u8, commit: u64, content: Content) -> Put {
     Put {
         cell: data(rt, row, column),
         commit: Ts(commit),
         content,
     }
-}
-
-fn data(rt: &impl Abort, row: u64, column: u8) -> Cell {
-    Cell::Data(Row(row), Column::new(column).expect(rt, "a column"))
 }
 
 #[test]
