@@ -8,7 +8,7 @@ use Rattle.pb_base.specs.declared.cell.Cell.TheVariants.{Data}
 use Rattle.pb_base.specs.declared.content.Content.{Content}
 use Rattle.pb_base.specs.declared.content.Content.TheVariants.{Value, Deleted, Stamp}
 use Rattle.pb_base.specs.declared.limits.TheConstants.{MAX_CELLS}
-use Rattle.pb_base.specs.Cell.{cell_cmp}
+use Rattle.pb_base.specs.Cell.{cell_cmp, is_data}
 
 -- cells with what is written to them
 abbrev pub Writes : Type 0
@@ -34,11 +34,15 @@ is_unstamped (Value v) = true
 is_unstamped Deleted = true
 is_unstamped (Stamp t) = false
 
+-- to a data cell, and without a stamp
+abbrev pub is_data_write : Cell × Content → Bool
+is_data_write w = is_data w.0 && is_unstamped w.1
+
 -- no cell is named twice
 abbrev pub are_distinct : Writes → Bool
 are_distinct [] = true
 are_distinct (w ∷ ws) = is_none (content_in ws w.0) && are_distinct ws
 
--- 1 to 16 distinct cells, none with a stamp
+-- 1 to 16 distinct data cells, none with a stamp
 abbrev pub is_batch : Writes → Bool
-is_batch ws = nat_lt 0 (length ws) && nat_le (length ws) MAX_CELLS && list_all (λ w. is_unstamped w.1) ws && are_distinct ws
+is_batch ws = nat_lt 0 (length ws) && nat_le (length ws) MAX_CELLS && list_all is_data_write ws && are_distinct ws

@@ -1,5 +1,5 @@
 -- Cells have one total order: by row, by column, data before acknowledgments, and these by observer.
-use Rattle.std.specs.Prelude.{◌≡◌, ℕ, ◌+◌, ◌⊎◌, refl}
+use Rattle.std.specs.Prelude.{◌≡◌, ℕ, ◌+◌, ◌⊎◌, Bool, true, false, refl}
 use Rattle.std.proofs.Common.{sym, inl, inr, arith}
 use Rattle.std.specs.Coded.{Coded, code_by, coded×, coded⊎, coded_ℕ}
 use Rattle.std.specs.FinMap.{IsAntisymmetric, nat_cmp-IsAntisymmetric}
@@ -19,6 +19,11 @@ row_of (Ack observer row column) = row
 abbrev pub column_of : Cell → ℕ
 column_of (Data row column) = column
 column_of (Ack observer row column) = column
+
+-- a data cell, and no acknowledgment
+abbrev pub is_data : Cell → Bool
+is_data (Data row column) = true
+is_data (Ack observer row column) = false
 
 -- 0 for data, and one more than its observer for an acknowledgment
 abbrev pub rank_of : Cell → ℕ

@@ -1,7 +1,7 @@
 //! What a script transaction writes.
 ghost use Rattle.std.specs.Prelude.{◌≡◌};
 ghost use Rattle.std.specs.List.{list_all};
-ghost use Rattle.pb_base.specs.Batch.{writes_of, content_in, is_unstamped, are_distinct};
+ghost use Rattle.pb_base.specs.Batch.{writes_of, content_in, is_unstamped, is_data_write, are_distinct};
 
 use crate::cell::Cell;
 use crate::content::Content;
@@ -54,7 +54,7 @@ fn is_plain(content: Content) -> bool
 }
 
 fn are_plain(writes: &[(Row, Column, Content)]) -> bool
-    ensures { result ≡ list_all (λ w. is_unstamped w.1) (writes_of writes.now) }
+    ensures { result ≡ list_all is_data_write (writes_of writes.now) }
 {
     for write in writes {
         if !is_plain(write.2) {
@@ -80,7 +80,7 @@ impl Batch {
     ghost use Rattle.std.specs.Prelude.{◌≡◌, ◌↔◌, ◌<◌, ◌≤◌, IsTrue, IsOk, IfOk, IfErr, OnOk, length, slice_get, Some, true};
     ghost use Rattle.pb_base.specs.Batch.{writes_of, is_batch, content_in, primary_in};
 
-    /// A batch of these writes, if they are 1 to 16 distinct cells without a stamp; else they are handed back.
+    /// A batch of these writes, if they are 1 to 16 distinct data cells without a stamp; else they are handed back.
     pub fn new(writes: Vec<(Row, Column, Content)>) -> Result<Batch, Vec<(Row, Column, Content)>>
         ensures accepted { IsOk result ↔ (is_batch (writes_of writes.items) ≡ true) }
         ensures ok { IfOk result (λ b. b ≡ writes_of writes.items) }

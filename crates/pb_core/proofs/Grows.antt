@@ -1,5 +1,5 @@
--- A run of so many steps leaves at most twice as many entries, and no mark.
-use Rattle.std.proofs.Common.{◌≡◌, ℕ, ◌+◌, ◌-◌, ◌*◌, ◌<◌, ◌≤◌, ◌^◌, Bool, true, false, cond, List, [], ◌∷◌, length, sym, ◌∙◌, ap, subst, arith}
+-- A run of so many steps leaves at most twice as many entries, and as many marks.
+use Rattle.std.proofs.Common.{◌≡◌, ℕ, ◌+◌, ◌-◌, ◌*◌, ◌<◌, ◌≤◌, ◌^◌, Bool, true, false, cond, List, [], ◌∷◌, length, sym, ap, subst, arith}
 use Rattle.std.specs.FinMap as map
 use Rattle.pb_store.specs.declared.slot.Slot.{Slot}
 use Rattle.pb_store.specs.declared.slot.Item.{Item}
@@ -68,6 +68,11 @@ case_entries s seat (steps.Clear x) answers.Absent t c = same_len _ _ (ap (λ (x
 case_entries s seat (steps.Clear x) answers.Waits t c = same_len _ _ (ap (λ (x : StateOf). x.entries) c.new_is)
 case_entries s seat (steps.Clear x) (answers.CommittedAt k) t c = subst (λ (e : Entries). map.len e ≤ map.len s.entries + 2) (sym (ap (λ (x : StateOf). x.entries) c.new_is)) (len_replaced s.entries _ _ _)
 case_entries s seat (steps.Clear x) answers.RolledBack t c = subst (λ (e : Entries). map.len e ≤ map.len s.entries + 2) (sym (ap (λ (x : StateOf). x.entries) c.new_is)) (len_erased_two s.entries _ _)
+case_entries s seat (steps.NextMark after) (answers.Marked x) t c = same_len _ _ (ap (λ (x : StateOf). x.entries) c.new_is)
+case_entries s seat (steps.NextMark after) answers.NoMark t c = same_len _ _ (ap (λ (x : StateOf). x.entries) c.new_is)
+case_entries s seat (steps.Sweep x) answers.NoMark t c = same_len _ _ (ap (λ (x : StateOf). x.entries) c.new_is)
+case_entries s seat (steps.Sweep x) answers.StillBehind t c = same_len _ _ (ap (λ (x : StateOf). x.entries) c.new_is)
+case_entries s seat (steps.Sweep x) answers.Done t c = same_len _ _ (ap (λ (x : StateOf). x.entries) c.new_is)
 case_entries s seat _ _ t c = absurd c
 
 run_entries : (s : StateOf) (es : List Entry) (t : StateOf) → JournalLeads s es t → map.len t.entries ≤ map.len s.entries + 2 * length es
@@ -77,9 +82,12 @@ run_entries s (e ∷ es) t r =
     let more = run_entries r.0 es t r.2 in
     omega arith
 
-run_marks : (s : StateOf) (es : List Entry) (t : StateOf) → JournalLeads s es t → t.marks ≡ s.marks
-run_marks s [] t r = ap (λ (x : StateOf). x.marks) r
-run_marks s (e ∷ es) t r = run_marks r.0 es t r.2 ∙ (case_kept s e.seat e.step e.answer r.0 r.1.taken).marks
+run_marks : (s : StateOf) (es : List Entry) (t : StateOf) → JournalLeads s es t → map.len t.marks ≤ map.len s.marks + length es
+run_marks s [] t r = subst (λ (x : StateOf). map.len x.marks ≤ map.len s.marks + 0) (sym r) (omega arith)
+run_marks s (e ∷ es) t r =
+    let one = (case_kept s e.seat e.step e.answer r.0 r.1.taken).marks in
+    let more = run_marks r.0 es t r.2 in
+    omega (arith, one, more)
 
 -- the entries of a table can be counted, and so can its marks
 pub few_entries : (j : List Entry) (bs : List (List ℕ)) (s : StateOf) (o l : ℕ) → SharedKeeps j bs s o l → map.len s.entries < 2 ^ 64
@@ -90,5 +98,6 @@ few_entries j bs s o l k =
 
 pub few_marks : (j : List Entry) (bs : List (List ℕ)) (s : StateOf) (o l : ℕ) → SharedKeeps j bs s o l → map.len s.marks < 2 ^ 64
 few_marks j bs s o l k =
-    let none : map.len s.marks ≡ 0 = ap map.len (run_marks (opening s.observers s.seats o) j s k.legal.run) ∙ map.len-empty cell_cmp _ in
-    omega (arith, none)
+    let grown = run_marks (opening s.observers s.seats o) j s k.legal.run in
+    let none : map.len (opening s.observers s.seats o).marks ≡ 0 = map.len-empty cell_cmp _ in
+    omega (arith, grown, none, k.room, k.bounded)

@@ -1,43 +1,77 @@
--- No step changes observers, seats or marks.
-use Rattle.std.proofs.Common.{◌≡◌, ℕ, Bool, true, false, refl, ◌∙◌, ap}
+-- Each step leaves observers and seats, and marks one cell more at most.
+use Rattle.std.proofs.Common.{◌≡◌, ℕ, ◌+◌, ◌-◌, ◌≤◌, Bool, true, false, cond, List, refl, ◌∙◌, ap, arith}
+use Rattle.std.specs.FinMap as map
 use Rattle.pb_base.specs.declared.cell.Cell.{Cell}
+use Rattle.pb_base.specs.Cell.{cell_cmp_total}
+use Rattle.pb_store.specs.Contents.{Marks}
 use Rattle.pb_steps.specs.declared.step.Step.{Step}
 use Rattle.pb_steps.specs.declared.step.Step.TheVariants as steps
 use Rattle.pb_steps.specs.declared.step.Answer.{Answer}
 use Rattle.pb_steps.specs.declared.step.Answer.TheVariants as answers
+use Rattle.pb_steps.specs.Observers.{ObserverOf}
 use Rattle.pb_steps.specs.State.{StateOf}
+use Rattle.pb_steps.specs.Marks.{is_observed, with_mark}
 use Rattle.pb_steps.specs.CommitSecondary.{if_locked}
 use Rattle.pb_steps.specs.Steps.{StepCase}
 
 pub record KeepsRest (s t : StateOf) : Type 0 where
   pub observers : t.observers ≡ s.observers
   pub seats : t.seats ≡ s.seats
-  pub marks : t.marks ≡ s.marks
+  pub marks : map.len t.marks ≤ map.len s.marks + 1
 
 kept_as : (s t u : StateOf) → t ≡ u → KeepsRest s u → KeepsRest s t
-kept_as s t u is k = record { observers = ap (λ (x : StateOf). x.observers) is ∙ k.observers; seats = ap (λ (x : StateOf). x.seats) is ∙ k.seats; marks = ap (λ (x : StateOf). x.marks) is ∙ k.marks }
+kept_as s t u is k =
+    let same = ap (λ (x : StateOf). map.len x.marks) is in
+    let few = k.marks in
+    record { observers = ap (λ (x : StateOf). x.observers) is ∙ k.observers; seats = ap (λ (x : StateOf). x.seats) is ∙ k.seats; marks = omega (arith, same, few) }
+
+same_rest : (s : StateOf) → map.len s.marks ≤ map.len s.marks + 1
+same_rest s = omega arith
+
+put_mark : (b : Bool) (n k : ℕ) → k ≡ cond b n (n + 1) → k ≤ n + 1
+put_mark true n k is = omega (arith, is)
+put_mark false n k is = omega (arith, is)
+
+marked : (observers : List ObserverOf) (m : Marks) (x : Cell) → map.len (with_mark observers m x) ≤ map.len m + 1
+marked observers m x = by (is_observed observers x)
+  where
+    by : (b : Bool) → map.len (cond b (map.insert m x tt) m) ≤ map.len m + 1
+    by true = put_mark _ _ _ (map.len-insert cell_cmp_total m x tt)
+    by false = omega arith
+
+less : (b : Bool) (n k : ℕ) → k ≡ cond b (n - 1) n → k ≤ n + 1
+less true n k is = omega (arith, is)
+less false n k is = omega (arith, is)
+
+unmarked : (m : Marks) (x : Cell) → map.len (map.remove m x) ≤ map.len m + 1
+unmarked m x = less _ _ _ (map.len-remove cell_cmp_total m x)
 
 kept_if_locked : (s : StateOf) (b : Bool) (x : Cell) (n c : ℕ) → KeepsRest s (if_locked s b x n c)
-kept_if_locked s true x n c = record { observers = refl; seats = refl; marks = refl }
-kept_if_locked s false x n c = record { observers = refl; seats = refl; marks = refl }
+kept_if_locked s true x n c = record { observers = refl; seats = refl; marks = marked s.observers s.marks x }
+kept_if_locked s false x n c = record { observers = refl; seats = refl; marks = same_rest s }
 
 pub case_kept : (s : StateOf) (seat : ℕ) (step : Step) (a : Answer) (t : StateOf) → StepCase s seat step a t → KeepsRest s t
-case_kept s seat (steps.Begin work) (answers.At n) t c = kept_as s t _ c.new_is (record { observers = refl; seats = refl; marks = refl })
-case_kept s seat (steps.Read n x) (answers.Locked u p) t c = kept_as s t _ c.new_is (record { observers = refl; seats = refl; marks = refl })
-case_kept s seat (steps.Read n x) (answers.Found u k d) t c = kept_as s t _ c.new_is (record { observers = refl; seats = refl; marks = refl })
-case_kept s seat (steps.Read n x) answers.Absent t c = kept_as s t _ c.new_is (record { observers = refl; seats = refl; marks = refl })
-case_kept s seat (steps.Declare n what) answers.Done t c = kept_as s t _ c.new_is (record { observers = refl; seats = refl; marks = refl })
-case_kept s seat (steps.Prewrite n x) answers.Done t c = kept_as s t _ c.new_is (record { observers = refl; seats = refl; marks = refl })
-case_kept s seat (steps.Prewrite n x) answers.Conflict t c = kept_as s t _ c.new_is (record { observers = refl; seats = refl; marks = refl })
-case_kept s seat (steps.Stamp n) (answers.At k) t c = kept_as s t _ c.new_is (record { observers = refl; seats = refl; marks = refl })
-case_kept s seat (steps.CommitPrimary n) answers.Committed t c = kept_as s t _ c.new_is (record { observers = refl; seats = refl; marks = refl })
-case_kept s seat (steps.CommitPrimary n) answers.Lost t c = kept_as s t _ c.new_is (record { observers = refl; seats = refl; marks = refl })
+case_kept s seat (steps.Begin work) (answers.At n) t c = kept_as s t _ c.new_is (record { observers = refl; seats = refl; marks = same_rest s })
+case_kept s seat (steps.Read n x) (answers.Locked u p) t c = kept_as s t _ c.new_is (record { observers = refl; seats = refl; marks = same_rest s })
+case_kept s seat (steps.Read n x) (answers.Found u k d) t c = kept_as s t _ c.new_is (record { observers = refl; seats = refl; marks = same_rest s })
+case_kept s seat (steps.Read n x) answers.Absent t c = kept_as s t _ c.new_is (record { observers = refl; seats = refl; marks = same_rest s })
+case_kept s seat (steps.Declare n what) answers.Done t c = kept_as s t _ c.new_is (record { observers = refl; seats = refl; marks = same_rest s })
+case_kept s seat (steps.Prewrite n x) answers.Done t c = kept_as s t _ c.new_is (record { observers = refl; seats = refl; marks = same_rest s })
+case_kept s seat (steps.Prewrite n x) answers.Conflict t c = kept_as s t _ c.new_is (record { observers = refl; seats = refl; marks = same_rest s })
+case_kept s seat (steps.Stamp n) (answers.At k) t c = kept_as s t _ c.new_is (record { observers = refl; seats = refl; marks = same_rest s })
+case_kept s seat (steps.CommitPrimary n) answers.Committed t c = kept_as s t _ c.new_is (record { observers = refl; seats = refl; marks = marked s.observers s.marks c.primary })
+case_kept s seat (steps.CommitPrimary n) answers.Lost t c = kept_as s t _ c.new_is (record { observers = refl; seats = refl; marks = same_rest s })
 case_kept s seat (steps.CommitSecondary n x) answers.Done t c = kept_as s t _ c.new_is (kept_if_locked s _ _ _ _)
-case_kept s seat (steps.Settle x) answers.Absent t c = kept_as s t _ c.new_is (record { observers = refl; seats = refl; marks = refl })
-case_kept s seat (steps.Settle x) (answers.Locked u p) t c = kept_as s t _ c.new_is (record { observers = refl; seats = refl; marks = refl })
-case_kept s seat (steps.Settle x) answers.RolledBack t c = kept_as s t _ c.new_is (record { observers = refl; seats = refl; marks = refl })
-case_kept s seat (steps.Clear x) answers.Absent t c = kept_as s t _ c.new_is (record { observers = refl; seats = refl; marks = refl })
-case_kept s seat (steps.Clear x) answers.Waits t c = kept_as s t _ c.new_is (record { observers = refl; seats = refl; marks = refl })
-case_kept s seat (steps.Clear x) (answers.CommittedAt k) t c = kept_as s t _ c.new_is (record { observers = refl; seats = refl; marks = refl })
-case_kept s seat (steps.Clear x) answers.RolledBack t c = kept_as s t _ c.new_is (record { observers = refl; seats = refl; marks = refl })
+case_kept s seat (steps.Settle x) answers.Absent t c = kept_as s t _ c.new_is (record { observers = refl; seats = refl; marks = same_rest s })
+case_kept s seat (steps.Settle x) (answers.Locked u p) t c = kept_as s t _ c.new_is (record { observers = refl; seats = refl; marks = same_rest s })
+case_kept s seat (steps.Settle x) answers.RolledBack t c = kept_as s t _ c.new_is (record { observers = refl; seats = refl; marks = same_rest s })
+case_kept s seat (steps.Clear x) answers.Absent t c = kept_as s t _ c.new_is (record { observers = refl; seats = refl; marks = same_rest s })
+case_kept s seat (steps.Clear x) answers.Waits t c = kept_as s t _ c.new_is (record { observers = refl; seats = refl; marks = same_rest s })
+case_kept s seat (steps.Clear x) (answers.CommittedAt k) t c = kept_as s t _ c.new_is (record { observers = refl; seats = refl; marks = marked s.observers s.marks x })
+case_kept s seat (steps.Clear x) answers.RolledBack t c = kept_as s t _ c.new_is (record { observers = refl; seats = refl; marks = same_rest s })
+case_kept s seat (steps.NextMark after) (answers.Marked x) t c = kept_as s t _ c.new_is (record { observers = refl; seats = refl; marks = same_rest s })
+case_kept s seat (steps.NextMark after) answers.NoMark t c = kept_as s t _ c.new_is (record { observers = refl; seats = refl; marks = same_rest s })
+case_kept s seat (steps.Sweep x) answers.NoMark t c = kept_as s t _ c.new_is (record { observers = refl; seats = refl; marks = same_rest s })
+case_kept s seat (steps.Sweep x) answers.StillBehind t c = kept_as s t _ c.new_is (record { observers = refl; seats = refl; marks = same_rest s })
+case_kept s seat (steps.Sweep x) answers.Done t c = kept_as s t _ c.new_is (record { observers = refl; seats = refl; marks = unmarked s.marks x })
 case_kept s seat _ _ t c = absurd c

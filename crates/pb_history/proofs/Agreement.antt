@@ -15,7 +15,7 @@ use Rattle.pb_steps.specs.declared.phase.Phase.TheVariants as phases
 use Rattle.pb_steps.specs.declared.seen.RecordedRead.{RecordedRead}
 use Rattle.pb_steps.specs.State.{StateOf, TransactionOf, Transactions, cells_of}
 use Rattle.pb_steps.specs.Observers.{ObserverOf}
-use Rattle.pb_steps.specs.Declarations.{IsKnown, IsPlainRun, MayDeclare}
+use Rattle.pb_steps.specs.Declarations.{IsKnown, MayDeclare}
 use Rattle.pb_steps.specs.Phases.{is_reading}
 use Rattle.pb_history.specs.declared.entry.Entry.{Entry}
 use Rattle.pb_history.specs.History.{Has, IsEntry, IsForWork}
@@ -43,7 +43,7 @@ abbrev pub Told : StateOf → ℕ → Step → Answer → Type 0
 Told state seat (Begin work) (At s) = (t : TransactionOf) × (got state s.0 ≡ Some t) × (t.seat ≡ seat) × (t.work ≡ work)
 Told state seat (Read s x) (Found start commit content) = (t : TransactionOf) × (got state s.0 ≡ Some t) × Has t.reads (read_of s.0 x (Found start commit content))
 Told state seat (Read s x) Absent = (t : TransactionOf) × (got state s.0 ≡ Some t) × Has t.reads (read_of s.0 x Absent)
-Told state seat (Declare s what) Done = (t : TransactionOf) × (got state s.0 ≡ Some t) × (is_reading t.phase ≡ false) × (t.declared ≡ cells_of state.observers t.work s.0 what) × IsKnown what × IsForWork state.observers t.work what × IsPlainRun what
+Told state seat (Declare s what) Done = (t : TransactionOf) × (got state s.0 ≡ Some t) × (is_reading t.phase ≡ false) × (t.declared ≡ cells_of state.observers t.work s.0 what) × IsKnown what × IsForWork state.observers t.work what
 Told state seat (Stamp s) (At c) = (t : TransactionOf) × (got state s.0 ≡ Some t) × PastStamp t.phase c.0
 Told state seat (CommitPrimary s) Committed = (t : TransactionOf) × (got state s.0 ≡ Some t) × (c : ℕ) × (t.phase ≡ phases.Committed (ts c))
 Told state seat _ _ = Unit {0}
@@ -80,7 +80,7 @@ told_on : (old new : StateOf) → new.observers ≡ old.observers → Grows old 
 told_on old new obs g seat (Begin work) (At s) t = let u = g s.0 t.0 t.1 in (u.0, u.1, u.2.seat ∙ t.2, u.2.work ∙ t.3)
 told_on old new obs g seat (Read s x) (Found start commit content) t = let u = g s.0 t.0 t.1 in (u.0, u.1, u.2.reads _ t.2)
 told_on old new obs g seat (Read s x) Absent t = let u = g s.0 t.0 t.1 in (u.0, u.1, u.2.reads _ t.2)
-told_on old new obs g seat (Declare s what) Done t = let u = g s.0 t.0 t.1 in let p = u.2.past t.2 in (u.0, u.1, p.0, p.1 ∙ t.3 ∙ sym (λ i. cells_of (obs i) (u.2.work i) s.0 what), t.4, subst (λ o. IsForWork o u.0.work what) (sym obs) (subst (λ w. IsForWork old.observers w what) (sym u.2.work) t.5), t.6)
+told_on old new obs g seat (Declare s what) Done t = let u = g s.0 t.0 t.1 in let p = u.2.past t.2 in (u.0, u.1, p.0, p.1 ∙ t.3 ∙ sym (λ i. cells_of (obs i) (u.2.work i) s.0 what), t.4, subst (λ o. IsForWork o u.0.work what) (sym obs) (subst (λ w. IsForWork old.observers w what) (sym u.2.work) t.5))
 told_on old new obs g seat (Stamp s) (At c) t = let u = g s.0 t.0 t.1 in (u.0, u.1, u.2.stamped c.0 t.2)
 told_on old new obs g seat (CommitPrimary s) Committed t = let u = g s.0 t.0 t.1 in (u.0, u.1, t.2, u.2.committed t.2 t.3)
 told_on old new obs g seat _ _ t = tt

@@ -6,9 +6,9 @@ use Rattle.std.specs.Ordering.{nat_cmp}
 use Rattle.std.specs.FinMap as map
 use Rattle.std.proofs.lemmas.Bool.{eqb-true}
 use Rattle.pb_steps.specs.declared.step.Step.{Step}
-use Rattle.pb_steps.specs.declared.step.Step.TheVariants.{Begin, Read, Declare, Prewrite, Stamp, CommitPrimary, CommitSecondary, Settle, Clear}
+use Rattle.pb_steps.specs.declared.step.Step.TheVariants.{Begin, Read, Declare, Prewrite, Stamp, CommitPrimary, CommitSecondary, Settle, Clear, NextMark, Sweep}
 use Rattle.pb_steps.specs.declared.step.Answer.{Answer}
-use Rattle.pb_steps.specs.declared.step.Answer.TheVariants.{At, Locked, Found, Absent, Done, Conflict, Committed, Lost, RolledBack, Waits, CommittedAt}
+use Rattle.pb_steps.specs.declared.step.Answer.TheVariants.{At, Locked, Found, Absent, Done, Conflict, Committed, Lost, RolledBack, Waits, CommittedAt, Marked, NoMark, StillBehind}
 use Rattle.pb_steps.specs.Observers.{ObserverOf}
 use Rattle.pb_steps.specs.State.{StateOf, TransactionOf, opening, new_transaction}
 use Rattle.pb_steps.specs.Steps.{StepCase}
@@ -54,6 +54,11 @@ module _ (old : StateOf) (seat : ℕ) (new : StateOf) (s : ℕ) where
   named (Clear x) Waits m e = cc
   named (Clear x) (CommittedAt c) m e = cc
   named (Clear x) RolledBack m e = cc
+  named (NextMark after) (Marked x) m e = cc
+  named (NextMark after) NoMark m e = cc
+  named (Sweep x) NoMark m e = cc
+  named (Sweep x) StillBehind m e = cc
+  named (Sweep x) Done m e = cc
   named _ _ m e = absurd m
 
 -- ---- the transaction after it

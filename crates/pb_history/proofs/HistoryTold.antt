@@ -1,6 +1,7 @@
 -- The history of a legal journal is what its state says is committed.
 use Rattle.std.proofs.Common.{◌≡◌, ℕ, inl, inr, false, List, Option, Some, sym, ap, subst, ◌∙◌}
 use Rattle.pb_base.specs.declared.names.Ts.{Ts}
+use Rattle.pb_base.specs.Batch.{are_distinct}
 use Rattle.pb_steps.specs.declared.step.Declared.{Declared}
 use Rattle.pb_steps.specs.declared.step.Step.TheVariants.{Begin, Declare, Stamp, CommitPrimary}
 use Rattle.pb_steps.specs.declared.step.Answer.TheVariants.{At, Done, Committed}
@@ -14,6 +15,7 @@ use Rattle.pb_history.specs.Journals.{IsLegal}
 use Rattle.pb_history.specs.History.{IsEntry, Member, InHistory, IsCommitted, IsDeclared, TellsHistory}
 use Rattle.pb_history.proofs.Agreement.{ts, got, Agrees, PastStamp}
 use Rattle.pb_history.proofs.StepsAgree.{legal_agrees}
+use Rattle.pb_history.proofs.DeclaredCells.{cells_distinct}
 
 pub one : (o : Option TransactionOf) (t u : TransactionOf) → o ≡ Some t → o ≡ Some u → u ≡ t
 one o t u p q = cc
@@ -58,7 +60,7 @@ module _ (journal : List Entry) (state : StateOf) (a : Agrees journal state) whe
       }
 
   is_declared_by : (seat start : ℕ) (what : Declared) → IsEntry journal seat (Declare (ts start) what) Done → IsDeclared state start what
-  is_declared_by seat start what h = let d = a.told _ h in record { t = d.0; there = d.1; declared = d.3; known = d.4; for_work = d.5; plain = d.6 }
+  is_declared_by seat start what h = let d = a.told _ h in record { t = d.0; there = d.1; declared = d.3; distinct = ap are_distinct d.3 ∙ cells_distinct state.observers d.0.work start what d.4; known = d.4; for_work = d.5 }
 
 pub tells : (observers : List ObserverOf) (seats clock : ℕ) (journal : List Entry) (state : StateOf) → IsLegal observers seats clock journal state → TellsHistory journal state
 tells observers seats clock journal state l =

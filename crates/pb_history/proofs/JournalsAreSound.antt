@@ -1,5 +1,5 @@
 -- A legal journal leads to sound states.
-use Rattle.std.proofs.Common.{◌≡◌, ℕ, List, [], ◌∷◌, ◌++◌, sym, subst}
+use Rattle.std.proofs.Common.{◌≡◌, ℕ, List, [], ◌∷◌, ◌++◌, sym, ap, subst, ◌∙◌}
 use Rattle.pb_steps.specs.Observers.{ObserverOf}
 use Rattle.pb_steps.specs.State.{StateOf, opening}
 use Rattle.pb_history.specs.declared.entry.Entry.{Entry}
@@ -9,6 +9,7 @@ use Rattle.pb_history.specs.SoundJournals.{LeadsToSound, TellsSoundness}
 use Rattle.pb_history.proofs.JournalParts.{parted}
 use Rattle.pb_history.proofs.StepsKeepSound.{steps_keep}
 use Rattle.pb_history.proofs.OpeningSound.{opening_sound}
+use Rattle.pb_history.proofs.TransactionAfter.{case_observers}
 
 pub run_sound : (old : StateOf) (es : List Entry) (new : StateOf) → IsSoundTable old → JournalLeads old es new → IsSoundTable new
 run_sound old [] new i r = subst IsSoundTable (sym r) i
@@ -17,6 +18,10 @@ run_sound old (e ∷ es) new i r = run_sound r.0 es new (steps_keep old e.seat e
 pub legal_sound : (observers : List ObserverOf) (seats clock : ℕ) (journal : List Entry) (state : StateOf) → IsLegal observers seats clock journal state → IsSoundTable state
 legal_sound observers seats clock journal state l = run_sound (opening observers seats clock) journal state (opening_sound observers seats clock l.fits) l.run
 
+run_observers : (old : StateOf) (es : List Entry) (new : StateOf) → JournalLeads old es new → new.observers ≡ old.observers
+run_observers old [] new r = ap (λ (z : StateOf). z.observers) r
+run_observers old (e ∷ es) new r = run_observers r.0 es new r.2 ∙ case_observers old e.seat r.0 0 e.step e.answer r.1.taken
+
 beginning : (observers : List ObserverOf) (seats clock : ℕ) (journal : List Entry) (state : StateOf) → IsLegal observers seats clock journal state → (before after : List Entry) → journal ≡ before ++ after → LeadsToSound observers seats clock before
 beginning observers seats clock journal state l before after is =
     let p = parted (opening observers seats clock) before after state (subst (λ j. JournalLeads (opening observers seats clock) j state) is l.run) in
@@ -24,4 +29,4 @@ beginning observers seats clock journal state l before after is =
     record { state = p.0; legal = legal; sound = legal_sound observers seats clock before p.0 legal }
 
 pub tells_soundness : (observers : List ObserverOf) (seats clock : ℕ) (journal : List Entry) (state : StateOf) → IsLegal observers seats clock journal state → TellsSoundness observers seats clock journal state
-tells_soundness observers seats clock journal state l = record { sound = legal_sound observers seats clock journal state l; beginnings = beginning observers seats clock journal state l }
+tells_soundness observers seats clock journal state l = record { sound = legal_sound observers seats clock journal state l; observers_stay = run_observers (opening observers seats clock) journal state l.run; beginnings = beginning observers seats clock journal state l }

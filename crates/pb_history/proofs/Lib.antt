@@ -3,8 +3,8 @@ pub mod PhaseTests
 pub mod OnlyEntries
 pub mod Agreement
 pub mod StepsAgree
+pub mod DeclaredCells
 pub mod HistoryTold
-pub mod RunsTold
 pub mod TimestampsRise
 pub mod RunsCounted
 pub mod PhasesKeepSound
@@ -14,10 +14,14 @@ pub mod StepsKeepSound
 pub mod OpeningSound
 pub mod SoundHasData
 pub mod JournalParts
+pub mod TransactionAfter
 pub mod JournalsAreSound
 pub mod CommitsAreOrdered
 pub mod SnapshotsTold
-pub mod TransactionAfter
+pub mod Acknowledgments
+pub mod RunsTold
+pub mod MarksCover
+pub mod ChangesHandled
 pub mod BeginsOnce
 pub mod TransactionsTold
 pub mod ScriptsTold

@@ -6,7 +6,7 @@ use Rattle.pb_base.specs.declared.content.Content.{Content}
 use Rattle.pb_steps.specs.declared.phase.Phase.TheVariants.{Reading, Declared}
 use Rattle.pb_steps.specs.declared.seen.RecordedRead.{RecordedRead}
 use Rattle.pb_steps.specs.declared.step.Answer.{Answer}
-use Rattle.pb_steps.specs.declared.step.Answer.TheVariants.{Found, Absent, At, Locked, Done, Conflict, Committed, Lost, RolledBack, Waits, CommittedAt}
+use Rattle.pb_steps.specs.declared.step.Answer.TheVariants.{Found, Absent}
 use Rattle.pb_history.specs.History.{Has}
 use Rattle.pb_history.specs.TableView.{TableView}
 use Rattle.pb_history.specs.Sound.{HasStamp, LacksPrimary, ReadTells, IsSoundView}
@@ -32,15 +32,7 @@ or_right false b e = e
 pub tells_on : (v w : TableView) (s : ℕ) (x : Cell) (answer : Answer) → ((start c : ℕ) → v.write x c ≡ Some start → w.write x c ≡ Some start) → ((start c : ℕ) → v.write x c ≡ Some start → w.stored x start ≡ v.stored x start) → ((c u : ℕ) → c ≤ s → w.write x c ≡ Some u → v.write x c ≡ Some u) → ReadTells v s x answer → ReadTells w s x answer
 tells_on v w s x (Found start commit content) f g h t = (t.0, f start.0 commit.0 t.1, g start.0 commit.0 t.1 ∙ t.2, λ c u l e. t.3 c u l (h c u l e))
 tells_on v w s x Absent f g h t = λ c u l e. t c u l (h c u l e)
-tells_on v w s x (At n) f g h t = t
-tells_on v w s x (Locked a b) f g h t = t
-tells_on v w s x Done f g h t = t
-tells_on v w s x Conflict f g h t = t
-tells_on v w s x Committed f g h t = t
-tells_on v w s x Lost f g h t = t
-tells_on v w s x RolledBack f g h t = t
-tells_on v w s x Waits f g h t = t
-tells_on v w s x (CommittedAt c) f g h t = t
+tells_on v w s x _ f g h t = absurd t
 
 module _ (v : TableView) (i : IsSoundView v) (s : ℕ) (x p : Cell) (k : Content) (was : v.phase s ≡ Some Declared) (first : v.primary s ≡ Some p) (declared : v.content s x ≡ Some k) (order : (x ≡ p) ⊎ (v.prewritten s p ≡ true)) (once : v.prewritten s x ≢ true) (unlocked : (u : ℕ) → v.lock x u ≡ None) (early : (c u : ℕ) → v.write x c ≡ Some u → c < s) where
   pre_back : (u : ℕ) (y : Cell) → (with_prewrite v s x p k).prewritten u y ≡ true → ((u ≡ s) × (y ≡ x)) ⊎ (v.prewritten u y ≡ true)

@@ -1,34 +1,44 @@
 -- What the history of a legal journal tells of runs and of reads.
-use Rattle.std.proofs.Common.{◌≡◌, ℕ, ◌<◌, inl, inr, false, List, Some, refl, sym, ap, subst, ◌∙◌}
+use Rattle.std.proofs.Common.{◌≡◌, ℕ, inl, inr, false, List, [], ◌∷◌, Some, refl, sym, ap, subst, ◌∙◌}
+use Rattle.pb_base.specs.declared.cell.Cell.{Cell}
+use Rattle.pb_base.specs.declared.content.Content.TheVariants.{Stamp}
 use Rattle.pb_base.specs.declared.content.Version.{Version}
+use Rattle.pb_base.specs.declared.names.Row.{Row}
+use Rattle.pb_base.specs.declared.names.Ts.{Ts}
+use Rattle.pb_isa.specs.Machine.{Ask, Reply}
+use Rattle.pb_isa.specs.Meaning.{Talk, Means}
+use Rattle.pb_isa.specs.Programs.{JudgedOf}
+use Rattle.pb_sound.specs.RunWrites.{AreRunWrites}
+use Rattle.pb_vm.specs.Finished.{Meant, IsMeant}
+use Rattle.pb_helpers.specs.Record.{record_of}
 use Rattle.pb_steps.specs.declared.seen.RecordedRead.{RecordedRead}
 use Rattle.pb_steps.specs.declared.step.Declared.{Declared}
-use Rattle.pb_base.specs.declared.names.Row.{Row}
-use Rattle.pb_isa.specs.Meaning.{Means}
-use Rattle.pb_vm.specs.Finished.{Meant, IsMeant}
-use Rattle.pb_steps.specs.declared.step.Work.TheVariants as works
 use Rattle.pb_steps.specs.declared.step.Declared.TheVariants as declared
+use Rattle.pb_steps.specs.declared.step.Work.TheVariants as works
 use Rattle.pb_steps.specs.declared.step.Step.{Step}
 use Rattle.pb_steps.specs.declared.step.Step.TheVariants.{Read}
 use Rattle.pb_steps.specs.declared.step.Answer.{Answer}
 use Rattle.pb_steps.specs.declared.step.Answer.TheVariants.{Found, Absent}
-use Rattle.pb_base.specs.declared.names.Ts.{Ts}
-use Rattle.pb_helpers.specs.Record.{record_of}
 use Rattle.pb_steps.specs.State.{StateOf, opening, cells_of}
-use Rattle.pb_steps.specs.Observers.{ObserverOf, observed_cell}
-use Rattle.pb_steps.specs.Declarations.{IsKnown, IsItsRun, MayDeclare, plain_run}
+use Rattle.pb_steps.specs.Observers.{ObserverOf, observed_cell, observed_column, acknowledgment}
+use Rattle.pb_steps.specs.Declarations.{IsKnown, AreReplies, IsItsRun, MayDeclare}
 use Rattle.pb_steps.specs.Phases.{is_reading}
-use Rattle.pb_steps.specs.Reads.{found_answer, version_in, acknowledged_in}
+use Rattle.pb_steps.specs.Reads.{asked_cell, stamp_of, value_in, found_answer, version_in, acknowledged_in}
 use Rattle.pb_steps.specs.Steps.{StepCase}
 use Rattle.pb_history.specs.declared.entry.Entry.{Entry}
 use Rattle.pb_history.specs.Journals.{JournalLeads, IsLegal}
-use Rattle.pb_history.specs.History.{Has, IsEntry, Member, InHistory}
+use Rattle.pb_history.specs.TableView.{reads_by}
+use Rattle.pb_history.specs.Sound.{IsSoundTable}
+use Rattle.pb_history.specs.History.{Has, Member, InHistory, IsSnapshot, NoSnapshot}
 use Rattle.pb_history.specs.ReadsTold.{TellsVersion, TellsReads}
-use Rattle.pb_history.specs.RunsTold.{IsObserverRun, TellsRuns}
+use Rattle.pb_history.specs.RunsTold.{IsAcknowledgedAt, IsReplyAt, AreRepliesAt, IsObserverRun, TellsRuns}
 use Rattle.pb_history.proofs.JournalParts.{split}
-use Rattle.pb_history.proofs.Agreement.{ts, Agrees}
+use Rattle.pb_history.proofs.Agreement.{Agrees}
 use Rattle.pb_history.proofs.StepsAgree.{legal_agrees}
 use Rattle.pb_history.proofs.HistoryTold.{is_committed}
+use Rattle.pb_history.proofs.JournalsAreSound.{legal_sound}
+use Rattle.pb_history.proofs.SnapshotsTold.{TellsRecorded, recorded_tells}
+use Rattle.pb_history.proofs.Acknowledgments.{acknowledged_by}
 
 -- ---- reads
 
@@ -51,48 +61,77 @@ found_is : (a : Answer) (v : Version) → version_in a ≡ Some v → a ≡ foun
 found_is (Found start commit content) v e = let is : record { start = start; commit = commit; content = content } ≡ v = cc in ap found_answer is
 found_is _ v e = cc
 
--- a declared run of a transaction, in the words of the history
-run_is : (observers : List ObserverOf) (journal : List Entry) (m : Member) (o : ℕ) (row : Row) (reads : List RecordedRead) (by : ℕ) (f : Meant)
-    → ((r : RecordedRead) → Has reads r → IsEntry journal m.seat (Read (ts m.start) r.cell) r.answer) → IsItsRun observers o row m.start reads f → IsMeant f
-    → m.writes ≡ cells_of observers (works.Run o row) m.start (declared.Run by f) → IsObserverRun observers journal m o row
-run_is observers journal m o row reads by f read own meant writes =
-    let was = own.was in
-    let bytes = record_of (observed_cell observers o row) own.seen.version in
-    let run : f ≡ plain_run own.observer.program (bytes (acknowledged_in was.second.answer).0) m.start f.result = own.run ∙ ap (λ (t : Ts). plain_run own.observer.program (bytes t.0) m.start f.result) was.acknowledged in
-    let first : IsEntry journal m.seat (Read (ts m.start) was.first.cell) was.first.answer = read was.first (subst (λ rs. Has rs was.first) (sym was.reads_are) (inl refl)) in
-    let second : IsEntry journal m.seat (Read (ts m.start) was.second.cell) was.second.answer = read was.second (subst (λ rs. Has rs was.second) (sym was.reads_are) (inr (inl refl))) in
-    record {
-      observer = own.observer;
-      observer_is = own.observer_is;
-      version = own.seen.version;
-      found = subst (λ x. IsEntry journal m.seat (Read (ts m.start) x) (found_answer own.seen.version)) was.observed (subst (λ a. IsEntry journal m.seat (Read (ts m.start) was.first.cell) a) (found_is was.first.answer own.seen.version was.found) first);
-      answer = was.second.answer;
-      acknowledged = subst (λ x. IsEntry journal m.seat (Read (ts m.start) x) was.second.answer) was.acknowledgment second;
-      newer = subst (λ (t : Ts). t.0 < own.seen.version.commit.0) was.acknowledged own.newer;
-      result = f.result;
-      writes = f.writes;
-      meaning = subst (λ (g : Meant). Means g.judged g.bytes g.began g.talk f.result f.writes) run meant;
-      writes_are = writes;
-    }
-
 -- what a run may declare
 run_declared : (observers : List ObserverOf) (o : ℕ) (row : Row) (s : ℕ) (reads : List RecordedRead) (what : Declared) → MayDeclare observers (works.Run o row) s reads what → (by : ℕ) × (f : Meant) × (what ≡ declared.Run by f) × IsItsRun observers o row s reads f
 run_declared observers o row s reads (declared.Script batch) may = absurd may
 run_declared observers o row s reads (declared.Run by f) may = (by, f, refl, may.1)
 
-module _ (journal : List Entry) (state : StateOf) (a : Agrees journal state) where
-  run_of_member : (m : Member) (o : ℕ) (row : Row) → InHistory state.observers journal m → m.work ≡ works.Run o row → IsObserverRun state.observers journal m o row
+module _ (journal : List Entry) (state : StateOf) (a : Agrees journal state) (i : IsSoundTable state) where
+  -- every read of a transaction of start s tells this of the history
+  abbrev Tells : ℕ → RecordedRead → Type 0
+  Tells s r = TellsRecorded state.observers journal s r.cell r.answer
+
+  stamp_told : (s : ℕ) (o : ℕ) (row : Row) (answer : Answer) → TellsRecorded state.observers journal s (acknowledgment state.observers o row) answer → IsAcknowledgedAt state.observers journal s (acknowledgment state.observers o row) (acknowledged_in answer).0
+  stamp_told s o row (Found start commit content) h =
+      let k = acknowledged_by journal state a i h.m h.in_history o row (observed_column state.observers o) content h.writes in
+      let is : content ≡ Stamp (record { 0 = (stamp_of content).0 }) = k.stamp ∙ ap (λ z. Stamp (record { 0 = (stamp_of z).0 })) (sym k.stamp) in
+      inr (start.0, commit.0, subst (IsSnapshot state.observers journal s (acknowledgment state.observers o row) start.0 commit.0) is h)
+  stamp_told s o row Absent h = inl (h, refl)
+  stamp_told s o row _ h = absurd h
+
+  reply_told : (s : ℕ) (x : Cell) (answer : Answer) (q : Ask × Reply) → x ≡ asked_cell q.0 → q.1 ≡ value_in answer → TellsRecorded state.observers journal s x answer → IsReplyAt state.observers journal s q
+  reply_told s x (Found start commit content) q is e h = inr (start.0, commit.0, content, subst (λ y. IsSnapshot state.observers journal s y start.0 commit.0 content) is h, e)
+  reply_told s x Absent q is e h = inl (subst (NoSnapshot state.observers journal s) is h, e)
+  reply_told s x _ q is e h = absurd h
+
+  replies_told : (s : ℕ) (asked : List RecordedRead) (talk : Talk) → AreReplies asked talk → ((r : RecordedRead) → Has asked r → Tells s r) → AreRepliesAt state.observers journal s talk
+  replies_told s [] [] h t = tt
+  replies_told s (r ∷ rs) (q ∷ talk) h t = (reply_told s r.cell r.answer q h.0 h.1 (t r (inl refl)), replies_told s rs talk h.2 (λ z g. t z (inr g)))
+  replies_told s [] (q ∷ talk) h t = absurd h
+  replies_told s (r ∷ rs) [] h t = absurd h
+
+  -- a declared run of a transaction, in the words of the history
+  run_is : (m : Member) (o : ℕ) (row : Row) (reads : List RecordedRead) (by : ℕ) (f : Meant) → ((r : RecordedRead) → Has reads r → Tells m.start r) → IsItsRun state.observers o row m.start reads f → IsMeant f × AreRunWrites f.writes
+      → m.writes ≡ cells_of state.observers (works.Run o row) m.start (declared.Run by f) → IsObserverRun state.observers journal m o row
+  run_is m o row reads by f told own known writes =
+      let was = own.was in
+      let x = observed_cell state.observers o row in
+      let ack = acknowledgment state.observers o row in
+      let all : (r : RecordedRead) → Has (was.first ∷ was.second ∷ own.asked) r → Tells m.start r = λ r h. told r (subst (λ rs. Has rs r) (sym was.reads_are) h) in
+      let stamp : own.seen.acknowledged ≡ acknowledged_in was.second.answer = was.acknowledged in
+      record {
+        observer = own.observer;
+        observer_is = own.observer_is;
+        version = own.seen.version;
+        found = subst (λ y. TellsRecorded state.observers journal m.start y (found_answer own.seen.version)) was.observed (subst (TellsRecorded state.observers journal m.start was.first.cell) (found_is was.first.answer own.seen.version was.found) (all was.first (inl refl)));
+        acknowledged = own.seen.acknowledged.0;
+        acknowledges = subst (λ (t : Ts). IsAcknowledgedAt state.observers journal m.start ack t.0) (sym stamp) (stamp_told m.start o row was.second.answer (subst (λ y. TellsRecorded state.observers journal m.start y was.second.answer) was.acknowledgment (all was.second (inr (inl refl)))));
+        newer = own.newer;
+        talk = f.talk;
+        replied = replies_told m.start own.asked f.talk own.replied (λ r h. all r (inr (inr h)));
+        result = f.result;
+        writes = f.writes;
+        meaning = means_by f own.observer.program (record_of x own.seen.version own.seen.acknowledged.0) m.start own.program own.bytes own.began known.0;
+        few = known.1;
+        writes_are = writes;
+      }
+    where
+      means_by : (f : Meant) (p : JudgedOf) (bytes : List ℕ) (s : ℕ) → f.judged ≡ p → f.bytes ≡ bytes → f.began ≡ s → IsMeant f → Means p bytes s f.talk f.result f.writes
+      means_by f p bytes s e g h m = subst (λ z. Means p bytes z f.talk f.result f.writes) h (subst (λ z. Means p z f.began f.talk f.result f.writes) g (subst (λ z. Means z f.bytes f.began f.talk f.result f.writes) e m))
+
+  pub run_of_member : (m : Member) (o : ℕ) (row : Row) → InHistory state.observers journal m → m.work ≡ works.Run o row → IsObserverRun state.observers journal m o row
   run_of_member m o row h work =
       let c = is_committed journal state a m h in
       let l = a.logged m.start c.t c.there in
       let past : is_reading c.t.phase ≡ false = ap is_reading c.phase in
       let d = l.declared past in
-      let may = subst (λ w. MayDeclare state.observers w m.start c.t.reads d.0) (sym c.work ∙ work) d.4 in
+      let mine : c.t.work ≡ works.Run o row = sym c.work ∙ work in
+      let may = subst (λ w. MayDeclare state.observers w m.start c.t.reads d.0) mine d.4 in
       let r = run_declared state.observers o row m.start c.t.reads d.0 may in
-      let meant = subst IsKnown r.2 d.3 in
-      run_is state.observers journal m o row c.t.reads r.0 r.1
-      (λ q i. subst (λ n. IsEntry journal n (Read (ts m.start) q.cell) q.answer) (sym c.seat) (l.reads q i))
-      r.3 meant (c.writes ∙ d.2 ∙ (λ i. cells_of state.observers ((sym c.work ∙ work) i) m.start (r.2 i)))
+      let known = subst IsKnown r.2 d.3 in
+      run_is m o row c.t.reads r.0 r.1
+      (λ q g. recorded_tells journal state a i m.start q.cell q.at q.answer (subst (λ o. Has (reads_by o) q) (sym c.there) g))
+      r.3 known (c.writes ∙ d.2 ∙ (λ j. cells_of state.observers (mine j) m.start (r.2 j)))
 
 pub tells_runs : (observers : List ObserverOf) (seats clock : ℕ) (journal : List Entry) (state : StateOf) → IsLegal observers seats clock journal state → TellsRuns journal state
-tells_runs observers seats clock journal state l = record { run = run_of_member journal state (legal_agrees observers seats clock journal state l) }
+tells_runs observers seats clock journal state l = record { run = run_of_member journal state (legal_agrees observers seats clock journal state l) (legal_sound observers seats clock journal state l) }

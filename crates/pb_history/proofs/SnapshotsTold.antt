@@ -6,6 +6,7 @@ use Rattle.pb_base.specs.declared.content.Content.{Content}
 use Rattle.pb_base.specs.declared.names.Ts.{Ts}
 use Rattle.pb_base.specs.Batch.{content_in}
 use Rattle.pb_steps.specs.declared.phase.Phase.{Phase}
+use Rattle.pb_steps.specs.declared.seen.RecordedRead.{RecordedRead}
 use Rattle.pb_steps.specs.declared.step.Step.TheVariants.{Read}
 use Rattle.pb_steps.specs.declared.step.Answer.{Answer}
 use Rattle.pb_steps.specs.declared.step.Answer.TheVariants.{Found, Absent}
@@ -31,19 +32,25 @@ transaction_there : (o : Option TransactionOf) (h : Phase) → option_map (λ (t
 transaction_there (Some t) h e = (t, refl, cc)
 transaction_there None h e = cc
 
+-- what a read that is recorded tells
+abbrev pub TellsRecorded : List ObserverOf → List Entry → ℕ → Cell → Answer → Type 0
+TellsRecorded observers journal s x (Found start commit content) = IsSnapshot observers journal s x start.0 commit.0 content
+TellsRecorded observers journal s x Absent = NoSnapshot observers journal s x
+TellsRecorded observers journal s x _ = ⊥
+
 module _ (journal : List Entry) (state : StateOf) (a : Agrees journal state) (i : IsSoundTable state) where
-  phase_in_view : (m : Member) → InHistory state.observers journal m → (view_of state).phase m.start ≡ Some (committed_at m.commit)
+  pub phase_in_view : (m : Member) → InHistory state.observers journal m → (view_of state).phase m.start ≡ Some (committed_at m.commit)
   phase_in_view m h = let k = is_committed journal state a m h in ap (option_map (λ (t : TransactionOf). t.phase)) k.there ∙ ap Some k.phase
 
-  content_in_view : (m : Member) → InHistory state.observers journal m → (x : Cell) → (view_of state).content m.start x ≡ content_in m.writes x
+  pub content_in_view : (m : Member) → InHistory state.observers journal m → (x : Cell) → (view_of state).content m.start x ≡ content_in m.writes x
   content_in_view m h x = let k = is_committed journal state a m h in ap (λ o. content_in (declared_by o) x) k.there ∙ ap (λ ws. content_in ws x) (sym k.writes)
 
   -- ---- what stands
 
-  stands_at : (m : Member) → InHistory state.observers journal m → (x : Cell) (k : Content) → WritesTo m x k → (write_at state.entries x m.commit ≡ Some m.start) ⊎ ((p : Cell) × (lock_at state.entries x m.start ≡ Some p))
+  pub stands_at : (m : Member) → InHistory state.observers journal m → (x : Cell) (k : Content) → WritesTo m x k → (write_at state.entries x m.commit ≡ Some m.start) ⊎ ((p : Cell) × (lock_at state.entries x m.start ≡ Some p))
   stands_at m h x k w = i.stands m.start m.commit x k (phase_in_view m h) (content_in_view m h x ∙ w)
 
-  written_by : (x : Cell) (c s : ℕ) → write_at state.entries x c ≡ Some s → WroteAt state.observers journal x c s
+  pub written_by : (x : Cell) (c s : ℕ) → write_at state.entries x c ≡ Some s → WroteAt state.observers journal x c s
   written_by x c s e =
       let t = transaction_there _ (committed_at c) (i.record_committed x c s e) in
       let m : Member = record { start = s; commit = c; seat = t.0.seat; work = t.0.work; writes = t.0.declared } in
@@ -60,7 +67,7 @@ module _ (journal : List Entry) (state : StateOf) (a : Agrees journal state) (i 
 
   -- ---- two writers
 
-  apart : (m n : Member) → InHistory state.observers journal m → InHistory state.observers journal n → m.start ≢ n.start → (x : Cell) (j k : Content) → WritesTo m x j → WritesTo n x k → DoNotOverlap m n
+  pub apart : (m n : Member) → InHistory state.observers journal m → InHistory state.observers journal n → m.start ≢ n.start → (x : Cell) (j k : Content) → WritesTo m x j → WritesTo n x k → DoNotOverlap m n
   apart m n hm hn other x j k wm wn = elim (stands_at m hm x j wm) [
     | inl p ↦ elim (stands_at n hn x k wn) [
       | inl q ↦ i.apart x m.commit m.start n.commit n.start p q other
@@ -75,16 +82,17 @@ module _ (journal : List Entry) (state : StateOf) (a : Agrees journal state) (i 
   -- ---- reads
 
   -- a transaction that writes x with a commit at most s has its write record, where s has read x
-  recorded : (s : ℕ) (x : Cell) (answer : Answer) → Has ((view_of state).reads s) (read_of s x answer) → (m : Member) (k : Content) → InHistory state.observers journal m → WritesTo m x k → m.commit ≤ s → write_at state.entries x m.commit ≡ Some m.start
-  recorded s x answer r m k h w l =
-      elim (i.settled s (read_of s x answer) m.start m.commit k r (inr (phase_in_view m h)) l (content_in_view m h x ∙ w)) [
+  recorded : (s : ℕ) (r : RecordedRead) → Has ((view_of state).reads s) r → (m : Member) (k : Content) → InHistory state.observers journal m → WritesTo m r.cell k → m.commit ≤ s → write_at state.entries r.cell m.commit ≡ Some m.start
+  recorded s r is m k h w l =
+      elim (i.settled s r m.start m.commit k is (inr (phase_in_view m h)) l (content_in_view m h r.cell ∙ w)) [
         | inl q ↦ q
         | inr q ↦ absurd (q.0 (phase_in_view m h))
       ]
 
-  found_at : (s : ℕ) (x : Cell) (start commit : Ts) (content : Content) → Has ((view_of state).reads s) (read_of s x (Found start commit content)) → IsSnapshot state.observers journal s x start.0 commit.0 content
-  found_at s x start commit content r =
-      let t = i.tells s (read_of s x (Found start commit content)) r in
+  found_at : (s : ℕ) (x : Cell) (at : Ts) (start commit : Ts) (content : Content) → Has ((view_of state).reads s) (record { cell = x; at = at; answer = Found start commit content }) → IsSnapshot state.observers journal s x start.0 commit.0 content
+  found_at s x at start commit content is =
+      let r : RecordedRead = record { cell = x; at = at; answer = Found start commit content } in
+      let t = i.tells s r is in
       let w = written_by x commit.0 start.0 t.1 in
       let kept_there : (view_of state).stored x start.0 ≡ (view_of state).content start.0 x = i.record_data x commit.0 start.0 t.1 in
       record {
@@ -94,20 +102,27 @@ module _ (journal : List Entry) (state : StateOf) (a : Agrees journal state) (i 
         commit_is = w.commit_is;
         writes = sym (content_in_view w.m w.in_history x) ∙ ap (λ z. (view_of state).content z x) w.start_is ∙ sym kept_there ∙ t.2;
         seen = t.0;
-        greatest = λ n k h v l. t.3 n.commit n.start l (recorded s x (Found start commit content) r n k h v l);
+        greatest = λ n k h v l. t.3 n.commit n.start l (recorded s r is n k h v l);
       }
 
-  absent_at : (s : ℕ) (x : Cell) → Has ((view_of state).reads s) (read_of s x Absent) → NoSnapshot state.observers journal s x
-  absent_at s x r n k h w =
-      let t = i.tells s (read_of s x Absent) r in
-      elim (below n.commit s) [ inl l ↦ absurd (t n.commit n.start l (recorded s x Absent r n k h w l)) | inr l ↦ l ]
+  absent_at : (s : ℕ) (x : Cell) (at : Ts) → Has ((view_of state).reads s) (record { cell = x; at = at; answer = Absent }) → NoSnapshot state.observers journal s x
+  absent_at s x at is n k h w =
+      let r : RecordedRead = record { cell = x; at = at; answer = Absent } in
+      let t = i.tells s r is in
+      elim (below n.commit s) [ inl l ↦ absurd (t n.commit n.start l (recorded s r is n k h w l)) | inr l ↦ l ]
     where
       below : (a b : ℕ) → (a ≤ b) ⊎ (b < a)
       below a b = grind arith
 
+  -- a read that is recorded found a version, or none
+  pub recorded_tells : (s : ℕ) (x : Cell) (at : Ts) (answer : Answer) → Has ((view_of state).reads s) (record { cell = x; at = at; answer = answer }) → TellsRecorded state.observers journal s x answer
+  recorded_tells s x at (Found start commit content) is = found_at s x at start commit content is
+  recorded_tells s x at Absent is = absent_at s x at is
+  recorded_tells s x at answer is = i.tells s (record { cell = x; at = at; answer = answer }) is
+
   read_tells : (seat : ℕ) (s : Ts) (x : Cell) (answer : Answer) → IsEntry journal seat (Read s x) answer → TellsSnapshot state.observers journal s.0 x answer
-  read_tells seat s x (Found start commit content) e = let told = a.told _ e in found_at s.0 x start commit content (subst (λ o. Has (reads_by o) (read_of s.0 x (Found start commit content))) (sym told.1) told.2)
-  read_tells seat s x Absent e = let told = a.told _ e in absent_at s.0 x (subst (λ o. Has (reads_by o) (read_of s.0 x Absent)) (sym told.1) told.2)
+  read_tells seat s x (Found start commit content) e = let told = a.told _ e in found_at s.0 x s start commit content (subst (λ o. Has (reads_by o) (read_of s.0 x (Found start commit content))) (sym told.1) told.2)
+  read_tells seat s x Absent e = let told = a.told _ e in absent_at s.0 x s (subst (λ o. Has (reads_by o) (read_of s.0 x Absent)) (sym told.1) told.2)
   read_tells seat s x _ e = tt
 
 module _ (observers : List ObserverOf) (seats clock : ℕ) (journal : List Entry) (state : StateOf) (l : IsLegal observers seats clock journal state) where

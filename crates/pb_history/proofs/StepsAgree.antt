@@ -9,16 +9,15 @@ use Rattle.pb_steps.specs.declared.step.Work.TheVariants as works
 use Rattle.pb_steps.specs.declared.step.Declared.{Declared}
 use Rattle.pb_steps.specs.declared.step.Declared.TheVariants as declared
 use Rattle.pb_steps.specs.declared.step.Step.{Step}
-use Rattle.pb_steps.specs.declared.step.Step.TheVariants.{Begin, Read, Declare, Prewrite, Stamp, CommitPrimary, CommitSecondary, Settle, Clear}
+use Rattle.pb_steps.specs.declared.step.Step.TheVariants.{Begin, Read, Declare, Prewrite, Stamp, CommitPrimary, CommitSecondary, Settle, Clear, NextMark, Sweep}
 use Rattle.pb_steps.specs.declared.seen.RecordedRead.{RecordedRead}
 use Rattle.pb_steps.specs.declared.step.Answer.{Answer}
-use Rattle.pb_steps.specs.declared.step.Answer.TheVariants.{At, Locked, Found, Absent, Done, Conflict, Committed, Lost, RolledBack, Waits, CommittedAt}
+use Rattle.pb_steps.specs.declared.step.Answer.TheVariants.{At, Locked, Found, Absent, Done, Conflict, Committed, Lost, RolledBack, Waits, CommittedAt, Marked, NoMark, StillBehind}
 use Rattle.pb_steps.specs.declared.phase.Phase.{Phase}
 use Rattle.pb_steps.specs.declared.phase.Phase.TheVariants as phases
 use Rattle.pb_steps.specs.State.{StateOf, TransactionOf, opening, new_transaction, cells_of}
 use Rattle.pb_steps.specs.Observers.{ObserverOf}
-use Rattle.pb_vm.specs.Finished.{Meant}
-use Rattle.pb_steps.specs.Declarations.{IsPlainRun, MayDeclare}
+use Rattle.pb_steps.specs.Declarations.{MayDeclare}
 use Rattle.pb_steps.specs.Reasons.{IsOwn}
 use Rattle.pb_steps.specs.Steps.{StepCase}
 use Rattle.pb_steps.specs.Phases.{is_reading, is_declared}
@@ -29,7 +28,7 @@ use Rattle.pb_steps.specs.Prewrite.{Prewrites, Conflicts}
 use Rattle.pb_steps.specs.Stamp.{Stamps}
 use Rattle.pb_steps.specs.CommitPrimary.{CommitsPrimary, Loses}
 use Rattle.pb_steps.specs.Commits.{commits, rolls_back}
-use Rattle.pb_store.specs.Contents.{Entries}
+use Rattle.pb_store.specs.Contents.{Entries, Marks}
 use Rattle.pb_history.specs.declared.entry.Entry.{Entry}
 use Rattle.pb_history.specs.Journals.{JournalLeads, IsLegal}
 use Rattle.pb_history.specs.History.{Has, IsEntry, IsForWork}
@@ -41,15 +40,9 @@ use Rattle.pb_history.proofs.Agreement.{ts, read_of, got, PastStamp, Told, Agree
 abbrev entry : ℕ → Step → Answer → Entry
 entry seat step answer = record { seat = seat; step = step; answer = answer }
 
-plain_of : (observers : List ObserverOf) (work : Work) (s : ℕ) (reads : List RecordedRead) (what : Declared) → MayDeclare observers work s reads what → IsPlainRun what
-plain_of observers works.Script s reads (declared.Script batch) may = may
-plain_of observers (works.Run p row) s reads (declared.Run o f) may = (ap (λ (z : Meant). z.talk) may.1.run, ap (λ (z : Meant). z.writes) may.1.run)
-plain_of observers works.Script s reads (declared.Run o f) may = absurd may
-plain_of observers (works.Run p row) s reads (declared.Script batch) may = absurd may
-
 for_work : (observers : List ObserverOf) (work : Work) (s : ℕ) (reads : List RecordedRead) (what : Declared) → MayDeclare observers work s reads what → IsForWork observers work what
 for_work observers works.Script s reads (declared.Script batch) may = tt
-for_work observers (works.Run p row) s reads (declared.Run o f) may = (may.0, may.1.seen.version, may.1.seen.acknowledged.0, ap (λ (z : Meant). z.bytes) may.1.run)
+for_work observers (works.Run p row) s reads (declared.Run o f) may = (may.0, may.1.seen.version, may.1.seen.acknowledged.0, may.1.bytes)
 for_work observers works.Script s reads (declared.Run o f) may = absurd may
 for_work observers (works.Run p row) s reads (declared.Script batch) may = absurd may
 
@@ -123,7 +116,7 @@ module _ (journal : List Entry) (seat : ℕ) (old new : StateOf) (a : Agrees jou
       let low = a.early s.0 m.t was in
       agrees_change journal e old new a s.0 u (ap (λ (z : StateOf). z.transactions) m.new_is) (omega (arith, clock)) (omega (arith, clock, low)) obs m.t was
       (record { seat = refl; work = refl; past = λ h. cc; reads = λ r h. h; stamped = λ c p. let r = reading_is m.t.phase reading in absurd (elim p [ inl q ↦ cc | inr z ↦ elim z [ inl q ↦ cc | inr q ↦ cc ] ]); committed = λ c q. let r = reading_is m.t.phase reading in cc })
-      (λ h. (u, h, refl, sym (ap (λ o. cells_of o m.t.work s.0 what) obs), m.known, subst (λ o. IsForWork o m.t.work what) (sym obs) (for_work old.observers m.t.work s.0 m.t.reads what m.its), plain_of old.observers m.t.work s.0 m.t.reads what m.its))
+      (λ h. (u, h, refl, sym (ap (λ o. cells_of o m.t.work s.0 what) obs), m.known, subst (λ o. IsForWork o m.t.work what) (sym obs) (for_work old.observers m.t.work s.0 m.t.reads what m.its)))
       (record {
         begun = has_front journal e _ (a.logged s.0 m.t was).begun;
         reads = λ r h. has_front journal e _ ((a.logged s.0 m.t was).reads r h);
@@ -254,7 +247,7 @@ module _ (journal : List Entry) (seat : ℕ) (old new : StateOf) (a : Agrees jou
   nothing_changes : OnlyEntries old old
   nothing_changes = record { transactions = refl; clock = refl; observers = refl }
 
-  entries_change : {e : Entries} → OnlyEntries old (record old { entries = e })
+  entries_change : {e : Entries} {m : Marks} → OnlyEntries old (record old { entries = e; marks = m })
   entries_change = record { transactions = refl; clock = refl; observers = refl }
 
   changes_entries : (step : Step) (answer : Answer) (to : StateOf) → new ≡ to → OnlyEntries old to → Told new seat step answer → Agrees (journal ++ entry seat step answer ∷ []) new
@@ -279,6 +272,11 @@ module _ (journal : List Entry) (seat : ℕ) (old new : StateOf) (a : Agrees jou
   case_agrees (Clear x) Waits m = changes_entries (Clear x) Waits old m.new_is nothing_changes tt
   case_agrees (Clear x) (CommittedAt c) m = changes_entries (Clear x) (CommittedAt c) (commits old x m.start c.0) m.new_is entries_change tt
   case_agrees (Clear x) RolledBack m = changes_entries (Clear x) RolledBack (rolls_back old x m.start) m.new_is entries_change tt
+  case_agrees (NextMark after) (Marked x) m = changes_entries (NextMark after) (Marked x) old m.new_is nothing_changes tt
+  case_agrees (NextMark after) NoMark m = changes_entries (NextMark after) NoMark old m.new_is nothing_changes tt
+  case_agrees (Sweep x) NoMark m = changes_entries (Sweep x) NoMark old m.new_is nothing_changes tt
+  case_agrees (Sweep x) StillBehind m = changes_entries (Sweep x) StillBehind old m.new_is nothing_changes tt
+  case_agrees (Sweep x) Done m = changes_entries (Sweep x) Done (record old { marks = map.remove old.marks x }) m.new_is entries_change tt
   case_agrees _ _ m = absurd m
 
 append_one : (xs : List Entry) (y : Entry) (zs : List Entry) → (xs ++ y ∷ []) ++ zs ≡ xs ++ y ∷ zs

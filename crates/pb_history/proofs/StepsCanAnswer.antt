@@ -28,6 +28,11 @@ module _ (old : StateOf) (seat : ℕ) (new : StateOf) where
   case_answers (steps.Clear x) answers.Waits c = tt
   case_answers (steps.Clear x) (answers.CommittedAt k) c = tt
   case_answers (steps.Clear x) answers.RolledBack c = tt
+  case_answers (steps.NextMark after) (answers.Marked x) c = tt
+  case_answers (steps.NextMark after) answers.NoMark c = tt
+  case_answers (steps.Sweep x) answers.NoMark c = tt
+  case_answers (steps.Sweep x) answers.StillBehind c = tt
+  case_answers (steps.Sweep x) answers.Done c = tt
   case_answers _ _ c = absurd c
 
 pub steps_answer : (old : StateOf) (seat : ℕ) (step : Step) (answer : Answer) (new : StateOf) → TableStep old seat step answer new → CanAnswer step answer

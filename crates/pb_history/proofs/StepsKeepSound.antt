@@ -13,7 +13,7 @@ use Rattle.pb_base.specs.Cell.{cell_cmp}
 use Rattle.pb_base.specs.Batch.{Writes, content_in, primary_in}
 use Rattle.pb_steps.specs.declared.step.Work.{Work}
 use Rattle.pb_steps.specs.declared.step.Step.{Step}
-use Rattle.pb_steps.specs.declared.step.Step.TheVariants.{Begin, Read, Declare, Prewrite, Stamp, CommitPrimary, CommitSecondary, Settle, Clear}
+use Rattle.pb_steps.specs.declared.step.Step.TheVariants.{Begin, Read, Declare, Prewrite, Stamp, CommitPrimary, CommitSecondary, Settle, Clear, NextMark, Sweep}
 use Rattle.pb_steps.specs.declared.step.Answer.{Answer}
 use Rattle.pb_steps.specs.declared.step.Answer.TheVariants as answers
 use Rattle.pb_steps.specs.declared.phase.Phase.{Phase}
@@ -42,13 +42,13 @@ use Rattle.pb_history.proofs.ViewsAfter.{field_after, field_same, lock_after_com
 
 -- ---- what the view has of a transaction
 
-abbrev phase_by : Option TransactionOf → Option Phase
+abbrev pub phase_by : Option TransactionOf → Option Phase
 phase_by o = option_map (λ t. t.phase) o
 
 abbrev content_by : Option TransactionOf → Cell → Option Content
 content_by o = content_in (declared_by o)
 
-abbrev primary_by : Option TransactionOf → Option Cell
+abbrev pub primary_by : Option TransactionOf → Option Cell
 primary_by o = primary_in (declared_by o)
 
 abbrev cells_by : Option TransactionOf → Cell → Bool
@@ -67,7 +67,7 @@ plain_failed c = (λ e. cc, λ e. cc)
 
 -- ---- options, tests and lists
 
-some_is : {A : Type 0} (o : Option A) → is_some o ≡ true → (w : A) × (o ≡ Some w)
+pub some_is : {A : Type 0} (o : Option A) → is_some o ≡ true → (w : A) × (o ≡ Some w)
 some_is None h = cc
 some_is (Some w) h = (w, refl)
 
@@ -370,6 +370,11 @@ module _ (old : StateOf) (i : IsSoundTable old) (seat : ℕ) (new : StateOf) whe
   case_keeps (Clear x) answers.Waits m = same_keep m.new_is
   case_keeps (Clear x) (answers.CommittedAt c) m = cleared_keep x c.0 m
   case_keeps (Clear x) answers.RolledBack m = back_keep x m
+  case_keeps (NextMark after) (answers.Marked x) m = same_keep m.new_is
+  case_keeps (NextMark after) answers.NoMark m = same_keep m.new_is
+  case_keeps (Sweep x) answers.NoMark m = same_keep m.new_is
+  case_keeps (Sweep x) answers.StillBehind m = same_keep m.new_is
+  case_keeps (Sweep x) answers.Done m = subst (λ v. IsSoundView v) (sym (ap view_of m.new_is)) i
   case_keeps _ _ m = absurd m
 
 pub steps_keep : (old : StateOf) (seat : ℕ) (step : Step) (answer : Answer) (new : StateOf) → IsSoundTable old → TableStep old seat step answer new → IsSoundTable new

@@ -2,9 +2,9 @@
 use Rattle.std.proofs.Common.{inl, inr, ◌≡◌, ℕ, ◌<◌, ◌≤◌, List, [], ◌∷◌, ap, subst, arith}
 use Rattle.pb_base.specs.declared.names.Ts.{Ts}
 use Rattle.pb_steps.specs.declared.step.Step.{Step}
-use Rattle.pb_steps.specs.declared.step.Step.TheVariants.{Begin, Read, Declare, Prewrite, Stamp, CommitPrimary, CommitSecondary, Settle, Clear}
+use Rattle.pb_steps.specs.declared.step.Step.TheVariants.{Begin, Read, Declare, Prewrite, Stamp, CommitPrimary, CommitSecondary, Settle, Clear, NextMark, Sweep}
 use Rattle.pb_steps.specs.declared.step.Answer.{Answer}
-use Rattle.pb_steps.specs.declared.step.Answer.TheVariants.{At, Locked, Found, Absent, Done, Conflict, Committed, Lost, RolledBack, Waits, CommittedAt}
+use Rattle.pb_steps.specs.declared.step.Answer.TheVariants.{At, Locked, Found, Absent, Done, Conflict, Committed, Lost, RolledBack, Waits, CommittedAt, Marked, NoMark, StillBehind}
 use Rattle.pb_steps.specs.State.{StateOf, opening}
 use Rattle.pb_steps.specs.Observers.{ObserverOf}
 use Rattle.pb_steps.specs.Steps.{StepCase}
@@ -42,6 +42,11 @@ module _ (old : StateOf) (seat : ℕ) (new : StateOf) (high : ℕ) (ts : List �
   case_rises (Clear x) Waits m = same (ap (λ (z : StateOf). z.clock) m.new_is)
   case_rises (Clear x) (CommittedAt c) m = same (ap (λ (z : StateOf). z.clock) m.new_is)
   case_rises (Clear x) RolledBack m = same (ap (λ (z : StateOf). z.clock) m.new_is)
+  case_rises (NextMark after) (Marked x) m = same (ap (λ (z : StateOf). z.clock) m.new_is)
+  case_rises (NextMark after) NoMark m = same (ap (λ (z : StateOf). z.clock) m.new_is)
+  case_rises (Sweep x) NoMark m = same (ap (λ (z : StateOf). z.clock) m.new_is)
+  case_rises (Sweep x) StillBehind m = same (ap (λ (z : StateOf). z.clock) m.new_is)
+  case_rises (Sweep x) Done m = same (ap (λ (z : StateOf). z.clock) m.new_is)
   case_rises _ _ m = absurd m
 
 pub run_rises : (old : StateOf) (es : List Entry) (new : StateOf) → JournalLeads old es new → AreRising old.clock new.clock (timestamps es)

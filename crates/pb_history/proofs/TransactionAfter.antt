@@ -6,9 +6,9 @@ use Rattle.std.specs.FinMap as map
 use Rattle.std.proofs.lemmas.Bool.{eqb-true}
 use Rattle.pb_steps.specs.declared.phase.Phase.TheVariants as phases
 use Rattle.pb_steps.specs.declared.step.Step.{Step}
-use Rattle.pb_steps.specs.declared.step.Step.TheVariants.{Begin, Read, Declare, Prewrite, Stamp, CommitPrimary, CommitSecondary, Settle, Clear}
+use Rattle.pb_steps.specs.declared.step.Step.TheVariants.{Begin, Read, Declare, Prewrite, Stamp, CommitPrimary, CommitSecondary, Settle, Clear, NextMark, Sweep}
 use Rattle.pb_steps.specs.declared.step.Answer.{Answer}
-use Rattle.pb_steps.specs.declared.step.Answer.TheVariants.{At, Locked, Found, Absent, Done, Conflict, Committed, Lost, RolledBack, Waits, CommittedAt}
+use Rattle.pb_steps.specs.declared.step.Answer.TheVariants.{At, Locked, Found, Absent, Done, Conflict, Committed, Lost, RolledBack, Waits, CommittedAt, Marked, NoMark, StillBehind}
 use Rattle.pb_steps.specs.Observers.{ObserverOf}
 use Rattle.pb_steps.specs.State.{StateOf, TransactionOf, new_transaction, cells_of}
 use Rattle.pb_steps.specs.Read.{with_read}
@@ -74,6 +74,11 @@ module _ (old : StateOf) (seat : ℕ) (new : StateOf) (s : ℕ) where
   case_tells (Clear x) Waits m = keeps (transactions_of m.new_is)
   case_tells (Clear x) (CommittedAt c) m = keeps (transactions_of m.new_is)
   case_tells (Clear x) RolledBack m = keeps (transactions_of m.new_is)
+  case_tells (NextMark after) (Marked x) m = keeps (transactions_of m.new_is)
+  case_tells (NextMark after) NoMark m = keeps (transactions_of m.new_is)
+  case_tells (Sweep x) NoMark m = keeps (transactions_of m.new_is)
+  case_tells (Sweep x) StillBehind m = keeps (transactions_of m.new_is)
+  case_tells (Sweep x) Done m = keeps (transactions_of m.new_is)
   case_tells _ _ m = absurd m
 
   -- the observers stay
@@ -99,4 +104,9 @@ module _ (old : StateOf) (seat : ℕ) (new : StateOf) (s : ℕ) where
   case_observers (Clear x) Waits m = observers_of m.new_is
   case_observers (Clear x) (CommittedAt c) m = observers_of m.new_is
   case_observers (Clear x) RolledBack m = observers_of m.new_is
+  case_observers (NextMark after) (Marked x) m = observers_of m.new_is
+  case_observers (NextMark after) NoMark m = observers_of m.new_is
+  case_observers (Sweep x) NoMark m = observers_of m.new_is
+  case_observers (Sweep x) StillBehind m = observers_of m.new_is
+  case_observers (Sweep x) Done m = observers_of m.new_is
   case_observers _ _ m = absurd m

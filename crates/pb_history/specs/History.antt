@@ -1,10 +1,10 @@
 -- The committed transactions of a journal, and the snapshots that they make (OSDI 2010, sections 2.2 and 2.3).
-use Rattle.std.specs.Prelude.{◌≡◌, ℕ, ◌<◌, ◌≤◌, ◌⊎◌, List, [], ◌∷◌, Some}
+use Rattle.std.specs.Prelude.{◌≡◌, ℕ, ◌<◌, ◌≤◌, ◌⊎◌, true, List, [], ◌∷◌, Some}
 use Rattle.std.specs.FinMap as map
 use Rattle.pb_base.specs.declared.cell.Cell.{Cell}
 use Rattle.pb_base.specs.declared.content.Content.{Content}
 use Rattle.pb_base.specs.declared.content.Version.{Version}
-use Rattle.pb_base.specs.Batch.{Writes, content_in}
+use Rattle.pb_base.specs.Batch.{Writes, content_in, are_distinct}
 use Rattle.pb_helpers.specs.Record.{record_of}
 use Rattle.pb_steps.specs.declared.step.Work.{Work}
 use Rattle.pb_steps.specs.declared.step.Work.TheVariants as works
@@ -17,7 +17,7 @@ use Rattle.pb_steps.specs.declared.step.Answer.TheVariants.{At, Done, Committed}
 use Rattle.pb_steps.specs.declared.phase.Phase.TheVariants as phases
 use Rattle.pb_steps.specs.State.{StateOf, TransactionOf, cells_of}
 use Rattle.pb_steps.specs.Observers.{ObserverOf, observed_cell}
-use Rattle.pb_steps.specs.Declarations.{IsKnown, IsPlainRun}
+use Rattle.pb_steps.specs.Declarations.{IsKnown}
 use Rattle.pb_history.specs.declared.entry.Entry.{Entry}
 
 -- a list has an item
@@ -79,14 +79,14 @@ IsForWork observers works.Script (declared.Script batch) = Unit {0}
 IsForWork observers (works.Run p row) (declared.Run o f) = (o ≡ p) × (v : Version) × (acknowledged : ℕ) × (f.bytes ≡ record_of (observed_cell observers p row) v acknowledged)
 IsForWork observers _ _ = ⊥
 
--- the state has what a declaration named, and that is known, for its transaction's work, and plain so far
+-- the state has what a declaration named, each cell once, and that is known, and for its transaction's work
 pub record IsDeclared (state : StateOf) (start : ℕ) (what : Declared) : Type 0 where
   pub t : TransactionOf
   pub there : map.get state.transactions start ≡ Some t
   pub declared : t.declared ≡ cells_of state.observers t.work start what
+  pub distinct : are_distinct t.declared ≡ true
   pub known : IsKnown what
   pub for_work : IsForWork state.observers t.work what
-  pub plain : IsPlainRun what
 
 -- the history of a journal, told by the state that it leads to
 pub record TellsHistory (journal : List Entry) (state : StateOf) : Type 0 where

@@ -21,6 +21,8 @@ use Rattle.pb_history.specs.ScriptsTold.{TellsScripts}
 use Rattle.pb_history.specs.RecordsTold.{TellsRecords}
 use Rattle.pb_history.specs.TransactionsTold.{TellsTransactions}
 use Rattle.pb_history.specs.RunCounts.{TellsRunCounts}
+use Rattle.pb_history.specs.MarksTold.{TellsMarks}
+use Rattle.pb_history.specs.Handled.{TellsOneHandler, TellsHandlers}
 
 abbrev pub StepsKeepSound : Type 0
 StepsKeepSound = (old : StateOf) (seat : ℕ) (step : Step) (answer : Answer) (new : StateOf) → IsSoundTable old → TableStep old seat step answer new → IsSoundTable new
@@ -69,3 +71,12 @@ TransactionsAreTold = (observers : List ObserverOf) (seats clock : ℕ) (journal
 
 abbrev pub StepsCanAnswer : Type 0
 StepsCanAnswer = (old : StateOf) (seat : ℕ) (step : Step) (answer : Answer) (new : StateOf) → TableStep old seat step answer new → CanAnswer step answer
+
+abbrev pub BehindIsMarked : Type 0
+BehindIsMarked = (observers : List ObserverOf) (seats clock : ℕ) (journal : List Entry) (state : StateOf) → IsLegal observers seats clock journal state → TellsMarks state
+
+abbrev pub HandledAtMostOnce : Type 0
+HandledAtMostOnce = (observers : List ObserverOf) (seats clock : ℕ) (journal : List Entry) (state : StateOf) → IsLegal observers seats clock journal state → TellsOneHandler journal state
+
+abbrev pub HandledWhenQuiet : Type 0
+HandledWhenQuiet = (observers : List ObserverOf) (seats clock : ℕ) (journal : List Entry) (state : StateOf) → IsLegal observers seats clock journal state → TellsHandlers journal state

@@ -14,4 +14,6 @@ pub mod WritersTold
 pub mod ScriptsTold
 pub mod RecordsTold
 pub mod TransactionsTold
+pub mod MarksTold
+pub mod Handled
 pub mod Laws

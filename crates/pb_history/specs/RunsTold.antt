@@ -1,33 +1,55 @@
 -- What the history of a legal journal tells of the runs of observers (OSDI 2010, section 2.4).
-use Rattle.std.specs.Prelude.{◌≡◌, ℕ, ◌<◌, List, [], ◌∷◌, Some, slice_get}
+use Rattle.std.specs.Prelude.{◌≡◌, ℕ, ◌<◌, ◌⊎◌, List, [], ◌∷◌, Some, None, slice_get}
+use Rattle.pb_base.specs.declared.cell.Cell.{Cell}
 use Rattle.pb_base.specs.declared.names.Row.{Row}
+use Rattle.pb_base.specs.declared.content.Content.{Content}
 use Rattle.pb_base.specs.declared.content.Content.TheVariants as contents
 use Rattle.pb_base.specs.declared.content.Version.{Version}
 use Rattle.pb_base.specs.Batch.{Writes}
-use Rattle.pb_isa.specs.Meaning.{Means}
+use Rattle.pb_isa.specs.Machine.{Ask, Reply}
+use Rattle.pb_isa.specs.Meaning.{Talk, Means}
+use Rattle.pb_sound.specs.RunWrites.{AreRunWrites}
 use Rattle.pb_helpers.specs.Record.{record_of}
 use Rattle.pb_steps.specs.declared.step.Work.TheVariants as works
-use Rattle.pb_steps.specs.declared.step.Step.TheVariants.{Read}
-use Rattle.pb_steps.specs.declared.step.Answer.{Answer}
 use Rattle.pb_steps.specs.State.{StateOf}
 use Rattle.pb_steps.specs.Observers.{ObserverOf, observed_cell, acknowledgment}
-use Rattle.pb_steps.specs.Reads.{found_answer, acknowledged_in}
+use Rattle.pb_steps.specs.Reads.{asked_cell, value_of}
 use Rattle.pb_history.specs.declared.entry.Entry.{Entry}
-use Rattle.pb_history.specs.History.{IsEntry, Member, InHistory}
+use Rattle.pb_history.specs.History.{Member, InHistory, IsSnapshot, NoSnapshot}
 
--- A committed run of an observer on a row: it found its cell newer than its acknowledgment, and wrote its
--- acknowledgment, with its start as the stamp, and then what its program means on the record of what it read.
+-- the stamp of an acknowledgment in the snapshot at s, 0 where it has none there
+abbrev pub IsAcknowledgedAt : List ObserverOf → List Entry → ℕ → Cell → ℕ → Type 0
+IsAcknowledgedAt observers journal s ack a =
+    (NoSnapshot observers journal s ack × (a ≡ 0))
+    ⊎ ((start : ℕ) × (commit : ℕ) × IsSnapshot observers journal s ack start commit (contents.Stamp (record { 0 = a })))
+
+-- the reply to an ask is the value of its cell in the snapshot at s, and none where that is deleted or absent
+abbrev pub IsReplyAt : List ObserverOf → List Entry → ℕ → Ask × Reply → Type 0
+IsReplyAt observers journal s a =
+    (NoSnapshot observers journal s (asked_cell a.0) × (a.1 ≡ None))
+    ⊎ ((start : ℕ) × (commit : ℕ) × (content : Content) × IsSnapshot observers journal s (asked_cell a.0) start commit content × (a.1 ≡ value_of content))
+
+abbrev pub AreRepliesAt : List ObserverOf → List Entry → ℕ → Talk → Type 0
+AreRepliesAt observers journal s [] = Unit {0}
+AreRepliesAt observers journal s (a ∷ talk) = IsReplyAt observers journal s a × AreRepliesAt observers journal s talk
+
+-- A committed run of an observer on a row: in the snapshot at its start it found its cell newer than its acknowledgment,
+-- and it wrote its acknowledgment, with its start as the stamp, and then what its program means on the record of these,
+-- with replies that are that snapshot.
 pub record IsObserverRun (observers : List ObserverOf) (journal : List Entry) (m : Member) (o : ℕ) (row : Row) : Type 0 where
   pub observer : ObserverOf
   pub observer_is : slice_get observers o ≡ Some observer
   pub version : Version
-  pub found : IsEntry journal m.seat (Read (record { 0 = m.start }) (observed_cell observers o row)) (found_answer version)
-  pub answer : Answer
-  pub acknowledged : IsEntry journal m.seat (Read (record { 0 = m.start }) (acknowledgment observers o row)) answer
-  pub newer : (acknowledged_in answer).0 < version.commit.0
+  pub found : IsSnapshot observers journal m.start (observed_cell observers o row) version.start.0 version.commit.0 version.content
+  pub acknowledged : ℕ
+  pub acknowledges : IsAcknowledgedAt observers journal m.start (acknowledgment observers o row) acknowledged
+  pub newer : acknowledged < version.commit.0
+  pub talk : Talk
+  pub replied : AreRepliesAt observers journal m.start talk
   pub result : ℕ
   pub writes : Writes
-  pub meaning : Means observer.program (record_of (observed_cell observers o row) version (acknowledged_in answer).0) m.start [] result writes
+  pub meaning : Means observer.program (record_of (observed_cell observers o row) version acknowledged) m.start talk result writes
+  pub few : AreRunWrites writes
   pub writes_are : m.writes ≡ (acknowledgment observers o row, contents.Stamp (record { 0 = m.start })) ∷ writes
 
 pub record TellsRuns (journal : List Entry) (state : StateOf) : Type 0 where

@@ -12,7 +12,9 @@ pub record LeadsToSound (observers : List ObserverOf) (seats clock : ℕ) (journ
   pub legal : IsLegal observers seats clock journal state
   pub sound : IsSoundTable state
 
--- the state of a journal is sound, and every beginning of the journal leads to a sound one
+-- the state of a journal is sound and has the observers that it was opened with, and every beginning of the journal leads to
+-- a sound one
 pub record TellsSoundness (observers : List ObserverOf) (seats clock : ℕ) (journal : List Entry) (state : StateOf) : Type 0 where
   pub sound : IsSoundTable state
+  pub observers_stay : state.observers ≡ observers
   pub beginnings : (before after : List Entry) → journal ≡ before ++ after → LeadsToSound observers seats clock before

@@ -2,6 +2,7 @@
 ghost use Rattle.pb_history.specs.Laws.{StepsKeepSound, OpeningIsSound, SoundHasData, JournalsAreSound};
 ghost use Rattle.pb_history.specs.Laws.{TransactionsAreTold, StepsCanAnswer};
 ghost use Rattle.pb_history.specs.Laws.{HistoriesAreTold, ReadsAreTold, RunsAreCounted, RunsAreTold, ScriptsWriteBatches};
+ghost use Rattle.pb_history.specs.Laws.{BehindIsMarked, HandledAtMostOnce, HandledWhenQuiet};
 ghost use Rattle.pb_history.specs.Laws.{TimestampsRise, CommitsAreOrdered, ReadsTellSnapshots, WritersAreApart, RecordsAreTold};
 
 /// The table is sound as it is opened, and every step keeps it so.
@@ -31,8 +32,9 @@ pub fn reads_are_told()
     ensures { ReadsAreTold }
 {}
 
-/// A committed run of a legal journal found its cell newer than its acknowledgment, and wrote this, with its start as the
-/// stamp, and then what its program means on the record of what it read.
+/// A committed run of a legal journal found its cell, in the snapshot at its start, newer than its acknowledgment, and wrote
+/// this, with its start as the stamp, and then what its program means on the record of what it read, with replies that are
+/// the same snapshot.
 pub fn runs_are_told()
     ensures { RunsAreTold }
 {}
@@ -83,4 +85,20 @@ pub fn records_are_told()
 /// What the table has of a transaction follows from the entries of a legal journal that name its start.
 pub fn transactions_are_told()
     ensures { TransactionsAreTold }
+{}
+
+/// A cell on which an observer is behind is marked, after each legal journal.
+pub fn behind_is_marked()
+    ensures { BehindIsMarked }
+{}
+
+/// Each committed change is handled by at most one committed run of an observer.
+pub fn handled_at_most_once()
+    ensures { HandledAtMostOnce }
+{}
+
+/// Where neither a mark nor a lock stands, each committed change of an observed cell is handled by a committed run of each
+/// observer of its column.
+pub fn handled_when_quiet()
+    ensures { HandledWhenQuiet }
 {}

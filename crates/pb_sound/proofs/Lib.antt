@@ -18,4 +18,5 @@ pub mod Everywhere
 pub mod Positions
 pub mod OneMeaning
 pub mod Silent
+pub mod RunWrites
 pub mod Placements

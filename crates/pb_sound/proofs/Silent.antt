@@ -16,7 +16,7 @@ use Rattle.pb_isa.specs.Meaning.{Talk, Point, point, on, onward, point_after, ke
 use Rattle.pb_sound.specs.Silent.{WithoutHelpersSilent}
 
 -- no ask, and these writes
-abbrev IsSilentStep : Writes → Outcome → Type 0
+abbrev pub IsSilentStep : Writes → Outcome → Type 0
 IsSilentStep ws (Goes t) = t.writes ≡ ws
 IsSilentStep ws (Asks q go) = ⊥
 IsSilentStep ws (Ends v us) = us ≡ ws
@@ -43,6 +43,34 @@ sets e s dst v size = on_cond s.writes (nat_eq (number dst) 10) Stuck (goes e s 
 stores : (e : Environment) (s : State) (x : ℕ) (bs : List ℕ) → IsSilentStep s.writes (stores_bytes e s x bs)
 stores e s x bs = on_cond s.writes (stack_has e x (length bs)) (goes e s (s.slot + 1) s.regs (with_list s.stack x bs)) Stuck (goes_on e s (s.slot + 1) s.regs (with_list s.stack x bs)) tt
 
+-- an instruction but a call
+abbrev pub IsPlain : Insn → Type 0
+IsPlain (Call imm) = ⊥
+IsPlain _ = Unit {0}
+
+-- asks nothing, and leaves the writes as they are
+pub plain_is_silent : (e : Environment) (s : State) (i : Insn) → IsPlain i → IsSilentStep s.writes (does e s i)
+plain_is_silent e s (Alu op w dst src) plain =
+    on_value s.writes (left s op dst) (λ a. with_value (operand s src) (λ b. sets_register e s dst (alu op w a b) 1))
+    (λ a. on_value s.writes (operand s src) (λ b. sets_register e s dst (alu op w a b) 1) (λ b. sets e s dst (alu op w a b) 1))
+plain_is_silent e s (Neg w dst) plain = on_value s.writes (value s dst) (λ v. sets_register e s dst (alu Sub w 0 v) 1) (λ v. sets e s dst (alu Sub w 0 v) 1)
+plain_is_silent e s (LoadImm dst imm) plain = sets e s dst imm 2
+plain_is_silent e s (Load z dst src offset) plain =
+    on_value s.writes (value s src) (λ x. with_values (fetch e s (address x offset) (byte_len (width z))) (λ bs. sets_register e s dst (from_le_bytes (width z) bs) 1))
+    (λ x. on_values s.writes (fetch e s (address x offset) (byte_len (width z))) (λ bs. sets_register e s dst (from_le_bytes (width z) bs) 1) (λ bs. sets e s dst (from_le_bytes (width z) bs) 1))
+plain_is_silent e s (StoreImm z dst offset imm) plain =
+    on_value s.writes (value s dst) (λ x. stores_bytes e s (address x offset) (to_le_bytes (width z) (word imm))) (λ x. stores e s (address x offset) (to_le_bytes (width z) (word imm)))
+plain_is_silent e s (Store z dst src offset) plain =
+    on_value s.writes (value s dst) (λ x. with_value (value s src) (λ v. stores_bytes e s (address x offset) (to_le_bytes (width z) v)))
+    (λ x. on_value s.writes (value s src) (λ v. stores_bytes e s (address x offset) (to_le_bytes (width z) v)) (λ v. stores e s (address x offset) (to_le_bytes (width z) v)))
+plain_is_silent e s (Jump offset) plain = on_value s.writes (target s.slot offset) (λ n. goes e s n s.regs s.stack) (λ n. goes_on e s n s.regs s.stack)
+plain_is_silent e s (JumpIf c w dst src offset) plain =
+    on_value s.writes (value s dst) (λ a. with_value (operand s src) (λ b. with_value (cond (holds c w a b) (target s.slot offset) (Some (s.slot + 1))) (λ n. goes e s n s.regs s.stack)))
+    (λ a. on_value s.writes (operand s src) (λ b. with_value (cond (holds c w a b) (target s.slot offset) (Some (s.slot + 1))) (λ n. goes e s n s.regs s.stack))
+    (λ b. on_value s.writes (cond (holds c w a b) (target s.slot offset) (Some (s.slot + 1))) (λ n. goes e s n s.regs s.stack) (λ n. goes_on e s n s.regs s.stack)))
+plain_is_silent e s (Call imm) plain = absurd plain
+plain_is_silent e s Exit plain = on_value s.writes (s.regs 0) (λ v. Ends v s.writes) (λ v. refl)
+
 none_declared : (h : HelperSet) (k : Option Helper) → h ≡ no_helpers → if_declared h k ≡ None
 none_declared h None e = refl
 none_declared h (Some Read) e = ap (λ (z : HelperSet). cond z.read (Some Read) None) e
@@ -51,26 +79,8 @@ none_declared h (Some Delete) e = ap (λ (z : HelperSet). cond z.delete (Some De
 none_declared h (Some Start) e = ap (λ (z : HelperSet). cond z.start (Some Start) None) e
 
 does_silently : (e : Environment) (s : State) (i : Insn) → e.judged.helpers ≡ no_helpers → IsSilentStep s.writes (does e s i)
-does_silently e s (Alu op w dst src) none =
-    on_value s.writes (left s op dst) (λ a. with_value (operand s src) (λ b. sets_register e s dst (alu op w a b) 1))
-    (λ a. on_value s.writes (operand s src) (λ b. sets_register e s dst (alu op w a b) 1) (λ b. sets e s dst (alu op w a b) 1))
-does_silently e s (Neg w dst) none = on_value s.writes (value s dst) (λ v. sets_register e s dst (alu Sub w 0 v) 1) (λ v. sets e s dst (alu Sub w 0 v) 1)
-does_silently e s (LoadImm dst imm) none = sets e s dst imm 2
-does_silently e s (Load z dst src offset) none =
-    on_value s.writes (value s src) (λ x. with_values (fetch e s (address x offset) (byte_len (width z))) (λ bs. sets_register e s dst (from_le_bytes (width z) bs) 1))
-    (λ x. on_values s.writes (fetch e s (address x offset) (byte_len (width z))) (λ bs. sets_register e s dst (from_le_bytes (width z) bs) 1) (λ bs. sets e s dst (from_le_bytes (width z) bs) 1))
-does_silently e s (StoreImm z dst offset imm) none =
-    on_value s.writes (value s dst) (λ x. stores_bytes e s (address x offset) (to_le_bytes (width z) (word imm))) (λ x. stores e s (address x offset) (to_le_bytes (width z) (word imm)))
-does_silently e s (Store z dst src offset) none =
-    on_value s.writes (value s dst) (λ x. with_value (value s src) (λ v. stores_bytes e s (address x offset) (to_le_bytes (width z) v)))
-    (λ x. on_value s.writes (value s src) (λ v. stores_bytes e s (address x offset) (to_le_bytes (width z) v)) (λ v. stores e s (address x offset) (to_le_bytes (width z) v)))
-does_silently e s (Jump offset) none = on_value s.writes (target s.slot offset) (λ n. goes e s n s.regs s.stack) (λ n. goes_on e s n s.regs s.stack)
-does_silently e s (JumpIf c w dst src offset) none =
-    on_value s.writes (value s dst) (λ a. with_value (operand s src) (λ b. with_value (cond (holds c w a b) (target s.slot offset) (Some (s.slot + 1))) (λ n. goes e s n s.regs s.stack)))
-    (λ a. on_value s.writes (operand s src) (λ b. with_value (cond (holds c w a b) (target s.slot offset) (Some (s.slot + 1))) (λ n. goes e s n s.regs s.stack))
-    (λ b. on_value s.writes (cond (holds c w a b) (target s.slot offset) (Some (s.slot + 1))) (λ n. goes e s n s.regs s.stack) (λ n. goes_on e s n s.regs s.stack)))
 does_silently e s (Call imm) none = subst (λ h. IsSilentStep s.writes (calls e s h)) (sym (none_declared e.judged.helpers (helper_of imm) none)) tt
-does_silently e s Exit none = on_value s.writes (s.regs 0) (λ v. Ends v s.writes) (λ v. refl)
+does_silently e s i none = plain_is_silent e s i tt
 
 does_at_silently : (e : Environment) (s : State) (i : Option Insn) → e.judged.helpers ≡ no_helpers → IsSilentStep s.writes (does_at e s i)
 does_at_silently e s None none = tt

@@ -9,3 +9,4 @@ pub mod Positions
 pub mod OneMeaning
 pub mod Placements
 pub mod Silent
+pub mod RunWrites

@@ -6,6 +6,7 @@ ghost use Rattle.pb_sound.specs.NeverStuck.{AcceptedAreNeverStuck};
 ghost use Rattle.pb_sound.specs.Alike.{EndIsMeaning};
 ghost use Rattle.pb_sound.specs.Placements.{EachPlacementIsAlike};
 ghost use Rattle.pb_sound.specs.Silent.{WithoutHelpersSilent};
+ghost use Rattle.pb_sound.specs.RunWrites.{RunsWriteBatches};
 ghost use Rattle.pb_sound.specs.OneMeaning.{EachHasOneMeaning};
 ghost use Rattle.pb_sound.specs.Positions.{AcceptedCellsRun, EveryRunEnds};
 ghost use Rattle.pb_sound.specs.Steps.{AcceptedStepTogether};
@@ -80,4 +81,9 @@ pub fn each_placement_is_alike()
 /// A program that may call no helper asks nothing and writes nothing.
 pub fn without_helpers_silent()
     ensures { WithoutHelpersSilent }
+{}
+
+/// A program writes nothing, or 1 to 16 distinct data cells without stamps.
+pub fn runs_write_batches()
+    ensures { RunsWriteBatches }
 {}

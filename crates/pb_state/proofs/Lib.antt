@@ -8,5 +8,6 @@ pub mod ItsDeclaration
 pub mod ReadsTaken
 mod Walking
 mod ObserversByNumber
-mod Runs
 mod SameCells
+mod SameRuns
+mod Behind

@@ -1,6 +1,6 @@
 -- A walk from mark to mark meets each marked cell once.
-use Rattle.std.proofs.Common.{◌≡◌, ℕ, ◌+◌, ◌<◌, Bool, true, false, List, [], ◌∷◌, Option, None, Some, refl, sym, ap, ◌∙◌, subst, arith, is_some, length, zero, suc}
-use Rattle.std.specs.Prelude.{T, cond, ◌&&◌}
+use Rattle.std.proofs.Common.{◌≡◌, ℕ, ◌+◌, ◌<◌, Bool, true, false, List, [], ◌∷◌, Option, None, Some, refl, sym, ap, ◌∙◌, subst, arith, is_some, length, zero, suc, inl, inr}
+use Rattle.std.specs.Prelude.{T, cond, ◌&&◌, ◌⊎◌}
 use Rattle.std.specs.declared.cmp.Ordering.{Ordering}
 use Rattle.std.specs.declared.cmp.Ordering.TheVariants.{Less, Equal, Greater}
 use Rattle.std.specs.Ordering.{eq_by_cmp, is_eq, is_lt, ordering_reverse}
@@ -100,6 +100,44 @@ pub walked_none : (es : List1) → IsWalked None es zero
 walked_none [] = tt
 walked_none (e ∷ es) = tt
 
+-- ---- how many are left
+
+abbrev comes_after : Option Cell → Cell → Bool
+comes_after None x = true
+comes_after (Some y) x = is_lt (cell_cmp y x)
+
+abbrev pub left_after : Option Cell → List1 → ℕ
+left_after last [] = 0
+left_after last (e ∷ es) = cond (comes_after last e.0) (length (e ∷ es)) (left_after last es)
+
+after_true : (last : Option Cell) (x : Cell) → ComesAfter last x → comes_after last x ≡ true
+after_true None x h = refl
+after_true (Some y) x h = ap is_lt h
+
+after_false : (last : Option Cell) (x : Cell) → (ComesAfter last x → ⊥) → comes_after last x ≡ false
+after_false None x h = absurd (h tt)
+after_false (Some y) x h = elim (cell_cmp y x) as (λ r. cell_cmp y x ≡ r → is_lt r ≡ false) [ Less ↦ λ e. absurd (h e) | Equal ↦ λ e. refl | Greater ↦ λ e. refl ] refl
+
+after_or_not : (last : Option Cell) (x : Cell) → ComesAfter last x ⊎ (ComesAfter last x → ⊥)
+after_or_not None x = inl tt
+after_or_not (Some y) x = elim (cell_cmp y x) as (λ r. cell_cmp y x ≡ r → (cell_cmp y x ≡ Less) ⊎ (cell_cmp y x ≡ Less → ⊥)) [ Less ↦ λ e. inl e | Equal ↦ λ e. inr (λ q. cc) | Greater ↦ λ e. inr (λ q. cc) ] refl
+
+left_is : (es : List1) (last : Option Cell) (n : ℕ) → IsWalked last es n → left_after last es + n ≡ length es
+left_is [] last zero w = refl
+left_is [] last (suc n) w = absurd w
+left_is (e ∷ es) last zero w = ap (λ b. cond b (length (e ∷ es)) (left_after last es) + zero) (after_true last e.0 w) ∙ omega arith
+left_is (e ∷ es) last (suc n) w =
+    let rest = left_is es last n w.1 in
+    ap (λ b. cond b (length (e ∷ es)) (left_after last es) + suc n) (after_false last e.0 w.0) ∙ omega (arith, rest)
+
+walked_from : (es : List1) (last : Option Cell) → (n : ℕ) × IsWalked last es n
+walked_from [] last = (zero, tt)
+walked_from (e ∷ es) last = by (after_or_not last e.0) (walked_from es last)
+  where
+    by : ComesAfter last e.0 ⊎ (ComesAfter last e.0 → ⊥) → (n : ℕ) × IsWalked last es n → (n : ℕ) × IsWalked last (e ∷ es) n
+    by (inl h) rest = (zero, h)
+    by (inr h) rest = (suc rest.0, (h, rest.1))
+
 -- ---- over marks
 
 held : (m : Marks) (q : Cell) (b : Bool) → map.contains_key m q ≡ b → has q (map.entries m) ≡ b
@@ -112,3 +150,13 @@ walked_on m last n next w is =
 
 pub walked_all : (m : Marks) (last : Option Cell) (n : ℕ) → IsWalked last (map.entries m) n → IsNextMark m last None → n ≡ length (map.entries m)
 walked_all m last n w is = whole (map.entries m) last n w (λ q after. held m q false (is q after))
+
+-- a mark further on, fewer are left
+pub fewer_left : (m : Marks) (last : Option Cell) (next : Cell) → IsNextMark m last (Some next) → left_after (Some next) (map.entries m) < left_after last (map.entries m)
+fewer_left m last next is =
+    let w = walked_from (map.entries m) last in
+    let on = walked_on m last w.0 next w.1 is in
+    let before = left_is (map.entries m) last w.0 w.1 in
+    let after = left_is (map.entries m) (Some next) (w.0 + 1) on.0 in
+    let short = on.1 in
+    omega (arith, before, after, short)

@@ -2,11 +2,18 @@
 use Rattle.std.specs.Prelude.{[], ◌∷◌}
 use Rattle.pb_base.specs.declared.content.Content.TheVariants.{Stamp}
 use Rattle.pb_base.specs.Batch.{Writes}
+use Rattle.pb_steps.specs.declared.step.Declared.{Declared}
+use Rattle.pb_steps.specs.declared.step.Declared.TheVariants as declared
 use Rattle.pb_steps.specs.State.{batch_in}
 use Rattle.pb_state.specs.declared.cells.Cells.{Cells}
-use Rattle.pb_state.specs.declared.cells.Cells.TheVariants.{Nothing, Batch, Acknowledgment}
+use Rattle.pb_state.specs.declared.cells.Cells.TheVariants.{Nothing, Batch, Run}
+
+-- what a run's program writes
+abbrev pub run_writes : Declared → Writes
+run_writes (declared.Script batch) = []
+run_writes (declared.Run o f) = f.writes
 
 abbrev pub cells_in : Cells → Writes
 cells_in Nothing = []
 cells_in (Batch what) = batch_in what
-cells_in (Acknowledgment x s) = (x, Stamp s) ∷ []
+cells_in (Run x s what) = (x, Stamp s) ∷ run_writes what

@@ -2,3 +2,4 @@ pub mod Cells
 pub mod Starts
 pub mod Keeping
 pub mod Walks
+pub mod Behind

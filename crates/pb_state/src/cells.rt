@@ -1,7 +1,11 @@
 //! What a transaction has declared that it writes.
 ghost use Rattle.std.specs.Prelude.{◌≡◌};
+ghost use Rattle.std.specs.List.{list_all};
+ghost use Rattle.pb_base.specs.Batch.{content_in};
+ghost use Rattle.pb_steps.specs.State.{is_in};
+ghost use Rattle.pb_state.specs.Cells.{run_writes};
 
-use pb_base::{Cell, Ts};
+use pb_base::{Batch, Cell, Content, Ts};
 use pb_steps::{Declaration, Declared};
 
 /// What a transaction has declared that it writes.
@@ -9,8 +13,59 @@ use pb_steps::{Declaration, Declared};
 pub(crate) enum Cells {
     Nothing,
     Batch(Declaration),
-    /// A run's acknowledgment alone, with its stamp.
-    Acknowledgment(Cell, Ts),
+    /// A run's acknowledgment, with its stamp, and what its program writes.
+    Run {
+        acknowledgment: Cell,
+        stamp: Ts,
+        what: Declaration,
+    },
+}
+
+// What the writes give a cell.
+fn content_in(writes: &[(Cell, Content)], cell: &Cell) -> Option<Content>
+    ensures { result ≡ content_in writes.now cell.now }
+{
+    for write in writes {
+        if *cell == write.0 {
+            return Some(write.1);
+        }
+    }
+    None
+}
+
+// Whether every cell of the batch is in the list.
+fn has_batch(cells: &[Cell], batch: &Batch) -> bool
+    ensures { result ≡ list_all (λ w. is_in cells.now w.0) batch.now }
+{
+    for place in 0..batch.len() {
+        let (cell, _) = batch.at(place);
+        if !cells.contains(&cell) {
+            return false;
+        }
+    }
+    true
+}
+
+// Whether every cell of the writes is in the list.
+fn has_writes(cells: &[Cell], writes: &[(Cell, Content)]) -> bool
+    ensures { result ≡ list_all (λ w. is_in cells.now w.0) writes.now }
+{
+    for write in writes {
+        if !cells.contains(&write.0) {
+            return false;
+        }
+    }
+    true
+}
+
+// What a run's program writes.
+fn run_writes(what: &Declared) -> &[(Cell, Content)]
+    ensures { result.now ≡ run_writes what.now }
+{
+    match what {
+        Declared::Script(_) => &[],
+        Declared::Run(_, finished) => finished.writes(),
+    }
 }
 
 impl Cells {
@@ -28,7 +83,48 @@ impl Cells {
                 Declared::Script(batch) => Some(batch.primary()),
                 Declared::Run(_, _) => None,
             },
-            Cells::Acknowledgment(acknowledgment, _) => Some(*acknowledgment),
+            Cells::Run { acknowledgment, .. } => Some(*acknowledgment),
+        }
+    }
+
+    /// What is written to a cell.
+    pub(crate) fn content(&self, cell: Cell) -> Option<Content>
+        ensures { result ≡ content_in (cells_in self.now) cell }
+    {
+        match self {
+            Cells::Nothing => None,
+            Cells::Batch(what) => match what.get() {
+                Declared::Script(batch) => batch.content(cell),
+                Declared::Run(_, _) => None,
+            },
+            Cells::Run {
+                acknowledgment,
+                stamp,
+                what,
+            } => {
+                if cell == *acknowledgment {
+                    return Some(Content::Stamp(*stamp));
+                }
+                content_in(run_writes(what.get()), &cell)
+            }
+        }
+    }
+
+    /// Whether all of them are in the list.
+    pub(crate) fn are_in(&self, list: &[Cell]) -> bool
+        ensures { result ≡ list_all (λ w. is_in list.now w.0) (cells_in self.now) }
+    {
+        match self {
+            Cells::Nothing => true,
+            Cells::Batch(what) => match what.get() {
+                Declared::Script(batch) => has_batch(list, batch),
+                Declared::Run(_, _) => true,
+            },
+            Cells::Run {
+                acknowledgment,
+                what,
+                ..
+            } => list.contains(acknowledgment) && has_writes(list, run_writes(what.get())),
         }
     }
 }

@@ -2,7 +2,7 @@
 ghost use Rattle.std.specs.Prelude.{◌≡◌, IfOk, OnErr, None};
 ghost use Rattle.pb_steps.specs.Steps.{step_reason, TableStep};
 
-use crate::commit_primary::commit_edits;
+use crate::commit::commit_cell;
 use crate::parts::Parts;
 use crate::readings::{any_lock_on, commit_of, has_lock};
 use crate::settle::erase_edits;
@@ -24,7 +24,7 @@ impl<T: Tablet> Parts<T> {
         }
         match commit_of(&self.table, &primary, start) {
             Some(commit) => {
-                self.table.apply(&commit_edits(cell, start, commit))?;
+                commit_cell(&mut self.table, &self.observers, cell, start, commit)?;
                 Ok(Answer::CommittedAt(commit))
             }
             None => {

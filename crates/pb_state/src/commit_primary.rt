@@ -1,26 +1,15 @@
 //! The primary's lock is replaced by its write record.
 ghost use Rattle.std.specs.Prelude.{◌≡◌, IfOk, OnErr, None};
-ghost use Rattle.pb_store.specs.Contents.{Contents, AreEdits, after_edits};
-ghost use Rattle.pb_steps.specs.Commits.{commit_lock};
 ghost use Rattle.pb_steps.specs.CommitPrimary.{commit_reasons};
 ghost use Rattle.pb_steps.specs.Reasons.{own_reasons, first_reason};
 ghost use Rattle.pb_steps.specs.Steps.{step_reason, TableStep};
 
+use crate::commit::commit_cell;
 use crate::parts::Parts;
-use crate::readings::{has_lock, slot_of};
-use pb_base::{Cell, NoMemory, Reason, Ts};
+use crate::readings::has_lock;
+use pb_base::{NoMemory, Reason, Ts};
 use pb_steps::{Answer, Phase, Step};
-use pb_store::{Edit, Item, Sort, Tablet};
-
-// Replaces the lock of a start on a cell by its write record.
-pub(crate) fn commit_edits(cell: &Cell, start: Ts, commit: Ts) -> [Edit; 2]
-    ensures edits { AreEdits result }
-    ensures committed { (c : Contents) → after_edits result c ≡ record c { entries = commit_lock c.entries cell.now start.0 commit.0 } }
-{
-    let lock = slot_of(cell, Sort::Lock, start);
-    let record = slot_of(cell, Sort::Write, commit);
-    [Edit::Erase(lock), Edit::Put(record, Item::Write(start))]
-}
+use pb_store::Tablet;
 
 impl<T: Tablet> Parts<T> {
     pub(crate) fn commit_reason(&self, seat: u32, start: Ts) -> Option<Reason>
@@ -53,7 +42,7 @@ impl<T: Tablet> Parts<T> {
             self.transactions.set_phase(start, Phase::Failed);
             return Ok(Answer::Lost);
         }
-        self.table.apply(&commit_edits(&primary, start, commit))?;
+        commit_cell(&mut self.table, &self.observers, &primary, start, commit)?;
         self.transactions.set_phase(start, Phase::Committed(commit));
         Ok(Answer::Committed)
     }

@@ -4,7 +4,7 @@ ghost use Rattle.pb_steps.specs.CommitSecondary.{secondary_reasons};
 ghost use Rattle.pb_steps.specs.Reasons.{own_reasons, first_reason};
 ghost use Rattle.pb_steps.specs.Steps.{step_reason, TableStep};
 
-use crate::commit_primary::commit_edits;
+use crate::commit::commit_cell;
 use crate::parts::Parts;
 use crate::readings::has_lock;
 use pb_base::{Cell, NoMemory, Reason, Ts};
@@ -46,7 +46,7 @@ impl<T: Tablet> Parts<T> {
         if !has_lock(&self.table, cell, start) {
             return Ok(Answer::Done);
         }
-        self.table.apply(&commit_edits(cell, start, commit))?;
+        commit_cell(&mut self.table, &self.observers, cell, start, commit)?;
         Ok(Answer::Done)
     }
 }

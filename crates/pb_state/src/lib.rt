@@ -4,9 +4,11 @@
 mod begin;
 mod cells;
 mod clear;
+mod commit;
 mod commit_primary;
 mod commit_secondary;
 mod declare;
+mod next_mark;
 mod observed;
 mod parts;
 mod prewrite;
@@ -15,6 +17,7 @@ mod readings;
 mod settle;
 mod stamp;
 mod state;
+mod sweep;
 mod transaction;
 mod transactions;
 

@@ -1,28 +1,30 @@
 //! Whether a declaration is one of its transaction, and what it writes.
-ghost use Rattle.std.specs.Prelude.{◌≡◌, Some, IfOk, is_some, true, slice_get};
+ghost use Rattle.std.specs.Prelude.{◌≡◌, ◌↔◌, IsTrue, Some, IfOk, is_some, true, slice_get};
 ghost use Rattle.std.specs.Option.{option_copied};
-ghost use Rattle.pb_base.specs.Same.{same};
 ghost use Rattle.pb_base.specs.Batch.{primary_in};
-ghost use Rattle.pb_vm.specs.Finished.{meant_code};
+ghost use Rattle.pb_helpers.specs.Replies.{ask_of, reply_of};
+ghost use Rattle.pb_vm.specs.Position.{talk_of};
 ghost use Rattle.pb_steps.specs.Observers.{observed_cell, acknowledgment, acknowledgment_by};
-ghost use Rattle.pb_steps.specs.Declarations.{IsKnown, seen_in, plain_run, is_run, is_its};
+ghost use Rattle.pb_steps.specs.Reads.{value_in};
+ghost use Rattle.pb_steps.specs.Declarations.{IsKnown, seen_in, asked_in, is_replied, are_replies, is_made_of, is_run, is_run_of, is_its};
 ghost use Rattle.pb_steps.specs.State.{cells_of};
 ghost use Rattle.pb_state.specs.Cells.{cells_in};
 
 use crate::cells::Cells;
 use pb_base::{Cell, NoMemory, ObserverNo, Row, Ts};
-use pb_helpers::Record;
+use pb_helpers::{Ask, Record, Reply};
 use pb_steps::{
-    Declaration, Declared, Observer, RecordedRead, Seen, Work, acknowledged_in, version_in,
+    Answer, Declaration, Declared, Observer, RecordedRead, Seen, Work, acknowledged_in, reply_in,
+    version_in,
 };
 use pb_verify::Accepted;
 use pb_vm::Finished;
 
-// The reads of a run are its cell, found, and its acknowledgment.
+// The first two reads of a run are its cell, found, and its acknowledgment.
 fn seen_in(cell: &Cell, acknowledgment: &Cell, reads: &[RecordedRead]) -> Option<Seen>
     ensures { result ≡ seen_in cell.now acknowledgment.now reads.now }
 {
-    let [first, second] = reads else {
+    let [first, second, ..] = reads else {
         return None;
     };
     if first.cell != *cell || second.cell != *acknowledgment {
@@ -35,9 +37,53 @@ fn seen_in(cell: &Cell, acknowledgment: &Cell, reads: &[RecordedRead]) -> Option
     })
 }
 
-// Whether a run is this program's on this record, from this start, without asks and writes.
+// The reads after these two.
+fn asked_in(reads: &[RecordedRead]) -> &[RecordedRead]
+    ensures { result.now ≡ asked_in reads.now }
+{
+    match reads {
+        [_, _, asked @ ..] => asked,
+        _ => &[],
+    }
+}
+
+// Whether a program was told so of a cell that was read so.
+fn is_told(reply: Reply, answer: Answer) -> bool
+    ensures { IsTrue result ↔ (reply_of reply ≡ value_in answer) }
+{
+    match (reply, reply_in(answer)) {
+        (Reply::Found(told), Reply::Found(value)) => told == value,
+        (Reply::Absent, Reply::Absent) => true,
+        _ => false,
+    }
+}
+
+// Whether a read is of the cell that was asked for, and the reply what it found.
+fn is_replied(read: &RecordedRead, said: &(Ask, Reply)) -> bool
+    ensures { result ≡ is_replied read.now (ask_of said.now.0, reply_of said.now.1) }
+{
+    if read.cell != Cell::Data(said.0.row, said.0.column) {
+        return false;
+    }
+    is_told(said.1, read.answer)
+}
+
+// Whether the reads are those of the asks, each with its reply, in order.
+fn are_replies(reads: &[RecordedRead], talk: &[(Ask, Reply)]) -> bool
+    ensures { result ≡ are_replies reads.now (talk_of talk.now) }
+{
+    match reads {
+        [] => talk.is_empty(),
+        [read, reads @ ..] => match talk {
+            [] => false,
+            [said, talk @ ..] => is_replied(read, said) && are_replies(reads, talk),
+        },
+    }
+}
+
+// Whether a run is this program's on this record, from this start.
 fn is_made_of(finished: &Finished, program: &Accepted, change: &Record, start: Ts) -> bool
-    ensures { result ≡ same meant_code finished.now (plain_run program.now change.now start.0 finished.now.result) }
+    ensures { result ≡ is_made_of program.now change.now start.0 finished.now }
 {
     if !finished.is_of(program) {
         return false;
@@ -45,10 +91,7 @@ fn is_made_of(finished: &Finished, program: &Accepted, change: &Record, start: T
     if !finished.record().is_same(change) {
         return false;
     }
-    if finished.run() != start {
-        return false;
-    }
-    finished.is_plain()
+    finished.run() == start
 }
 
 // Whether a run of this start is the observer's program on the record of what was seen, and newer than what was
@@ -70,8 +113,8 @@ fn observer_at(observers: &[Observer], number: ObserverNo) -> Option<&Observer>
     observers.get(number.number() as usize)
 }
 
-// Whether a run of this start is the observer's of what its transaction read.
-fn is_run_of(
+// Whether a run of this start is the observer's on the record of what its transaction read first.
+fn is_run_on(
     observers: &[Observer],
     number: ObserverNo,
     row: Row,
@@ -90,6 +133,21 @@ fn is_run_of(
         return false;
     };
     is_run(observer, &cell, start, finished, &seen)
+}
+
+// The same, with what its transaction read for it.
+fn is_run_of(
+    observers: &[Observer],
+    number: ObserverNo,
+    row: Row,
+    start: Ts,
+    reads: &[RecordedRead],
+    finished: &Finished,
+) -> bool
+    ensures { result ≡ is_run_of observers.now number row start.0 reads.now finished.now }
+{
+    is_run_on(observers, number, row, start, reads, finished)
+        && are_replies(asked_in(reads), finished.talk())
 }
 
 /// Whether a declaration is one of a transaction with this work, start and reads.
@@ -151,5 +209,10 @@ pub(crate) fn cells_of(
     let Some(acknowledgment) = acknowledgment_of(observers, work) else {
         unreachable!()
     };
-    Ok(Cells::Acknowledgment(acknowledgment, start))
+    let what = what.share()?;
+    Ok(Cells::Run {
+        acknowledgment,
+        stamp: start,
+        what,
+    })
 }

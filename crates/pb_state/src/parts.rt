@@ -72,6 +72,7 @@ impl<T: Tablet> Parts<T> {
             Step::CommitPrimary(start) => self.commit_reason(seat, *start),
             Step::CommitSecondary(start, cell) => self.secondary_reason(seat, *start, cell),
             Step::Settle(_) | Step::Clear(_) => self.seat_reason(seat),
+            Step::NextMark(_) | Step::Sweep(_) => self.seat_reason(seat),
         }
     }
 
@@ -92,6 +93,8 @@ impl<T: Tablet> Parts<T> {
             Step::CommitSecondary(start, cell) => self.commit_secondary(seat, *start, cell),
             Step::Settle(cell) => self.settle(seat, cell),
             Step::Clear(cell) => self.clear(seat, cell),
+            Step::NextMark(after) => Ok(self.next_mark(seat, *after)),
+            Step::Sweep(cell) => self.sweep(seat, cell),
         }
     }
 }

@@ -10,7 +10,7 @@ use pb_base::{Cell, Content, Ts, Version};
 use pb_store::{Item, Slot, Sort, Table, Tablet};
 
 /// The last timestamp there is.
-const LAST: Ts = Ts(u64::MAX);
+pub(crate) const LAST: Ts = Ts(u64::MAX);
 
 pub(crate) fn slot_of(cell: &Cell, sort: Sort, ts: Ts) -> Slot
     ensures { result ≡ slot_at cell.now sort ts.0 }

@@ -2,8 +2,7 @@
 ghost use Rattle.std.specs.Prelude.{◌≡◌, IfOk, OnErr, None};
 ghost use Rattle.pb_store.specs.Contents.{Contents, AreEdits, after_edits};
 ghost use Rattle.pb_steps.specs.Commits.{erase_lock};
-ghost use Rattle.pb_steps.specs.Settle.{seat_reasons};
-ghost use Rattle.pb_steps.specs.Reasons.{first_reason};
+ghost use Rattle.pb_steps.specs.Reasons.{first_reason, seat_reasons};
 ghost use Rattle.pb_steps.specs.Steps.{step_reason, TableStep};
 
 use crate::parts::Parts;

@@ -1,11 +1,9 @@
 //! A transaction.
 ghost use Rattle.std.specs.Prelude.{◌≡◌, ◌<◌, ◌++◌, ◌∷◌, [], OnOk, vec_len, vec_capacity};
-ghost use Rattle.std.specs.List.{list_all};
-ghost use Rattle.pb_steps.specs.State.{is_in};
 
 use crate::cells::Cells;
-use pb_base::{Batch, Cell, Content, NoMemory, Reason, Ts};
-use pb_steps::{Answer, Declared, Phase, RecordedRead, Work};
+use pb_base::{Cell, Content, NoMemory, Reason, Ts};
+use pb_steps::{Answer, Phase, RecordedRead, Work};
 use pb_store::{Edit, Table, Tablet};
 use std::alloc::Global;
 use std::marker::Model;
@@ -43,7 +41,7 @@ impl Transaction {
     ghost use Rattle.std.specs.Prelude.{◌≡◌, OnOk, OnErr, ◌++◌, ◌∷◌, [], is_some, true, false};
     ghost use Rattle.pb_base.specs.Batch.{content_in, primary_in};
     ghost use Rattle.pb_store.specs.Contents.{AreEdits, after_edits};
-    ghost use Rattle.pb_steps.specs.State.{new_transaction};
+    ghost use Rattle.pb_steps.specs.State.{new_transaction, is_in};
     ghost use Rattle.pb_state.specs.Cells.{cells_in};
     ghost use Rattle.pb_steps.specs.Read.{with_read};
     ghost use Rattle.pb_steps.specs.Stamp.{is_whole};
@@ -93,20 +91,7 @@ impl Transaction {
     pub(crate) fn content(&self, cell: Cell) -> Option<Content>
         ensures { result ≡ content_in self.now.declared cell }
     {
-        match &self.cells {
-            Cells::Nothing => None,
-            Cells::Batch(what) => match what.get() {
-                Declared::Script(batch) => batch.content(cell),
-                Declared::Run(_, _) => None,
-            },
-            Cells::Acknowledgment(acknowledgment, stamp) => {
-                if cell == *acknowledgment {
-                    Some(Content::Stamp(*stamp))
-                } else {
-                    None
-                }
-            }
-        }
+        self.cells.content(cell)
     }
 
     /// Whether it declared to write the cell.
@@ -217,14 +202,7 @@ impl Transaction {
     pub(crate) fn is_whole(&self) -> bool
         ensures { result ≡ is_whole self.now }
     {
-        match &self.cells {
-            Cells::Nothing => true,
-            Cells::Batch(what) => match what.get() {
-                Declared::Script(batch) => are_among(&self.prewritten, batch),
-                Declared::Run(_, _) => true,
-            },
-            Cells::Acknowledgment(acknowledgment, _) => self.prewritten.contains(acknowledgment),
-        }
+        self.cells.are_in(&self.prewritten)
     }
 }
 
@@ -241,17 +219,4 @@ fn append<X: Drop>(list: &mut Vec<X>, item: X)
     ensures { list.new.items ≡ list.old.items ++ item ∷ [] }
 {
     list.push(item).unwrap();
-}
-
-// Whether every cell of the batch is in the list.
-fn are_among(cells: &[Cell], batch: &Batch) -> bool
-    ensures { result ≡ list_all (λ w. is_in cells.now w.0) batch.now }
-{
-    for place in 0..batch.len() {
-        let (cell, _) = batch.at(place);
-        if !cells.contains(&cell) {
-            return false;
-        }
-    }
-    true
 }

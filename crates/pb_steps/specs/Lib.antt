@@ -10,10 +10,13 @@ pub mod Read
 pub mod Declare
 pub mod Prewrite
 pub mod Stamp
+pub mod Marks
 pub mod Commits
 pub mod CommitPrimary
 pub mod CommitSecondary
 pub mod Settle
 pub mod Clear
+pub mod NextMark
+pub mod Sweep
 pub mod Steps
 pub mod Answers

@@ -55,6 +55,15 @@ pub record IsVersion (e : Entries) (x : Cell) (s : ℕ) (v : Version) : Type 0 w
 abbrev pub NoVersion : Entries → Cell → ℕ → Type 0
 NoVersion e x s = (c : ℕ) → c ≤ s → write_at e x c ≡ None
 
+-- the greatest timestamp of 64 bits
+abbrev pub last_timestamp : ℕ
+last_timestamp = 18446744073709551615
+
+-- the newest version of x, if it has any
+abbrev pub IsNewestVersion : Entries → Cell → Option Version → Type 0
+IsNewestVersion e x None = NoVersion e x last_timestamp
+IsNewestVersion e x (Some v) = IsVersion e x last_timestamp v
+
 -- no lock stands on x
 abbrev pub NoLock : Entries → Cell → Type 0
 NoLock e x = (u : ℕ) → u < 2 ^ 64 → lock_at e x u ≡ None

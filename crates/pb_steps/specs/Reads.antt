@@ -1,9 +1,13 @@
 -- What a transaction has read.
 use Rattle.std.specs.Prelude.{Option, Some, None}
+use Rattle.std.specs.Coded.{Coded, coded_ℕ, coded_list, coded_option}
+use Rattle.pb_base.specs.declared.cell.Cell.{Cell}
+use Rattle.pb_base.specs.declared.cell.Cell.TheVariants.{Data}
 use Rattle.pb_base.specs.declared.names.Ts.{Ts}
 use Rattle.pb_base.specs.declared.content.Content.{Content}
-use Rattle.pb_base.specs.declared.content.Content.TheVariants.{Stamp}
+use Rattle.pb_base.specs.declared.content.Content.TheVariants.{Value, Stamp}
 use Rattle.pb_base.specs.declared.content.Version.{Version}
+use Rattle.pb_isa.specs.Machine.{Ask, Reply}
 use Rattle.pb_steps.specs.declared.step.Answer.{Answer}
 use Rattle.pb_steps.specs.declared.step.Answer.TheVariants.{Found}
 
@@ -25,3 +29,19 @@ version_in _ = None
 abbrev pub acknowledged_in : Answer → Ts
 acknowledged_in (Found start commit content) = stamp_of content
 acknowledged_in _ = record { 0 = 0 }
+
+-- the cell that an ask names
+abbrev pub asked_cell : Ask → Cell
+asked_cell a = Data (record { 0 = a.row }) a.column
+
+abbrev pub value_of : Content → Reply
+value_of (Value v) = Some v
+value_of _ = None
+
+-- the value that a read found; none where its cell was absent or deleted
+abbrev pub value_in : Answer → Reply
+value_in (Found start commit content) = value_of content
+value_in _ = None
+
+abbrev pub value_code : Coded Reply
+value_code = coded_option (coded_list coded_ℕ)

@@ -4,6 +4,7 @@ use Rattle.std.specs.FinMap as map
 use Rattle.pb_base.specs.declared.refusal.Reason.{Reason}
 use Rattle.pb_base.specs.declared.refusal.Reason.TheVariants.{NotOfSeat}
 use Rattle.pb_steps.specs.State.{StateOf, TransactionOf}
+use Rattle.pb_steps.specs.Readings.{last_timestamp}
 
 -- reasons with whether each applies
 abbrev pub Reasons : Type 0
@@ -16,11 +17,15 @@ first_reason (r ∷ rs) = if r.1 then Some r.0 else first_reason rs
 
 -- no timestamp is left
 abbrev pub is_out : StateOf → Bool
-is_out s = s.clock == 18446744073709551615
+is_out s = s.clock == last_timestamp
 
 -- the table has no seat of this number
 abbrev pub no_seat : StateOf → ℕ → Bool
 no_seat s seat = not (nat_lt seat s.seats)
+
+-- what names no transaction asks for a seat of the table alone
+abbrev pub seat_reasons : StateOf → ℕ → Reasons
+seat_reasons s seat = (NotOfSeat, no_seat s seat) ∷ []
 
 -- the transaction of this start is there, and is one of this seat
 pub record IsOwn (s : StateOf) (seat start : ℕ) (t : TransactionOf) : Type 0 where

@@ -1,18 +1,12 @@
 -- Anyone takes a lock off its own primary. Its transaction may still be at work, and can't commit any more (OSDI 2010,
 -- section 2.2).
-use Rattle.std.specs.Prelude.{◌≡◌, ℕ, false, [], ◌∷◌}
+use Rattle.std.specs.Prelude.{◌≡◌, ℕ, false}
 use Rattle.std.specs.Ordering.{eq_by_cmp}
 use Rattle.pb_base.specs.declared.cell.Cell.{Cell}
-use Rattle.pb_base.specs.declared.refusal.Reason.TheVariants.{NotOfSeat}
 use Rattle.pb_base.specs.Cell.{cell_cmp}
 use Rattle.pb_steps.specs.State.{StateOf}
 use Rattle.pb_steps.specs.Readings.{NoLock, IsLockOn}
 use Rattle.pb_steps.specs.Commits.{rolls_back}
-use Rattle.pb_steps.specs.Reasons.{Reasons, no_seat}
-
--- what names no transaction asks for a seat of the table alone
-abbrev pub seat_reasons : StateOf → ℕ → Reasons
-seat_reasons s seat = (NotOfSeat, no_seat s seat) ∷ []
 
 -- no lock stands on x
 pub record MeetsNoLock (old : StateOf) (x : Cell) (new : StateOf) : Type 0 where

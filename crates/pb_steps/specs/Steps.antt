@@ -7,7 +7,7 @@ use Rattle.pb_steps.specs.declared.step.Step.TheVariants as steps
 use Rattle.pb_steps.specs.declared.step.Answer.{Answer}
 use Rattle.pb_steps.specs.declared.step.Answer.TheVariants as answers
 use Rattle.pb_steps.specs.State.{StateOf}
-use Rattle.pb_steps.specs.Reasons.{Reasons, first_reason, own_reasons}
+use Rattle.pb_steps.specs.Reasons.{Reasons, first_reason, own_reasons, seat_reasons}
 use Rattle.pb_steps.specs.Begin.{begin_reasons, Begins}
 use Rattle.pb_steps.specs.Read.{read_reasons, ReadsLocked, ReadsFound, ReadsAbsent}
 use Rattle.pb_steps.specs.Declare.{declare_reasons, Declares}
@@ -15,8 +15,10 @@ use Rattle.pb_steps.specs.Prewrite.{prewrite_reasons, Prewrites, Conflicts}
 use Rattle.pb_steps.specs.Stamp.{stamp_reasons, Stamps}
 use Rattle.pb_steps.specs.CommitPrimary.{commit_reasons, CommitsPrimary, Loses}
 use Rattle.pb_steps.specs.CommitSecondary.{secondary_reasons, CommitsSecondary}
-use Rattle.pb_steps.specs.Settle.{seat_reasons, MeetsNoLock, MeetsSecondary, Settles}
+use Rattle.pb_steps.specs.Settle.{MeetsNoLock, MeetsSecondary, Settles}
 use Rattle.pb_steps.specs.Clear.{ClearWaits, ClearsCommitted, ClearsBack}
+use Rattle.pb_steps.specs.NextMark.{FindsMark, FindsNone}
+use Rattle.pb_steps.specs.Sweep.{SweepsNothing, StaysMarked, Sweeps}
 
 -- why a step may be refused, by rising numbers, each with whether it applies
 abbrev pub step_reasons : StateOf → ℕ → Step → Reasons
@@ -29,6 +31,8 @@ step_reasons s seat (steps.CommitPrimary start) = own_reasons s seat start.0 com
 step_reasons s seat (steps.CommitSecondary start x) = own_reasons s seat start.0 (secondary_reasons x)
 step_reasons s seat (steps.Settle x) = seat_reasons s seat
 step_reasons s seat (steps.Clear x) = seat_reasons s seat
+step_reasons s seat (steps.NextMark after) = seat_reasons s seat
+step_reasons s seat (steps.Sweep x) = seat_reasons s seat
 
 -- why a step is refused, if it is: the reason with the lowest number
 abbrev pub step_reason : StateOf → ℕ → Step → Option Reason
@@ -54,6 +58,11 @@ StepCase old seat (steps.Clear x) answers.Absent new = MeetsNoLock old x new
 StepCase old seat (steps.Clear x) answers.Waits new = ClearWaits old x new
 StepCase old seat (steps.Clear x) (answers.CommittedAt c) new = ClearsCommitted old x c.0 new
 StepCase old seat (steps.Clear x) answers.RolledBack new = ClearsBack old x new
+StepCase old seat (steps.NextMark after) (answers.Marked x) new = FindsMark old after x new
+StepCase old seat (steps.NextMark after) answers.NoMark new = FindsNone old after new
+StepCase old seat (steps.Sweep x) answers.NoMark new = SweepsNothing old x new
+StepCase old seat (steps.Sweep x) answers.StillBehind new = StaysMarked old x new
+StepCase old seat (steps.Sweep x) answers.Done new = Sweeps old x new
 StepCase old seat _ _ new = ⊥
 
 -- one step of the table: a refused step has no case

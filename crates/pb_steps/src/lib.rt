@@ -8,5 +8,5 @@ mod step;
 
 pub use observer::Observer;
 pub use phase::Phase;
-pub use seen::{RecordedRead, Seen, acknowledged_in, version_in};
+pub use seen::{RecordedRead, Seen, acknowledged_in, reply_in, stamp_of, version_in};
 pub use step::{Answer, Declaration, Declared, Step, Work};

@@ -1,9 +1,11 @@
 //! What a transaction has read.
 ghost use Rattle.std.specs.Prelude.{◌≡◌};
-ghost use Rattle.pb_steps.specs.Reads.{stamp_of, version_in, acknowledged_in};
+ghost use Rattle.pb_helpers.specs.Replies.{reply_of};
+ghost use Rattle.pb_steps.specs.Reads.{stamp_of, version_in, acknowledged_in, value_of, value_in};
 
 use crate::step::Answer;
 use pb_base::{Cell, Content, Ts, Version};
+use pb_helpers::Reply;
 
 /// A read that was answered with what the cell held, as it is recorded with its transaction: the cell, the timestamp up to
 /// which it was read, and the answer.
@@ -21,7 +23,8 @@ pub struct Seen {
     pub acknowledged: Ts,
 }
 
-fn stamp_of(content: Content) -> Ts
+/// The timestamp of a stamp, 0 where it is none.
+pub fn stamp_of(content: Content) -> Ts
     ensures { result ≡ stamp_of content }
 {
     match content {
@@ -56,5 +59,25 @@ pub fn acknowledged_in(answer: Answer) -> Ts
     match answer {
         Answer::Found { content, .. } => stamp_of(content),
         _ => Ts(0),
+    }
+}
+
+fn value_of(content: Content) -> Reply
+    ensures { reply_of result ≡ value_of content }
+{
+    match content {
+        Content::Value(value) => Reply::Found(value),
+        Content::Deleted => Reply::Absent,
+        Content::Stamp(_) => Reply::Absent,
+    }
+}
+
+/// What a program is told of a cell that it asked for, as it was read: deleted and absent are the same to it.
+pub fn reply_in(answer: Answer) -> Reply
+    ensures { reply_of result ≡ value_in answer }
+{
+    match answer {
+        Answer::Found { content, .. } => value_of(content),
+        _ => Reply::Absent,
     }
 }

@@ -92,7 +92,7 @@ impl Declaration {
     }
 }
 
-/// What is asked of the table, one step at a time (OSDI 2010, sections 2.2 and 2.3). A transaction goes by its start.
+/// What is asked of the table, one step at a time (OSDI 2010, sections 2.2 to 2.4). A transaction goes by its start.
 #[derive(Drop)]
 pub enum Step {
     /// A new transaction.
@@ -113,6 +113,10 @@ pub enum Step {
     Settle(Cell),
     /// Takes a lock off a cell, by anyone, once its primary has none: it goes the way that the primary went.
     Clear(Cell),
+    /// Looks for the first marked cell after this one, or for the first of all: an observer may have work there.
+    NextMark(Option<Cell>),
+    /// Takes the mark off a cell, once no observer of its column is behind on it.
+    Sweep(Cell),
 }
 
 impl Step {
@@ -133,6 +137,8 @@ impl Step {
             Step::CommitSecondary(start, cell) => Ok(Step::CommitSecondary(*start, *cell)),
             Step::Settle(cell) => Ok(Step::Settle(*cell)),
             Step::Clear(cell) => Ok(Step::Clear(*cell)),
+            Step::NextMark(after) => Ok(Step::NextMark(*after)),
+            Step::Sweep(cell) => Ok(Step::Sweep(*cell)),
         }
     }
 }
@@ -167,4 +173,10 @@ pub enum Answer {
     Waits,
     /// The lock is replaced by the write record of this commit, at which its primary has one.
     CommittedAt(Ts),
+    /// The first marked cell.
+    Marked(Cell),
+    /// There is none, or the cell isn't marked.
+    NoMark,
+    /// An observer of the cell's column is behind on it; the mark stays.
+    StillBehind,
 }

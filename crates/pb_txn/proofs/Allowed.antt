@@ -20,7 +20,7 @@ use Rattle.pb_steps.specs.CommitSecondary.{secondary_reasons}
 use Rattle.pb_steps.specs.State.{StateOf, TransactionOf, is_in}
 use Rattle.pb_steps.specs.Reasons.{Reasons, first_reason, is_out, no_seat, if_of_seat, own_transaction, reasons_of, own_reasons}
 use Rattle.pb_steps.specs.Steps.{step_reason}
-use Rattle.pb_history.specs.Laws.{HistoriesAreTold, TransactionsAreTold}
+use Rattle.pb_history.specs.Laws.{HistoriesAreTold, TransactionsAreTold, JournalsAreSound}
 use Rattle.pb_txn.specs.declared.place.Place.{Place}
 use Rattle.pb_txn.specs.declared.place.Place.TheVariants.{Declaring, Prewriting, Stamping, CommittingPrimary, CommittingSecondary, Settling, Clearing, Over}
 use Rattle.pb_txn.specs.Places.{declared_cells, step_at}
@@ -29,7 +29,6 @@ use Rattle.pb_txn.specs.Allowed.{IsInRange, IsTimely, PlansAreAllowed}
 use Rattle.pb_txn.proofs.DistinctCells.{cells_in, has_content, not_before, in_order, all_in}
 use Rattle.pb_txn.proofs.WithoutReads.{bare}
 use Rattle.pb_txn.proofs.PlanPlaces.{IsAt, cell_of}
-use Rattle.pb_txn.proofs.ObserversStay.{observers_stay}
 use Rattle.pb_txn.proofs.PlanTransactions.{HasCells, HasCellsAt, keeps, cells_by_now, stands}
 
 -- ---- reasons
@@ -169,12 +168,12 @@ module _ (state : StateOf) (seat s : ℕ) (what : Declared) (why : Reason) where
       subst Timely x.2 (seat_alone (no_seat state seat) why)
   at_place (Over o) step is e = absurd cc
 
-pub plans_allowed : HistoriesAreTold → TransactionsAreTold → PlansAreAllowed
-plans_allowed histories transactions observers seats clock journal state legal seat s what said q step why range talk has next refused =
+pub plans_allowed : HistoriesAreTold → TransactionsAreTold → JournalsAreSound → PlansAreAllowed
+plans_allowed histories transactions sound observers seats clock journal state legal seat s what said q step why range talk has next refused =
     let k = keeps (fresh s what) q said talk in
     let here : step_at s what q.place ≡ Some step = (λ i. step_at (sym k.0 i) (sym k.1 i) q.place) ∙ next in
     let history = histories observers seats clock journal state legal in
-    let os-is = observers_stay observers seats clock journal state legal in
+    let os-is = (sound observers seats clock journal state legal).observers_stay in
     let told = transactions observers seats clock journal state legal in
     at_place state seat s what why q.place step (λ t h. (
       stands journal state seat s what said q t told h talk has,

@@ -6,5 +6,4 @@ pub mod DistinctCells
 pub mod WithoutReads
 pub mod PlanPlaces
 pub mod PlanTransactions
-pub mod ObserversStay
 pub mod Allowed

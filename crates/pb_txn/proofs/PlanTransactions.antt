@@ -1,22 +1,16 @@
 -- The transaction of a plan, whose entries are the plan's conversation, has come to where the plan stands.
-use Rattle.std.proofs.Common.{◌≡◌, ℕ, inl, inr, Bool, true, false, cond, ◌&&◌, List, [], ◌∷◌, length, map, Option, Some, refl, sym, ap, subst, ◌∙◌}
+use Rattle.std.proofs.Common.{◌≡◌, ℕ, inl, inr, true, false, cond, List, [], ◌∷◌, map, Option, Some, refl, sym, ap, subst, ◌∙◌}
 use Rattle.std.proofs.lemmas.Bool.{eq-eqb}
-use Rattle.std.specs.Prelude.{◌==◌, nat_lt, nat_le}
-use Rattle.std.specs.List.{filter, list_all}
+use Rattle.std.specs.Prelude.{◌==◌}
+use Rattle.std.specs.List.{filter}
 use Rattle.std.specs.FinMap as finite
-use Rattle.pb_base.specs.Batch.{Writes, is_unstamped, are_distinct}
-use Rattle.pb_base.specs.declared.limits.TheConstants.{MAX_CELLS}
-use Rattle.pb_steps.specs.declared.step.Work.{Work}
-use Rattle.pb_steps.specs.declared.step.Work.TheVariants as works
+use Rattle.pb_base.specs.Batch.{Writes, are_distinct}
 use Rattle.pb_steps.specs.declared.step.Declared.{Declared}
-use Rattle.pb_steps.specs.declared.step.Declared.TheVariants as declared
 use Rattle.pb_steps.specs.declared.step.Step.{Step}
 use Rattle.pb_steps.specs.declared.step.Step.TheVariants.{Declare}
 use Rattle.pb_steps.specs.declared.step.Answer.{Answer}
 use Rattle.pb_steps.specs.declared.step.Answer.TheVariants.{Done}
 use Rattle.pb_steps.specs.Answers.{CanAnswer}
-use Rattle.pb_steps.specs.Declarations.{IsKnown, IsPlainRun}
-use Rattle.pb_steps.specs.Observers.{ObserverOf}
 use Rattle.pb_steps.specs.State.{StateOf, TransactionOf, new_transaction, cells_of}
 use Rattle.pb_history.specs.declared.entry.Entry.{Entry}
 use Rattle.pb_history.specs.declared.entry.Received.{Received}
@@ -59,18 +53,6 @@ has_cells : (p : Place) (what : Declared) (t : TransactionOf) → HasCells what 
 has_cells Declaring what t h = tt
 has_cells _ what t h = h
 
-last_of : (a b c d : Bool) → (a && b && c && d) ≡ true → d ≡ true
-last_of true true true d e = e
-last_of true true false d e = absurd cc
-last_of true false c d e = absurd cc
-last_of false b c d e = absurd cc
-
-distinct : (observers : List ObserverOf) (work : Work) (s : ℕ) (what : Declared) → IsKnown what → IsForWork observers work what → IsPlainRun what → are_distinct (cells_of observers work s what) ≡ true
-distinct observers works.Script s (declared.Script batch) known f plain = last_of (nat_lt 0 (length batch)) (nat_le (length batch) MAX_CELLS) (list_all (λ w. is_unstamped w.1) batch) (are_distinct batch) known
-distinct observers works.Script s (declared.Run o m) known f plain = absurd f
-distinct observers (works.Run p row) s (declared.Script batch) known f plain = absurd f
-distinct observers (works.Run p row) s (declared.Run o m) known f plain = rw plain.1 refl
-
 in_filter : (s : ℕ) (journal : List Entry) (e : Entry) → Has (named_in s journal) e → Has journal e
 in_filter s [] e h = absurd h
 in_filter s (d ∷ ds) e h = elim (names s d.step) as (λ b. Has (cond b (d ∷ named_in s ds) (named_in s ds)) e → Has (d ∷ ds) e) [
@@ -105,7 +87,7 @@ module _ (seat s : ℕ) (what : Declared) where
       let fits : IsForWork state.observers t.work what = subst (λ w. IsForWork state.observers w what) work d.for_work in
       record {
         are = ap (λ (ws : Writes). map (λ w. w.0) ws) has ∙ cells_are state.observers t.work s what fits range;
-        apart = ap are_distinct has ∙ distinct state.observers t.work s what d.known fits d.plain;
+        apart = ap (λ (u : TransactionOf). are_distinct u.declared) (sym is) ∙ d.distinct;
       }
 
   pub cells_by_now : (journal : List Entry) (state : StateOf) (said : List Received) (q : PlanOf) (t : TransactionOf) → TellsHistory journal state → finite.get state.transactions s ≡ Some t

@@ -5,7 +5,7 @@ use Rattle.std.specs.List.{filter, list_any}
 use Rattle.pb_base.specs.declared.cell.Cell.{Cell}
 use Rattle.pb_steps.specs.declared.step.Work.{Work}
 use Rattle.pb_steps.specs.declared.step.Step.{Step}
-use Rattle.pb_steps.specs.declared.step.Step.TheVariants.{Begin, Read, Declare, Prewrite, Stamp, CommitPrimary, CommitSecondary, Settle, Clear}
+use Rattle.pb_steps.specs.declared.step.Step.TheVariants.{Begin, Read, Declare, Prewrite, Stamp, CommitPrimary, CommitSecondary, Settle, Clear, NextMark, Sweep}
 use Rattle.pb_steps.specs.declared.step.Answer.{Answer}
 use Rattle.pb_steps.specs.declared.step.Answer.TheVariants.{At, Found, Absent, Done, Conflict, Committed, Lost}
 use Rattle.pb_steps.specs.Observers.{ObserverOf}
@@ -69,6 +69,8 @@ module _ (observers : List ObserverOf) (s : ℕ) where
   named_no (CommitSecondary m x) answer n = n
   named_no (Settle x) answer n = refl
   named_no (Clear x) answer n = refl
+  named_no (NextMark after) answer n = refl
+  named_no (Sweep x) answer n = refl
 
   from_first : (e : Entry) (es : List Entry) (t : Option TransactionOf) (b : Bool)
       → transaction_from observers (cond b (transaction_after observers e.seat e.step e.answer t) t) es ≡ transaction_from observers t (cond b (e ∷ es) es)

@@ -3,7 +3,7 @@ ghost use Rattle.pb_txn.specs.Forms.{PlansTalk, PlansEnd, PlansStop};
 ghost use Rattle.pb_txn.specs.Changes.{ChangesTalk, ChangesEnd};
 ghost use Rattle.pb_txn.specs.Allowed.{PlansAreAllowed};
 
-use pb_history::{histories_are_told, transactions_are_told};
+use pb_history::{histories_are_told, journals_are_sound, transactions_are_told};
 
 /// What a plan has asked is a beginning of a transaction's conversation, and at its end a whole one. Without a next step
 /// it is at its end.
@@ -26,4 +26,5 @@ pub fn plans_are_allowed()
 {
     histories_are_told();
     transactions_are_told();
+    journals_are_sound();
 }

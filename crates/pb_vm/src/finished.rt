@@ -1,11 +1,13 @@
 //! What a machine leaves at its end.
 ghost use Rattle.std.specs.Prelude.{◌≡◌, ◌↔◌, IsTrue};
 ghost use Rattle.pb_isa.specs.Meaning.{Means};
+ghost use Rattle.pb_sound.specs.RunWrites.{AreRunWrites};
 ghost use Rattle.pb_vm.specs.Finished.{IsMeant, is_plain};
 ghost use Rattle.pb_vm.specs.Position.{talk_of};
 
 use pb_base::{Cell, Content, Ts};
 use pb_helpers::{Ask, Record, Reply};
+use pb_sound::runs_write_batches;
 use pb_verify::Accepted;
 use std::marker::Model;
 use std::sync::Arc;
@@ -63,10 +65,12 @@ impl Finished {
         }
     }
 
-    /// Result and writes are what the program means.
+    /// Result and writes are what the program means: it writes nothing, or 1 to 16 distinct data cells.
     pub fn known(&self)
-        ensures { IsMeant self.now }
+        ensures meant { IsMeant self.now }
+        ensures writes { AreRunWrites self.now.writes }
     {
+        runs_write_batches();
         // For the proof: opens the value, whose invariant says it.
         let _ = &self.end;
     }

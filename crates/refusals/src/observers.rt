@@ -15,8 +15,9 @@ use std::sync::Arc;
 // mov64 r0, 0 and exit.
 const PROGRAM: &[u8] = b"\xb7\0\0\0\0\0\0\0\x95\0\0\0\0\0\0\0";
 
+// Two observers, of which the second may call helper 4.
 const MANIFEST: &str =
-    "{\"profile\":1,\"observers\":[{\"name\":\"watch\",\"column\":0,\"helpers\":[],\"code\":\"b7000000000000009500000000000000\"}]}";
+    "{\"profile\":1,\"observers\":[{\"name\":\"watch\",\"column\":0,\"helpers\":[],\"code\":\"b7000000000000009500000000000000\"},{\"name\":\"start\",\"column\":1,\"helpers\":[4],\"code\":\"85000000040000009500000000000000\"}]}";
 
 fn program(alloc: Global) -> Result<Accepted, NoMemory> {
     match accept(alloc, PROGRAM, HelperTable::none()) {
@@ -34,21 +35,37 @@ pub fn programs_are_accepted(alloc: Global) -> Result<bool, NoMemory> {
     }
 }
 
-fn is_watch(registry: Registry) -> bool {
-    match registry.into_parts() {
-        Some((name, column, program)) => {
-            name.as_str() == "watch" && column.number() == 0 && program.slots() == 2
+fn are_the_manifests(observers: &[Observer]) -> bool {
+    match observers {
+        [watch, start] => {
+            watch.name.as_str() == "watch"
+                && watch.column.number() == 0
+                && start.name.as_str() == "start"
+                && start.column.number() == 1
+                && watch.program.slots() == 2
+                && start.program.slots() == 2
         }
-        None => false,
+        _ => false,
     }
 }
 
-/// `Registry::from_json`.
+// Whether a registry gives its observers, also where that is refused once.
+fn gives_its_observers(alloc: Global, registry: Registry) -> bool {
+    match registry.into_observers(alloc) {
+        Ok(observers) => are_the_manifests(&observers),
+        Err(registry) => match registry.into_observers(alloc) {
+            Ok(observers) => are_the_manifests(&observers),
+            Err(_) => false,
+        },
+    }
+}
+
+/// `Registry::from_json` and `Registry::into_observers`.
 pub fn manifests_are_read(alloc: Global) -> Result<bool, NoMemory> {
     match Registry::from_json(alloc, MANIFEST) {
-        Ok(registry) => Ok(is_watch(registry)),
+        Ok(registry) => Ok(gives_its_observers(alloc, registry)),
         Err(fault) => match Registry::from_json(alloc, MANIFEST) {
-            Ok(registry) => Ok(fault.code == 1 && is_watch(registry)),
+            Ok(registry) => Ok(fault.code == 1 && gives_its_observers(alloc, registry)),
             Err(_) => Ok(false),
         },
     }

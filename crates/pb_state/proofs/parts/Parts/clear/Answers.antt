@@ -3,8 +3,9 @@ use Rattle.std.specs.Prelude.{is_some, Some}
 use Rattle.pb_steps.specs.State.{StateOf}
 use Rattle.pb_steps.specs.Readings.{NoLock, IsLockOn, lock_at, write_at}
 use Rattle.pb_steps.specs.Commits.{commit_lock, erase_lock}
+use Rattle.pb_steps.specs.Marks.{with_mark}
 use Rattle.pb_steps.specs.Clear.{NoWriteOf}
-use Rattle.pb_state.proofs.NewState.{new_entries}
+use Rattle.pb_state.proofs.NewState.{same_marks, new_entries}
 use Rattle.pb_state.proofs.parts.Parts.clear.Goals as goal
 use Rattle.pb_state.proofs.parts.Parts.clear.Goals.{then-eq-via-then-eq, then-eq-via-else-eq+then-has_lock}
 
@@ -31,9 +32,9 @@ returns-then-eq-clause-taken g c =
       };
     }
 
-pub returns-in_ok-apply-in-Some-commit_of-clause-taken :
-    goal.returns-in_ok-apply-in-Some-commit_of-clause-taken
-returns-in_ok-apply-in-Some-commit_of-clause-taken g c =
+pub returns-in_ok-commit_cell-in-Some-commit_of-clause-taken :
+    goal.returns-in_ok-commit_cell-in-Some-commit_of-clause-taken
+returns-in_ok-commit_cell-in-Some-commit_of-clause-taken g c =
     let e : c.self.inside.table.contents.entries ≡ c.args.self.now.entries = ap (λ (s : StateOf). s.entries) c.self.view_is in
     record {
       allowed = c.requires;
@@ -44,8 +45,9 @@ returns-in_ok-apply-in-Some-commit_of-clause-taken g c =
         other = sym c.eq.ensures ∙ c.if-eq.false;
         unlocked = ap (λ m. is_some (lock_at m c.in-Some.primary c.in-Some.start.0)) (sym e) ∙ sym c.has_lock.ensures ∙ c.if-has_lock.false;
         written = subst (λ m. write_at m c.in-Some.primary c.in-Some-commit_of.commit.0 ≡ Some c.in-Some.start.0) e c.in-Some-commit_of.ensures;
-        new_is = new_entries c.self.inside.table c.apply.new.self c.self.inside.observers.items c.self.inside.clock c.self.inside.seats c.self.inside.transactions
-            (λ m. commit_lock m c.args.cell.now c.in-Some.start.0 c.in-Some-commit_of.commit.0) (c.in_ok-apply-in-Some-commit_of.ensures.ok ∙ c.commit_edits.ensures.committed c.self.inside.table.contents) c.args.self.now c.self.view_is;
+        new_is = new_entries c.self.inside.table c.commit_cell.new.table c.self.inside.observers.items c.self.inside.clock c.self.inside.seats c.self.inside.transactions
+            (λ m. commit_lock m c.args.cell.now c.in-Some.start.0 c.in-Some-commit_of.commit.0) (λ os m. with_mark os m c.args.cell.now)
+            (c.in_ok-commit_cell-in-Some-commit_of.ensures.ok ∙ (λ i. record { entries = commit_lock c.self.inside.table.contents.entries c.args.cell.now c.in-Some.start.0 c.in-Some-commit_of.commit.0; marks = with_mark (c.deref.ensures.value i) c.self.inside.table.contents.marks c.args.cell.now })) c.args.self.now c.self.view_is;
       };
     }
 
@@ -61,7 +63,7 @@ returns-in_ok-apply-in-None-clause-taken g c =
         other = sym c.eq.ensures ∙ c.if-eq.false;
         unlocked = ap (λ m. is_some (lock_at m c.in-Some.primary c.in-Some.start.0)) (sym e) ∙ sym c.has_lock.ensures ∙ c.if-has_lock.false;
         none = subst (λ m. NoWriteOf m c.in-Some.primary c.in-Some.start.0) e c.in-None.ensures;
-        new_is = new_entries c.self.inside.table c.apply-in-None.new.self c.self.inside.observers.items c.self.inside.clock c.self.inside.seats c.self.inside.transactions
-            (λ m. erase_lock m c.args.cell.now c.in-Some.start.0) (c.in_ok-apply-in-None.ensures.ok ∙ c.erase_edits.ensures.erased c.self.inside.table.contents) c.args.self.now c.self.view_is;
+        new_is = new_entries c.self.inside.table c.apply.new.self c.self.inside.observers.items c.self.inside.clock c.self.inside.seats c.self.inside.transactions
+            (λ m. erase_lock m c.args.cell.now c.in-Some.start.0) same_marks (c.in_ok-apply-in-None.ensures.ok ∙ c.erase_edits.ensures.erased c.self.inside.table.contents) c.args.self.now c.self.view_is;
       };
     }

@@ -7,7 +7,8 @@ use Rattle.pb_state.proofs.Allowed.{may_commit}
 use Rattle.std.specs.Prelude.{is_some}
 use Rattle.pb_steps.specs.Readings.{lock_at}
 use Rattle.pb_steps.specs.Commits.{commit_lock}
-use Rattle.pb_state.proofs.NewState.{new_state}
+use Rattle.pb_steps.specs.Marks.{with_mark}
+use Rattle.pb_state.proofs.NewState.{same_marks, new_state}
 use Rattle.pb_state.proofs.parts.Parts.commit_primary.Goals as goal
 
 pub returns-clause-taken : goal.returns-clause-taken
@@ -29,8 +30,9 @@ returns-clause-taken g c =
         primary = c.in-Some-primary.primary;
         primary_is = first;
         locked = ap (λ m. is_some (lock_at m c.in-Some-primary.primary c.args.start.0)) (sym e) ∙ sym c.has_lock.ensures ∙ c.if-not-has_lock.false;
-        new_is = new_state c.self.inside.table c.apply.new.self c.self.inside.observers.items c.self.inside.clock c.self.inside.seats c.self.inside.transactions c.set_phase-2.new.self c.args.start.0 _
-            (λ m. commit_lock m c.in-Some-primary.primary c.args.start.0 c.in-Stamped.commit.0) (c.in_ok-apply.ensures.ok ∙ c.commit_edits.ensures.committed c.self.inside.table.contents) (c.set_phase-2.ensures may.0 held) c.args.self.now c.self.view_is;
+        new_is = new_state c.self.inside.table c.commit_cell.new.table c.self.inside.observers.items c.self.inside.clock c.self.inside.seats c.self.inside.transactions c.set_phase-2.new.self c.args.start.0 _
+            (λ m. commit_lock m c.in-Some-primary.primary c.args.start.0 c.in-Stamped.commit.0) (λ os m. with_mark os m c.in-Some-primary.primary)
+            (c.in_ok-commit_cell.ensures.ok ∙ (λ i. record { entries = commit_lock c.self.inside.table.contents.entries c.in-Some-primary.primary c.args.start.0 c.in-Stamped.commit.0; marks = with_mark (c.deref.ensures.value i) c.self.inside.table.contents.marks c.in-Some-primary.primary })) (c.set_phase-2.ensures may.0 held) c.args.self.now c.self.view_is;
       };
     }
 
@@ -54,6 +56,6 @@ returns-then-not-has_lock-clause-taken g c =
         primary_is = first;
         unlocked = ap (λ m. is_some (lock_at m c.in-Some-primary.primary c.args.start.0)) (sym e) ∙ sym c.has_lock.ensures ∙ c.if-not-has_lock.true;
         new_is = new_state c.self.inside.table c.self.inside.table c.self.inside.observers.items c.self.inside.clock c.self.inside.seats c.self.inside.transactions c.set_phase.new.self c.args.start.0 _
-            (λ m. m) refl (c.set_phase.ensures may.0 held) c.args.self.now c.self.view_is;
+            (λ m. m) same_marks refl (c.set_phase.ensures may.0 held) c.args.self.now c.self.view_is;
       };
     }

@@ -5,6 +5,7 @@ use Rattle.pb_steps.specs.declared.phase.Phase.TheVariants as phases
 use Rattle.pb_steps.specs.State.{StateOf}
 use Rattle.pb_steps.specs.Readings.{lock_at}
 use Rattle.pb_steps.specs.Commits.{commit_lock}
+use Rattle.pb_steps.specs.Marks.{with_mark}
 use Rattle.pb_steps.specs.CommitSecondary.{if_locked}
 use Rattle.pb_state.proofs.Allowed.{may_commit_secondary}
 use Rattle.pb_state.proofs.NewState.{new_entries}
@@ -37,8 +38,9 @@ returns-clause-taken g c =
         c = c.in-Committed.commit.0;
         committed = committed;
         declares = may.declares;
-        new_is = new_entries c.self.inside.table c.apply.new.self c.self.inside.observers.items c.self.inside.clock c.self.inside.seats c.self.inside.transactions
-            (λ m. commit_lock m c.args.cell.now c.args.start.0 c.in-Committed.commit.0) (c.in_ok-apply.ensures.ok ∙ c.commit_edits.ensures.committed c.self.inside.table.contents) c.args.self.now c.self.view_is
+        new_is = new_entries c.self.inside.table c.commit_cell.new.table c.self.inside.observers.items c.self.inside.clock c.self.inside.seats c.self.inside.transactions
+            (λ m. commit_lock m c.args.cell.now c.args.start.0 c.in-Committed.commit.0) (λ os m. with_mark os m c.args.cell.now)
+            (c.in_ok-commit_cell.ensures.ok ∙ (λ i. record { entries = commit_lock c.self.inside.table.contents.entries c.args.cell.now c.args.start.0 c.in-Committed.commit.0; marks = with_mark (c.deref.ensures.value i) c.self.inside.table.contents.marks c.args.cell.now })) c.args.self.now c.self.view_is
             ∙ sym (ap (λ b. if_locked c.args.self.now b c.args.cell.now c.args.start.0 c.in-Committed.commit.0) locked);
       };
     }

@@ -3,7 +3,7 @@ use Rattle.std.specs.FinMap as map
 use Rattle.pb_steps.specs.declared.phase.Phase.TheVariants as phases
 use Rattle.pb_steps.specs.State.{StateOf, TransactionOf, cells_of}
 use Rattle.pb_state.specs.Cells.{cells_in}
-use Rattle.pb_state.proofs.NewState.{new_state}
+use Rattle.pb_state.proofs.NewState.{same_marks, new_state}
 use Rattle.pb_state.proofs.ItsDeclaration.{may_be_its}
 use Rattle.pb_state.proofs.Allowed.{may_declare}
 use Rattle.pb_state.proofs.parts.Parts.declare.Goals as goal
@@ -25,7 +25,7 @@ returns-clause-taken g c =
         reading = may.reading;
         known = c.in_ok-cells.ensures.known;
         its = may_be_its c.args.self.now.observers may.t.work c.args.start.0 may.t.reads c.args.what.now may.its;
-        new_is = new_state c.self.inside.table c.self.inside.table c.self.inside.observers.items c.self.inside.clock c.self.inside.seats c.self.inside.transactions c.declare.new.self c.args.start.0 _ (λ m. m) refl
+        new_is = new_state c.self.inside.table c.self.inside.table c.self.inside.observers.items c.self.inside.clock c.self.inside.seats c.self.inside.transactions c.declare.new.self c.args.start.0 _ (λ m. m) same_marks refl
             (c.declare.ensures may.t held ∙ ap (λ ws. map.insert c.self.inside.transactions c.args.start.0 (record may.t { phase = phases.Declared; declared = ws })) cells) c.args.self.now c.self.view_is;
       };
     }

@@ -5,7 +5,7 @@ use Rattle.pb_base.specs.Batch.{content_in, primary_in}
 use Rattle.pb_steps.specs.State.{StateOf}
 use Rattle.pb_steps.specs.Readings.{NoLock, NoWriteFrom}
 use Rattle.pb_steps.specs.Prewrite.{put_lock}
-use Rattle.pb_state.proofs.NewState.{new_state}
+use Rattle.pb_state.proofs.NewState.{same_marks, new_state}
 use Rattle.pb_state.proofs.Allowed.{may_prewrite}
 use Rattle.pb_state.proofs.parts.Parts.prewrite.Goals as goal
 
@@ -38,6 +38,6 @@ returns-clause-taken g c =
         unlocked = subst (λ m. NoLock m c.args.cell.now) e free.0;
         no_later = subst (λ m. NoWriteFrom m c.args.cell.now c.args.start.0) e free.1;
         new_is = new_state c.self.inside.table c.prewrite.new.table c.self.inside.observers.items c.self.inside.clock c.self.inside.seats c.self.inside.transactions c.prewrite.new.self c.args.start.0 _
-            (λ m. put_lock m c.args.cell.now c.args.start.0 c.in-Some-content.content c.in-Some-primary.primary) (c.in_ok-prewrite.ensures.applied ∙ c.lock_edits-edits.ensures.lock c.self.inside.table.contents) (c.in_ok-prewrite.ensures.ok may.t held) c.args.self.now c.self.view_is;
+            (λ m. put_lock m c.args.cell.now c.args.start.0 c.in-Some-content.content c.in-Some-primary.primary) same_marks (c.in_ok-prewrite.ensures.applied ∙ c.lock_edits-edits.ensures.lock c.self.inside.table.contents) (c.in_ok-prewrite.ensures.ok may.t held) c.args.self.now c.self.view_is;
       };
     }

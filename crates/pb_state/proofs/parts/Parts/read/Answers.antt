@@ -3,7 +3,7 @@ use Rattle.std.specs.FinMap as map
 use Rattle.pb_steps.specs.State.{StateOf}
 use Rattle.pb_state.proofs.Allowed.{may_read}
 use Rattle.pb_steps.specs.Readings.{NoLockUpTo, IsVersion, NoVersion}
-use Rattle.pb_state.proofs.NewState.{new_state}
+use Rattle.pb_state.proofs.NewState.{same_marks, new_state}
 use Rattle.pb_state.proofs.ReadsTaken.{found, absent}
 use Rattle.pb_state.proofs.parts.Parts.read.Goals as goal
 use Rattle.pb_state.proofs.parts.Parts.read.Goals.{in-Some-version_of, in-None}
@@ -12,7 +12,7 @@ pub returns-clause-taken : goal.returns-clause-taken
 returns-clause-taken g c =
     let may = may_read c.args.self.now c.args.seat c.args.start c.args.cell.now c.requires.allowed in
     let held = ap (λ (s : StateOf). map.get s.transactions c.args.start.0) c.self.view_is ∙ may.1.there in
-    let put = new_state c.self.inside.table c.self.inside.table c.self.inside.observers.items c.self.inside.clock c.self.inside.seats c.self.inside.transactions c.record_read.new.self c.args.start.0 _ (λ m. m) refl (c.in_ok-record_read.ensures.ok may.0 held) c.args.self.now c.self.view_is in
+    let put = new_state c.self.inside.table c.self.inside.table c.self.inside.observers.items c.self.inside.clock c.self.inside.seats c.self.inside.transactions c.record_read.new.self c.args.start.0 _ (λ m. m) same_marks refl (c.in_ok-record_read.ensures.ok may.0 held) c.args.self.now c.self.view_is in
     let e : c.self.inside.table.contents.entries ≡ c.args.self.now.entries = ap (λ (s : StateOf). s.entries) c.self.view_is in
     let unlocked = subst (λ m. NoLockUpTo m c.args.cell.now c.args.start.0) e c.in_default.ensures in
     elim c.match-version_of.branch [

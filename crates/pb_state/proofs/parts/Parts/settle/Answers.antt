@@ -2,7 +2,7 @@ use Rattle.std.proofs.Common.{◌≡◌, refl, ap, subst, ◌∙◌}
 use Rattle.pb_steps.specs.State.{StateOf}
 use Rattle.pb_steps.specs.Readings.{NoLock, IsLockOn}
 use Rattle.pb_steps.specs.Commits.{erase_lock}
-use Rattle.pb_state.proofs.NewState.{new_entries}
+use Rattle.pb_state.proofs.NewState.{same_marks, new_entries}
 use Rattle.pb_state.proofs.SameCells.{same_if}
 use Rattle.pb_state.proofs.parts.Parts.settle.Goals as goal
 
@@ -22,6 +22,6 @@ returns-clause-taken g c =
         start = c.in-Some.start.0;
         locked = subst (λ p. IsLockOn c.args.self.now.entries c.args.cell.now c.in-Some.start.0 p) its_own locked;
         new_is = new_entries c.self.inside.table c.apply.new.self c.self.inside.observers.items c.self.inside.clock c.self.inside.seats c.self.inside.transactions
-            (λ m. erase_lock m c.args.cell.now c.in-Some.start.0) (c.in_ok-apply.ensures.ok ∙ c.erase_edits.ensures.erased c.self.inside.table.contents) c.args.self.now c.self.view_is;
+            (λ m. erase_lock m c.args.cell.now c.in-Some.start.0) same_marks (c.in_ok-apply.ensures.ok ∙ c.erase_edits.ensures.erased c.self.inside.table.contents) c.args.self.now c.self.view_is;
       };
     }

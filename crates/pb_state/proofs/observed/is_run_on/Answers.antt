@@ -3,7 +3,7 @@ use Rattle.pb_base.specs.declared.cell.Cell.TheVariants.{Data, Ack}
 use Rattle.pb_steps.specs.Observers.{ObserverOf}
 use Rattle.pb_steps.specs.Declarations.{seen_in, is_run}
 use Rattle.pb_state.proofs.ObserversByNumber.{run_told}
-use Rattle.pb_state.proofs.observed.is_run_of.Goals as goal
+use Rattle.pb_state.proofs.observed.is_run_on.Goals as goal
 
 pub returns : goal.returns
 returns c =

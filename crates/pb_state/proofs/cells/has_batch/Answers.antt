@@ -1,7 +1,7 @@
 use Rattle.std.proofs.Common.{sym, ◌∙◌}
 use Rattle.pb_steps.specs.State.{is_in}
 use Rattle.pb_state.proofs.Taking.{all_goes_on, all_ends}
-use Rattle.pb_state.proofs.transaction.are_among.Goals as goal
+use Rattle.pb_state.proofs.cells.has_batch.Goals as goal
 
 pub returns-then-not-contains : goal.returns-then-not-contains
 returns-then-not-contains c =

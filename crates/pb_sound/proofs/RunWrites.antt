@@ -1,0 +1,227 @@
+-- The writes of a run are distinct data cells without stamps, 16 at most, at each point of it.
+use Rattle.std.proofs.Common.{◌≡◌, ℕ, ◌+◌, ◌<◌, ◌≤◌, zero, suc, Bool, true, false, cond, nat_eq, nat_lt, List, [], ◌∷◌, ◌++◌, length, Option, Some, None, refl, sym, ap, subst, ◌∙◌, inl, inr, arith, length-append}
+use Rattle.std.specs.Prelude.{◌&&◌, replicate, is_some, is_none, nat_le, slice_get}
+use Rattle.std.specs.Cmp.{eq_by_cmp_equiv, Equal-is}
+use Rattle.std.specs.List.{list_all}
+use Rattle.std.specs.Ordering.{eq_by_cmp}
+use Rattle.std.proofs.lemmas.Bool.{and_parts, ltb-true, le-leb, lt-ltb}
+use Rattle.pb_base.specs.Cell.{cell_cmp, cell_cmp_total, cell_cmp-IsAntisymmetric, is_data}
+use Rattle.pb_base.specs.declared.cell.Cell.{Cell}
+use Rattle.pb_base.specs.declared.content.Content.{Content}
+use Rattle.pb_base.specs.declared.content.Content.TheVariants.{Value, Deleted}
+use Rattle.pb_base.specs.declared.limits.TheConstants.{MAX_CELLS}
+use Rattle.pb_base.specs.Batch.{Writes, content_in, is_unstamped, is_data_write, are_distinct, is_batch}
+use Rattle.pb_isa.specs.declared.insn.Insn.{Insn}
+use Rattle.pb_isa.specs.declared.insn.Insn.TheVariants.{Call}
+use Rattle.pb_isa.specs.Slots.{insn_at}
+use Rattle.pb_isa.specs.Helpers.{Helper, Read, Write, Delete, Start, declared_helper}
+use Rattle.pb_isa.specs.Machine.{Environment, State, Ask, Reply, is_reply, Outcome, Goes, Asks, Ends, Stuck, with_value, with_values, stack_has, entries, replace_write, add_write, write_result, cell_of, state_after_call, state_after_read, reply_bytes, reply_result, reads_cell, writes_cell, helps, calls, does, does_at, act, start}
+use Rattle.pb_isa.specs.Meaning.{Talk, Point, point, is_same_ask, on_reply, on, onward, point_after, kept_writes}
+use Rattle.pb_sound.specs.RunWrites.{AreRunWrites, RunsWriteBatches}
+use Rattle.pb_sound.proofs.Silent.{IsSilentStep, IsPlain, plain_is_silent}
+
+-- what a run may have written so far
+record AreMade (ws : Writes) : Type 0 where
+  few : length ws ≤ 16
+  plain : list_all is_data_write ws ≡ true
+  distinct : are_distinct ws ≡ true
+
+-- ---- a cell is written once more
+
+cell_is : (x y : Cell) → eq_by_cmp cell_cmp x y ≡ true → x ≡ y
+cell_is x y e = cell_cmp-IsAntisymmetric x y ((Equal-is (cell_cmp x y)).0 e)
+
+length_replaced : (x : Cell) (c : Content) (ws : Writes) → length (replace_write x c ws) ≡ length ws
+length_replaced x c [] = refl
+length_replaced x c (w ∷ ws) = by (eq_by_cmp cell_cmp x w.0) (length_replaced x c ws)
+  where
+    by : (b : Bool) → length (replace_write x c ws) ≡ length ws → length (cond b ((x, c) ∷ ws) (w ∷ replace_write x c ws)) ≡ suc (length ws)
+    by true rest = refl
+    by false rest = ap suc rest
+
+plain_replaced : (x : Cell) (c : Content) (ws : Writes) → is_data_write (x, c) ≡ true → list_all is_data_write ws ≡ true → list_all is_data_write (replace_write x c ws) ≡ true
+plain_replaced x c [] p h = refl
+plain_replaced x c (w ∷ ws) p h = let q = and_parts (is_data_write w) (list_all is_data_write ws) h in by (eq_by_cmp cell_cmp x w.0) q.0 q.1 (plain_replaced x c ws p q.1)
+  where
+    by : (b : Bool) → is_data_write w ≡ true → list_all is_data_write ws ≡ true → list_all is_data_write (replace_write x c ws) ≡ true → list_all is_data_write (cond b ((x, c) ∷ ws) (w ∷ replace_write x c ws)) ≡ true
+    by true first rest replaced = λ i. p i && rest i
+    by false first rest replaced = λ i. first i && replaced i
+
+-- the same cells are written
+none_some : (t : Bool) (a b : Content) (o : Option Content) → is_none (cond t (Some a) o) ≡ is_none (cond t (Some b) o)
+none_some true a b o = refl
+none_some false a b o = refl
+
+none_past : (t : Bool) (a : Content) (o p : Option Content) → is_none o ≡ is_none p → is_none (cond t (Some a) o) ≡ is_none (cond t (Some a) p)
+none_past true a o p e = refl
+none_past false a o p e = e
+
+lacks_replaced : (x : Cell) (c : Content) (ws : Writes) (y : Cell) → is_none (content_in (replace_write x c ws) y) ≡ is_none (content_in ws y)
+lacks_replaced x c [] y = refl
+lacks_replaced x c (w ∷ ws) y = by (lacks_replaced x c ws y) (eq_by_cmp cell_cmp x w.0) refl
+  where
+    by : is_none (content_in (replace_write x c ws) y) ≡ is_none (content_in ws y) → (b : Bool) → eq_by_cmp cell_cmp x w.0 ≡ b → is_none (content_in (cond b ((x, c) ∷ ws) (w ∷ replace_write x c ws)) y) ≡ is_none (content_in (w ∷ ws) y)
+    by rest true e = ap (λ z. is_none (cond (eq_by_cmp cell_cmp y z) (Some c) (content_in ws y))) (cell_is x w.0 e) ∙ none_some (eq_by_cmp cell_cmp y w.0) c w.1 (content_in ws y)
+    by rest false e = none_past (eq_by_cmp cell_cmp y w.0) w.1 (content_in (replace_write x c ws) y) (content_in ws y) rest
+
+distinct_replaced : (x : Cell) (c : Content) (ws : Writes) → are_distinct ws ≡ true → are_distinct (replace_write x c ws) ≡ true
+distinct_replaced x c [] h = refl
+distinct_replaced x c (w ∷ ws) h = let q = and_parts (is_none (content_in ws w.0)) (are_distinct ws) h in by q.0 q.1 (distinct_replaced x c ws q.1) (eq_by_cmp cell_cmp x w.0) refl
+  where
+    by : is_none (content_in ws w.0) ≡ true → are_distinct ws ≡ true → are_distinct (replace_write x c ws) ≡ true → (b : Bool) → eq_by_cmp cell_cmp x w.0 ≡ b → are_distinct (cond b ((x, c) ∷ ws) (w ∷ replace_write x c ws)) ≡ true
+    by first rest replaced true e = λ i. (ap (λ z. is_none (content_in ws z)) (cell_is x w.0 e) ∙ first) i && rest i
+    by first rest replaced false e = λ i. (lacks_replaced x c ws w.0 ∙ first) i && replaced i
+
+-- ---- one more cell is written
+
+-- a cell that the list lacks is none of its own, either way round
+lacks_first : (t : Bool) (a : Content) (o : Option Content) → is_none (cond t (Some a) o) ≡ true → (t ≡ false) × (is_none o ≡ true)
+lacks_first true a o h = cc
+lacks_first false a o h = (refl, h)
+
+lacks_more : (ws : Writes) (x : Cell) (c : Content) (y : Cell) → is_none (content_in ws y) ≡ true → eq_by_cmp cell_cmp y x ≡ false → is_none (content_in (ws ++ (x, c) ∷ []) y) ≡ true
+lacks_more [] x c y h apart = ap (λ b. is_none (cond b (Some c) None)) apart
+lacks_more (w ∷ ws) x c y h apart =
+    let p = lacks_first (eq_by_cmp cell_cmp y w.0) w.1 (content_in ws y) h in
+    ap (λ b. is_none (cond b (Some w.1) (content_in (ws ++ (x, c) ∷ []) y))) p.0 ∙ lacks_more ws x c y p.1 apart
+
+distinct_more : (ws : Writes) (x : Cell) (c : Content) → are_distinct ws ≡ true → is_none (content_in ws x) ≡ true → are_distinct (ws ++ (x, c) ∷ []) ≡ true
+distinct_more [] x c h none = refl
+distinct_more (w ∷ ws) x c h none =
+    let q = and_parts (is_none (content_in ws w.0)) (are_distinct ws) h in
+    let p = lacks_first (eq_by_cmp cell_cmp x w.0) w.1 (content_in ws x) none in
+    let apart : eq_by_cmp cell_cmp w.0 x ≡ false = (eq_by_cmp_equiv cell_cmp_total).symm w.0 x ∙ p.0 in
+    (λ i. lacks_more ws x c w.0 q.0 apart i && distinct_more ws x c q.1 p.1 i)
+
+plain_more : (ws : Writes) (w : Cell × Content) → list_all is_data_write ws ≡ true → is_data_write w ≡ true → list_all is_data_write (ws ++ w ∷ []) ≡ true
+plain_more [] w h p = λ i. p i && true
+plain_more (v ∷ vs) w h p = let q = and_parts (is_data_write v) (list_all is_data_write vs) h in (λ i. q.0 i && plain_more vs w q.1 p i)
+
+none_if : (o : Option Content) → is_some o ≡ false → is_none o ≡ true
+none_if None e = refl
+none_if (Some k) e = cc
+
+made_more : (ws : Writes) (x : Cell) (c : Content) → is_data_write (x, c) ≡ true → AreMade ws → AreMade (add_write x c ws)
+made_more ws x c p m = by (is_some (content_in ws x)) refl
+  where
+    room : (b : Bool) → nat_lt (length ws) 16 ≡ b → is_none (content_in ws x) ≡ true → AreMade (cond b (ws ++ (x, c) ∷ []) ws)
+    room true e none = let small = ltb-true _ _ e in record { few = simp length-append (omega (arith, small)); plain = plain_more ws (x, c) m.plain p; distinct = distinct_more ws x c m.distinct none }
+    room false e none = m
+
+    by : (b : Bool) → is_some (content_in ws x) ≡ b → AreMade (cond b (replace_write x c ws) (cond (nat_lt (length ws) 16) (ws ++ (x, c) ∷ []) ws))
+    by true e = record { few = let same = length_replaced x c ws in let few = m.few in omega (arith, same, few); plain = plain_replaced x c ws p m.plain; distinct = distinct_replaced x c ws m.distinct }
+    by false e = room (nat_lt (length ws) 16) refl (none_if _ e)
+
+-- ---- one instruction
+
+abbrev IsMadeStep : Outcome → Type 0
+IsMadeStep (Goes t) = AreMade t.writes
+IsMadeStep (Asks q go) = (r : Reply) → AreMade (go r).writes
+IsMadeStep (Ends v us) = AreMade us
+IsMadeStep Stuck = Unit {0}
+
+from_silent : (ws : Writes) → AreMade ws → (o : Outcome) → IsSilentStep ws o → IsMadeStep o
+from_silent ws m (Goes t) h = subst AreMade (sym h) m
+from_silent ws m (Asks q go) h = absurd h
+from_silent ws m (Ends v us) h = subst AreMade (sym h) m
+from_silent ws m Stuck h = tt
+
+with_one : (o : Option ℕ) (go : ℕ → Outcome) → ((v : ℕ) → IsMadeStep (go v)) → IsMadeStep (with_value o go)
+with_one None go h = tt
+with_one (Some v) go h = h v
+
+with_many : (o : Option (List ℕ)) (go : List ℕ → Outcome) → ((v : List ℕ) → IsMadeStep (go v)) → IsMadeStep (with_values o go)
+with_many None go h = tt
+with_many (Some v) go h = h v
+
+either : (b : Bool) (o q : Outcome) → IsMadeStep o → IsMadeStep q → IsMadeStep (cond b o q)
+either true o q h k = h
+either false o q h k = k
+
+module _ (e : Environment) (s : State) (m : AreMade s.writes) where
+  reads : (row column x : ℕ) → IsMadeStep (reads_cell s row column x)
+  reads row column x = either (nat_lt column 16)
+      (Asks (record { row = row; column = column }) (λ r. state_after_read s x (reply_bytes r) (reply_result r)))
+      (Goes (state_after_read s x (zeros 32) 2)) (λ r. m) m
+    where
+      zeros : ℕ → List ℕ
+      zeros n = replicate n 0
+
+  writes : (row column : ℕ) (c : Content) → is_unstamped c ≡ true → IsMadeStep (writes_cell s row column c)
+  writes row column c p = either (nat_lt column 16)
+      (Goes (state_after_call s (add_write (cell_of row column) c s.writes) (write_result (cell_of row column) s.writes)))
+      (Goes (state_after_call s s.writes 2)) (made_more s.writes (cell_of row column) c p m) m
+
+  helping : (h : Helper) → IsMadeStep (helps e s h)
+  helping Read =
+      with_one (s.regs 1) _ (λ row. with_one (s.regs 2) _ (λ column. with_one (s.regs 3) _ (λ x.
+      either (stack_has e x 32) (reads_cell s row column x) Stuck (reads row column x) tt)))
+  helping Write =
+      with_one (s.regs 1) _ (λ row. with_one (s.regs 2) _ (λ column. with_one (s.regs 3) _ (λ x.
+      either (stack_has e x 32) (with_values (entries s.stack x 32) (λ bs. writes_cell s row column (Value bs))) Stuck
+      (with_many (entries s.stack x 32) _ (λ bs. writes row column (Value bs) refl)) tt)))
+  helping Delete = with_one (s.regs 1) _ (λ row. with_one (s.regs 2) _ (λ column. writes row column Deleted refl))
+  helping Start = m
+
+  calling : (h : Option Helper) → IsMadeStep (calls e s h)
+  calling None = tt
+  calling (Some h) = either (is_some (insn_at e.judged.program.insns (s.slot + 1))) (helps e s h) Stuck (helping h) tt
+
+  doing : (i : Insn) → IsMadeStep (does e s i)
+  doing (Call imm) = calling (declared_helper e.judged.helpers imm)
+  doing i = from_silent s.writes m (does e s i) (plain_is_silent e s i tt)
+
+  doing_at : (i : Option Insn) → IsMadeStep (does_at e s i)
+  doing_at None = tt
+  doing_at (Some i) = doing i
+
+  acting : IsMadeStep (act e s)
+  unfolding act
+  acting = doing_at (insn_at e.judged.program.insns s.slot)
+
+-- ---- a run
+
+replied : (a : Ask) (go : Reply → State) (k : ℕ) (x : Option (Ask × Reply)) (u : Point) → ((r : Reply) → AreMade (go r).writes) → on_reply a go k x ≡ Some u → AreMade u.state.writes
+replied a go k None u h e = cc
+replied a go k (Some x) u h e = by (is_same_ask x.0 a && is_reply x.1) e
+  where
+    by : (b : Bool) → cond b (Some (point (go x.1) (k + 1))) None ≡ Some u → AreMade u.state.writes
+    by true e = let same : point (go x.1) (k + 1) ≡ u = cc in subst (λ (z : Point). AreMade z.state.writes) same (h x.1)
+    by false e = cc
+
+going_on : (talk : Talk) (o : Outcome) (k : ℕ) (u : Point) → IsMadeStep o → on talk o k ≡ Some u → AreMade u.state.writes
+going_on talk (Goes t) k u h e = let same : point t k ≡ u = cc in subst (λ (z : Point). AreMade z.state.writes) same h
+going_on talk (Asks q go) k u h e = replied q go k (slice_get talk k) u h e
+going_on talk (Ends v us) k u h e = cc
+going_on talk Stuck k u h e = cc
+
+nothing : AreMade []
+nothing = record { few = omega arith; plain = refl; distinct = refl }
+
+points_made : (e : Environment) (talk : Talk) (n : ℕ) (u : Point) → point_after e talk n ≡ Some u → AreMade u.state.writes
+unfolding point_after start
+points_made e talk zero u h = let same : point (start e) 0 ≡ u = cc in subst (λ (z : Point). AreMade z.state.writes) same nothing
+points_made e talk (suc n) u h =
+    let go : (z : Option Point) → point_after e talk n ≡ z → onward e talk z ≡ Some u → AreMade u.state.writes = λ z. elim z as (λ z. point_after e talk n ≡ z → onward e talk z ≡ Some u → AreMade u.state.writes) [
+      | None ↦ λ w q. cc
+      | Some z ↦ λ w q. going_on talk (act e z.state) z.told u (acting e z.state (points_made e talk n z w)) q
+    ] in
+    go (point_after e talk n) refl h
+
+ended : (o : Outcome) (v : ℕ) (us : Writes) → IsMadeStep o → o ≡ Ends v us → AreMade us
+ended o v us h e = subst IsMadeStep e h
+
+batch_or_none : (ws : Writes) → AreMade ws → AreRunWrites ws
+batch_or_none [] m = inl refl
+batch_or_none (w ∷ ws) m = inr (rw (lt-ltb 0 (length (w ∷ ws)) (omega arith), le-leb (length (w ∷ ws)) MAX_CELLS m.few, m.plain, m.distinct) refl)
+
+pub runs_write_batches : RunsWriteBatches
+runs_write_batches j bytes began talk r ws means =
+    let a = means.some.0 in
+    let e = means.at a means.some.1 in
+    let u = points_made _ talk e.steps (point e.last (length talk)) e.leads in
+    subst AreRunWrites (sym e.kept) (by (nat_eq r 0) e.made (ended (act _ e.last) r e.made (acting _ e.last u) e.ends))
+  where
+    by : (b : Bool) (made : Writes) → AreMade made → AreRunWrites (cond b made [])
+    by true made m = batch_or_none made m
+    by false made m = inl refl

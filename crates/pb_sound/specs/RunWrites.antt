@@ -1,0 +1,12 @@
+-- What a program writes: nothing, or what a script's transaction could.
+use Rattle.std.specs.Prelude.{◌≡◌, ◌⊎◌, ℕ, true, List, []}
+use Rattle.pb_base.specs.Batch.{Writes, is_batch}
+use Rattle.pb_isa.specs.Programs.{JudgedOf}
+use Rattle.pb_isa.specs.Meaning.{Talk, Means}
+
+-- none, or 1 to 16 distinct data cells without stamps
+abbrev pub AreRunWrites : Writes → Type 0
+AreRunWrites ws = (ws ≡ []) ⊎ (is_batch ws ≡ true)
+
+abbrev pub RunsWriteBatches : Type 0
+RunsWriteBatches = (j : JudgedOf) (bytes : List ℕ) (began : ℕ) (talk : Talk) (r : ℕ) (ws : Writes) → Means j bytes began talk r ws → AreRunWrites ws

@@ -1,0 +1,48 @@
+-- Whether a run is one of a program, a record and a start, by its tests in turn.
+use Rattle.std.proofs.Common.{◌≡◌, ◌↔◌, ℕ, ◌<◌, nat_lt, not, ◌==◌, Bool, true, false, ◌&&◌, List, refl, sym, ap, ◌∙◌}
+use Rattle.std.specs.Prelude.{IsTrue}
+use Rattle.std.specs.Coded.{Coded, coded_ℕ, coded_list}
+use Rattle.std.proofs.lemmas.Bool.{lt-ltb}
+use Rattle.pb_base.specs.Same.{same, same_is, is_same}
+use Rattle.pb_isa.specs.Programs.{JudgedOf, judged_code}
+use Rattle.pb_vm.specs.Finished.{Meant}
+use Rattle.pb_steps.specs.Declarations.{is_made_of}
+
+not_true : (b : Bool) → (b ≡ true → ⊥) → b ≡ false
+not_true true h = absurd (h refl)
+not_true false h = refl
+
+pub differ : {A : Type 0} (k : Coded A) (x y : A) → (x ≡ y → ⊥) → same k x y ≡ false
+differ k x y h = not_true (same k x y) (λ e. h (same_is k x y e))
+
+-- a test that decides whether two values are one
+pub decided : {A : Type 0} (k : Coded A) (x y : A) (b : Bool) → (IsTrue b ↔ (x ≡ y)) → b ≡ same k x y
+decided k x y true h = sym (is_same k x y (h.0 refl))
+decided k x y false h = sym (differ k x y (λ e. let no = h.1 e in cc))
+
+-- what isn't told apart is one
+pub not_ne : (r b : Bool) → r ≡ not b → r ≡ false → b ≡ true
+not_ne r true e f = refl
+not_ne r false e f = cc
+
+pub true_and : (a b c : Bool) → a ≡ true → c ≡ b → c ≡ (a && b)
+true_and a b c e h = h ∙ ap (λ z. z && b) (sym e)
+
+module _ (f : Meant) (p : JudgedOf) (bytes : List ℕ) (s : ℕ) where
+  pub other_program : (f.judged ≡ p → ⊥) → false ≡ is_made_of p bytes s f
+  other_program h = let no = sym (differ judged_code f.judged p h) in (λ i. no i && same (coded_list coded_ℕ) f.bytes bytes && (f.began == s))
+
+  pub other_record : f.judged ≡ p → (f.bytes ≡ bytes → ⊥) → false ≡ is_made_of p bytes s f
+  other_record e h =
+      let one = sym (is_same judged_code f.judged p e) in
+      let no = sym (differ (coded_list coded_ℕ) f.bytes bytes h) in
+      (λ i. one i && no i && (f.began == s))
+
+  pub by_start : f.judged ≡ p → f.bytes ≡ bytes → (b : Bool) → b ≡ (f.began == s) → b ≡ is_made_of p bytes s f
+  by_start e h b is =
+      let one = sym (is_same judged_code f.judged p e) in
+      let two = sym (is_same (coded_list coded_ℕ) f.bytes bytes h) in
+      is ∙ (λ i. one i && two i && (f.began == s))
+
+pub newer_and : (a b : ℕ) (x y : Bool) → a < b → x ≡ y → x ≡ (nat_lt a b && y)
+newer_and a b x y lt e = rw (lt-ltb a b lt) e

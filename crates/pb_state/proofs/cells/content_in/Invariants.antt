@@ -1,0 +1,6 @@
+use Rattle.std.proofs.Common.{◌≡◌, drop}
+use Rattle.pb_base.specs.Batch.{content_in}
+use Rattle.pb_state.proofs.cells.content_in.Given as goal
+
+abbrev pub invariant-loop-write : goal.invariant-loop-write
+invariant-loop-write l = content_in (drop l.write-index l.writes) l.cell ≡ content_in l.writes l.cell

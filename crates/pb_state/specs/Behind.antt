@@ -1,0 +1,29 @@
+-- Observers of a column against the newest commit of a cell.
+use Rattle.std.specs.Prelude.{◌≡◌, ℕ, ◌<◌, ◌≤◌, List, Option, Some, slice_get}
+use Rattle.pb_base.specs.declared.cell.Cell.{Cell}
+use Rattle.pb_base.specs.declared.cell.Cell.TheVariants.{Ack}
+use Rattle.pb_base.specs.declared.names.Row.{Row}
+use Rattle.pb_base.specs.declared.content.Version.{Version}
+use Rattle.pb_store.specs.Contents.{Entries}
+use Rattle.pb_steps.specs.Observers.{ObserverOf}
+use Rattle.pb_steps.specs.Readings.{IsNewestVersion}
+use Rattle.pb_steps.specs.Marks.{stamp_in}
+
+-- the stamp of the newest version, 0 where there is none
+abbrev pub IsNewestStamp : Entries → Cell → ℕ → Type 0
+IsNewestStamp e ack a = (v : Option Version) × IsNewestVersion e ack v × (a ≡ stamp_in v)
+
+-- it is one of the column, and has acknowledged less than this commit
+abbrev pub IsLate : Entries → Row → ℕ → ℕ → ObserverOf → ℕ → Type 0
+IsLate e row column commit observer p = (observer.column ≡ column) × (a : ℕ) × IsNewestStamp e (Ack p row column) a × (a < commit)
+
+-- if it is one of the column, it has acknowledged this commit
+abbrev pub IsOnTime : Entries → Row → ℕ → ℕ → ObserverOf → ℕ → Type 0
+IsOnTime e row column commit observer p = observer.column ≡ column → (a : ℕ) × IsNewestStamp e (Ack p row column) a × (commit ≤ a)
+
+abbrev pub SomeLate : Entries → Row → ℕ → ℕ → List ObserverOf → Type 0
+SomeLate e row column commit observers = (p : ℕ) × (observer : ObserverOf) × (slice_get observers p ≡ Some observer) × IsLate e row column commit observer p
+
+-- the first n are on time
+abbrev pub AreOnTime : Entries → Row → ℕ → ℕ → List ObserverOf → ℕ → Type 0
+AreOnTime e row column commit observers n = (p : ℕ) (observer : ObserverOf) → p < n → slice_get observers p ≡ Some observer → IsOnTime e row column commit observer p

@@ -1,0 +1,13 @@
+-- The first marked cell after a given one, where an observer may have work (OSDI 2010, section 2.4).
+use Rattle.std.specs.Prelude.{◌≡◌, Option, Some, None}
+use Rattle.pb_base.specs.declared.cell.Cell.{Cell}
+use Rattle.pb_store.specs.Contents.{IsNextMark}
+use Rattle.pb_steps.specs.State.{StateOf}
+
+pub record FindsMark (old : StateOf) (after : Option Cell) (x : Cell) (new : StateOf) : Type 0 where
+  pub first : IsNextMark old.marks after (Some x)
+  pub new_is : new ≡ old
+
+pub record FindsNone (old : StateOf) (after : Option Cell) (new : StateOf) : Type 0 where
+  pub none : IsNextMark old.marks after None
+  pub new_is : new ≡ old

@@ -1,0 +1,20 @@
+-- A mark is taken off a cell by anyone, once no observer of its column is behind on it (OSDI 2010, section 2.4).
+use Rattle.std.specs.Prelude.{◌≡◌, true, false}
+use Rattle.std.specs.FinMap as map
+use Rattle.pb_base.specs.declared.cell.Cell.{Cell}
+use Rattle.pb_steps.specs.State.{StateOf}
+use Rattle.pb_steps.specs.Marks.{is_marked, SomeBehind, AllUpToDate}
+
+pub record SweepsNothing (old : StateOf) (x : Cell) (new : StateOf) : Type 0 where
+  pub unmarked : is_marked old.marks x ≡ false
+  pub new_is : new ≡ old
+
+pub record StaysMarked (old : StateOf) (x : Cell) (new : StateOf) : Type 0 where
+  pub marked : is_marked old.marks x ≡ true
+  pub behind : SomeBehind old.observers old.entries x
+  pub new_is : new ≡ old
+
+pub record Sweeps (old : StateOf) (x : Cell) (new : StateOf) : Type 0 where
+  pub marked : is_marked old.marks x ≡ true
+  pub up_to_date : AllUpToDate old.observers old.entries x
+  pub new_is : new ≡ record old { marks = map.remove old.marks x }
