@@ -1,0 +1,138 @@
+-- What a job's place says of its parts, after an answer and after an instruction.
+use Rattle.std.proofs.Common.{◌≡◌, ℕ, ◌+◌, ◌<◌, Bool, true, false, cond, Option, Some, None, length, refl, sym, subst, arith}
+use Rattle.std.specs.Prelude.{nat_lt}
+use Rattle.pb_base.specs.declared.cell.Cell.{Cell}
+use Rattle.pb_base.specs.declared.names.Row.{Row}
+use Rattle.pb_base.specs.declared.names.Ts.{Ts}
+use Rattle.pb_base.specs.declared.content.Version.{Version}
+use Rattle.pb_isa.specs.Programs.{JudgedOf}
+use Rattle.pb_helpers.specs.declared.ask.Ask.{Ask}
+use Rattle.pb_vm.specs.declared.moved.Phase.TheVariants as phases
+use Rattle.pb_vm.specs.Position.{Position}
+use Rattle.pb_steps.specs.declared.seen.Seen.{Seen}
+use Rattle.pb_steps.specs.declared.step.Step.{Step}
+use Rattle.pb_steps.specs.declared.step.Answer.{Answer}
+use Rattle.pb_steps.specs.declared.step.Answer.TheVariants.{At, Locked, Waits}
+use Rattle.pb_steps.specs.Reads.{version_in, acknowledged_in}
+use Rattle.pb_txn.specs.declared.place.Outcome.{Outcome}
+use Rattle.pb_txn.specs.declared.place.Outcome.TheVariants as outcomes
+use Rattle.pb_txn.specs.Places as orders
+use Rattle.pb_txn.specs.Plans.{PlanOf, outcome_of}
+use Rattle.pb_txn.specs.Plans as plans
+use Rattle.pb_notify.specs.declared.look.TheConstants.{MAX_LOCKED}
+use Rattle.pb_notify.specs.declared.look.Look.{Look}
+use Rattle.pb_notify.specs.declared.look.Look.TheVariants.{Reading, Clearing, Settling, ClearingAgain}
+use Rattle.pb_notify.specs.declared.look.Looked.{Looked}
+use Rattle.pb_notify.specs.declared.look.Looked.TheVariants.{On, Tells, Blocks}
+use Rattle.pb_notify.specs.declared.machine.stepped.Stepped.{Stepped}
+use Rattle.pb_notify.specs.declared.machine.stepped.Stepped.TheVariants as did
+use Rattle.pb_notify.specs.declared.need.JobEnd.TheVariants as ends
+use Rattle.pb_notify.specs.declared.place.Place.{Place}
+use Rattle.pb_notify.specs.declared.place.Place.TheVariants.{Beginning, Observing, Acknowledging, Starting, Computing, Asking, Planning, Sweeping, Over}
+use Rattle.pb_notify.specs.Looks.{look_after, locked_after}
+use Rattle.pb_notify.specs.Steps.{Steps}
+use Rattle.pb_notify.specs.Places.{place_after, locked_at, after_begin, if_found, after_cell, after_acknowledgment, after_ask, by_outcome, place_of, Comes, ComesFrom, AtPlace, step_at}
+use Rattle.pb_notify.specs.Runs.{RunOf, answered, need_at}
+use Rattle.pb_notify.specs.declared.need.Need.TheVariants as needs
+use Rattle.pb_notify.proofs.PlansFit.{fits_after, next_is}
+
+-- ---- looks
+
+-- fewer reads met a lock than may, unless the last one did
+abbrev IsFew : Looked → ℕ → Type 0
+IsFew Blocks n = Unit {0}
+IsFew _ n = n < MAX_LOCKED
+
+locked_few : (locked : ℕ) (primary : Cell) (b : Bool) → nat_lt (locked + 1) MAX_LOCKED ≡ b → IsFew (cond b (On (Clearing primary)) Blocks) (locked + 1)
+locked_few locked primary true e = below (locked + 1) MAX_LOCKED e where
+  below : (a c : ℕ) → nat_lt a c ≡ true → a < c
+  below a c h = grind (arith, h)
+locked_few locked primary false e = tt
+
+look_few : (locked : ℕ) (look : Look) (a : Answer) → locked < MAX_LOCKED → IsFew (look_after locked look a) (locked_after locked look a)
+look_few locked Reading (Locked start primary) few = locked_few locked primary (nat_lt (locked + 1) MAX_LOCKED) refl
+look_few locked Reading _ few = few
+look_few locked (Clearing primary) Waits few = few
+look_few locked (Clearing primary) _ few = few
+look_few locked (Settling primary) a few = few
+look_few locked ClearingAgain a few = few
+
+-- ---- answers
+
+at_begun : (n : ℕ) (a : Answer) → n < MAX_LOCKED → AtPlace n (after_begin a)
+at_begun n (At s) few = few
+at_begun n _ few = few
+
+at_found : (n : ℕ) (s : Ts) (found : Option Version) → n < MAX_LOCKED → AtPlace n (if_found s found)
+at_found n s None few = tt
+at_found n s (Some v) few = few
+
+at_observed : (n : ℕ) (s : Ts) (looked : Looked) → IsFew looked n → AtPlace n (after_cell s looked)
+at_observed n s (On look) few = few
+at_observed n s (Tells a) few = at_found n s (version_in a) few
+at_observed n s Blocks few = tt
+
+at_dirty : (n : ℕ) (b : Bool) (s : Ts) (seen : Seen) → n < MAX_LOCKED → AtPlace n (cond b (Starting s seen) (Sweeping ends.Clean))
+at_dirty n true s seen few = few
+at_dirty n false s seen few = tt
+
+at_acknowledged : (n : ℕ) (s : Ts) (found : Version) (looked : Looked) → IsFew looked n → AtPlace n (after_acknowledgment s found looked)
+at_acknowledged n s found (On look) few = few
+at_acknowledged n s found (Tells a) few =
+    at_dirty n (nat_lt (acknowledged_in a).0 found.commit.0) s (record { version = found; acknowledged = acknowledged_in a }) few
+at_acknowledged n s found Blocks few = tt
+
+at_asked : (n : ℕ) (s : Ts) (v : Position) (q : Ask) (looked : Looked) → v.phase ≡ phases.Asking q → IsFew looked n → AtPlace n (after_ask s v q looked)
+at_asked n s v q (On look) asks few = (few, asks)
+at_asked n s v q (Tells a) asks few = (few, refl)
+at_asked n s v q Blocks asks few = tt
+
+at_outcome : (n r : ℕ) (p : PlanOf) (o : Option Outcome) → outcome_of p ≡ o → orders.Fits (length (orders.declared_cells p.what)) p.place → AtPlace n (by_outcome r p o)
+at_outcome n r p None is fits = (is, fits)
+at_outcome n r p (Some (outcomes.Committed c)) is fits = tt
+at_outcome n r p (Some outcomes.Conflicted) is fits = tt
+at_outcome n r p (Some outcomes.Lost) is fits = tt
+
+pub at_after : (locked : ℕ) (place : Place) (a : Answer) → AtPlace locked place → AtPlace (locked_at locked place a) (place_after locked place a)
+at_after locked Beginning a at = at_begun locked a at
+at_after locked (Observing s look) a at = at_observed _ s (look_after locked look a) (look_few locked look a at)
+at_after locked (Acknowledging s found look) a at = at_acknowledged _ s found (look_after locked look a) (look_few locked look a at)
+at_after locked (Starting s seen) a at = at
+at_after locked (Computing s v) a at = at
+at_after locked (Asking s v q look) a at = at_asked _ s v q (look_after locked look a) at.1 (look_few locked look a at.0)
+at_after locked (Planning r p) a at = at_outcome locked r (plans.answered p a) (outcome_of (plans.answered p a)) refl (fits_after _ p.place a at.1)
+at_after locked (Sweeping end) a at = tt
+at_after locked (Over end) a at = tt
+
+-- ---- instructions
+
+at_stepped : (locked o : ℕ) (s : Ts) (v : Position) (stepped : Stepped) → Steps o v stepped → locked < MAX_LOCKED → AtPlace locked (place_of s stepped)
+at_stepped locked o s v (did.Went w) steps few = (few, steps.went.phase)
+at_stepped locked o s v (did.Asks w q) steps few = (few, steps.phase)
+at_stepped locked o s v (did.Ended r what) steps few = (refl, tt)
+
+at_come : (locked o : ℕ) (s : Ts) (v : Position) (place : Place) → Comes o s v place → locked < MAX_LOCKED → AtPlace locked place
+at_come locked o s v place comes few = subst (AtPlace locked) (sym comes.place_is) (at_stepped locked o s v comes.stepped comes.steps few)
+
+pub at_computed : (locked o : ℕ) (judged : JudgedOf) (x : Cell) (place next : Place) → ComesFrom o judged x place next → AtPlace locked place → AtPlace locked next
+at_computed locked o judged x (Starting s seen) next comes at = at_come locked o s _ next comes at
+at_computed locked o judged x (Computing s v) next comes at = at_come locked o s v next comes at.0
+at_computed locked o judged x _ next comes at = absurd comes
+
+-- ---- the whole job
+
+pub answered_is : (j : RunOf) (a : Answer) (n : ℕ) (place : Place) → n ≡ locked_at j.locked j.place a → place ≡ place_after j.locked j.place a
+    → record j { locked = n; place = place } ≡ answered j a
+answered_is j a n place n-is place-is = λ i. record j { locked = n-is i; place = place-is i }
+
+-- where it needs an answer there is a next step
+pub call_has_next : (o : ℕ) (row : Row) (column locked : ℕ) (place : Place) → AtPlace locked place → need_at place ≡ needs.Call → (s : Step) × (step_at o row column place ≡ Some s)
+call_has_next o row column locked Beginning at e = (_, refl)
+call_has_next o row column locked (Observing s look) at e = (_, refl)
+call_has_next o row column locked (Acknowledging s found look) at e = (_, refl)
+call_has_next o row column locked (Starting s seen) at e = absurd cc
+call_has_next o row column locked (Computing s v) at e = absurd cc
+call_has_next o row column locked (Asking s v q look) at e = (_, refl)
+call_has_next o row column locked (Planning r p) at e = next_is p p.place refl at.1 at.0
+call_has_next o row column locked (Sweeping end) at e = (_, refl)
+call_has_next o row column locked (Over end) at e = absurd cc

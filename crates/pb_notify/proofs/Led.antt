@@ -1,0 +1,157 @@
+-- The machine of a job was led from entry to where it stands.
+use Rattle.std.proofs.Common.{◌≡◌, ℕ, Bool, true, false, cond, List, [], length, Option, Some, None, refl, sym, subst, append-nil}
+use Rattle.std.specs.Prelude.{nat_lt}
+use Rattle.pb_base.specs.declared.cell.Cell.{Cell}
+use Rattle.pb_base.specs.declared.cell.Cell.TheVariants.{Data}
+use Rattle.pb_base.specs.declared.names.Row.{Row}
+use Rattle.pb_base.specs.declared.names.Ts.{Ts}
+use Rattle.pb_base.specs.declared.content.Version.{Version}
+use Rattle.pb_isa.specs.Programs.{JudgedOf}
+use Rattle.pb_isa.specs.Machine.{Placement, IsPlacement, Environment, State, start}
+use Rattle.pb_isa.specs.Meaning.{Leads, point_after, environment_of}
+use Rattle.pb_helpers.specs.declared.ask.Ask.{Ask}
+use Rattle.pb_vm.specs.Position.{Position}
+use Rattle.pb_vm.specs.Moves.{IsAtState, SameGiven, Went, AskedFor}
+use Rattle.pb_steps.specs.declared.seen.Seen.{Seen}
+use Rattle.pb_steps.specs.declared.step.Answer.{Answer}
+use Rattle.pb_steps.specs.declared.step.Answer.TheVariants.{At}
+use Rattle.pb_steps.specs.Reads.{version_in, acknowledged_in}
+use Rattle.pb_history.specs.declared.entry.Received.{Received}
+use Rattle.pb_txn.specs.declared.place.Outcome.{Outcome}
+use Rattle.pb_txn.specs.declared.place.Outcome.TheVariants as outcomes
+use Rattle.pb_txn.specs.Plans.{PlanOf, outcome_of}
+use Rattle.pb_txn.specs.Plans as plans
+use Rattle.pb_txn.specs.Forms.{PlansTalk, PlansEnd}
+use Rattle.pb_notify.specs.declared.look.Looked.{Looked}
+use Rattle.pb_notify.specs.declared.look.Looked.TheVariants.{On, Tells, Blocks}
+use Rattle.pb_notify.specs.declared.machine.stepped.Stepped.{Stepped}
+use Rattle.pb_notify.specs.declared.machine.stepped.Stepped.TheVariants as did
+use Rattle.pb_notify.specs.declared.need.JobEnd.TheVariants as ends
+use Rattle.pb_notify.specs.declared.place.Place.{Place}
+use Rattle.pb_notify.specs.declared.place.Place.TheVariants.{Beginning, Observing, Acknowledging, Starting, Computing, Asking, Planning, Sweeping, Over}
+use Rattle.pb_notify.specs.Looks.{look_after}
+use Rattle.pb_notify.specs.Machines.{entry}
+use Rattle.pb_notify.specs.Steps.{Steps}
+use Rattle.pb_notify.specs.Places.{place_after, after_begin, if_found, after_cell, after_acknowledgment, after_ask, by_outcome, place_of, Comes, ComesFrom, IsToldBy, IsToldAt}
+use Rattle.pb_notify.specs.Runs.{RunOf, fresh}
+use Rattle.pb_notify.specs.Talks.{Reaches, made, took, computed}
+use Rattle.pb_notify.specs.Led.{StandsAt, IsLed, IsMachineOf, MachinesAreLed}
+use Rattle.pb_notify.proofs.RunTalk as talk
+
+-- ---- the machine alone
+
+first : (e : Environment) → Leads e [] 0 (start e)
+unfolding point_after
+first e = refl
+
+at_entry : (judged : JudgedOf) (bytes : List ℕ) (began : ℕ) → IsLed (entry judged bytes began)
+at_entry judged bytes began a p = (start (environment_of judged bytes began a), first (environment_of judged bytes began a))
+
+-- the same placement of the same record
+same_bytes : (v w : Position) (a : Placement) → w.bytes ≡ v.bytes → IsPlacement (length w.bytes) a → IsPlacement (length v.bytes) a
+same_bytes v w a is p = subst (λ b. IsPlacement (length b) a) is p
+
+went_led : (v w : Position) → Went v w → IsLed w
+went_led v w went a p = let at = went.at a (same_bytes v w a went.given.bytes p) in (at.to, at.now)
+
+-- a machine that asks stands where it stood
+same_state : (v w : Position) (a : Placement) (here : State) → SameGiven v w → w.talk ≡ v.talk → w.taken ≡ v.taken → IsAtState v a here → IsAtState w a here
+same_state v w a here given talk taken is =
+    subst (λ (z : Type 0). z) (λ i. Leads (environment_of (sym given.judged i) (sym given.bytes i) (sym given.began i) a) (sym talk i) (sym taken i) here) is
+
+asks_led : (v : Position) (q : Ask) (w : Position) → AskedFor v q w → IsLed w
+asks_led v q w asks a p =
+    let at = asks.at a (same_bytes v w a asks.given.bytes p) in
+    (at.here, same_state v w a at.here asks.given asks.talk asks.taken at.was)
+
+-- ---- at a place
+
+abbrev AtLed : Place → Type 0
+AtLed (Computing s v) = IsLed v
+AtLed (Asking s v q look) = IsLed v
+AtLed place = Unit {0}
+
+begun_led : (a : Answer) → AtLed (after_begin a)
+begun_led (At s) = tt
+begun_led _ = tt
+
+found_led : (s : Ts) (found : Option Version) → AtLed (if_found s found)
+found_led s None = tt
+found_led s (Some v) = tt
+
+observed_led : (s : Ts) (looked : Looked) → AtLed (after_cell s looked)
+observed_led s (On look) = tt
+observed_led s (Tells a) = found_led s (version_in a)
+observed_led s Blocks = tt
+
+dirty_led : (b : Bool) (s : Ts) (seen : Seen) → AtLed (cond b (Starting s seen) (Sweeping ends.Clean))
+dirty_led true s seen = tt
+dirty_led false s seen = tt
+
+acknowledged_led : (s : Ts) (found : Version) (looked : Looked) → AtLed (after_acknowledgment s found looked)
+acknowledged_led s found (On look) = tt
+acknowledged_led s found (Tells a) = dirty_led (nat_lt (acknowledged_in a).0 found.commit.0) s (record { version = found; acknowledged = acknowledged_in a })
+acknowledged_led s found Blocks = tt
+
+asked_led : (s : Ts) (v : Position) (q : Ask) (looked : Looked) → IsLed v → IsToldBy v q looked (after_ask s v q looked) → AtLed (after_ask s v q looked)
+asked_led s v q (On look) led is = led
+asked_led s v q (Tells b) led is = λ a p. (_, (is.told.at a p).now)
+asked_led s v q Blocks led is = tt
+
+outcome_led : (r : ℕ) (p : PlanOf) (out : Option Outcome) → AtLed (by_outcome r p out)
+outcome_led r p None = tt
+outcome_led r p (Some (outcomes.Committed c)) = tt
+outcome_led r p (Some outcomes.Conflicted) = tt
+outcome_led r p (Some outcomes.Lost) = tt
+
+answered_led : (locked : ℕ) (place : Place) (a : Answer) → AtLed place → IsToldAt locked place a (place_after locked place a) → AtLed (place_after locked place a)
+answered_led locked Beginning a led is = begun_led a
+answered_led locked (Observing s look) a led is = observed_led s (look_after locked look a)
+answered_led locked (Acknowledging s found look) a led is = acknowledged_led s found (look_after locked look a)
+answered_led locked (Starting s seen) a led is = tt
+answered_led locked (Computing s v) a led is = led
+answered_led locked (Asking s v q look) a led is = asked_led s v q (look_after locked look a) led is
+answered_led locked (Planning r p) a led is = outcome_led r (plans.answered p a) (outcome_of (plans.answered p a))
+answered_led locked (Sweeping end) a led is = tt
+answered_led locked (Over end) a led is = tt
+
+stepped_led : (o : ℕ) (s : Ts) (v : Position) (stepped : Stepped) → Steps o v stepped → AtLed (place_of s stepped)
+stepped_led o s v (did.Went w) st = went_led v w st.went
+stepped_led o s v (did.Asks w q) st = asks_led v q w st
+stepped_led o s v (did.Ended r what) st = tt
+
+comes_led : (o : ℕ) (s : Ts) (v : Position) (place : Place) → Comes o s v place → AtLed place
+comes_led o s v place c = subst AtLed (sym c.place_is) (stepped_led o s v c.stepped c.steps)
+
+computed_led : (o : ℕ) (judged : JudgedOf) (x : Cell) (place next : Place) → ComesFrom o judged x place next → AtLed next
+computed_led o judged x (Starting s seen) next c = comes_led o s _ next c
+computed_led o judged x (Computing s v) next c = comes_led o s v next c
+computed_led o judged x _ next c = absurd c
+
+reached_led : (j : RunOf) (said : List Received) (k : RunOf) → AtLed j.place → Reaches j said k → AtLed k.place
+reached_led j said k led made = led
+reached_led j said k led (took before from r to reaches next can is told) =
+    let told-at = subst (λ (z : RunOf). IsToldAt from.locked from.place r.answer z.place) is told in
+    subst (λ (z : RunOf). AtLed z.place) (sym is) (answered_led from.locked from.place r.answer (reached_led j before from led reaches) told-at)
+reached_led j said k led (computed before from to reaches need c) = computed_led from.observer from.judged (Data from.row from.column) from.place to.place c.comes
+
+-- ---- with what was said
+
+module _ (o : ℕ) (judged : JudgedOf) (row : Row) (column : ℕ) where
+  -- a look goes on from what was said before it
+  machine_at : (said : List Received) (n : ℕ) (place : Place) (s : Ts) (v : Position) → StandsAt place s v → talk.SoFar o judged row column n place said → AtLed place → IsMachineOf o judged row column s v said
+  machine_at said n (Computing t w) s v stands so led =
+      subst (λ (z : Position). IsMachineOf o judged row column s z said) stands.1
+      (subst (λ (z : Ts). IsMachineOf o judged row column z w said) stands.0
+      (record { seen = so.0; program = so.1.program; bytes = so.1.bytes; began = so.1.began; met = n; base = said; rest = []; said_is = sym (append-nil said); asked = so.2; led = led }))
+  machine_at said n (Asking t w q look) s v stands so led =
+      let from = talk.look_goes_on t (Data q.row q.column) so.1 so.2 look n said so.5 in
+      subst (λ (z : Position). IsMachineOf o judged row column s z said) stands.1
+      (subst (λ (z : Ts). IsMachineOf o judged row column z w said) stands.0
+      (record { seen = so.0; program = so.3.program; bytes = so.3.bytes; began = so.3.began; met = so.1; base = so.2; rest = from.0; said_is = from.1; asked = so.4; led = led }))
+  machine_at said n _ s v stands so led = absurd stands
+
+pub machines_are_led : PlansTalk → PlansEnd → MachinesAreLed
+machines_are_led pt pe o judged row column said k s v reaches stands =
+    let h = talk.holds o judged row column pt pe said k reaches in
+    machine_at o judged row column said k.locked k.place s v stands h.so (reached_led (fresh o judged row column) said k tt reaches)

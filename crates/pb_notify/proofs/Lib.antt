@@ -1,0 +1,5 @@
+pub mod PlansFit
+pub mod Kept
+pub mod LookTalk
+pub mod RunTalk
+pub mod Led

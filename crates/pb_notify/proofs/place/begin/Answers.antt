@@ -1,0 +1,12 @@
+use Rattle.std.proofs.Common.{subst, ap, ◌∙◌}
+use Rattle.pb_notify.specs.Machines.{entry}
+use Rattle.pb_notify.specs.Steps.{Steps}
+use Rattle.pb_notify.proofs.place.begin.Goals as goal
+
+pub returns-in-Ok-step-clause-ok : goal.returns-in-Ok-step-clause-ok
+returns-in-Ok-step-clause-ok c =
+    record {
+      stepped = c.in-Ok-step.stepped;
+      steps = subst (λ v. Steps c.args.observer v c.in-Ok-step.stepped) (c.in-Ok.ensures ∙ ap (λ b. entry c.args.accepted.now.value b c.args.start.0) c.new-record.ensures) c.in-Ok-step.ensures.ok;
+      place_is = c.place_of.ensures;
+    }

@@ -1,0 +1,48 @@
+-- Looks at a cell (OSDI 2010, section 2.2): it is read; a lock in the way is cleared, after its primary was settled where it
+-- waits for that; and the cell is read again.
+use Rattle.std.specs.Prelude.{ℕ, ◌+◌, nat_lt, if◌then◌else◌}
+use Rattle.pb_base.specs.declared.cell.Cell.{Cell}
+use Rattle.pb_base.specs.declared.names.Ts.{Ts}
+use Rattle.pb_steps.specs.declared.step.Step.{Step}
+use Rattle.pb_steps.specs.declared.step.Step.TheVariants.{Read, Settle, Clear}
+use Rattle.pb_steps.specs.declared.step.Answer.{Answer}
+use Rattle.pb_steps.specs.declared.step.Answer.TheVariants.{Locked, Waits}
+use Rattle.pb_notify.specs.declared.look.TheConstants.{MAX_LOCKED}
+use Rattle.pb_notify.specs.declared.look.Look.{Look}
+use Rattle.pb_notify.specs.declared.look.Look.TheVariants.{Reading, Clearing, Settling, ClearingAgain}
+use Rattle.pb_notify.specs.declared.look.Looked.{Looked}
+use Rattle.pb_notify.specs.declared.look.Looked.TheVariants.{On, Tells, Blocks}
+
+-- the next step of a look at a cell
+abbrev pub look_step : Ts → Cell → Look → Step
+look_step s x Reading = Read s x
+look_step s x (Clearing primary) = Clear x
+look_step s x (Settling primary) = Settle primary
+look_step s x ClearingAgain = Clear x
+
+-- ---- where an answer leads, after so many reads of the job that met a lock
+
+-- the last one that it may meet blocks it
+abbrev pub after_read : ℕ → Answer → Looked
+after_read locked (Locked start primary) = if nat_lt (locked + 1) MAX_LOCKED then On (Clearing primary) else Blocks
+after_read locked a = Tells a
+
+abbrev pub after_clear : Cell → Answer → Looked
+after_clear primary Waits = On (Settling primary)
+after_clear primary _ = On Reading
+
+abbrev pub look_after : ℕ → Look → Answer → Looked
+look_after locked Reading a = after_read locked a
+look_after locked (Clearing primary) a = after_clear primary a
+look_after locked (Settling primary) a = On ClearingAgain
+look_after locked ClearingAgain a = On Reading
+
+-- ---- how many reads met a lock by then
+
+abbrev pub locked_by_read : ℕ → Answer → ℕ
+locked_by_read locked (Locked start primary) = locked + 1
+locked_by_read locked _ = locked
+
+abbrev pub locked_after : ℕ → Look → Answer → ℕ
+locked_after locked Reading a = locked_by_read locked a
+locked_after locked _ a = locked

@@ -1,0 +1,56 @@
+-- Machines of runs, seen by their positions, and what their exit leaves.
+use Rattle.std.specs.Prelude.{◌≡◌, ℕ, ◌+◌, ◌<◌, ◌≤◌, List, [], ◌∷◌, ◌++◌, length}
+use Rattle.pb_isa.specs.Programs.{JudgedOf}
+use Rattle.pb_isa.specs.Slots.{slots}
+use Rattle.pb_isa.specs.Machine.{Placement, IsPlacement}
+use Rattle.pb_isa.specs.Machine as machine
+use Rattle.pb_helpers.specs.declared.ask.Ask.{Ask}
+use Rattle.pb_helpers.specs.declared.ask.Reply.{Reply}
+use Rattle.pb_helpers.specs.Replies.{ask_of, reply_of}
+use Rattle.pb_vm.specs.declared.moved.Phase.TheVariants.{Going}
+use Rattle.pb_vm.specs.Position.{Position}
+use Rattle.pb_vm.specs.Moves.{EndsAt, RepliedWith}
+use Rattle.pb_vm.specs.Finished.{Meant, IsMeant}
+use Rattle.pb_steps.specs.declared.step.Answer.{Answer}
+use Rattle.pb_steps.specs.Reads.{value_in}
+use Rattle.pb_notify.specs.declared.machine.Standing.{Standing}
+use Rattle.pb_notify.specs.declared.machine.Standing.TheVariants.{Running, Exited}
+
+-- before its first instruction
+abbrev pub entry : JudgedOf → List ℕ → ℕ → Position
+entry judged bytes began = record { judged = judged; bytes = bytes; began = began; talk = []; taken = 0; phase = Going }
+
+-- after its ask was replied to
+abbrev pub after_reply : Position → Ask → machine.Reply → Position
+after_reply v q r = record v { talk = v.talk ++ (ask_of q, r) ∷ []; taken = v.taken + 1; phase = Going }
+
+-- the instruction that asked is done, with what the read of its cell was answered
+pub record IsTold (v : Position) (q : Ask) (a : Answer) (w : Position) : Type 0 where
+  pub reply : Reply
+  pub reply_is : reply_of reply ≡ value_in a
+  pub told : RepliedWith v q reply w
+  pub most : w.taken ≤ slots w.judged.program.insns
+
+-- what it leaves where its next instruction is the exit: the program's meaning of what it was given and told
+pub record Leaves (v : Position) (f : Meant) : Type 0 where
+  pub judged : f.judged ≡ v.judged
+  pub bytes : f.bytes ≡ v.bytes
+  pub began : f.began ≡ v.began
+  pub talk : f.talk ≡ v.talk
+  pub ends : (a : Placement) → IsPlacement (length v.bytes) a → EndsAt v f.result a
+  pub meant : IsMeant f
+  pub few : v.taken < slots v.judged.program.insns
+
+-- ---- how a machine is kept
+
+-- before the exit that left this
+abbrev pub exit_at : Meant → ℕ → Position
+exit_at f taken = record { judged = f.judged; bytes = f.bytes; began = f.began; talk = f.talk; taken = taken; phase = Going }
+
+abbrev pub position_in : Standing → Position
+position_in (Running v) = v
+position_in (Exited f taken) = exit_at f taken
+
+abbrev pub IsKept : Standing → Type 0
+IsKept (Running v) = Unit {0}
+IsKept (Exited f taken) = Leaves (exit_at f taken) f

@@ -1,0 +1,162 @@
+-- Where a job stands: the step at each place, and where each answer and each instruction leads.
+use Rattle.std.specs.Prelude.{◌≡◌, ℕ, ◌<◌, nat_lt, if◌then◌else◌, length, Option, Some, None}
+use Rattle.pb_base.specs.declared.cell.Cell.{Cell}
+use Rattle.pb_base.specs.declared.cell.Cell.TheVariants.{Data, Ack}
+use Rattle.pb_base.specs.declared.names.Row.{Row}
+use Rattle.pb_base.specs.declared.names.Ts.{Ts}
+use Rattle.pb_base.specs.declared.content.Version.{Version}
+use Rattle.pb_isa.specs.Programs.{JudgedOf}
+use Rattle.pb_helpers.specs.declared.ask.Ask.{Ask}
+use Rattle.pb_helpers.specs.Record.{record_of}
+use Rattle.pb_vm.specs.declared.moved.Phase.TheVariants as phases
+use Rattle.pb_vm.specs.Position.{Position}
+use Rattle.pb_steps.specs.declared.step.Work.TheVariants as works
+use Rattle.pb_steps.specs.declared.step.Step.{Step}
+use Rattle.pb_steps.specs.declared.step.Step.TheVariants as steps
+use Rattle.pb_steps.specs.declared.step.Answer.{Answer}
+use Rattle.pb_steps.specs.declared.step.Answer.TheVariants as answers
+use Rattle.pb_steps.specs.Reads.{version_in, acknowledged_in, value_in}
+use Rattle.pb_txn.specs.declared.place.Outcome.{Outcome}
+use Rattle.pb_txn.specs.declared.place.Outcome.TheVariants as outcomes
+use Rattle.pb_txn.specs.Places as orders
+use Rattle.pb_txn.specs.Plans.{PlanOf, fresh, outcome_of, CanTake}
+use Rattle.pb_txn.specs.Plans as plans
+use Rattle.pb_notify.specs.declared.look.TheConstants.{MAX_LOCKED}
+use Rattle.pb_notify.specs.declared.look.Look.TheVariants.{Reading}
+use Rattle.pb_notify.specs.declared.look.Looked.{Looked}
+use Rattle.pb_notify.specs.declared.look.Looked.TheVariants.{On, Tells, Blocks}
+use Rattle.pb_notify.specs.declared.machine.stepped.Stepped.{Stepped}
+use Rattle.pb_notify.specs.declared.machine.stepped.Stepped.TheVariants as did
+use Rattle.pb_notify.specs.declared.need.JobEnd.TheVariants as ends
+use Rattle.pb_notify.specs.declared.place.Place.{Place}
+use Rattle.pb_notify.specs.declared.place.Place.TheVariants.{Beginning, Observing, Acknowledging, Starting, Computing, Asking, Planning, Sweeping, Over}
+use Rattle.pb_notify.specs.Looks.{look_step, look_after, locked_after}
+use Rattle.pb_notify.specs.Machines.{entry, after_reply, IsTold}
+use Rattle.pb_notify.specs.Steps.{Steps}
+
+-- ---- the step at a place
+
+-- but for those of a plan
+abbrev pub stored_step : ℕ → Row → ℕ → Place → Option Step
+stored_step o row column Beginning = Some (steps.Begin (works.Run o row))
+stored_step o row column (Observing s look) = Some (look_step s (Data row column) look)
+stored_step o row column (Acknowledging s found look) = Some (look_step s (Ack o row column) look)
+stored_step o row column (Asking s v q look) = Some (look_step s (Data q.row q.column) look)
+stored_step o row column (Sweeping end) = Some (steps.Sweep (Data row column))
+stored_step o row column _ = None
+
+-- the step at a place, for a run of this observer on this cell
+abbrev pub step_at : ℕ → Row → ℕ → Place → Option Step
+step_at o row column (Planning r p) = plans.next_of p
+step_at o row column place = stored_step o row column place
+
+-- ---- where an answer leads
+
+abbrev pub after_begin : Answer → Place
+after_begin (answers.At s) = Observing s Reading
+after_begin _ = Beginning
+
+-- a cell without a version is clean, whatever is acknowledged
+abbrev pub if_found : Ts → Option Version → Place
+if_found s None = Sweeping ends.Clean
+if_found s (Some found) = Acknowledging s found Reading
+
+abbrev pub after_cell : Ts → Looked → Place
+after_cell s (On look) = Observing s look
+after_cell s (Tells a) = if_found s (version_in a)
+after_cell s Blocks = Over ends.Blocked
+
+-- a cell is dirty where its commit is greater than the acknowledged timestamp
+abbrev pub if_dirty : Ts → Version → Ts → Place
+if_dirty s found acknowledged = if nat_lt acknowledged.0 found.commit.0 then Starting s (record { version = found; acknowledged = acknowledged }) else Sweeping ends.Clean
+
+abbrev pub after_acknowledgment : Ts → Version → Looked → Place
+after_acknowledgment s found (On look) = Acknowledging s found look
+after_acknowledgment s found (Tells a) = if_dirty s found (acknowledged_in a)
+after_acknowledgment s found Blocks = Over ends.Blocked
+
+abbrev pub after_ask : Ts → Position → Ask → Looked → Place
+after_ask s v q (On look) = Asking s v q look
+after_ask s v q (Tells a) = Computing s (after_reply v q (value_in a))
+after_ask s v q Blocks = Over ends.Blocked
+
+-- it sweeps the cell where it committed
+abbrev pub by_outcome : ℕ → PlanOf → Option Outcome → Place
+by_outcome r p None = Planning r p
+by_outcome r p (Some (outcomes.Committed c)) = Sweeping (ends.Ran r)
+by_outcome r p (Some outcomes.Conflicted) = Over ends.Conflicted
+by_outcome r p (Some outcomes.Lost) = Over ends.Lost
+
+abbrev pub after_plan : ℕ → PlanOf → Place
+after_plan r p = by_outcome r p (outcome_of p)
+
+-- after so many reads that met a lock
+abbrev pub place_after : ℕ → Place → Answer → Place
+place_after locked Beginning a = after_begin a
+place_after locked (Observing s look) a = after_cell s (look_after locked look a)
+place_after locked (Acknowledging s found look) a = after_acknowledgment s found (look_after locked look a)
+place_after locked (Starting s seen) a = Starting s seen
+place_after locked (Computing s v) a = Computing s v
+place_after locked (Asking s v q look) a = after_ask s v q (look_after locked look a)
+place_after locked (Planning r p) a = after_plan r (plans.answered p a)
+place_after locked (Sweeping end) a = Over end
+place_after locked (Over end) a = Over end
+
+-- where a look for the machine comes to its end, the machine is told
+abbrev pub IsToldBy : Position → Ask → Looked → Place → Type 0
+IsToldBy v q (Tells a) (Computing s w) = IsTold v q a w
+IsToldBy v q looked place = Unit {0}
+
+abbrev pub IsToldAt : ℕ → Place → Answer → Place → Type 0
+IsToldAt locked (Asking s v q look) a place = IsToldBy v q (look_after locked look a) place
+IsToldAt locked before a place = Unit {0}
+
+-- how many met one by then
+abbrev pub locked_at : ℕ → Place → Answer → ℕ
+locked_at locked (Observing s look) a = locked_after locked look a
+locked_at locked (Acknowledging s found look) a = locked_after locked look a
+locked_at locked (Asking s v q look) a = locked_after locked look a
+locked_at locked _ a = locked
+
+-- ---- where an instruction leads
+
+abbrev pub place_of : Ts → Stepped → Place
+place_of s (did.Went w) = Computing s w
+place_of s (did.Asks w q) = Asking s w q Reading
+place_of s (did.Ended r what) = Planning r (fresh s.0 what)
+
+-- one instruction of a run of this observer, begun at this start, leads from the position to the place
+pub record Comes (o : ℕ) (s : Ts) (v : Position) (place : Place) : Type 0 where
+  pub stepped : Stepped
+  pub steps : Steps o v stepped
+  pub place_is : place ≡ place_of s stepped
+
+-- from a place: the machine begins on the record of what was seen of the cell, or goes on where it stands
+abbrev pub ComesFrom : ℕ → JudgedOf → Cell → Place → Place → Type 0
+ComesFrom o judged x (Starting s seen) place = Comes o s (entry judged (record_of x seen.version seen.acknowledged.0) s.0) place
+ComesFrom o judged x (Computing s v) place = Comes o s v place
+ComesFrom o judged x _ place = ⊥
+
+-- ---- what a place says of its parts
+
+abbrev pub AtPlace : ℕ → Place → Type 0
+AtPlace locked Beginning = locked < MAX_LOCKED
+AtPlace locked (Observing s look) = locked < MAX_LOCKED
+AtPlace locked (Acknowledging s found look) = locked < MAX_LOCKED
+AtPlace locked (Starting s seen) = locked < MAX_LOCKED
+AtPlace locked (Computing s v) = (locked < MAX_LOCKED) × (v.phase ≡ phases.Going)
+AtPlace locked (Asking s v q look) = (locked < MAX_LOCKED) × (v.phase ≡ phases.Asking q)
+AtPlace locked (Planning r p) = (outcome_of p ≡ None) × orders.Fits (length (orders.declared_cells p.what)) p.place
+AtPlace locked (Sweeping end) = Unit {0}
+AtPlace locked (Over end) = Unit {0}
+
+-- its machine's next instruction is done
+abbrev pub IsLocal : Place → Type 0
+IsLocal (Starting s seen) = Unit {0}
+IsLocal (Computing s v) = v.phase ≡ phases.Going
+IsLocal place = ⊥
+
+-- where its plan is next, the answer is one that the plan's step can have
+abbrev pub CanTakeAt : Place → Answer → Type 0
+CanTakeAt (Planning r p) a = CanTake (plans.next_of p) a
+CanTakeAt place a = Unit {0}

@@ -1,0 +1,66 @@
+-- Jobs of observers, as their owners see them.
+use Rattle.std.specs.Prelude.{◌≡◌, ℕ, Option, Some}
+use Rattle.pb_base.specs.declared.cell.Cell.TheVariants.{Data}
+use Rattle.pb_base.specs.declared.names.Row.{Row}
+use Rattle.pb_isa.specs.Programs.{JudgedOf}
+use Rattle.pb_steps.specs.declared.step.Step.{Step}
+use Rattle.pb_steps.specs.declared.step.Answer.{Answer}
+use Rattle.pb_txn.specs.Plans as plans
+use Rattle.pb_notify.specs.declared.need.Need.{Need}
+use Rattle.pb_notify.specs.declared.need.Need.TheVariants as needs
+use Rattle.pb_notify.specs.declared.place.Place.{Place}
+use Rattle.pb_notify.specs.declared.place.Place.TheVariants.{Beginning, Starting, Computing, Over}
+use Rattle.pb_notify.specs.Places.{stored_step, step_at, place_after, locked_at, AtPlace, IsToldAt, ComesFrom}
+
+-- the observer and its program, the row and column of the cell, how many reads met a lock, and where it stands
+pub record RunOf : Type 0 where
+  pub observer : ℕ
+  pub judged : JudgedOf
+  pub row : Row
+  pub column : ℕ
+  pub locked : ℕ
+  pub place : Place
+
+-- before its first step
+abbrev pub fresh : ℕ → JudgedOf → Row → ℕ → RunOf
+fresh o judged row column = record { observer = o; judged = judged; row = row; column = column; locked = 0; place = Beginning }
+
+abbrev pub next_of : RunOf → Option Step
+next_of j = step_at j.observer j.row j.column j.place
+
+abbrev pub HasNext : RunOf → Type 0
+HasNext j = (s : Step) × (next_of j ≡ Some s)
+
+abbrev pub need_at : Place → Need
+need_at (Starting s seen) = needs.Local
+need_at (Computing s v) = needs.Local
+need_at (Over end) = needs.Over end
+need_at _ = needs.Call
+
+abbrev pub need_of : RunOf → Need
+need_of j = need_at j.place
+
+-- after its next step was answered
+abbrev pub answered : RunOf → Answer → RunOf
+answered j a = record j { locked = locked_at j.locked j.place a; place = place_after j.locked j.place a }
+
+-- its machine was told what a look for it found
+abbrev pub IsTold : RunOf → Answer → RunOf → Type 0
+IsTold j a k = IsToldAt j.locked j.place a k.place
+
+-- there is a next step, which can have this answer
+abbrev pub CanTake : RunOf → Answer → Type 0
+CanTake j a = plans.CanTake (next_of j) a
+
+-- ---- one instruction
+
+-- the machine does one, and all but the place is as before
+pub record Computes (j k : RunOf) : Type 0 where
+  pub comes : ComesFrom j.observer j.judged (Data j.row j.column) j.place k.place
+  pub same : k ≡ record j { place = k.place }
+
+-- ---- how a job is kept
+
+pub record IsJob (o : ℕ) (row : Row) (column locked : ℕ) (place : Place) (next : Option Step) : Type 0 where
+  pub stored : next ≡ stored_step o row column place
+  pub at : AtPlace locked place

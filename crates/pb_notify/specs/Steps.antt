@@ -1,0 +1,29 @@
+-- What one instruction of a run's machine does.
+use Rattle.std.specs.Prelude.{◌≡◌, ℕ, ◌≤◌}
+use Rattle.pb_isa.specs.Slots.{slots}
+use Rattle.pb_vm.specs.Position.{Position}
+use Rattle.pb_vm.specs.Moves.{Went, AskedFor}
+use Rattle.pb_vm.specs.Finished.{Meant}
+use Rattle.pb_steps.specs.declared.step.Declared.{Declared}
+use Rattle.pb_steps.specs.declared.step.Declared.TheVariants as declared
+use Rattle.pb_notify.specs.declared.machine.stepped.Stepped.{Stepped}
+use Rattle.pb_notify.specs.declared.machine.stepped.Stepped.TheVariants as did
+use Rattle.pb_notify.specs.Machines.{Leaves}
+
+-- no run does more instructions than its program has slots
+pub record WentOn (v w : Position) : Type 0 where
+  pub went : Went v w
+  pub most : w.taken ≤ slots w.judged.program.insns
+
+-- the exit, with register 0, and what the run of this observer declares
+pub record Ends (o : ℕ) (v : Position) (r : ℕ) (what : Declared) : Type 0 where
+  pub left : Meant
+  pub leaves : Leaves v left
+  pub result : r ≡ left.result
+  pub declares : what ≡ declared.Run o left
+
+-- what one instruction of a run of this observer does
+abbrev pub Steps : ℕ → Position → Stepped → Type 0
+Steps o v (did.Went w) = WentOn v w
+Steps o v (did.Asks w q) = AskedFor v q w
+Steps o v (did.Ended r what) = Ends o v r what

@@ -1,0 +1,122 @@
+//! Jobs of observers.
+use crate::need::Need;
+use crate::place::{Place, compute, locked_at, place_after, step_at};
+use pb_base::{Cell, Column, NoMemory, ObserverNo, Row};
+use pb_steps::{Answer, Step, Work};
+use pb_verify::Accepted;
+use std::alloc::Global;
+use std::marker::Model;
+use std::mem;
+use std::sync::Arc;
+
+/// One run of an observer on a cell of its column (OSDI 2010, section 2.4), step after step: it begins a transaction, reads
+/// the cell and then its acknowledgment. Where the cell was committed after the acknowledged change, its machine runs on
+/// the record of the change, with a read for each cell that it asks for; what it leaves is declared and committed by a
+/// [`Plan`](pb_txn::Plan), and the cell is swept if it committed. Where there is nothing newer, it only sweeps the cell.
+///
+/// A read that meets a lock clears it, after its primary was settled where the lock waits for that, and reads again, until
+/// [`MAX_LOCKED`](crate::MAX_LOCKED) reads of the job met one.
+#[derive(Drop)]
+pub struct ObserverJob {
+    observer: ObserverNo,
+    accepted: Arc<Accepted>,
+    row: Row,
+    column: Column,
+    locked: u8,
+    place: Place,
+    next: Option<Step>,
+}
+
+impl Model for ObserverJob {
+    ghost use Rattle.pb_notify.specs.Runs.{RunOf, IsJob};
+
+    ghost Value = { RunOf };
+
+    ghost view = { λ j. record { observer = j.observer; judged = j.accepted.value; row = j.row; column = j.column; locked = j.locked; place = j.place } };
+
+    ghost invariant = { λ j. IsJob j.observer j.row j.column j.locked j.place j.next };
+}
+
+impl ObserverJob {
+    ghost use Rattle.std.specs.Prelude.{◌≡◌, None, Some, MatchOption, OnOk, OnErr};
+    ghost use Rattle.pb_notify.specs.declared.need.Need.TheVariants.{Local, Call};
+    ghost use Rattle.pb_notify.specs.Runs.{fresh, next_of, HasNext, need_of, answered, IsTold, CanTake, Computes};
+
+    /// The run of this observer, whose program this is, on the cell of this row and column. It takes no memory.
+    pub fn new(
+        observer: ObserverNo,
+        accepted: Arc<Accepted>,
+        row: Row,
+        column: Column,
+    ) -> ObserverJob
+        ensures { result ≡ fresh observer accepted.value row column }
+    {
+        ObserverJob {
+            observer,
+            accepted,
+            row,
+            column,
+            locked: 0,
+            place: Place::Beginning,
+            next: Some(Step::Begin(Work::Run(observer, row))),
+        }
+    }
+
+    /// What it needs next.
+    pub fn needs(&self) -> Need
+        ensures { result ≡ need_of self.now }
+    {
+        match &self.place {
+            Place::Starting(..) | Place::Computing(..) => Need::Local,
+            Place::Over(end) => Need::Over(*end),
+            _ => Need::Call,
+        }
+    }
+
+    /// The next step, where it needs an answer.
+    pub fn next(&self) -> Option<&Step>
+        ensures next { MatchOption result (next_of self.now ≡ None) (λ s. next_of self.now ≡ Some s.now) }
+        ensures some { need_of self.now ≡ Call → HasNext self.now }
+    {
+        match &self.place {
+            Place::Planning(_, plan) => plan.next(),
+            _ => self.next.as_ref(),
+        }
+    }
+
+    /// Takes the answer of the next step, which is one that such a step can have. It takes no memory.
+    pub fn took(&mut self, answer: Answer)
+        requires { CanTake self.old answer }
+        ensures answered { self.new ≡ answered self.old answer }
+        ensures told { IsTold self.old answer self.new }
+    {
+        let place = mem::replace(&mut self.place, Place::Beginning);
+        let locked = locked_at(self.locked, &place, &answer);
+        let place = place_after(self.locked, place, answer);
+        self.next = step_at(self.observer, self.row, self.column, &place);
+        self.locked = locked;
+        self.place = place;
+    }
+
+    /// Does one instruction of its machine, which it starts before the first. The exit also makes what it declares and its
+    /// plan. Refused for memory it is as before, and goes on when it is called again.
+    pub fn local(&mut self, alloc: Global) -> Result<(), NoMemory>
+        requires { need_of self.old ≡ Local }
+        ensures ok { OnOk result (Computes self.old self.new) }
+        ensures same { OnErr result (self.new ≡ self.old) }
+    {
+        let place = mem::replace(&mut self.place, Place::Beginning);
+        let cell = Cell::Data(self.row, self.column);
+        match compute(alloc, self.observer, &self.accepted, cell, place) {
+            Ok(place) => {
+                self.next = step_at(self.observer, self.row, self.column, &place);
+                self.place = place;
+                Ok(())
+            }
+            Err(place) => {
+                self.place = place;
+                Err(NoMemory)
+            }
+        }
+    }
+}

@@ -1,0 +1,14 @@
+//! One run of an observer on a cell (OSDI 2010, section 2.4): what it asks of the table, what it runs, and how it ends.
+#![tactic(auto)]
+
+mod job;
+mod laws;
+mod look;
+mod machine;
+mod need;
+mod place;
+
+pub use job::ObserverJob;
+pub use laws::{jobs_talk, machines_are_led};
+pub use look::MAX_LOCKED;
+pub use need::{JobEnd, Need};

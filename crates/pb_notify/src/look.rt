@@ -1,0 +1,90 @@
+//! Looks at a cell: it is read, and a lock in the way is cleared before it is read again (OSDI 2010, section 2.2).
+ghost use Rattle.std.specs.Prelude.{◌≡◌, ◌<◌};
+ghost use Rattle.pb_notify.specs.Looks.{look_step, look_after, locked_after};
+
+use pb_base::{Cell, Ts};
+use pb_steps::{Answer, Step};
+
+/// How many reads of one job may meet a lock: at the last it ends.
+pub const MAX_LOCKED: u8 = 64;
+
+/// Which step of a look is next.
+#[derive(Clone, Copy)]
+pub enum Look {
+    Reading,
+    /// The read met a lock with this primary.
+    Clearing(Cell),
+    /// The lock waits for that of its primary.
+    Settling(Cell),
+    /// Its primary was settled.
+    ClearingAgain,
+}
+
+/// Where an answer leads a look.
+#[derive(Clone, Copy)]
+pub enum Looked {
+    On(Look),
+    /// The read was answered with what the cell holds, if anything.
+    Tells(Answer),
+    /// The read met the last lock that it may.
+    Blocks,
+}
+
+/// The next step of a look at a cell.
+pub fn look_step(start: Ts, cell: Cell, look: Look) -> Step
+    ensures { result ≡ look_step start cell look }
+{
+    match look {
+        Look::Reading => Step::Read(start, cell),
+        Look::Clearing(_) => Step::Clear(cell),
+        Look::Settling(primary) => Step::Settle(primary),
+        Look::ClearingAgain => Step::Clear(cell),
+    }
+}
+
+// After a read, where so many met a lock before it.
+fn after_read(locked: u8, answer: Answer) -> Looked
+    requires { locked < MAX_LOCKED }
+    ensures { result ≡ Rattle.pb_notify.specs.Looks.after_read locked answer }
+{
+    match answer {
+        Answer::Locked { primary, .. } => {
+            if locked + 1 < MAX_LOCKED {
+                Looked::On(Look::Clearing(primary))
+            } else {
+                Looked::Blocks
+            }
+        }
+        _ => Looked::Tells(answer),
+    }
+}
+
+/// Where an answer leads, where so many reads of the job met a lock before it.
+pub fn look_after(locked: u8, look: Look, answer: Answer) -> Looked
+    requires { locked < MAX_LOCKED }
+    ensures { result ≡ look_after locked look answer }
+{
+    match look {
+        Look::Reading => after_read(locked, answer),
+        Look::Clearing(primary) => match answer {
+            Answer::Waits => Looked::On(Look::Settling(primary)),
+            _ => Looked::On(Look::Reading),
+        },
+        Look::Settling(_) => Looked::On(Look::ClearingAgain),
+        Look::ClearingAgain => Looked::On(Look::Reading),
+    }
+}
+
+/// How many reads of the job met a lock by then.
+pub fn locked_after(locked: u8, look: Look, answer: &Answer) -> u8
+    requires { locked < MAX_LOCKED }
+    ensures { result ≡ locked_after locked look answer.now }
+{
+    match look {
+        Look::Reading => match answer {
+            Answer::Locked { .. } => locked + 1,
+            _ => locked,
+        },
+        _ => locked,
+    }
+}

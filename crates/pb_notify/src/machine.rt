@@ -1,0 +1,75 @@
+//! The machine of a run, which tries its exit again where memory was refused to declare what it leaves.
+ghost use Rattle.std.specs.Prelude.{◌≡◌, IfOk};
+ghost use Rattle.pb_steps.specs.Reads.{value_in};
+ghost use Rattle.pb_notify.specs.Machines.{entry, after_reply, IsTold};
+ghost use Rattle.pb_vm.specs.declared.moved.Phase.TheVariants.{Asking};
+
+mod stepped;
+
+use pb_base::{NoMemory, Ts};
+use pb_helpers::{Ask, Record};
+use pb_steps::{Answer, reply_in};
+use pb_verify::Accepted;
+use pb_vm::{Finished, Vm};
+use std::alloc::Global;
+use std::marker::Model;
+use std::sync::Arc;
+pub use stepped::Stepped;
+
+/// A machine of an accepted program. It is seen at its exit as long as that isn't declared.
+#[derive(Drop)]
+pub struct Machine {
+    standing: Standing,
+}
+
+#[derive(Drop)]
+enum Standing {
+    Running(Vm),
+    /// What it left at its exit, with the instructions before that.
+    Exited(Finished, u16),
+}
+
+impl Model for Machine {
+    ghost use Rattle.pb_vm.specs.Position.{Position};
+    ghost use Rattle.pb_notify.specs.Machines.{position_in, IsKept};
+
+    ghost Value = { Position };
+
+    ghost view = { λ m. position_in m.standing };
+
+    ghost invariant = { λ m. IsKept m.standing };
+}
+
+impl Machine {
+    /// A machine on entry.
+    pub fn start(
+        alloc: Global,
+        accepted: &Arc<Accepted>,
+        change: Record,
+        run: Ts,
+    ) -> Result<Machine, NoMemory>
+        ensures { IfOk result (λ m. m ≡ entry accepted.now.value change run.0) }
+    {
+        let vm = Vm::start(alloc, accepted, change, run)?;
+        Ok(Machine {
+            standing: Standing::Running(vm),
+        })
+    }
+
+    /// Tells the instruction that waits what a read of its cell was answered.
+    pub fn reply(self, ask: Ask, answer: Answer) -> Machine
+        requires { self.phase ≡ Asking ask }
+        ensures told { IsTold self ask answer result }
+        ensures is { result ≡ after_reply self ask (value_in answer) }
+    {
+        match self.standing {
+            Standing::Running(mut vm) => {
+                vm.reply(reply_in(answer));
+                Machine {
+                    standing: Standing::Running(vm),
+                }
+            }
+            Standing::Exited(..) => unreachable!(),
+        }
+    }
+}

@@ -1,0 +1,79 @@
+//! One instruction of a run's machine.
+ghost use Rattle.std.specs.Prelude.{◌≡◌, IfOk, IfErr};
+ghost use Rattle.pb_notify.specs.Machines.{exit_at, Leaves};
+ghost use Rattle.pb_notify.specs.Steps.{Steps};
+ghost use Rattle.pb_vm.specs.declared.moved.Phase.TheVariants.{Going};
+
+use crate::machine::{Machine, Standing};
+use pb_base::ObserverNo;
+use pb_helpers::Ask;
+use pb_steps::{Declaration, Declared};
+use pb_vm::{Finished, Moved};
+use std::alloc::Global;
+
+/// What one instruction did.
+#[derive(Drop)]
+pub enum Stepped {
+    Went(Machine),
+    /// The instruction waits for what this cell holds.
+    Asks(Machine, Ask),
+    /// The exit, with register 0, and what the run declares.
+    Ended(u64, Declaration),
+}
+
+// Declares what it left. Refused, it stands at its exit.
+fn declare(
+    alloc: Global,
+    observer: ObserverNo,
+    finished: Finished,
+    taken: u16,
+) -> Result<Stepped, Machine>
+    requires { Leaves (exit_at finished taken) finished }
+    ensures ok { IfOk result (Steps observer (exit_at finished taken)) }
+    ensures same { IfErr result (λ m. m ≡ exit_at finished taken) }
+{
+    let end = finished.result();
+    match Declaration::new(alloc, Declared::Run(observer, finished)) {
+        Ok(what) => Ok(Stepped::Ended(end, what)),
+        Err(failed) => match failed.value {
+            Declared::Run(_, finished) => Err(Machine {
+                standing: Standing::Exited(finished, taken),
+            }),
+            Declared::Script(_) => unreachable!(),
+        },
+    }
+}
+
+impl Machine {
+    /// Does one instruction; the exit also declares what the run of this observer leaves. Refused for memory, which the
+    /// exit alone can be, it is as before.
+    pub fn step(self, alloc: Global, observer: ObserverNo) -> Result<Stepped, Machine>
+        requires { self.phase ≡ Going }
+        ensures ok { IfOk result (Steps observer self) }
+        ensures same { IfErr result (λ m. m ≡ self) }
+    {
+        match self.standing {
+            Standing::Running(mut vm) => {
+                let taken = vm.taken();
+                match vm.step() {
+                    Moved::Went => Ok(Stepped::Went(Machine {
+                        standing: Standing::Running(vm),
+                    })),
+                    Moved::Asks(ask) => Ok(Stepped::Asks(
+                        Machine {
+                            standing: Standing::Running(vm),
+                        },
+                        ask,
+                    )),
+                    Moved::Ended(_) => {
+                        let finished = vm.finish();
+                        // For the proof: result and writes are what the program means.
+                        finished.known();
+                        declare(alloc, observer, finished, taken)
+                    }
+                }
+            }
+            Standing::Exited(finished, taken) => declare(alloc, observer, finished, taken),
+        }
+    }
+}

@@ -1,0 +1,231 @@
+//! Where a job stands, and where an answer or an instruction leads.
+ghost use Rattle.std.specs.Prelude.{◌≡◌, ◌<◌, IfOk, IfErr};
+ghost use Rattle.pb_helpers.specs.Record.{record_of};
+ghost use Rattle.pb_txn.specs.Plans as plans;
+ghost use Rattle.pb_notify.specs.declared.place.Place.TheVariants as places;
+ghost use Rattle.pb_notify.specs.Machines.{entry};
+ghost use Rattle.pb_notify.specs.Places.{stored_step, place_after, locked_at, place_of, CanTakeAt, AtPlace, IsLocal, IsToldBy, IsToldAt, Comes, ComesFrom};
+ghost use Rattle.pb_vm.specs.declared.moved.Phase.TheVariants.{Going, Asking};
+
+use crate::look::{Look, Looked, locked_after, look_after, look_step};
+use crate::machine::{Machine, Stepped};
+use crate::need::JobEnd;
+use pb_base::{Cell, Column, ObserverNo, Row, Ts, Version};
+use pb_helpers::{Ask, Record};
+use pb_steps::{Answer, Seen, Step, Work, acknowledged_in, version_in};
+use pb_txn::{Outcome, Plan};
+use pb_verify::Accepted;
+use std::alloc::Global;
+use std::sync::Arc;
+
+/// What of a job is next, with the start of its transaction.
+#[derive(Drop)]
+pub enum Place {
+    Beginning,
+    /// Its look at the cell.
+    Observing(Ts, Look),
+    /// Its look at the acknowledgment, with what the cell holds.
+    Acknowledging(Ts, Version, Look),
+    /// The first instruction of its machine, which isn't started.
+    Starting(Ts, Seen),
+    Computing(Ts, Machine),
+    /// Its look at a cell that its machine asks for.
+    Asking(Ts, Machine, Ask, Look),
+    /// Its plan, with register 0.
+    Planning(u64, Plan),
+    /// The sweep of the cell; then it ends so.
+    Sweeping(JobEnd),
+    Over(JobEnd),
+}
+
+/// The step at a place, but for those of a plan.
+pub fn step_at(observer: ObserverNo, row: Row, column: Column, place: &Place) -> Option<Step>
+    ensures { result ≡ stored_step observer row column place.now }
+{
+    match place {
+        Place::Beginning => Some(Step::Begin(Work::Run(observer, row))),
+        Place::Observing(start, look) => Some(look_step(*start, Cell::Data(row, column), *look)),
+        Place::Acknowledging(start, _, look) => {
+            Some(look_step(*start, Cell::Ack(observer, row, column), *look))
+        }
+        Place::Asking(start, _, ask, look) => {
+            Some(look_step(*start, Cell::Data(ask.row, ask.column), *look))
+        }
+        Place::Sweeping(_) => Some(Step::Sweep(Cell::Data(row, column))),
+        Place::Starting(..) | Place::Computing(..) | Place::Planning(..) | Place::Over(_) => None,
+    }
+}
+
+/// How many reads met a lock after this answer.
+pub fn locked_at(locked: u8, place: &Place, answer: &Answer) -> u8
+    requires { AtPlace locked place.now }
+    ensures { result ≡ locked_at locked place.now answer.now }
+{
+    match place {
+        Place::Observing(_, look) => locked_after(locked, *look, answer),
+        Place::Acknowledging(_, _, look) => locked_after(locked, *look, answer),
+        Place::Asking(_, _, _, look) => locked_after(locked, *look, answer),
+        _ => locked,
+    }
+}
+
+// What was found of the cell.
+fn after_cell(start: Ts, looked: Looked) -> Place
+    ensures { result ≡ Rattle.pb_notify.specs.Places.after_cell start looked }
+{
+    match looked {
+        Looked::On(look) => Place::Observing(start, look),
+        Looked::Tells(answer) => match version_in(answer) {
+            Some(version) => Place::Acknowledging(start, version, Look::Reading),
+            None => Place::Sweeping(JobEnd::Clean),
+        },
+        Looked::Blocks => Place::Over(JobEnd::Blocked),
+    }
+}
+
+// The machine's turn, if the cell is dirty: changed since the acknowledged change.
+fn if_dirty(start: Ts, version: Version, acknowledged: Ts) -> Place
+    ensures { result ≡ Rattle.pb_notify.specs.Places.if_dirty start version acknowledged }
+{
+    if acknowledged < version.commit {
+        Place::Starting(
+            start,
+            Seen {
+                version,
+                acknowledged,
+            },
+        )
+    } else {
+        Place::Sweeping(JobEnd::Clean)
+    }
+}
+
+// What was found of the acknowledgment.
+fn after_acknowledgment(start: Ts, version: Version, looked: Looked) -> Place
+    ensures { result ≡ Rattle.pb_notify.specs.Places.after_acknowledgment start version looked }
+{
+    match looked {
+        Looked::On(look) => Place::Acknowledging(start, version, look),
+        Looked::Tells(answer) => if_dirty(start, version, acknowledged_in(answer)),
+        Looked::Blocks => Place::Over(JobEnd::Blocked),
+    }
+}
+
+// What was found of a cell that the machine asked for.
+fn after_ask(start: Ts, machine: Machine, ask: Ask, looked: Looked) -> Place
+    requires { machine.phase ≡ Asking ask }
+    ensures place { result ≡ Rattle.pb_notify.specs.Places.after_ask start machine ask looked }
+    ensures told { IsToldBy machine ask looked result }
+{
+    match looked {
+        Looked::On(look) => Place::Asking(start, machine, ask, look),
+        Looked::Tells(answer) => Place::Computing(start, machine.reply(ask, answer)),
+        Looked::Blocks => Place::Over(JobEnd::Blocked),
+    }
+}
+
+// An answer to the plan.
+fn after_plan(end: u64, mut plan: Plan, answer: Answer) -> Place
+    requires { plans.CanTake (plans.next_of plan) answer }
+    ensures { result ≡ Rattle.pb_notify.specs.Places.after_plan end (plans.answered plan answer) }
+{
+    plan.took(answer);
+    match plan.outcome() {
+        None => Place::Planning(end, plan),
+        Some(Outcome::Committed(_)) => Place::Sweeping(JobEnd::Ran(end)),
+        Some(Outcome::Conflicted) => Place::Over(JobEnd::Conflicted),
+        Some(Outcome::Lost) => Place::Over(JobEnd::Lost),
+    }
+}
+
+/// Where the answer of the next step leads.
+pub fn place_after(locked: u8, place: Place, answer: Answer) -> Place
+    requires at { AtPlace locked place }
+    requires can { CanTakeAt place answer }
+    ensures place { result ≡ place_after locked place answer }
+    ensures told { IsToldAt locked place answer result }
+{
+    match place {
+        Place::Beginning => match answer {
+            Answer::At(start) => Place::Observing(start, Look::Reading),
+            _ => Place::Beginning,
+        },
+        Place::Observing(start, look) => after_cell(start, look_after(locked, look, answer)),
+        Place::Acknowledging(start, version, look) => {
+            after_acknowledgment(start, version, look_after(locked, look, answer))
+        }
+        Place::Starting(start, seen) => Place::Starting(start, seen),
+        Place::Computing(start, machine) => Place::Computing(start, machine),
+        Place::Asking(start, machine, ask, look) => {
+            after_ask(start, machine, ask, look_after(locked, look, answer))
+        }
+        Place::Planning(end, plan) => after_plan(end, plan, answer),
+        Place::Sweeping(end) => Place::Over(end),
+        Place::Over(end) => Place::Over(end),
+    }
+}
+
+// Where an instruction leads.
+fn place_of(start: Ts, stepped: Stepped) -> Place
+    ensures { result ≡ place_of start stepped }
+{
+    match stepped {
+        Stepped::Went(machine) => Place::Computing(start, machine),
+        Stepped::Asks(machine, ask) => Place::Asking(start, machine, ask, Look::Reading),
+        Stepped::Ended(end, what) => Place::Planning(end, Plan::new(start, what)),
+    }
+}
+
+// The next instruction of a machine.
+fn go_on(alloc: Global, observer: ObserverNo, start: Ts, machine: Machine) -> Result<Place, Place>
+    requires { machine.phase ≡ Going }
+    ensures ok { IfOk result (Comes observer start machine) }
+    ensures same { IfErr result (λ p. p ≡ places.Computing start machine) }
+{
+    match machine.step(alloc, observer) {
+        Ok(stepped) => Ok(place_of(start, stepped)),
+        Err(machine) => Err(Place::Computing(start, machine)),
+    }
+}
+
+// The first instruction of a machine on the record of what was seen of a cell.
+fn begin(
+    alloc: Global,
+    observer: ObserverNo,
+    accepted: &Arc<Accepted>,
+    cell: Cell,
+    start: Ts,
+    seen: Seen,
+) -> Result<Place, Place>
+    ensures ok { IfOk result (Comes observer start (entry accepted.now.value (record_of cell seen.version seen.acknowledged.0) start.0)) }
+    ensures same { IfErr result (λ p. p ≡ places.Starting start seen) }
+{
+    let record = Record::new(cell, &seen.version, seen.acknowledged);
+    let Ok(machine) = Machine::start(alloc, accepted, record, start) else {
+        return Err(Place::Starting(start, seen));
+    };
+    match machine.step(alloc, observer) {
+        Ok(stepped) => Ok(place_of(start, stepped)),
+        Err(_) => Err(Place::Starting(start, seen)),
+    }
+}
+
+/// Where the next instruction leads, for the run of this observer, whose program this is, on this cell. Refused for memory,
+/// the place is as before.
+pub fn compute(
+    alloc: Global,
+    observer: ObserverNo,
+    accepted: &Arc<Accepted>,
+    cell: Cell,
+    place: Place,
+) -> Result<Place, Place>
+    requires { IsLocal place }
+    ensures ok { IfOk result (ComesFrom observer accepted.now.value cell place) }
+    ensures same { IfErr result (λ p. p ≡ place) }
+{
+    match place {
+        Place::Starting(start, seen) => begin(alloc, observer, accepted, cell, start, seen),
+        Place::Computing(start, machine) => go_on(alloc, observer, start, machine),
+        _ => unreachable!(),
+    }
+}
