@@ -1,1 +1,5 @@
 pub mod Counted
+pub mod UsedNames
+pub mod HelperNumbers
+pub mod HelperElements
+pub mod FirstFault

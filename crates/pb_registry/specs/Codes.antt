@@ -2,30 +2,18 @@
 use Rattle.std.specs.Prelude.{ℕ, Bool, true, false, Option, Some, None}
 use Rattle.pb_base.specs.declared.refusal.Refused.{Refused}
 use Rattle.pb_registry.specs.declared.code.Code.{Code}
-use Rattle.pb_registry.specs.declared.code.Code.TheVariants.{Memory, Text, Form, TooMany, LeftOut, Name, Column, Digits, Program}
+use Rattle.pb_registry.specs.declared.code.Code.TheVariants.{Memory, Text, Form, TooMany, Name, Column, Helpers, Digits, Program}
 
 abbrev pub number_of : Code → ℕ
 number_of Memory = 1
 number_of Text = 50
 number_of Form = 51
 number_of TooMany = 52
-number_of LeftOut = 57
 number_of Name = 53
 number_of Column = 54
+number_of Helpers = 54
 number_of Digits = 55
 number_of (Program r) = 56
-
--- a fault of the whole has no place
-abbrev pub observer_place_of : Code → Option ℕ
-observer_place_of Memory = None
-observer_place_of Text = None
-observer_place_of Form = None
-observer_place_of TooMany = None
-observer_place_of LeftOut = None
-observer_place_of Name = Some 0
-observer_place_of Column = Some 0
-observer_place_of Digits = Some 0
-observer_place_of (Program r) = Some 0
 
 abbrev pub refusal_of : Code → Option Refused
 refusal_of (Program r) = Some r

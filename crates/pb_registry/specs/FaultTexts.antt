@@ -2,7 +2,7 @@
 use Rattle.std.specs.Prelude.{ℕ, List, ◌++◌, codes, Option, Some, None}
 use Rattle.std.specs.Fmt.{decimal}
 use Rattle.pb_base.specs.declared.refusal.Refused.{Refused}
-use Rattle.pb_registry.specs.declared.manifest.RegistryFault.{RegistryFault}
+use Rattle.pb_registry.specs.declared.fault.RegistryFault.{RegistryFault}
 
 abbrev pub told_at : Option ℕ → ℕ → Option Refused → List ℕ
 told_at None code r = codes "code " ++ decimal code

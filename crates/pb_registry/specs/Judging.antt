@@ -1,56 +1,95 @@
 -- What reading a manifest answers.
-use Rattle.std.specs.Prelude.{◌≡◌, ◌⊎◌, ℕ, List, [], ◌∷◌, Option, Some, None, Result, Ok, Err, String, string_bytes}
-use Rattle.std.specs.declared.alloc.Global.{Global}
-use Rattle.serde_json.specs.Data.{Data, Items, no_items, item}
-use Rattle.pb_isa.specs.Helpers.{no_helpers}
-use Rattle.pb_isa.specs.Programs.{JudgedOf}
+use Rattle.std.specs.Prelude.{◌≡◌, ◌⊎◌, ℕ, Bool, true, false, if◌then◌else◌, List, [], ◌∷◌, ◌++◌, map, take, slice_get, codes, Option, Some, None, Result, Ok, Err}
+use Rattle.std.specs.List.{AllZip, IsDistinct, list_any}
+use Rattle.std.specs.Str.{bytes_eq}
+use Rattle.serde_json.specs.Data.{Data}
+use Rattle.pb_isa.specs.Helpers.{HelperSet}
+use Rattle.pb_steps.specs.Observers.{ObserverOf}
 use Rattle.pb_registry.specs.declared.code.Code.{Code}
-use Rattle.pb_registry.specs.declared.code.Code.TheVariants.{Memory, Program}
-use Rattle.pb_registry.specs.declared.manifest.RegistryFault.{RegistryFault}
+use Rattle.pb_registry.specs.declared.code.Code.TheVariants.{Memory, Name, Program}
+use Rattle.pb_registry.specs.declared.fault.RegistryFault.{RegistryFault}
 use Rattle.pb_registry.specs.Accepting.{IsAcceptedCode, IsRefusedCode}
-use Rattle.pb_registry.specs.Codes.{number_of, observer_place_of, refusal_of}
-use Rattle.pb_registry.specs.Manifests.{WrittenOf, written_in, observers_of_text}
-use Rattle.pb_registry.specs.Observers.{UploadOf}
+use Rattle.pb_registry.specs.Codes.{number_of, refusal_of, is_memory}
+use Rattle.pb_registry.specs.Manifests.{WrittenOf, text_at, written_in, elements_of_text}
 
 -- an observer as it is written, with the program that its code is
-pub record IsUpload (w : WrittenOf) (u : UploadOf) : Type 0 where
-  pub name : u.name ≡ w.name
-  pub column : u.column ≡ w.column
-  pub program : IsAcceptedCode w.bytes no_helpers u.program
+pub record IsUpload (w : WrittenOf) (o : ObserverOf) : Type 0 where
+  pub name : o.name ≡ w.name
+  pub column : o.column ≡ w.column
+  pub program : IsAcceptedCode w.bytes w.helpers o.program
 
--- its code is refused there
-abbrev pub IsCodeFault : List ℕ → Code → Type 0
-IsCodeFault bytes (Program r) = IsRefusedCode bytes no_helpers r.slot r.code
-IsCodeFault bytes c = ⊥
+-- this observer is written in this element
+abbrev pub IsObserver : Data → ObserverOf → Type 0
+IsObserver d o = (w : WrittenOf) × (written_in d ≡ Ok w) × IsUpload w o
 
--- what reading an observer tells: what it says, or its fault, and that of its code last
-abbrev pub ReadsObserver : Data → Result UploadOf Code → Type 0
-ReadsObserver d (Ok u) = (w : WrittenOf) × (written_in d ≡ Ok w) × IsUpload w u
-ReadsObserver d (Err c) = (written_in d ≡ Err c) ⊎ ((w : WrittenOf) × (written_in d ≡ Ok w) × IsCodeFault w.bytes c)
+-- the program that this code is isn't accepted with these helpers
+abbrev pub IsProgramFault : List ℕ → HelperSet → Code → Type 0
+IsProgramFault bytes helpers (Program r) = IsRefusedCode bytes helpers r.slot r.code
+IsProgramFault bytes helpers c = ⊥
 
--- the first of these observers, or none
-abbrev pub ReadsFirst : Items → Result (List UploadOf) Code → Type 0
-ReadsFirst no_items read = read ≡ Ok []
-ReadsFirst (item d ds) (Ok us) = (u : UploadOf) × (us ≡ u ∷ []) × ReadsObserver d (Ok u)
-ReadsFirst (item d ds) (Err c) = ReadsObserver d (Err c)
+-- the lowest code of an element by itself, that of its program last
+abbrev pub IsOwnFault : Data → Code → Type 0
+IsOwnFault d c = (written_in d ≡ Err c) ⊎ ((w : WrittenOf) × (written_in d ≡ Ok w) × IsProgramFault w.bytes w.helpers c)
 
-abbrev pub ReadsItems : Result Items Code → Result (List UploadOf) Code → Type 0
-ReadsItems (Ok ds) read = ReadsFirst ds read
-ReadsItems (Err c) read = read ≡ Err c
+abbrev pub names_of : List ObserverOf → List (List ℕ)
+names_of os = map (λ o. o.name) os
+
+abbrev pub is_among : List (List ℕ) → Option (List ℕ) → Bool
+is_among names None = false
+is_among names (Some s) = list_any (bytes_eq s) names
+
+-- the element's name is one of these
+abbrev pub is_used : List (List ℕ) → Data → Bool
+is_used names d = is_among names (text_at (codes "name") d)
+
+abbrev pub FaultAfter : Bool → Data → Code → Type 0
+FaultAfter true d c = c ≡ Name
+FaultAfter false d c = IsOwnFault d c
+
+-- the lowest code of an element after others with these names
+abbrev pub IsFaultAfter : List (List ℕ) → Data → Code → Type 0
+IsFaultAfter names d c = FaultAfter (is_used names d) d c
+
+-- the observer of this element stands behind those before
+abbrev pub HasOneMore : Data → List ObserverOf → List ObserverOf → Type 0
+HasOneMore d old new = (o : ObserverOf) × IsObserver d o × (new ≡ old ++ o ∷ [])
+
+-- an observer in each element, and no two with one name
+pub record AreObservers (ds : List Data) (os : List ObserverOf) : Type 0 where
+  pub each : AllZip IsObserver ds os
+  pub apart : IsDistinct bytes_eq (names_of os)
+
+-- the first element at fault is at this place, with this code: those before it are observers
+pub record IsFirstFault (ds : List Data) (place : ℕ) (code : Code) : Type 0 where
+  pub before : List ObserverOf
+  pub good : AreObservers (take place ds) before
+  pub element : Data
+  pub there : slice_get ds place ≡ Some element
+  pub fault : IsFaultAfter (names_of before) element code
+
+-- how a code is told, of the whole or of the observer at a place
+abbrev pub told : Option ℕ → Code → RegistryFault
+told place c = record { observer = place; code = number_of c; program = refusal_of c }
+
+-- the same of an observer, where want of memory has no place
+abbrev pub told_at : ℕ → Code → RegistryFault
+told_at place c = if is_memory c then told None Memory else told (Some place) c
+
+abbrev pub AreTaken : Result (List Data) Code → List ObserverOf → Type 0
+AreTaken (Ok ds) os = AreObservers ds os
+AreTaken (Err c) os = ⊥
+
+-- the fault of the whole, or that of the first observer at fault
+abbrev pub IsTold : Result (List Data) Code → RegistryFault → Type 0
+IsTold (Err c) f = f ≡ told None c
+IsTold (Ok ds) f = (place : ℕ) × (c : Code) × IsFirstFault ds place c × (f ≡ told (Some place) c)
 
 -- what reading a manifest tells: its observers, or its fault
-abbrev pub ReadsManifest : List ℕ → Result (List UploadOf) Code → Type 0
-ReadsManifest text read = ReadsItems (observers_of_text text) read
-
-abbrev pub told : Code → RegistryFault
-told c = record { observer = observer_place_of c; code = number_of c; program = refusal_of c }
+abbrev pub ReadsManifest : List ℕ → Result (List ObserverOf) RegistryFault → Type 0
+ReadsManifest text (Ok os) = AreTaken (elements_of_text text) os
+ReadsManifest text (Err f) = IsTold (elements_of_text text) f
 
 -- a manifest is taken with the observers that it says, and refused with its fault, unless memory ran out
-abbrev pub IsJudged : Result (List UploadOf) RegistryFault → List ℕ → Type 0
+abbrev pub IsJudged : Result (List ObserverOf) RegistryFault → List ℕ → Type 0
 IsJudged (Ok os) text = ReadsManifest text (Ok os)
-IsJudged (Err f) text = (f ≡ told Memory) ⊎ ((code : Code) × ReadsManifest text (Err code) × (f ≡ told code))
-
--- the observers whose parts these are
-abbrev pub of_parts : Option (String Global × ℕ × JudgedOf) → List UploadOf
-of_parts None = []
-of_parts (Some p) = record { name = string_bytes p.0; column = p.1; program = p.2 } ∷ []
+IsJudged (Err f) text = (f ≡ told None Memory) ⊎ ReadsManifest text (Err f)

@@ -1,6 +1,6 @@
 pub mod Codes
+pub mod Helpers
 pub mod Observers
-pub mod Uploads
 pub mod Manifests
 pub mod Accepting
 pub mod FaultTexts

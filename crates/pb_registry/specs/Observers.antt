@@ -1,20 +1,20 @@
--- An observer of a manifest.
-use Rattle.std.specs.Prelude.{ℕ, List, refl}
-use Rattle.std.specs.Coded.{Coded, code_by, coded×, coded_ℕ, coded_list}
-use Rattle.pb_isa.specs.Programs.{JudgedOf, judged_code}
+-- The observers that a registry keeps by their names, and what one is written as.
+use Rattle.std.specs.Prelude.{List, map, String, string_bytes}
+use Rattle.std.specs.declared.alloc.Global.{Global}
+use Rattle.std.specs.Coded.{Coded, coded_list}
+use Rattle.pb_steps.specs.Observers.{ObserverOf, observer_code}
+use Rattle.pb_registry.specs.declared.observer.Held.{Held}
+use Rattle.pb_registry.specs.declared.observer.Written.{Written}
+use Rattle.pb_registry.specs.Manifests.{WrittenOf}
 
--- its name's bytes, the column that it observes, and its program
-pub record UploadOf : Type 0 where
-  pub name : List ℕ
-  pub column : ℕ
-  pub program : JudgedOf
+abbrev pub observer_of : String Global × Held → ObserverOf
+observer_of e = record { name = string_bytes e.0; column = e.1.column; program = e.1.program.value }
 
-abbrev pub upload_code : Coded UploadOf
-upload_code =
-    code_by (List ℕ × (ℕ × JudgedOf)) (coded× (coded_list coded_ℕ) (coded× coded_ℕ judged_code))
-    (λ o. (o.name, (o.column, o.program)))
-    (λ p. record { name = p.0; column = p.1.0; program = p.1.1 })
-    (λ _. refl)
+abbrev pub observers_of : List (String Global × Held) → List ObserverOf
+observers_of es = map observer_of es
 
-abbrev pub observers_code : Coded (List UploadOf)
-observers_code = coded_list upload_code
+abbrev pub observers_code : Coded (List ObserverOf)
+observers_code = coded_list observer_code
+
+abbrev pub written_of : Written → WrittenOf
+written_of w = record { name = string_bytes w.name; column = w.column; helpers = w.helpers; bytes = w.bytes.items }

@@ -1,6 +1,6 @@
 //! Why a manifest is refused.
 ghost use Rattle.std.specs.Prelude.{◌≡◌};
-ghost use Rattle.pb_registry.specs.Codes.{number_of, observer_place_of, refusal_of};
+ghost use Rattle.pb_registry.specs.Codes.{number_of, refusal_of};
 
 use pb_base::Refused;
 
@@ -15,12 +15,12 @@ pub enum Code {
     Form,
     /// Over 32 observers.
     TooMany,
-    /// A second observer, or a helper.
-    LeftOut,
     /// An observer's name.
     Name,
     /// Its column.
     Column,
+    /// Its helpers.
+    Helpers,
     /// The digits of its code.
     Digits,
     /// Its program.
@@ -38,20 +38,9 @@ impl Code {
             Code::Form => 51,
             Code::TooMany => 52,
             Code::Name => 53,
-            Code::Column => 54,
+            Code::Column | Code::Helpers => 54,
             Code::Digits => 55,
             Code::Program(_) => 56,
-            Code::LeftOut => 57,
-        }
-    }
-
-    /// The observer that it is told of.
-    pub fn place(self) -> Option<u8>
-        ensures { result ≡ observer_place_of self }
-    {
-        match self {
-            Code::Memory | Code::Text | Code::Form | Code::TooMany | Code::LeftOut => None,
-            Code::Name | Code::Column | Code::Digits | Code::Program(_) => Some(0),
         }
     }
 

@@ -1,14 +1,15 @@
 //! The form of a manifest.
-ghost use Rattle.std.specs.Prelude.{◌≡◌, ◌≢◌, not, is_some, Some, None, IfOk, IfErr, option_map, option_and_then};
-ghost use Rattle.serde_json.specs.Data.{Data};
+ghost use Rattle.std.specs.Prelude.{◌≡◌, ◌≢◌, ◌≤◌, map, length, Some, None, IfOk, IfErr, option_map};
+ghost use Rattle.std.specs.List.{list_all};
 ghost use Rattle.serde_json.specs.Read.{read};
-ghost use Rattle.serde_json.specs.View.{view, items_view};
-ghost use Rattle.pb_registry.specs.Manifests.{member_count, number_at, items_at, text_at, has_text, has_numbers, has_helpers, all_items, is_json_number, is_observer, observers_in, leaves_out, whole_in};
+ghost use Rattle.serde_json.specs.View.{view};
+ghost use Rattle.pb_registry.specs.Manifests.{member_count, number_at, elements_at, text_at, has_text, has_numbers, is_json_number, is_observer, observers_in, whole_in};
 ghost use Rattle.pb_base.specs.Reading.{Gives};
 ghost use Rattle.pb_registry.specs.Codes.{is_memory};
 ghost use Rattle.pb_registry.specs.declared.code.Code.TheVariants.{Memory, Text};
 
 use crate::code::Code;
+use pb_base::MAX_OBSERVERS;
 use serde_json::Value;
 use serde_json::error::Category;
 use std::alloc::Global;
@@ -56,14 +57,15 @@ fn has_text(value: &Value, name: &str) -> bool
     text_at(value, name).is_some()
 }
 
-fn items_at<'a>(value: &'a Value, name: &str) -> Option<&'a Vec<Value>>
-    ensures { option_map (λ v. items_view v.now.items) result ≡ items_at name.now (view value.now) }
+/// The elements of a member that is an array.
+pub fn elements_at<'a>(value: &'a Value, name: &str) -> Option<&'a Vec<Value>>
+    ensures { option_map (λ v. map view v.now.items) result ≡ elements_at name.now (view value.now) }
 {
     value.get(name).and_then(Value::as_array)
 }
 
 fn are_numbers(items: &[Value]) -> bool
-    ensures { result ≡ all_items is_json_number (items_view items.now) }
+    ensures { result ≡ list_all is_json_number (map view items.now) }
 {
     for item in items {
         if !item.is_u64() {
@@ -76,7 +78,7 @@ fn are_numbers(items: &[Value]) -> bool
 fn has_numbers(value: &Value, name: &str) -> bool
     ensures { result ≡ has_numbers name.now (view value.now) }
 {
-    match items_at(value, name) {
+    match elements_at(value, name) {
         Some(items) => are_numbers(items),
         None => false,
     }
@@ -93,7 +95,7 @@ fn is_observer(value: &Value) -> bool
 }
 
 fn are_observers(items: &[Value]) -> bool
-    ensures { result ≡ all_items is_observer (items_view items.now) }
+    ensures { result ≡ list_all is_observer (map view items.now) }
 {
     for item in items {
         if !is_observer(item) {
@@ -105,54 +107,27 @@ fn are_observers(items: &[Value]) -> bool
 
 // The observers, where the whole has the form.
 fn observers_in(value: &Value) -> Option<&Vec<Value>>
-    ensures { option_map (λ v. items_view v.now.items) result ≡ observers_in (view value.now) }
+    ensures { option_map (λ v. map view v.now.items) result ≡ observers_in (view value.now) }
 {
     if member_count(value) == 2 && number_at(value, "profile") == Some(1) {
-        items_at(value, "observers")
+        elements_at(value, "observers")
     } else {
         None
     }
 }
 
-fn has_helpers(value: &Value) -> bool
-    ensures { result ≡ has_helpers (view value.now) }
-{
-    match items_at(value, "helpers") {
-        Some(helpers) => !helpers.is_empty(),
-        None => false,
-    }
-}
-
-fn have_no_helpers(items: &[Value]) -> bool
-    ensures { result ≡ all_items (λ d. not (has_helpers d)) (items_view items.now) }
-{
-    for item in items {
-        if has_helpers(item) {
-            return false;
-        }
-    }
-    true
-}
-
-fn leaves_out(items: &[Value]) -> bool
-    ensures { result ≡ leaves_out (items_view items.now) }
-{
-    items.len() > 1 || !have_no_helpers(items)
-}
-
-/// The observers of a manifest: one without helpers, or none.
+/// What stands in a manifest's `observers`, each with the form of one.
 pub fn whole_in(value: &Value) -> Result<&[Value], Code>
-    ensures { Gives is_memory (λ vs. items_view vs.now) result (whole_in (observers_in (view value.now))) }
+    ensures whole { Gives is_memory (λ vs. map view vs.now) result (whole_in (observers_in (view value.now))) }
+    ensures few { IfOk result (λ vs. length vs.now ≤ MAX_OBSERVERS) }
 {
     let Some(observers) = observers_in(value) else {
         return Err(Code::Form);
     };
     if !are_observers(observers) {
         Err(Code::Form)
-    } else if observers.len() > 32 {
+    } else if observers.len() > MAX_OBSERVERS {
         Err(Code::TooMany)
-    } else if leaves_out(observers) {
-        Err(Code::LeftOut)
     } else {
         Ok(observers)
     }

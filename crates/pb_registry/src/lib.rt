@@ -3,9 +3,12 @@
 
 mod accepting;
 mod code;
+mod fault;
 mod form;
+mod listing;
 mod manifest;
 mod observer;
 
 pub use accepting::accept;
-pub use manifest::{Registry, RegistryFault};
+pub use fault::RegistryFault;
+pub use manifest::Registry;

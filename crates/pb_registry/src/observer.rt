@@ -1,33 +1,34 @@
 //! One observer of a manifest.
-ghost use Rattle.std.specs.Prelude.{◌≡◌, ◌≢◌, Some, None, Ok, Err, IfOk, IfErr, string_bytes, codes};
+ghost use Rattle.std.specs.Prelude.{◌≡◌, ◌≢◌, Ok, map, IfOk, IfErr, string_bytes, codes};
 ghost use Rattle.std.specs.List.{list_all, list_any};
 ghost use Rattle.std.specs.Char.{is_ascii_uppercase};
 ghost use Rattle.serde_json.specs.View.{view};
-ghost use Rattle.pb_registry.specs.Manifests.{is_name_letter, is_name, name_in, column_in, bytes_in, written_in, text_at, number_at};
-ghost use Rattle.pb_isa.specs.Helpers.{no_helpers};
+ghost use Rattle.pb_registry.specs.Manifests.{is_name_letter, is_name, name_in, column_in, numbers_of, helpers_in, bytes_in, written_in, text_at, number_at, elements_at};
 ghost use Rattle.pb_registry.specs.declared.code.Code.TheVariants.{Memory};
+ghost use Rattle.pb_registry.specs.Helpers.{helpers_of};
 ghost use Rattle.pb_registry.specs.Accepting.{IsAcceptedCode};
-ghost use Rattle.pb_registry.specs.Judging.{IsCodeFault, ReadsObserver};
-ghost use Rattle.pb_registry.specs.Uploads.{upload_of, written_of};
+ghost use Rattle.pb_registry.specs.Judging.{IsProgramFault, IsOwnFault, IsObserver};
+ghost use Rattle.pb_registry.specs.Observers.{written_of};
 ghost use Rattle.pb_base.specs.Reading.{Gives};
 ghost use Rattle.pb_registry.specs.Codes.{is_memory};
 
 use crate::accepting::accept;
 use crate::code::Code;
-use crate::form::{number_at, text_at};
+use crate::form::{elements_at, number_at, text_at};
 use hex::FromHexError;
-use pb_base::Column;
+use pb_base::{COLUMNS, Column};
 use pb_helpers::HelperTable;
+use pb_steps::Observer;
 use pb_verify::{Accepted, VerifyFault};
 use serde_json::Value;
 use std::alloc::Global;
+use std::sync::Arc;
 
-/// An observer as the manifest gives it, its program accepted.
+/// What a registry keeps of an observer beside its name.
 #[derive(Drop)]
-pub struct Uploaded {
-    pub name: String,
+pub struct Held {
     pub column: Column,
-    pub program: Accepted,
+    pub program: Arc<Accepted>,
 }
 
 // An observer as it is written.
@@ -35,6 +36,7 @@ pub struct Uploaded {
 struct Written {
     name: String,
     column: Column,
+    helpers: HelperTable,
     bytes: Vec<u8>,
 }
 
@@ -75,12 +77,39 @@ fn column_in(value: &Value) -> Result<Column, Code>
     let Some(number) = number_at(value, "column") else {
         return Err(Code::Form);
     };
-    if number >= 16 {
+    if number >= u64::from(COLUMNS) {
         return Err(Code::Column);
     }
     match Column::new(number as u8) {
         Some(column) => Ok(column),
         None => Err(Code::Column),
+    }
+}
+
+// The helpers of these numbers, where each is 1 to 4 and none stands twice.
+fn helpers_of(elements: &[Value]) -> Option<HelperTable>
+    ensures { result ≡ helpers_of (numbers_of (map view elements.now)) }
+{
+    let mut helpers = HelperTable::none();
+    for element in elements {
+        let number = element.as_u64().unwrap_or(0);
+        if number > 4 || helpers.declares(number as i32) {
+            return None;
+        }
+        helpers = helpers.with(number as i32)?;
+    }
+    Some(helpers)
+}
+
+fn helpers_in(value: &Value) -> Result<HelperTable, Code>
+    ensures { Gives is_memory (λ h. h) result (helpers_in (elements_at (codes "helpers") (view value.now))) }
+{
+    let Some(elements) = elements_at(value, "helpers") else {
+        return Err(Code::Form);
+    };
+    match helpers_of(elements) {
+        Some(helpers) => Ok(helpers),
+        None => Err(Code::Helpers),
     }
 }
 
@@ -106,12 +135,15 @@ fn bytes_in(alloc: Global, value: &Value) -> Result<Vec<u8>, Code>
     }
 }
 
-fn program_in(alloc: Global, bytes: &[u8]) -> Result<Accepted, Code>
-    ensures ok { IfOk result (IsAcceptedCode bytes.now no_helpers) }
-    ensures err { IfErr result (λ c. c ≢ Memory → IsCodeFault bytes.now c) }
+fn program_in(alloc: Global, bytes: &[u8], helpers: HelperTable) -> Result<Arc<Accepted>, Code>
+    ensures ok { IfOk result (λ p. IsAcceptedCode bytes.now helpers p.value) }
+    ensures err { IfErr result (λ c. c ≢ Memory → IsProgramFault bytes.now helpers c) }
 {
-    match accept(alloc, bytes, HelperTable::none()) {
-        Ok(program) => Ok(program),
+    match accept(alloc, bytes, helpers) {
+        Ok(program) => match Arc::new(alloc, program) {
+            Ok(program) => Ok(program),
+            Err(_) => Err(Code::Memory),
+        },
         Err(VerifyFault::NoMemory) => Err(Code::Memory),
         Err(VerifyFault::Refused(refused)) => Err(Code::Program(refused)),
     }
@@ -133,27 +165,30 @@ fn written_in(alloc: Global, value: &Value) -> Result<Written, Code>
 {
     let name = name_in(value)?;
     let column = column_in(value)?;
+    let helpers = helpers_in(value)?;
     let bytes = bytes_in(alloc, value)?;
     let name = copy_of(alloc, name)?;
     Ok(Written {
         name,
         column,
+        helpers,
         bytes,
     })
 }
 
 /// Reads an observer. The fault that is told has the lowest code.
-pub fn observer_in(alloc: Global, value: &Value) -> Result<Uploaded, Code>
-    ensures ok { IfOk result (λ u. ReadsObserver (view value.now) (Ok (upload_of u))) }
-    ensures err { IfErr result (λ c. c ≢ Memory → ReadsObserver (view value.now) (Err c)) }
+pub fn observer_in(alloc: Global, value: &Value) -> Result<Observer, Code>
+    ensures ok { IfOk result (IsObserver (view value.now)) }
+    ensures err { IfErr result (λ c. c ≢ Memory → IsOwnFault (view value.now) c) }
 {
     let Written {
         name,
         column,
+        helpers,
         bytes,
     } = written_in(alloc, value)?;
-    let program = program_in(alloc, &bytes)?;
-    Ok(Uploaded {
+    let program = program_in(alloc, &bytes, helpers)?;
+    Ok(Observer {
         name,
         column,
         program,

@@ -1,5 +1,5 @@
 -- What the operations of a line make is a batch, however many they are.
-use Rattle.std.proofs.Common.{◌≡◌, ℕ, ◌+◌, ◌<◌, ◌≤◌, Bool, true, false, cond, List, [], ◌∷◌, ◌++◌, length, Option, Some, None, Result, Ok, Err, refl, sym, ap, subst, ◌∙◌, arith, inl, inr, append_assoc, length-append}
+use Rattle.std.proofs.Common.{◌≡◌, ℕ, ◌+◌, ◌<◌, ◌≤◌, ◌^◌, ◌-◌, Bool, true, false, cond, List, [], ◌∷◌, ◌++◌, length, Option, Some, None, Result, Ok, Err, refl, sym, ap, subst, ◌∙◌, arith, inl, inr, append_assoc, length-append}
 use Rattle.std.specs.Prelude.{◌==◌, ◌⊎◌, ◌&&◌, nat_le, is_some, is_none, codes}
 use Rattle.std.specs.Cmp.{eq_by_cmp_equiv}
 use Rattle.std.specs.List.{list_all, onto_first, slice_split}
@@ -7,16 +7,17 @@ use Rattle.std.specs.Ordering.{eq_by_cmp}
 use Rattle.std.specs.Str.{bytes_eq}
 use Rattle.std.proofs.lemmas.Bool.{and_parts, leb-false, le-leb, lt-ltb}
 use Rattle.std.proofs.lemmas.List.{append-nil, length-map, map-append}
-use Rattle.pb_base.specs.Cell.{cell_cmp, cell_cmp_total}
+use Rattle.pb_base.specs.Cell.{cell_cmp, cell_cmp_total, is_data}
 use Rattle.pb_base.specs.declared.cell.Cell.{Cell}
+use Rattle.pb_base.specs.declared.cell.Cell.TheVariants.{Data}
 use Rattle.pb_base.specs.declared.content.Content.{Content}
 use Rattle.pb_base.specs.declared.content.Content.TheVariants.{Value, Deleted}
-use Rattle.pb_base.specs.Batch.{Writes, content_in, is_unstamped, are_distinct, is_batch}
+use Rattle.pb_base.specs.Batch.{Writes, content_in, is_unstamped, is_data_write, are_distinct, is_batch}
 use Rattle.pb_texts.specs.declared.script.code.Code.{Code}
 use Rattle.pb_texts.specs.declared.script.code.Code.TheVariants.{Twice, Seventeenth}
 use Rattle.pb_base.specs.Reading.{◌>>=◌, in_turn}
 use Rattle.pb_base.specs.declared.limits.TheConstants.{MAX_CELLS}
-use Rattle.pb_texts.specs.ScriptWords.{put_of, del_of, write_of, operation, cell_at, field, content_of, ended}
+use Rattle.pb_texts.specs.ScriptWords.{put_of, del_of, write_of, operation, cell_at, field, number_upto, content_of, ended}
 use Rattle.pb_texts.specs.ScriptLines.{cut, with_operation, batch_of}
 use Rattle.pb_texts.specs.Operations.{Say}
 
@@ -31,23 +32,35 @@ pub chosen : {A : Type 0} (b : Bool) (x y z : A) → cond b x y ≡ z → ((b �
 chosen true x y z h = inl (refl, h)
 chosen false x y z h = inr (refl, h)
 
-plain_put : (words : List (List ℕ)) (w : Cell × Content) → put_of words ≡ Ok w → is_unstamped w.1 ≡ true
+cell_is_data : (words : List (List ℕ)) (c : Cell × List (List ℕ)) → cell_at words ≡ Ok c → is_data c.0 ≡ true
+unfolding cell_at
+cell_is_data words c h =
+    let a = bind_ok (field words) _ c h in
+    let b = bind_ok (number_upto (2 ^ 64 - 1) a.0.0) _ c a.2 in
+    let d = bind_ok (field a.0.1) _ c b.2 in
+    let e = bind_ok (number_upto 15 d.0.0) _ c d.2 in
+    sym (ap (λ (p : Cell × List (List ℕ)). is_data p.0) (ok_same {E = Code} (Data (record { 0 = b.0 }) e.0, d.0.1) c e.2))
+
+is_written : (x : Cell) (k : Content) (w : Cell × Content) → is_data x ≡ true → is_unstamped k ≡ true → ◌≡◌ {A = Result (Cell × Content) Code} (Ok (x, k)) (Ok w) → is_data_write w ≡ true
+is_written x k w place plain h = sym (ap is_data_write (ok_same {E = Code} (x, k) w h)) ∙ (rw (place, plain) refl)
+
+plain_put : (words : List (List ℕ)) (w : Cell × Content) → put_of words ≡ Ok w → is_data_write w ≡ true
 unfolding put_of
 plain_put words w h =
     let a = bind_ok (cell_at words) _ w h in
     let b = bind_ok (field a.0.1) _ w a.2 in
     let c = bind_ok (content_of b.0.0) _ w b.2 in
     let d = bind_ok (ended b.0.1) _ w c.2 in
-    sym (ap (λ (p : Cell × Content). is_unstamped p.1) (ok_same {E = Code} (a.0.0, Value c.0) w d.2))
+    is_written a.0.0 (Value c.0) w (cell_is_data words a.0 a.1) refl d.2
 
-plain_del : (words : List (List ℕ)) (w : Cell × Content) → del_of words ≡ Ok w → is_unstamped w.1 ≡ true
+plain_del : (words : List (List ℕ)) (w : Cell × Content) → del_of words ≡ Ok w → is_data_write w ≡ true
 unfolding del_of
 plain_del words w h =
     let a = bind_ok (cell_at words) _ w h in
     let d = bind_ok (ended a.0.1) _ w a.2 in
-    sym (ap (λ (p : Cell × Content). is_unstamped p.1) (ok_same {E = Code} (a.0.0, Deleted) w d.2))
+    is_written a.0.0 Deleted w (cell_is_data words a.0 a.1) refl d.2
 
-plain_write : (words : List (List ℕ)) (w : Cell × Content) → write_of words ≡ Ok w → is_unstamped w.1 ≡ true
+plain_write : (words : List (List ℕ)) (w : Cell × Content) → write_of words ≡ Ok w → is_data_write w ≡ true
 unfolding write_of
 plain_write words w h =
     let a = bind_ok (field words) _ w h in
@@ -86,15 +99,15 @@ distinct_more (v ∷ vs) w d n =
           rw (lack_more vs w v.0 (none_of (content_in vs v.0) p.0) apart, distinct_more vs w p.1 there.1) refl
     ]
 
-plain_more : (ws : Writes) (w : Cell × Content) → list_all (λ v. is_unstamped v.1) ws ≡ true → is_unstamped w.1 ≡ true → list_all (λ v. is_unstamped v.1) (ws ++ w ∷ []) ≡ true
+plain_more : (ws : Writes) (w : Cell × Content) → list_all is_data_write ws ≡ true → is_data_write w ≡ true → list_all is_data_write (ws ++ w ∷ []) ≡ true
 plain_more [] w h p = rw p refl
-plain_more (v ∷ vs) w h p = let q = and_parts (is_unstamped v.1) (list_all (λ v. is_unstamped v.1) vs) h in rw (q.0, plain_more vs w q.1 p) refl
+plain_more (v ∷ vs) w h p = let q = and_parts (is_data_write v) (list_all is_data_write vs) h in rw (q.0, plain_more vs w q.1 p) refl
 
 -- the texts say these writes, which are a batch, or none yet
 pub record IsOpen (texts : List (List ℕ)) (ws : Writes) : Type 0 where
   pub said : Say texts ws
   pub few : length ws ≤ MAX_CELLS
-  pub plain : list_all (λ w. is_unstamped w.1) ws ≡ true
+  pub plain : list_all is_data_write ws ≡ true
   pub distinct : are_distinct ws ≡ true
 
 -- what one more operation added

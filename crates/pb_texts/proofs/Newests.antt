@@ -9,10 +9,10 @@ use Rattle.std.proofs.lemmas.List.{take_more, take_all}
 use Rattle.std.proofs.lemmas.List.Elements.{Contains-append_left, Contains-push, Contains-push_cases}
 use Rattle.pb_base.specs.declared.cell.Cell.{Cell}
 use Rattle.pb_base.specs.declared.cell.Cell.TheVariants.{Data, Ack}
-use Rattle.pb_base.specs.Cell.{cell_cmp, cell_cmp_total, cell_cmp-IsAntisymmetric}
+use Rattle.pb_base.specs.Cell.{cell_cmp, cell_cmp_total, cell_cmp-IsAntisymmetric, is_data}
 use Rattle.pb_texts.specs.declared.report.lines.Newest.{Newest}
 use Rattle.pb_texts.specs.declared.report.newest.Put.{Put}
-use Rattle.pb_texts.specs.Reports.{IsNewestPut, IsTold, is_data, is_later}
+use Rattle.pb_texts.specs.Reports.{IsNewestPut, IsTold, is_later}
 
 is_equal : (o : Ordering) → tree.is_at {K = ℕ} (λ _. o) 0 ≡ true → o ≡ Equal
 is_equal Less h = absurd cc

@@ -10,7 +10,7 @@ use Rattle.pb_base.specs.declared.limits.TheConstants.{MAX_CELLS}
 use Rattle.pb_base.specs.declared.cell.Cell.{Cell}
 use Rattle.pb_base.specs.declared.content.Content.{Content}
 use Rattle.pb_base.specs.Cell.{cell_cmp, cell_cmp_total}
-use Rattle.pb_base.specs.Batch.{Writes, content_in, is_unstamped, are_distinct, is_batch}
+use Rattle.pb_base.specs.Batch.{Writes, content_in, is_data_write, are_distinct, is_batch}
 use Rattle.pb_base.specs.Reading.{in_turn}
 use Rattle.pb_texts.specs.ScriptWords.{operation}
 use Rattle.pb_texts.specs.ScriptLines.{cut, with_operation, batch_of}
@@ -57,7 +57,7 @@ goes n before (w ∷ ws) (t ∷ ts) said few distinct =
 is_read : (line : List ℕ) (batch : Writes) → Say (cut line) batch → is_batch batch ≡ true → batch_of line ≡ Ok batch
 is_read line batch said h =
     let p = and_parts _ (are_distinct batch) h in
-    let q = and_parts _ (list_all (λ w. is_unstamped w.1) batch) p.0 in
+    let q = and_parts _ (list_all is_data_write batch) p.0 in
     let r = and_parts (nat_lt 0 (length batch)) (nat_le (length batch) MAX_CELLS) q.0 in
     goes 0 [] batch (cut line) said (leb-true _ _ r.1) p.1
 

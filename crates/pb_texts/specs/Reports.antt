@@ -37,10 +37,6 @@ IsReport puts runs marks locks text = IsReportOf (IsNewestPut puts) runs marks l
 abbrev pub AreApart : List Put → Type 0
 AreApart puts = (p q : Put) → Contains puts p → Contains puts q → p.cell ≡ q.cell → p.commit ≡ q.commit → p ≡ q
 
-abbrev pub is_data : Cell → Bool
-is_data (Data row column) = true
-is_data (Ack observer row column) = false
-
 abbrev pub is_later : Option Newest → Ts → Bool
 is_later None commit = true
 is_later (Some n) commit = nat_lt n.commit.0 commit.0

@@ -1,9 +1,9 @@
 //! What is newest at each data cell.
 ghost use Rattle.std.specs.BTreeMap as tree;
 ghost use Rattle.std.specs.Prelude.{◌≡◌, ◌&&◌, IfOk, string_bytes};
-ghost use Rattle.pb_base.specs.Cell.{cell_cmp};
+ghost use Rattle.pb_base.specs.Cell.{cell_cmp, is_data};
 ghost use Rattle.pb_texts.specs.ReportLines.{cell_lines};
-ghost use Rattle.pb_texts.specs.Reports.{IsNewestPut, IsTold, is_data, is_later};
+ghost use Rattle.pb_texts.specs.Reports.{IsNewestPut, IsTold, is_later};
 ghost use Rattle.pb_texts.specs.declared.report.lines.Newest.{Newest};
 
 use crate::report::lines::{Newest, cell_line};

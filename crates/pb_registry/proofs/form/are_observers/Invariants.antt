@@ -1,7 +1,8 @@
-use Rattle.std.proofs.Common.{◌≡◌, drop}
-use Rattle.serde_json.specs.View.{items_view}
-use Rattle.pb_registry.specs.Manifests.{all_items, is_observer}
+use Rattle.std.proofs.Common.{◌≡◌, drop, map}
+use Rattle.std.specs.List.{list_all}
+use Rattle.serde_json.specs.View.{view}
+use Rattle.pb_registry.specs.Manifests.{is_observer}
 use Rattle.pb_registry.proofs.form.are_observers.Given as goal
 
 abbrev pub invariant-loop-item : goal.invariant-loop-item
-invariant-loop-item l = all_items is_observer (items_view (drop l.item-index l.items)) ≡ all_items is_observer (items_view l.items)
+invariant-loop-item l = list_all is_observer (map view (drop l.item-index l.items)) ≡ list_all is_observer (map view l.items)

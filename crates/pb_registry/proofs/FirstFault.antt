@@ -1,0 +1,47 @@
+-- The observers of a manifest up to one of them.
+use Rattle.std.proofs.Common.{◌≡◌, ◌≢◌, ◌⊎◌, inl, inr, ◌<◌, ℕ, ◌+◌, Bool, true, false, Some, None, Ok, List, [], ◌∷◌, ◌++◌, map, take, length, get_or, refl, sym, ap, subst, ◌∙◌, true≢false}
+use Rattle.std.specs.Prelude.{if◌then◌else◌}
+use Rattle.std.specs.List.{AllZip, IsDistinct}
+use Rattle.std.specs.Str.{bytes_eq}
+use Rattle.std.proofs.lemmas.List.{take_more, map-append, take-map, length-map}
+use Rattle.indexmap.proofs.SetLemmas.{AllZip-push}
+use Rattle.std.proofs.lemmas.List as lists
+use Rattle.std.proofs.lemmas.Option.{slice_get-get_or}
+use Rattle.serde_json.specs.View.{view}
+use Rattle.serde_json.specs.declared.value.Value.{Value}
+use Rattle.pb_steps.specs.Observers.{ObserverOf}
+use Rattle.pb_registry.specs.declared.code.Code.{Code}
+use Rattle.pb_registry.specs.declared.code.Code.TheVariants.{Memory}
+use Rattle.pb_registry.specs.declared.fault.RegistryFault.{RegistryFault}
+use Rattle.pb_registry.specs.Codes.{is_memory}
+use Rattle.pb_registry.specs.Judging.{IsObserver, AreObservers, HasOneMore, IsFaultAfter, IsFirstFault, IsTold, names_of, told, told_at}
+
+pub no_observers : (os : List ObserverOf) → os ≡ [] → AreObservers [] os
+unfolding IsDistinct
+no_observers os none = subst (AreObservers []) (sym none) (record { each = tt; apart = tt })
+
+-- the element at i
+module _ (vs : List Value) (i : ℕ) (v : Value) (lt : i < length vs) (at : get_or vs i v ≡ v) (old : List ObserverOf) (good : AreObservers (map view (take i vs)) old) where
+  pub grown : (new : List ObserverOf) → HasOneMore (view v) old new → IsDistinct bytes_eq (names_of new) → AreObservers (map view (take (i + 1) vs)) new
+  grown new (o, is, pushed) apart =
+      let front : map view (take (i + 1) vs) ≡ map view (take i vs) ++ view v ∷ [] = ap (map view) (take_more vs i v lt) ∙ map-append view (take i vs) (get_or vs i v ∷ []) ∙ ap (λ w. map view (take i vs) ++ view w ∷ []) at in
+      record {
+        each = subst (λ ds. AllZip IsObserver ds new) (sym front) (subst (AllZip IsObserver (map view (take i vs) ++ view v ∷ [])) (sym pushed) (AllZip-push IsObserver (map view (take i vs)) old (view v) o good.each is));
+        apart = apart;
+      }
+
+  first_fault : (code : Code) → IsFaultAfter (names_of old) (view v) code → IsFirstFault (map view vs) i code
+  first_fault code fault = record {
+    before = old;
+    good = subst (λ ds. AreObservers ds old) (sym (take-map view i vs)) good;
+    element = view v;
+    there = slice_get-get_or (map view vs) i (view v) (subst (λ n. i < n) (sym (length-map vs view)) lt) ∙ ap Some (lists.get_or-map view vs i v (view v) lt ∙ ap view at);
+    fault = fault;
+  }
+
+  pub told_fault : (code : Code) (f : RegistryFault) → f ≡ told_at i code → (code ≢ Memory → IsFaultAfter (names_of old) (view v) code) → (f ≡ told None Memory) ⊎ IsTold (Ok (map view vs)) f
+  told_fault code f is fault = by (is_memory code) refl
+    where
+      by : (b : Bool) → is_memory code ≡ b → (f ≡ told None Memory) ⊎ IsTold (Ok (map view vs)) f
+      by true m = inl (is ∙ ap (λ b. if b then told None Memory else told (Some i) code) m)
+      by false m = inr (i, code, first_fault code (fault (λ e. true≢false (sym (ap is_memory e) ∙ m))), is ∙ ap (λ b. if b then told None Memory else told (Some i) code) m)

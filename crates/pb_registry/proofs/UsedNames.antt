@@ -1,0 +1,73 @@
+-- The names of the observers in a map are its keys.
+use Rattle.std.proofs.Common.{◌≡◌, ℕ, Bool, true, false, cond, Option, Some, None, Result, Ok, Err, is_ok, List, [], ◌∷◌, is_some, String, Global, refl, sym, ap, ◌∙◌, true≢false}
+use Rattle.std.specs.Prelude.{◌||◌, if◌then◌else◌, string_bytes, codes}
+use Rattle.std.specs.List.{IsDistinct, AllByRecursion, list_any}
+use Rattle.std.specs.Map.{lookup, keys_of}
+use Rattle.std.specs.Str.{bytes_eq}
+use Rattle.serde_json.specs.Data.{Data}
+use Rattle.pb_base.specs.Reading.{◌>>=◌}
+use Rattle.pb_isa.specs.Helpers.{HelperSet}
+use Rattle.pb_steps.specs.Observers.{ObserverOf}
+use Rattle.pb_registry.specs.declared.code.Code.{Code}
+use Rattle.pb_registry.specs.declared.code.Code.TheVariants.{Name}
+use Rattle.pb_registry.specs.declared.observer.Held.{Held}
+use Rattle.pb_registry.specs.Manifests.{WrittenOf, is_name, name_in, text_at, column_in, number_at, helpers_in, elements_at, bytes_in, written_in}
+use Rattle.pb_registry.specs.Observers.{observers_of}
+use Rattle.pb_registry.specs.Judging.{IsObserver, is_among, is_used, names_of}
+
+pub found_name : (s : List ℕ) (es : List (String Global × Held)) → is_some (lookup (λ k. bytes_eq s (string_bytes k)) es) ≡ list_any (bytes_eq s) (names_of (observers_of es))
+found_name s [] = refl
+found_name s (e ∷ es) = at (bytes_eq s (string_bytes e.0)) (found_name s es)
+  where
+    at : (b : Bool) → is_some (lookup (λ k. bytes_eq s (string_bytes k)) es) ≡ list_any (bytes_eq s) (names_of (observers_of es)) → is_some (cond b (Some e.1) (lookup (λ k. bytes_eq s (string_bytes k)) es)) ≡ (b || list_any (bytes_eq s) (names_of (observers_of es)))
+    at true rest = refl
+    at false rest = rest
+
+abbrev name_read : Result WrittenOf Code → Option (List ℕ)
+name_read (Ok w) = Some w.name
+name_read (Err c) = None
+
+abbrev written : Result (List ℕ) Code → Result ℕ Code → Result HelperSet Code → Result (List ℕ) Code → Result WrittenOf Code
+written n a h b = do
+  name ← n
+  column ← a
+  helpers ← h
+  bytes ← b
+  Ok (record { name = name; column = column; helpers = helpers; bytes = bytes })
+
+-- what is written has the name that is read
+name_kept : (s : List ℕ) (n : Bool) (a : Result ℕ Code) (h : Result HelperSet Code) (b : Result (List ℕ) Code) (w : WrittenOf) → written (if n then Ok s else Err Name) a h b ≡ Ok w → Some s ≡ Some w.name
+name_kept s false a h b w e = absurd (true≢false (sym (ap is_ok e)))
+name_kept s true (Err c) h b w e = absurd (true≢false (sym (ap is_ok e)))
+name_kept s true (Ok column) (Err c) b w e = absurd (true≢false (sym (ap is_ok e)))
+name_kept s true (Ok column) (Ok helpers) (Err c) w e = absurd (true≢false (sym (ap is_ok e)))
+name_kept s true (Ok column) (Ok helpers) (Ok bytes) w e = ap name_read e
+
+name_of : (t : Option (List ℕ)) (a : Result ℕ Code) (h : Result HelperSet Code) (b : Result (List ℕ) Code) (w : WrittenOf) → written (name_in t) a h b ≡ Ok w → t ≡ Some w.name
+name_of None a h b w e = absurd (true≢false (sym (ap is_ok e)))
+name_of (Some s) a h b w e = name_kept s (is_name s) a h b w e
+
+named : (d : Data) (w : WrittenOf) → written_in d ≡ Ok w → text_at (codes "name") d ≡ Some w.name
+unfolding written_in
+named d w e = name_of (text_at (codes "name") d) (column_in (number_at (codes "column") d)) (helpers_in (elements_at (codes "helpers") d)) (bytes_in (text_at (codes "code") d)) w e
+
+nothing_found : {A : Type 0} (r : Option A) → is_some r ≡ false → r ≡ None
+nothing_found None h = refl
+nothing_found (Some x) h = absurd (true≢false h)
+
+-- a key that is a new name isn't in the map
+pub new_name : (es : List (String Global × Held)) (d : Data) (o : ObserverOf) (k : String Global) → IsObserver d o → o.name ≡ string_bytes k → is_used (names_of (observers_of es)) d ≡ false → lookup (λ y. bytes_eq (string_bytes k) (string_bytes y)) es ≡ None
+new_name es d o k (w, written, is) same new =
+    let name : text_at (codes "name") d ≡ Some (string_bytes k) = named d w written ∙ ap Some (sym is.name ∙ same) in
+    let unlike : list_any (bytes_eq (string_bytes k)) (names_of (observers_of es)) ≡ false = sym (ap (is_among (names_of (observers_of es))) name) ∙ new in
+    nothing_found (lookup (λ y. bytes_eq (string_bytes k) (string_bytes y)) es) (found_name (string_bytes k) es ∙ unlike)
+
+apart_from : (s : List ℕ) (es : List (String Global × Held)) → AllByRecursion (λ y. bytes_eq s (string_bytes y) ≡ false) (keys_of es) → AllByRecursion (λ y. bytes_eq s y ≡ false) (names_of (observers_of es))
+apart_from s [] h = h
+apart_from s (e ∷ es) h = (h.0, apart_from s es h.1)
+
+-- distinct keys are distinct names
+pub distinct_names : (es : List (String Global × Held)) → IsDistinct (λ x y. bytes_eq (string_bytes x) (string_bytes y)) (keys_of es) → IsDistinct bytes_eq (names_of (observers_of es))
+unfolding IsDistinct
+distinct_names [] h = h
+distinct_names (e ∷ es) h = (apart_from (string_bytes e.0) es h.0, distinct_names es h.1)

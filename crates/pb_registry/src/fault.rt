@@ -1,0 +1,64 @@
+//! How the fault of a manifest is told.
+ghost use Rattle.std.specs.Prelude.{◌≡◌};
+ghost use Rattle.pb_registry.specs.Judging.{told, told_at};
+
+use crate::code::Code;
+use pb_base::Refused;
+use std::error::Error;
+use std::fmt;
+
+/// Why a manifest is refused: the number of the observer where it is one's fault, the code, and for code 56 where its
+/// program is refused. 50 the text isn't read as JSON, 51 wrong members, types or profile, 52 over 32 observers, 53 a name
+/// that isn't 1 to 32 of `a` to `z`, `0` to `9` and `-`, or that an observer before has, 54 a column over 15, or a helper
+/// that isn't 1 to 4 or named twice, 55 code that isn't pairs of the digits `0` to `9` and `a` to `f`, 56 a program that
+/// isn't accepted with its helpers. Where memory ran out the code is 1.
+#[derive(Clone, Copy, Debug, PartialEq, Eq, Drop)]
+pub struct RegistryFault {
+    pub observer: Option<u8>,
+    pub code: u8,
+    pub program: Option<Refused>,
+}
+
+impl fmt::Display for RegistryFault {
+    ghost use Rattle.std.specs.Prelude.{Some};
+    ghost use Rattle.pb_registry.specs.FaultTexts.{fault_text};
+
+    ghost output = { λ f. Some (fault_text f) };
+
+    fn fmt<W: fmt::Write>(&self, f: &mut fmt::Formatter<W>) -> fmt::Result {
+        let code = self.code;
+        match (self.observer, self.program) {
+            (Some(observer), Some(Refused { slot, code: inner })) => {
+                write!(
+                    f,
+                    "observer {observer} code {code} slot {slot} code {inner}"
+                )
+            }
+            (Some(observer), None) => write!(f, "observer {observer} code {code}"),
+            (None, _) => write!(f, "code {code}"),
+        }
+    }
+}
+
+impl Error for RegistryFault {}
+
+/// A code as it is told: of the whole, or of the observer at a place.
+pub fn told(observer: Option<u8>, code: Code) -> RegistryFault
+    ensures { result ≡ told observer code }
+{
+    RegistryFault {
+        observer,
+        code: code.number(),
+        program: code.refusal(),
+    }
+}
+
+/// The same of the observer at a place, where want of memory has none.
+pub fn told_at(place: u8, code: Code) -> RegistryFault
+    ensures { result ≡ told_at place code }
+{
+    match code {
+        Code::Memory => told(None, code),
+        _ => told(Some(place), code),
+    }
+}
