@@ -7,7 +7,7 @@ use Rattle.std.specs.Cmp.{Equal-is}
 use Rattle.pb_base.specs.declared.cell.Cell.{Cell}
 use Rattle.pb_base.specs.declared.content.Content.{Content}
 use Rattle.pb_base.specs.Cell.{cell_cmp, cell_cmp-IsAntisymmetric}
-use Rattle.pb_base.specs.Batch.{Writes, content_in, is_unstamped, are_distinct, is_batch}
+use Rattle.pb_base.specs.Batch.{Writes, content_in, is_data_write, are_distinct, is_batch}
 use Rattle.pb_base.specs.declared.limits.TheConstants.{MAX_CELLS}
 use Rattle.pb_steps.specs.State.{is_in}
 use Rattle.pb_alone.proofs.OwnTransactions.{cell_itself}
@@ -109,7 +109,7 @@ pub batch_is_some : (ws : Writes) (n : ℕ) → n ≡ length ws → 0 < n → ws
 batch_is_some ws n e lt is = let k = ap length is in omega (arith, e, lt, k)
 
 pub batch_is_distinct : (ws : Writes) → is_batch ws ≡ true → are_distinct ws ≡ true
-batch_is_distinct ws h = last (nat_lt 0 (length ws)) (nat_le (length ws) MAX_CELLS) (list_all (λ (w : Cell × Content). is_unstamped w.1) ws) (are_distinct ws) h where
+batch_is_distinct ws h = last (nat_lt 0 (length ws)) (nat_le (length ws) MAX_CELLS) (list_all is_data_write ws) (are_distinct ws) h where
   last : (a b c d : Bool) → (a && b && c && d) ≡ true → d ≡ true
   last true true true d e = e
   last false b c d e = cc

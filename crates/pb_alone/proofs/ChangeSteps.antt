@@ -21,6 +21,7 @@ use Rattle.pb_steps.specs.Prewrite.{Conflicts, put_lock}
 use Rattle.pb_steps.specs.CommitPrimary.{CommitsPrimary}
 use Rattle.pb_steps.specs.CommitSecondary.{if_locked}
 use Rattle.pb_steps.specs.Commits.{commit_lock}
+use Rattle.pb_steps.specs.Marks.{with_mark}
 use Rattle.pb_txn.specs.Places.{prewrite_from, commit_from, after_prewrite, after_stamp, after_primary}
 use Rattle.pb_txn.specs.Changes.{begun_at}
 use Rattle.pb_alone.specs.Alone.{IsClean, ts}
@@ -190,7 +191,7 @@ module _ (s0 : StateOf) (seat : ℕ) (batch : Writes) (some : batch ≢ []) (dis
 
   module _ (s : StateOf) (st : Stands s0 seat batch s (stands.stamped s0 seat batch) (names batch) (a + 1) s0.clock) (held : IsHeld s0 seat batch s) where
     after_commit : (x : Cell) (rest : Writes) (k : Content) → batch ≡ (x, k) ∷ rest
-        → Stands s0 seat batch (record s { entries = commit_lock s.entries x a (a + 1); transactions = finite.insert s.transactions a (stands.committed s0 seat batch) }) (stands.committed s0 seat batch) (names rest) (a + 1) (a + 1)
+        → Stands s0 seat batch (record s { entries = commit_lock s.entries x a (a + 1); marks = with_mark s.observers s.marks x; transactions = finite.insert s.transactions a (stands.committed s0 seat batch) }) (stands.committed s0 seat batch) (names rest) (a + 1) (a + 1)
     after_commit x rest k is = record {
       clock_is = st.clock_is;
       seats = st.seats;
@@ -216,8 +217,8 @@ module _ (s0 : StateOf) (seat : ℕ) (batch : Writes) (some : batch ≢ []) (dis
         let first : primary_in batch ≡ Some m.primary = ap (λ (t : TransactionOf). primary_in t.declared) (sym t-is) ∙ m.primary_is in
         let p-is : m.primary ≡ b.0 = same_some _ b.0 m.primary (ap primary_in is) first in
         let c-is : m.c ≡ a + 1 = stamp_is m.t.phase m.c (ap (λ (t : TransactionOf). t.phase) t-is) m.stamped in
-        let to : new ≡ record s { entries = commit_lock s.entries b.0 a (a + 1); transactions = finite.insert s.transactions a (stands.committed s0 seat batch) } =
-        m.new_is ∙ (λ i. record s { entries = commit_lock s.entries (p-is i) a (c-is i); transactions = finite.insert s.transactions a (record (t-is i) { phase = phases.Committed (ts (c-is i)) }) }) in
+        let to : new ≡ record s { entries = commit_lock s.entries b.0 a (a + 1); marks = with_mark s.observers s.marks b.0; transactions = finite.insert s.transactions a (stands.committed s0 seat batch) } =
+        m.new_is ∙ (λ i. record s { entries = commit_lock s.entries (p-is i) a (c-is i); marks = with_mark s.observers s.marks (p-is i); transactions = finite.insert s.transactions a (record (t-is i) { phase = phases.Committed (ts (c-is i)) }) }) in
         let st2 = subst (λ z. Stands s0 seat batch z (stands.committed s0 seat batch) (names rest) (a + 1) (a + 1)) (sym to) (after_commit b.0 rest b.1 is) in
         subst (λ d. AtPlace s0 seat batch (commit_from n d 1) new) (sym at) (commit_next (b ∷ []) rest new is st2)
 

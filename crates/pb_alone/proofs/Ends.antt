@@ -19,6 +19,7 @@ use Rattle.pb_steps.specs.Prewrite.{prewrite_reasons, put_lock}
 use Rattle.pb_steps.specs.Stamp.{unstamped_reasons}
 use Rattle.pb_steps.specs.CommitPrimary.{commit_reasons}
 use Rattle.pb_steps.specs.Commits.{commit_lock}
+use Rattle.pb_steps.specs.Marks.{with_mark}
 use Rattle.pb_alone.specs.Alone.{IsClean, ts}
 use Rattle.pb_alone.proofs.Locks.{put_there, put_writes, commit_writes, no_lock_after}
 use Rattle.pb_alone.proofs.OwnTransactions.{cell_itself, own_put, same_own, same_some, allowed_own, some_not_none}
@@ -42,7 +43,7 @@ module _ (s2 : StateOf) (seat a : ℕ) (x : Cell) (k : Content) (t2 : Transactio
   t5 = record t4 { phase = phases.Committed (ts (a + 1)) }
 
   abbrev pub s5 : StateOf
-  s5 = record s4 { entries = commit_lock s3.entries x a (a + 1); transactions = map.insert s4.transactions a t5 }
+  s5 = record s4 { entries = commit_lock s3.entries x a (a + 1); marks = with_mark s2.observers s2.marks x; transactions = map.insert s4.transactions a t5 }
 
   own3 : IsOwn s3 seat a t3
   own3 = own_put s3 s2.transactions seat a t3 refl mine
@@ -103,7 +104,7 @@ module _ (s2 : StateOf) (seat a : ℕ) (x : Cell) (k : Content) (t2 : Transactio
       let stamped = m.stamped in
       let both : ts m.c ≡ ts (a + 1) = cc in
       let c-is : m.c ≡ a + 1 = ap (λ (t : Ts). t.0) both in
-      (refl, m.new_is ∙ (λ i. record s4 { entries = commit_lock s3.entries (p-is i) a (c-is i); transactions = map.insert s4.transactions a (record (t-is i) { phase = phases.Committed (ts (c-is i)) }) }))
+      (refl, m.new_is ∙ (λ i. record s4 { entries = commit_lock s3.entries (p-is i) a (c-is i); marks = with_mark s2.observers s2.marks (p-is i); transactions = map.insert s4.transactions a (record (t-is i) { phase = phases.Committed (ts (c-is i)) }) }))
   commits Lost new m =
       let t-is : m.t ≡ t4 = same_own _ _ _ t4 m.t own4 m.own in
       let first : primary_in m.t.declared ≡ Some x = ap (λ (t : TransactionOf). primary_in t.declared) t-is ∙ first_of in

@@ -17,19 +17,18 @@ use Rattle.pb_steps.specs.declared.step.Answer.{Answer}
 use Rattle.pb_steps.specs.declared.step.Answer.TheVariants as answers
 use Rattle.pb_steps.specs.declared.phase.Phase.{Phase}
 use Rattle.pb_steps.specs.declared.phase.Phase.TheVariants as phases
-use Rattle.pb_steps.specs.State.{StateOf, TransactionOf, phase_in, cells_of, batch_in}
+use Rattle.pb_steps.specs.State.{StateOf, TransactionOf, phase_in, cells_of}
 use Rattle.pb_steps.specs.Observers.{ObserverOf, acknowledgment}
 use Rattle.pb_base.specs.declared.names.Row.{Row}
 use Rattle.pb_base.specs.declared.cell.Cell.TheVariants.{Data, Ack}
 use Rattle.pb_steps.specs.declared.step.Work.{Work}
 use Rattle.pb_steps.specs.declared.step.Work.TheVariants as works
 use Rattle.pb_steps.specs.declared.step.Declared.TheVariants as declared
-use Rattle.pb_steps.specs.Declarations.{IsPlainRun}
 use Rattle.pb_history.specs.declared.entry.Entry.{Entry}
 use Rattle.pb_history.specs.History.{Has, Member, TellsHistory}
 use Rattle.pb_texts.specs.declared.report.newest.Put.{Put}
 use Rattle.pb_alone.specs.Committed.{IsWrite, Gathers}
-use Rattle.pb_alone.specs.Puts.{put_by, if_committed, writes_by, puts_by, IfCommitted, AreTold, all_puts, AllTold}
+use Rattle.pb_alone.specs.Puts.{put_by, if_committed, written_in, writes_by, puts_by, all_puts}
 use Rattle.pb_alone.proofs.Blocks.{has_which, in_block}
 use Rattle.pb_alone.proofs.Going.{append_assoc, append_nil, map_append}
 
@@ -53,10 +52,6 @@ all_one_more f (x ∷ xs) y = ap (λ l. f x ++ l) (all_one_more f xs y) ∙ sym 
 
 pub gathers_on : {A B : Type 0} (f : A → List B) (xs : List A) (y : A) (now new : List B) → now ≡ flat_map f xs → new ≡ now ++ f y → new ≡ flat_map f (xs ++ y ∷ [])
 gathers_on f xs y now new h e = e ∙ ap (λ l. l ++ f y) h ∙ sym (all_one_more f xs y)
-
-pub told_on : (state : StateOf) (es : List Entry) (e : Entry) → AllTold state es → AreTold state e.step e.answer → AllTold state (es ++ e ∷ [])
-told_on state [] e a t = (t, tt)
-told_on state (d ∷ es) e a t = (a.0, told_on state es e a.1 t)
 
 -- ---- membership
 
@@ -128,52 +123,58 @@ distinct_content (v ∷ ws) d w (inr h) =
 phase_there : (state : StateOf) (start : ℕ) (t : TransactionOf) (c : Ts) → finmap.get state.transactions start ≡ Some t → phase_in state start ≡ Some (phases.Committed c) → t.phase ≡ phases.Committed c
 phase_there state start t c there p = let q : Some t.phase ≡ Some (phases.Committed c) = ap (option_map (λ (u : TransactionOf). u.phase)) (sym there) ∙ p in cc
 
--- a write to a data cell is one of a batch
-in_batch : (observers : List ObserverOf) (work : Work) (s : ℕ) (what : Declared) (row : Row) (column : ℕ) (k : Content) → IsPlainRun what → Has (cells_of observers work s what) (Data row column, k) → Has (batch_in what) (Data row column, k)
-in_batch observers work s (declared.Script batch) row column k plain h = h
-in_batch observers works.Script s (declared.Run o f) row column k plain h = subst (λ ws. Has ws (Data row column, k)) plain.1 h
-in_batch observers (works.Run p r) s (declared.Run o f) row column k plain (inl e) =
+-- a write to a data cell is no acknowledgment
+in_written : (observers : List ObserverOf) (work : Work) (s : ℕ) (what : Declared) (row : Row) (column : ℕ) (k : Content) → Has (cells_of observers work s what) (Data row column, k) → Has (written_in what) (Data row column, k)
+in_written observers work s (declared.Script batch) row column k h = h
+in_written observers works.Script s (declared.Run o f) row column k h = h
+in_written observers (works.Run p r) s (declared.Run o f) row column k (inl e) =
     let cells : acknowledgment observers p r ≡ Data row column = ap (λ (w : Cell × Content). w.0) e in
     absurd (apart p r _ row column cells)
   where
     apart : (p : ℕ) (r : Row) (n : ℕ) (row : Row) (column : ℕ) → Ack p r n ≡ Data row column → ⊥
     apart p r n row column e = cc
-in_batch observers (works.Run p r) s (declared.Run o f) row column k plain (inr h) = absurd (subst (λ ws. Has ws (Data row column, k)) plain.1 h)
+in_written observers (works.Run p r) s (declared.Run o f) row column k (inr h) = h
+
+-- and each is what its cell gets
+in_cells : (observers : List ObserverOf) (work : Work) (s : ℕ) (what : Declared) → are_distinct (cells_of observers work s what) ≡ true → (w : Cell × Content) → Has (written_in what) w → content_in (cells_of observers work s what) w.0 ≡ Some w.1
+in_cells observers work s (declared.Script batch) d w h = distinct_content batch d w h
+in_cells observers works.Script s (declared.Run o f) d w h = distinct_content f.writes d w h
+in_cells observers (works.Run p r) s (declared.Run o f) d w h = distinct_content (cells_of observers (works.Run p r) s (declared.Run o f)) d w (inr h)
 
 module _ (journal : List Entry) (state : StateOf) (tells : TellsHistory journal state) where
   write_of : (seat : ℕ) (start : Ts) (what : Declared) (c : Ts) (w : Cell × Content) → Has journal (record { seat = seat; step = steps.Declare start what; answer = answers.Done }) → phase_in state start.0 ≡ Some (phases.Committed c)
-      → are_distinct (batch_in what) ≡ true → Has (batch_in what) w → IsWrite state.observers journal w.0 c.0 w.1
-  write_of seat start (declared.Run o f) c w entry phase distinct has = absurd has
-  write_of seat start (declared.Script batch) c w entry phase distinct has =
-      let d = tells.declared seat start.0 (declared.Script batch) entry in
+      → Has (written_in what) w → IsWrite state.observers journal w.0 c.0 w.1
+  write_of seat start what c w entry phase has =
+      let d = tells.declared seat start.0 what entry in
       let m : Member = record { start = start.0; commit = c.0; seat = d.t.seat; work = d.t.work; writes = d.t.declared } in
+      let apart : are_distinct (cells_of state.observers d.t.work start.0 what) ≡ true = ap are_distinct (sym d.declared) ∙ d.distinct in
       record {
         m = m;
         in_history = tells.member m (record { t = d.t; there = d.there; phase = phase_there state start.0 d.t c d.there phase; seat = refl; work = refl; writes = refl });
         commit_is = refl;
-        writes = ap (λ ws. content_in ws w.0) d.declared ∙ distinct_content batch distinct w has;
+        writes = ap (λ ws. content_in ws w.0) d.declared ∙ in_cells state.observers d.t.work start.0 what apart w has;
       }
 
   committed_write : (seat : ℕ) (start : Ts) (what : Declared) (p : Put) (h : Option Phase) → phase_in state start.0 ≡ h → Has journal (record { seat = seat; step = steps.Declare start what; answer = answers.Done })
-      → IfCommitted h (are_distinct (batch_in what) ≡ true) → Has (if_committed h (batch_in what)) p → IsWrite state.observers journal p.cell p.commit.0 p.content
-  committed_write seat start what p None is entry d has = absurd has
-  committed_write seat start what p (Some phases.Reading) is entry d has = absurd has
-  committed_write seat start what p (Some phases.Declared) is entry d has = absurd has
-  committed_write seat start what p (Some (phases.Stamped c)) is entry d has = absurd has
-  committed_write seat start what p (Some (phases.Committed c)) is entry d has =
-      let q = map_has (put_by c) (batch_in what) p has in
-      subst (λ (r : Put). IsWrite state.observers journal r.cell r.commit.0 r.content) q.2 (write_of seat start what c q.0 entry is d q.1)
-  committed_write seat start what p (Some phases.Failed) is entry d has = absurd has
+      → Has (if_committed h (written_in what)) p → IsWrite state.observers journal p.cell p.commit.0 p.content
+  committed_write seat start what p None is entry has = absurd has
+  committed_write seat start what p (Some phases.Reading) is entry has = absurd has
+  committed_write seat start what p (Some phases.Declared) is entry has = absurd has
+  committed_write seat start what p (Some (phases.Stamped c)) is entry has = absurd has
+  committed_write seat start what p (Some (phases.Committed c)) is entry has =
+      let q = map_has (put_by c) (written_in what) p has in
+      subst (λ (r : Put). IsWrite state.observers journal r.cell r.commit.0 r.content) q.2 (write_of seat start what c q.0 entry is q.1)
+  committed_write seat start what p (Some phases.Failed) is entry has = absurd has
 
-  by_step : (seat : ℕ) (step : Step) (answer : Answer) (p : Put) → Has journal (record { seat = seat; step = step; answer = answer }) → AreTold state step answer → Has (writes_by state step answer) p → IsWrite state.observers journal p.cell p.commit.0 p.content
-  by_step seat (steps.Declare start what) answers.Done p entry told has = committed_write seat start what p (phase_in state start.0) refl entry told has
-  by_step seat _ _ p entry told has = absurd has
+  by_step : (seat : ℕ) (step : Step) (answer : Answer) (p : Put) → Has journal (record { seat = seat; step = step; answer = answer }) → Has (writes_by state step answer) p → IsWrite state.observers journal p.cell p.commit.0 p.content
+  by_step seat (steps.Declare start what) answers.Done p entry has = committed_write seat start what p (phase_in state start.0) refl entry has
+  by_step seat _ _ p entry has = absurd has
 
-  sound_from : (es : List Entry) (p : Put) → ((e : Entry) → Has es e → Has journal e) → AllTold state es → Has (all_puts state es) p → IsWrite state.observers journal p.cell p.commit.0 p.content
-  sound_from [] p within told has = absurd has
-  sound_from (e ∷ es) p within told has = elim (has_which (puts_by state e) (all_puts state es) p has) [
-    | inl here ↦ by_step e.seat e.step e.answer p (within e (inl refl)) told.0 here
-    | inr later ↦ sound_from es p (λ d h. within d (inr h)) told.1 later
+  sound_from : (es : List Entry) (p : Put) → ((e : Entry) → Has es e → Has journal e) → Has (all_puts state es) p → IsWrite state.observers journal p.cell p.commit.0 p.content
+  sound_from [] p within has = absurd has
+  sound_from (e ∷ es) p within has = elim (has_which (puts_by state e) (all_puts state es) p has) [
+    | inl here ↦ by_step e.seat e.step e.answer p (within e (inl refl)) here
+    | inr later ↦ sound_from es p (λ d h. within d (inr h)) later
   ]
 
   whole_for : (row : Row) (column commit : ℕ) (content : Content) → IsWrite state.observers journal (Data row column) commit content → Has (all_puts state journal) (record { cell = Data row column; commit = record { 0 = commit }; content = content })
@@ -183,12 +184,12 @@ module _ (journal : List Entry) (state : StateOf) (tells : TellsHistory journal 
       let i = h.in_history in
       let phase : phase_in state h.m.start ≡ Some (phases.Committed (record { 0 = commit })) = ap (option_map (λ (u : TransactionOf). u.phase)) c.there ∙ ap Some c.phase ∙ ap (λ n. Some (phases.Committed (record { 0 = n }))) h.commit_is in
       let all : Has (cells_of state.observers h.m.work h.m.start i.what) (x, content) = subst (λ ws. Has ws (x, content)) i.writes_are (content_has h.m.writes x content h.writes) in
-      let has : Has (batch_in i.what) (x, content) = in_batch state.observers h.m.work h.m.start i.what row column content (tells.declared h.m.seat h.m.start i.what i.declared).plain all in
+      let has : Has (written_in i.what) (x, content) = in_written state.observers h.m.work h.m.start i.what row column content all in
       in_block (puts_by state) journal (record { seat = h.m.seat; step = steps.Declare (record { 0 = h.m.start }) i.what; answer = answers.Done }) _ i.declared
-      (subst (λ o. Has (if_committed o (batch_in i.what)) (record { cell = x; commit = record { 0 = commit }; content = content })) (sym phase) (has_map (put_by (record { 0 = commit })) (batch_in i.what) (x, content) has))
+      (subst (λ o. Has (if_committed o (written_in i.what)) (record { cell = x; commit = record { 0 = commit }; content = content })) (sym phase) (has_map (put_by (record { 0 = commit })) (written_in i.what) (x, content) has))
 
-  pub gathers : AllTold state journal → Gathers state.observers journal (all_puts state journal)
-  gathers told = record {
-    sound = λ p h. sound_from journal p (λ e k. k) told (contains_has (all_puts state journal) p h);
+  pub gathers : Gathers state.observers journal (all_puts state journal)
+  gathers = record {
+    sound = λ p h. sound_from journal p (λ e k. k) (contains_has (all_puts state journal) p h);
     whole = λ row column commit content h. has_contains (all_puts state journal) _ (whole_for row column commit content h);
   }

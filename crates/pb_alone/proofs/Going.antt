@@ -131,18 +131,5 @@ module _ (s0 : SharedOf) (q0 : SeatOf) (s : SharedOf) (q : SeatOf) (state : Stat
     end_if_out step (faults.Script m) takes why e = e
     end_if_out step faults.Output takes why e = e
 
-    unlike_or_full : (unlike full : Bool) (why : Reason) → or_full (first_reason ((NotItsDeclaration, unlike) ∷ [])) full ≡ Some why → ((why ≡ NotItsDeclaration) × (unlike ≡ true)) ⊎ ((why ≡ JournalFull) × (full ≡ true))
-    unlike_or_full true true why e = inl (cc, refl)
-    unlike_or_full true false why e = inl (cc, refl)
-    unlike_or_full false full why e = inr (full_is full why e)
-
-    pub end_if_unlike : (step : Step) (f : RunFault) (unlike : Bool) → (unlike ≡ true → MayCallHelpers s.state.observers w) → step_reason state q0.number step ≡ first_reason ((NotItsDeclaration, unlike) ∷ []) → IsRefusedBy s q.number step f → StopsIn s0 (w ∷ []) s f
-    end_if_unlike step (faults.Refused n) unlike helped why e =
-        elim (unlike_or_full unlike (length s.journal == s.limit) e.0 (ap (λ r. or_full r (length s.journal == s.limit)) (sym why) ∙ refused_here step e.0 e.1)) [
-          | inl p ↦ stops n (inr (inr (e.2 ∙ ap reason_code p.0, helped p.1)))
-          | inr p ↦ stops n (inr (inl (e.2 ∙ ap reason_code p.0, eqb-true _ _ p.1)))
-        ]
-    end_if_unlike step faults.NoMemory unlike helped why e = tt
-    end_if_unlike step (faults.Manifest m) unlike helped why e = e
-    end_if_unlike step (faults.Script m) unlike helped why e = e
-    end_if_unlike step faults.Output unlike helped why e = e
+    pub end_unplain : MayCallHelpers s.state.observers w → StopsIn s0 (w ∷ []) s (faults.Refused (reason_code NotItsDeclaration))
+    end_unplain helped = stops (reason_code NotItsDeclaration) (inr (inr (refl, helped)))

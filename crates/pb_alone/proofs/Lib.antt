@@ -21,4 +21,5 @@ pub mod Stopping
 mod Extending
 pub mod RunVisit
 pub mod OneRound
+pub mod Sweeping
 pub mod SilentRuns

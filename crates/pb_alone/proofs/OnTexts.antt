@@ -6,7 +6,8 @@ use Rattle.pb_history.specs.Journals.{IsLegal}
 use Rattle.pb_alone.specs.declared.fault.RunFault.{RunFault}
 use Rattle.pb_alone.specs.declared.fault.RunFault.TheVariants as faults
 use Rattle.pb_alone.specs.Runs.{Runs, KeepsSeats}
-use Rattle.pb_alone.specs.TextRuns.{IsRead, RanOn, RunsTexts, fresh}
+use Rattle.pb_registry.specs.Judging.{ReadsManifest}
+use Rattle.pb_alone.specs.TextRuns.{RanOn, RunsTexts, fresh}
 
 abbrev LegalOf : SharedOf → Type 0
 LegalOf s = IsLegal s.state.observers s.state.seats s.opened s.journal s.state
@@ -19,7 +20,7 @@ legal_from last observers before after seats b k legal =
     let at : after.opened ≡ last = k.opened ∙ ap (λ (s : SharedOf). s.opened) b in
     subst (λ os. IsLegal os 1 last after.journal after.state) os (subst (λ n. IsLegal after.state.observers n last after.journal after.state) n (subst (λ c. IsLegal after.state.observers after.state.seats c after.journal after.state) at legal))
 
-module _ (manifest script : List ℕ) (last : ℕ) (before after : SharedOf) (old now : Option (List ℕ)) (failed : Bool) (observers : List ObserverOf) (read : IsRead manifest observers) (opened : before ≡ fresh observers last) (seats : List SeatOf) (keeps : KeepsSeats before after seats) (legal : LegalOf after) where
+module _ (manifest script : List ℕ) (last : ℕ) (before after : SharedOf) (old now : Option (List ℕ)) (failed : Bool) (observers : List ObserverOf) (read : ReadsManifest manifest (Ok observers)) (opened : before ≡ fresh observers last) (seats : List SeatOf) (keeps : KeepsSeats before after seats) (legal : LegalOf after) where
   ran_on : (r : Result (Unit {0}) RunFault) → Runs script before after old now failed r → RanOn manifest script last old now failed r
   ran_on r h = record {
     observers = observers;

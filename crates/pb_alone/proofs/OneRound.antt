@@ -72,7 +72,7 @@ clean_on observers j k seat o row on c = record {
   why = elim c.why [ inl e ↦ inl e | inr w ↦ inr (w.0, w.1, w.2, on _ w.3, w.4) ];
 }
 
-done_on : (observers : List ObserverOf) (j k : List Entry) (seat : ℕ) (due : List (ℕ × Row)) (runs : List Member) → ((e : Entry) → Has j e → Has k e) → AreDone observers j seat due runs → AreDone observers k seat due runs
+pub done_on : (observers : List ObserverOf) (j k : List Entry) (seat : ℕ) (due : List (ℕ × Row)) (runs : List Member) → ((e : Entry) → Has j e → Has k e) → AreDone observers j seat due runs → AreDone observers k seat due runs
 done_on observers j k seat [] runs on h = h
 done_on observers j k seat (d ∷ ds) runs on (inl r) = inl (r.0, r.1, r.2, r.3, done_on observers j k seat ds r.1 on r.4)
 done_on observers j k seat (d ∷ ds) runs on (inr c) = inr (clean_on observers j k seat d.0 d.1 on c.0, done_on observers j k seat ds runs on c.1)

@@ -10,7 +10,10 @@ use Rattle.pb_base.specs.declared.names.Row.{Row}
 use Rattle.pb_base.specs.declared.content.Version.{Version}
 use Rattle.pb_base.specs.Cell.{cell_cmp}
 use Rattle.pb_base.specs.Same.{is_same}
-use Rattle.pb_vm.specs.Finished.{Meant, meant_code}
+use Rattle.std.specs.Coded.{coded_ℕ, coded_list}
+use Rattle.pb_isa.specs.Programs.{judged_code}
+use Rattle.pb_vm.specs.Finished.{Meant}
+use Rattle.pb_alone.specs.PlainRuns.{plain_run}
 use Rattle.pb_helpers.specs.Record.{record_of}
 use Rattle.pb_base.specs.declared.refusal.Reason.TheVariants.{OutOfTimestamps, NotOfSeat, NotItsDeclaration, NoSuchObserver}
 use Rattle.pb_steps.specs.declared.step.Work.TheVariants as works
@@ -23,7 +26,7 @@ use Rattle.pb_steps.specs.State.{StateOf, TransactionOf, new_transaction, cells_
 use Rattle.pb_steps.specs.Observers.{ObserverOf, observed_cell, acknowledgment}
 use Rattle.pb_steps.specs.Readings.{lock_at}
 use Rattle.pb_steps.specs.Reads.{found_answer, acknowledged_in}
-use Rattle.pb_steps.specs.Declarations.{MayDeclare, plain_run, is_run, is_its}
+use Rattle.pb_steps.specs.Declarations.{is_run, are_replies, is_its}
 use Rattle.pb_steps.specs.Reasons.{IsOwn, is_out, first_reason}
 use Rattle.pb_steps.specs.Steps.{step_reason, StepCase}
 use Rattle.pb_steps.specs.Read.{read_reasons, with_read}
@@ -100,14 +103,6 @@ module _ (s : StateOf) (seat o : ℕ) (row : Row) (observer : ObserverOf) (there
         declares Done new m = (refl, m.new_is ∙ ap (λ (t : TransactionOf). with_transaction s3 a (record t { phase = phases.Declared; declared = cells_of s.observers t.work a (declared.Run o f) })) (same_own _ _ _ t3 m.t own3 m.own))
         declares _ new m = absurd m
 
-        -- what is declared so far writes nothing but the acknowledgment
-        pub writes_none : (answer : Answer) (new : StateOf) → StepCase s3 seat (Declare (ts a) (declared.Run o f)) answer new → f.writes ≡ []
-        writes_none Done new m =
-            let t-is = same_own _ _ _ t3 m.t own3 m.own in
-            let may : MayDeclare s.observers (works.Run o row) a t3.reads (declared.Run o f) = subst (λ (t : TransactionOf). MayDeclare s.observers t.work a t.reads (declared.Run o f)) t-is m.its in
-            ap (λ (z : Meant). z.writes) may.1.run
-        writes_none _ new m = absurd m
-
   -- ---- what each step may be refused with
 
   module _ (seated : seat < s.seats) where
@@ -124,8 +119,13 @@ module _ (s : StateOf) (seat o : ℕ) (row : Row) (observer : ObserverOf) (there
         (is : f ≡ plain_run observer.program (record_of x v (acknowledged_in b2).0) a f.result) where
       pub its : is_its s.observers (works.Run o row) a (t3 (found_answer v) b2).reads (declared.Run o f) ≡ true
       its =
-          (λ i. (eq-eqb o o refl i) && is_run (there i) (observed_cell s.observers o row) a f (cond (same_cells x (observed_cell s.observers o row) x_is i && same_cells ack (acknowledgment s.observers o row) ack_is i) (Some (record { version = v; acknowledged = acknowledged_in b2 })) None))
-          ∙ (λ i. lt-ltb _ _ newer i && is_same meant_code f (plain_run observer.program (record_of (observed_cell s.observers o row) v (acknowledged_in b2).0) a f.result) (is ∙ ap (λ y. plain_run observer.program (record_of y v (acknowledged_in b2).0) a f.result) x_is) i)
+          let bytes = record_of (observed_cell s.observers o row) v (acknowledged_in b2).0 in
+          let p : f.judged ≡ observer.program = ap (λ (z : Meant). z.judged) is in
+          let q : f.bytes ≡ bytes = ap (λ (z : Meant). z.bytes) is ∙ ap (λ y. record_of y v (acknowledged_in b2).0) x_is in
+          let n : f.began ≡ a = ap (λ (z : Meant). z.began) is in
+          let t : f.talk ≡ [] = ap (λ (z : Meant). z.talk) is in
+          (λ i. eq-eqb o o refl i && (is_run (there i) (observed_cell s.observers o row) a f (cond (same_cells x (observed_cell s.observers o row) x_is i && same_cells ack (acknowledgment s.observers o row) ack_is i) (Some (record { version = v; acknowledged = acknowledged_in b2 })) None) && are_replies [] (t i)))
+          ∙ (λ i. (lt-ltb _ _ newer i && (is_same judged_code f.judged observer.program p i && is_same (coded_list coded_ℕ) f.bytes bytes q i && eq-eqb f.began a n i)) && true)
 
     pub declare_refused : (b1 b2 : Answer) (f : Meant) → step_reason (s3 b1 b2) seat (Declare (ts a) (declared.Run o f)) ≡ first_reason ((NotItsDeclaration, not (is_its s.observers (works.Run o row) a (t3 b1 b2).reads (declared.Run o f))) ∷ [])
     declare_refused b1 b2 f = allowed_own (s3 b1 b2) seat a (t3 b1 b2) (declare_reasons s.observers a (declared.Run o f)) seated (own3 b1 b2)

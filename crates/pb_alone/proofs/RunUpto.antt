@@ -18,11 +18,15 @@ use Rattle.pb_steps.specs.declared.phase.Phase.TheVariants as phases
 use Rattle.pb_steps.specs.State.{StateOf, TransactionOf}
 use Rattle.pb_steps.specs.Observers.{ObserverOf, observed_cell, acknowledgment}
 use Rattle.pb_steps.specs.Readings.{write_at}
-use Rattle.pb_steps.specs.Reasons.{IsOwn}
+use Rattle.pb_steps.specs.Reasons.{IsOwn, first_reason}
 use Rattle.pb_steps.specs.Steps.{StepCase}
 use Rattle.pb_steps.specs.Reads.{found_answer, acknowledged_in}
 use Rattle.pb_isa.specs.Helpers.{no_helpers}
-use Rattle.pb_steps.specs.Declarations.{plain_run, is_its}
+use Rattle.pb_steps.specs.Declarations.{is_its}
+use Rattle.pb_alone.specs.PlainRuns.{plain_run}
+use Rattle.pb_alone.specs.declared.fault.RunFault.TheVariants as faults
+use Rattle.pb_base.specs.Reasons.{reason_code}
+use Rattle.pb_base.specs.declared.refusal.Reason.TheVariants.{NotItsDeclaration}
 use Rattle.pb_history.specs.declared.entry.Received.{Received}
 use Rattle.pb_core.specs.Calls.{SharedOf, SeatOf, Calls}
 use Rattle.pb_alone.specs.declared.fault.RunFault.{RunFault}
@@ -32,7 +36,7 @@ use Rattle.pb_alone.specs.Stops.{StopsIn, MayCallHelpers, is_over, has_committed
 use Rattle.pb_alone.proofs.RunStages as stages
 use Rattle.pb_alone.proofs.RunStages.{IsSeen}
 use Rattle.pb_alone.proofs.Ends as ends
-use Rattle.pb_alone.proofs.Going.{AtStage, stage0, next, goes, end_if_none, end_if_out, end_if_unlike}
+use Rattle.pb_alone.proofs.Going.{AtStage, stage0, next, goes, end_if_none, end_if_out, end_unplain}
 
 abbrev pub told : Step → Answer → Received
 told step answer = record { step = step; answer = answer }
@@ -128,7 +132,13 @@ module _ (s0 : SharedOf) (q0 : SeatOf) (o : ℕ) (row : Row) (ob : ObserverOf) (
           pub goes3 : Goes s0 q0 s3 q3
           goes3 = goes s0 q0 s3 q3 z3 e3 at3 refl refl
 
-          module _ (v : Version) (saw : b1 ≡ found_answer v) (newer : (acknowledged_in b2).0 < v.commit.0) (f : Meant) (silent : ob.program.helpers ≡ no_helpers → f ≡ plain_run ob.program (record_of x v (acknowledged_in b2).0) start.0 f.result) where
+          -- the program asked or wrote
+          pub unplain : (v : Version) → b1 ≡ found_answer v → (acknowledged_in b2).0 < v.commit.0 → (ob.program.helpers ≡ no_helpers → ⊥) → StopsIn s0 (works.Run o row ∷ []) s3 (faults.Refused (reason_code NotItsDeclaration))
+          unplain v saw newer helped =
+              end_unplain s0 q0 s3 q3 z3 e3 at3 o row refl (newer_goes_on (ts a) b1 b2 v [] saw newer refl)
+              (subst (λ os. MayCallHelpers os (works.Run o row)) (sym (ap (λ (w : StateOf). w.observers) at3.state_is)) (ob, there, helped))
+
+          module _ (v : Version) (saw : b1 ≡ found_answer v) (newer : (acknowledged_in b2).0 < v.commit.0) (f : Meant) (run : f ≡ plain_run ob.program (record_of x v (acknowledged_in b2).0) start.0 f.result) where
             abbrev pub t7-is : TransactionOf
             t7-is = record (stages.t4 z seat o row ob there x ack x_is ack_is b1 b2 f) { prewritten = [] ++ ack ∷ []; phase = phases.Committed (ts (a + 1)) }
 
@@ -138,17 +148,13 @@ module _ (s0 : SharedOf) (q0 : SeatOf) (o : ℕ) (row : Row) (ob : ObserverOf) (
             abbrev pub is_unlike : Bool
             is_unlike = not (is_its z.observers (works.Run o row) a (stages.t3 z seat o row ob there x ack x_is ack_is b1 b2).reads (declared.Run o f))
 
-            -- a program without helpers runs to what its observer may declare
-            alike : ob.program.helpers ≡ no_helpers → is_unlike ≡ false
-            alike none =
-                let run_is = silent none ∙ ap (λ (t : Ts). plain_run ob.program (record_of x v (acknowledged_in b2).0) t.0 f.result) start_is in
+            alike : is_unlike ≡ false
+            alike =
+                let run_is = run ∙ ap (λ (t : Ts). plain_run ob.program (record_of x v (acknowledged_in b2).0) t.0 f.result) start_is in
                 subst (λ b. not (is_its z.observers (works.Run o row) a (stages.t3 z seat o row ob there x ack x_is ack_is b b2).reads (declared.Run o f)) ≡ false) (sym saw) (ap not (stages.its z seat o row ob there x ack x_is ack_is seated v b2 f newer run_is))
 
-            helped : is_unlike ≡ true → MayCallHelpers s3.state.observers (works.Run o row)
-            helped unlike = subst (λ os. MayCallHelpers os (works.Run o row)) (sym (ap (λ (w : StateOf). w.observers) at3.state_is)) (ob, there, λ none. let e = alike none in cc)
-
             pub end3 : (g : RunFault) → IsRefusedBy s3 q3.number (Declare start (declared.Run o f)) g → StopsIn s0 (works.Run o row ∷ []) s3 g
-            end3 g h = end_if_unlike s0 q0 s3 q3 z3 e3 at3 o row refl (newer_goes_on (ts a) b1 b2 v [] saw newer refl) declare g is_unlike helped (stages.declare_refused z seat o row ob there x ack x_is ack_is seated b1 b2 f) (subst (λ n. IsRefusedBy s3 q3.number (Declare n (declared.Run o f)) g) start_is h)
+            end3 g h = end_if_none s0 q0 s3 q3 z3 e3 at3 o row refl (newer_goes_on (ts a) b1 b2 v [] saw newer refl) declare g (stages.declare_refused z seat o row ob there x ack x_is ack_is seated b1 b2 f ∙ ap (λ b. first_reason ((NotItsDeclaration, b) ∷ [])) alike) (subst (λ n. IsRefusedBy s3 q3.number (Declare n (declared.Run o f)) g) start_is h)
 
             module _ (ans4 : Answer) (s4 : SharedOf) (q4 : SeatOf) (c4 : Calls s3 q3 (Declare start (declared.Run o f)) ans4 s4 q4) where
               abbrev pub z4 : StateOf
@@ -163,9 +169,6 @@ module _ (s0 : SharedOf) (q0 : SeatOf) (o : ℕ) (row : Row) (ob : ObserverOf) (
               calls4 : Calls s3 q3 declare ans4 s4 q4
               calls4 = subst (λ n. Calls s3 q3 (Declare n (declared.Run o f)) ans4 s4 q4) start_is c4
 
-              case4 : StepCase z3 seat declare ans4 s4.state
-              case4 = subst (λ n. StepCase z3 n declare ans4 s4.state) at3.number (subst (λ y. StepCase y q3.number declare ans4 s4.state) at3.state_is calls4.machine.taken)
-
               at4 : AtStage s0 q0 s4 q4 z4 e4
               at4 = next s0 q0 s3 q3 z3 e3 at3 declare ans4 s4 q4 Done z4 calls4 (stages.declares z seat o row ob there x ack x_is ack_is b1 b2 f ans4 s4.state)
 
@@ -176,7 +179,9 @@ module _ (s0 : SharedOf) (q0 : SeatOf) (o : ℕ) (row : Row) (ob : ObserverOf) (
               own4 = stages.own4 z seat o row ob there x ack x_is ack_is b1 b2 f
 
               pub alone : t4.declared ≡ (ack, contents.Stamp (ts a)) ∷ []
-              alone = λ i. (sym ack_is i, contents.Stamp (ts a)) ∷ stages.writes_none z seat o row ob there x ack x_is ack_is b1 b2 f ans4 s4.state case4 i
+              alone =
+                  let none : f.writes ≡ [] = ap (λ (w : Meant). w.writes) run in
+                  (λ i. (sym ack_is i, contents.Stamp (ts a)) ∷ none i)
 
               past : (y : Cell) (c s : ℕ) → write_at z4.entries y c ≡ Some s → c < a
               past y c s h = let p = clean.past y c s h in omega (arith, p)

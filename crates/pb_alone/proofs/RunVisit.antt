@@ -15,12 +15,15 @@ use Rattle.pb_steps.specs.declared.step.Declared.TheVariants as declared
 use Rattle.pb_steps.specs.declared.step.Step.{Step}
 use Rattle.pb_steps.specs.declared.step.Step.TheVariants.{Begin, Read, Declare, Prewrite, Stamp, CommitPrimary}
 use Rattle.pb_steps.specs.declared.step.Answer.{Answer}
-use Rattle.pb_steps.specs.declared.step.Answer.TheVariants.{At, Locked, Found, Absent, Done, Conflict, Committed, Lost, RolledBack, Waits, CommittedAt}
+use Rattle.pb_steps.specs.declared.step.Answer.TheVariants.{At, Locked, Found, Absent, Done, Conflict, Committed, Lost, RolledBack, Waits, CommittedAt, Marked, NoMark, StillBehind}
 use Rattle.pb_steps.specs.State.{StateOf}
 use Rattle.pb_steps.specs.Observers.{observed_cell, acknowledgment, column_or_zero, observed_column}
 use Rattle.pb_steps.specs.Reads.{found_answer, acknowledged_in}
 use Rattle.pb_isa.specs.Helpers.{no_helpers}
-use Rattle.pb_steps.specs.Declarations.{plain_run}
+use Rattle.pb_alone.specs.PlainRuns.{plain_run}
+use Rattle.pb_base.specs.Reasons.{reason_code}
+use Rattle.pb_base.specs.declared.refusal.Reason.TheVariants.{NotItsDeclaration}
+use Rattle.pb_alone.specs.declared.fault.RunFault.TheVariants as faults
 use Rattle.pb_history.specs.declared.entry.Received.{Received}
 use Rattle.pb_core.specs.Calls.{SharedOf, SeatOf, Calls}
 use Rattle.pb_history.specs.History.{Has, IsEntry, TellsHistory}
@@ -91,6 +94,9 @@ module _ (s0 : SharedOf) (q0 : SeatOf) (o : ℕ) (row : Row) (program : JudgedOf
       not_found RolledBack s h = absurd s
       not_found Waits s h = absurd s
       not_found (CommittedAt t) s h = absurd s
+      not_found (Marked y) s h = absurd s
+      not_found NoMark s h = absurd s
+      not_found StillBehind s h = absurd s
 
       -- the cell was absent
       pub absent : ((v : Version) → b1 ≡ found_answer v → ⊥) → TellsHistory s0.journal s0.state → TellsHistory s2.journal s2.state → Visits s0 q0.number o row s2
@@ -150,9 +156,13 @@ module _ (s0 : SharedOf) (q0 : SeatOf) (o : ℕ) (row : Row) (program : JudgedOf
               });
             }
 
-        module _ (v : Version) (saw : b1 ≡ found_answer v) (newer : (acknowledged_in b2).0 < v.commit.0) (f : Meant) (made : program.helpers ≡ no_helpers → f ≡ plain_run program (record_of x v (acknowledged_in b2).0) start.0 f.result) where
-          run : io.observer.program.helpers ≡ no_helpers → f ≡ plain_run io.observer.program (record_of x v (acknowledged_in b2).0) start.0 f.result
-          run none = made (ap (λ (p : JudgedOf). p.helpers) (sym io.program_is) ∙ none) ∙ ap (λ p. plain_run p (record_of x v (acknowledged_in b2).0) start.0 f.result) (sym io.program_is)
+        -- its program asked or wrote, so that it may call helpers
+        pub unplain : (v : Version) → b1 ≡ found_answer v → (acknowledged_in b2).0 < v.commit.0 → (program.helpers ≡ no_helpers → ⊥) → StopsIn s0 (works.Run o row ∷ []) s3 (faults.Refused (reason_code NotItsDeclaration))
+        unplain v saw newer helped = upto.unplain s0 q0 o row io.observer io.there x k x_is k_is clean seated ans1 s1 q1 c1 start is b1 s2 q2 c2 b2 s3 q3 c3 v saw newer (λ none. helped (ap (λ (p : JudgedOf). p.helpers) (sym io.program_is) ∙ none))
+
+        module _ (v : Version) (saw : b1 ≡ found_answer v) (newer : (acknowledged_in b2).0 < v.commit.0) (f : Meant) (made : f ≡ plain_run program (record_of x v (acknowledged_in b2).0) start.0 f.result) where
+          run : f ≡ plain_run io.observer.program (record_of x v (acknowledged_in b2).0) start.0 f.result
+          run = made ∙ ap (λ p. plain_run p (record_of x v (acknowledged_in b2).0) start.0 f.result) (sym io.program_is)
 
           module _ (what : Declared) (what_is : what ≡ declared.Run o f) where
             pub end3 : (g : RunFault) → IsRefusedBy s3 q3.number (Declare start what) g → StopsIn s0 (works.Run o row ∷ []) s3 g

@@ -17,7 +17,7 @@ use Rattle.pb_alone.specs.Alone.{Changes, change_entries, changes_from, entry, t
 use Rattle.pb_alone.specs.Stops.{work_of, works_in, changes_for, HasBegun, HasStopped, StopsIn}
 use Rattle.pb_alone.proofs.Going.{append_assoc, append_nil}
 
-works_join : (xs ys : List Entry) → works_in (xs ++ ys) ≡ works_in xs ++ works_in ys
+pub works_join : (xs ys : List Entry) → works_in (xs ++ ys) ≡ works_in xs ++ works_in ys
 works_join xs ys = flat_map-append (λ (e : Entry). work_of e.step) xs ys
 
 pub none_begun : (a : SharedOf) → HasBegun a [] a

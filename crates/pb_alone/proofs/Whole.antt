@@ -16,7 +16,8 @@ use Rattle.pb_history.specs.Journals.{IsLegal}
 use Rattle.pb_steps.specs.declared.step.Work.TheVariants as works
 use Rattle.pb_history.specs.History.{Member, IsHistory, RiseFrom}
 use Rattle.pb_alone.specs.Due.{due}
-use Rattle.pb_alone.specs.Rounds.{AreDone, RiseBetween, Works}
+use Rattle.pb_alone.specs.Rounds.{AreDone, RiseBetween}
+use Rattle.pb_alone.specs.Sweeps.{WorksAndSweeps, EndsEarly}
 use Rattle.pb_alone.specs.Visits.{Extends}
 use Rattle.pb_alone.proofs.OneRound.{has_left, has_right, has_which, rise_on}
 use Rattle.pb_texts.specs.ScriptLines.{script_of}
@@ -26,10 +27,11 @@ use Rattle.pb_alone.specs.Alone.{IsClean, change_entries, changes_from}
 use Rattle.pb_alone.specs.declared.fault.RunFault.{RunFault}
 use Rattle.pb_alone.specs.declared.fault.RunFault.TheVariants as faults
 use Rattle.pb_alone.specs.Faults.{of_report}
-use Rattle.pb_alone.specs.Stops.{StopsIn, HasBegun, works_for, works_in, changes_for, due_work}
+use Rattle.pb_alone.specs.Stops.{HasBegun, works_for, works_in, changes_for, due_work}
 use Rattle.pb_alone.proofs.Stopping.{begun_on, changes_begun}
 use Rattle.pb_alone.specs.Runs.{Made, Reports, Runs}
 use Rattle.pb_alone.proofs.Blocks.{history, writes_are}
+use Rattle.pb_alone.proofs.Sweeping.{sweeps_keep}
 
 nothing_in : (x : Slot) → finite.get (opening [] 0 0).entries x ≡ None
 nothing_in x = finite.get-empty slot_cmp x
@@ -67,10 +69,11 @@ history_on observers j k ms ns h e rising = record {
   rising = rising;
 }
 
-pub made : (text : List ℕ) (before : SharedOf) (seat : ℕ) (batches : List Writes) (after : SharedOf) → before.journal ≡ [] → script_of text ≡ Ok batches → Works before seat batches after → Made text before.state.clock after
-made text before seat batches after empty read w =
+pub made : (text : List ℕ) (before : SharedOf) (seat : ℕ) (batches : List Writes) (after : SharedOf) → before.journal ≡ [] → script_of text ≡ Ok batches → WorksAndSweeps before seat batches after → Made text before.state.clock after
+made text before seat batches after empty read all =
+    let w = all.works in
     let c = w.changes in
-    let r = w.rounds in
+    let r = sweeps_keep all.worked after seat all.swept w.changed seat (due w.changed.state.observers batches) w.rounds in
     let b : HasBegun before (works_for w.changed.state.observers batches) after = begun_on before (changes_for batches) w.changed (map due_work (due w.changed.state.observers batches)) after (changes_begun before seat batches w.changed c) r.begun in
     let changes = changes_from seat before.state.clock batches in
     let observers = after.state.observers in
@@ -90,9 +93,12 @@ made text before seat batches after empty read w =
       clean = r.clean;
       begun = subst (λ os. works_in after.journal ≡ works_for os batches) (sym r.observers) (ap works_in (b.journal ∙ ap (λ j. j ++ b.more) empty) ∙ b.works_are);
       done = subst (λ os. AreDone observers after.journal seat (due os batches) r.runs) (sym r.observers) r.done;
+      worked = all.worked;
+      legal = all.legal;
+      swept = all.swept;
     }
 
-pub stopped : (text : List ℕ) (before after : SharedOf) (old now : Option (List ℕ)) (failed : Bool) (f : RunFault) → (batches : List Writes) → script_of text ≡ Ok batches → StopsIn before (works_for before.state.observers batches) after f → now ≡ old → failed ≡ false → Runs text before after old now failed (Err f)
+pub stopped : (text : List ℕ) (before after : SharedOf) (old now : Option (List ℕ)) (failed : Bool) (f : RunFault) → (batches : List Writes) → script_of text ≡ Ok batches → EndsEarly before (works_for before.state.observers batches) after f → now ≡ old → failed ≡ false → Runs text before after old now failed (Err f)
 stopped text before after old now failed (faults.Refused n) bs read s same un = (record { batches = bs; read = read; stopped = s }, same, un)
 stopped text before after old now failed faults.NoMemory bs read s same un = (same, un)
 stopped text before after old now failed (faults.Manifest m) bs read s same un = absurd s

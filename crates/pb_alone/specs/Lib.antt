@@ -4,8 +4,10 @@ pub mod Committed
 pub mod Puts
 pub mod Visits
 pub mod Due
+pub mod PlainRuns
 pub mod Stops
 pub mod Rounds
+pub mod Sweeps
 pub mod Tallies
 pub mod Runs
 pub mod TextRuns

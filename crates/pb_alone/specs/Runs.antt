@@ -18,7 +18,9 @@ use Rattle.pb_alone.specs.Alone.{IsClean, changes_from}
 use Rattle.pb_alone.specs.Committed.{IsSeenAt}
 use Rattle.pb_alone.specs.Tallies.{AreTallies}
 use Rattle.pb_steps.specs.declared.step.Work.TheVariants as works
-use Rattle.pb_alone.specs.Stops.{works_in, works_for, HasStopped}
+use Rattle.pb_alone.specs.Stops.{works_in, works_for}
+use Rattle.pb_alone.specs.Sweeps.{Swept, EndsEarly}
+use Rattle.pb_history.specs.Journals.{IsLegal}
 use Rattle.pb_alone.specs.Due.{due}
 use Rattle.pb_alone.specs.Rounds.{AreDone}
 
@@ -50,7 +52,7 @@ Reports shared old now failed (Err ends.NoMemory) = (now ≡ old) × (failed ≡
 -- The committed transactions of the journal are the script's batches in order, each once, and then runs of observers: for
 -- each changed cell, by row and column, one of each observer of its column, but where the journal shows that there was
 -- nothing to run for. Each change took the next two timestamps, from the clock on, and no lock stands. Each change began one
--- transaction, and so did each visit of an observer.
+-- transaction, and so did each visit of an observer. After these the journal had come to a state whose marks were then swept.
 pub record Made (text : List ℕ) (clock : ℕ) (shared : SharedOf) : Type 0 where
   pub batches : List Writes
   pub read : script_of text ≡ Ok batches
@@ -64,12 +66,15 @@ pub record Made (text : List ℕ) (clock : ℕ) (shared : SharedOf) : Type 0 whe
   pub clean : IsClean shared.state
   pub done : AreDone shared.state.observers shared.journal seat (due shared.state.observers batches) runs
   pub begun : works_in shared.journal ≡ works_for shared.state.observers batches
+  pub worked : SharedOf
+  pub legal : IsLegal worked.state.observers worked.state.seats worked.opened worked.journal worked.state
+  pub swept : Swept worked seat shared
 
--- the script is read as changes, and it was stopped among these and the visits that they call for
+-- the script is read as changes, and it was stopped among these, the visits that they call for, and the sweeps
 pub record WasStopped (text : List ℕ) (before after : SharedOf) (code : ℕ) : Type 0 where
   pub batches : List Writes
   pub read : script_of text ≡ Ok batches
-  pub stopped : HasStopped before (works_for before.state.observers batches) after code
+  pub stopped : EndsEarly before (works_for before.state.observers batches) after (faults.Refused code)
 
 -- the script was not read
 abbrev pub IsUnread : List ℕ → RunFault → Type 0

@@ -5,9 +5,9 @@ mod change;
 mod due;
 mod fault;
 mod observe;
-mod observers;
 mod output;
 mod run;
+mod sweep;
 mod tallies;
 mod texts;
 

@@ -1,16 +1,17 @@
 //! Runs of observers, by one seat alone.
-ghost use Rattle.std.specs.Prelude.{◌≡◌, ◌<◌, nat_lt, [], ◌∷◌, length, map, IfOk, IfErr, OnOk};
+ghost use Rattle.std.specs.Prelude.{◌≡◌, ◌<◌, true, nat_lt, [], ◌∷◌, length, map, IfOk, IfErr, OnOk};
 ghost use Rattle.pb_alone.specs.Alone.{IsClean, Goes};
 ghost use Rattle.pb_alone.specs.Stops.{StopsIn, due_work};
 ghost use Rattle.pb_steps.specs.declared.step.Work.TheVariants as works;
 ghost use Rattle.pb_alone.specs.Visits.{IsObserver, Visits};
 ghost use Rattle.pb_alone.specs.Rounds.{AllBelow, Rounds};
 ghost use Rattle.pb_isa.specs.Helpers.{no_helpers};
-ghost use Rattle.pb_steps.specs.Declarations.{plain_run};
+ghost use Rattle.pb_vm.specs.Finished.{is_plain};
+ghost use Rattle.pb_alone.specs.PlainRuns.{IsRunOn};
 
 use crate::change::take;
 use crate::fault::RunFault;
-use pb_base::{Cell, Column, NoMemory, ObserverNo, Row, Ts, Version};
+use pb_base::{Cell, Column, NoMemory, ObserverNo, Reason, Row, Ts, Version};
 use pb_core::{Answer, Declaration, Declared, Seat, Shared, Step, Work, acknowledged_in};
 use pb_helpers::{Record, Reply};
 use pb_sound::without_helpers_silent;
@@ -20,14 +21,15 @@ use pb_vm::{Finished, Moved, Vm};
 use std::alloc::Global;
 use std::sync::Arc;
 
-// Runs a program on a record, to its exit. Nothing is read where it asks, since what it then declares is refused.
+// Runs a program on a record, to its exit. Nothing is read where it asks, since such a run isn't declared.
 fn finished_of(
     alloc: Global,
     program: &Arc<Accepted>,
     change: Record,
     start: Ts,
 ) -> Result<Finished, NoMemory>
-    ensures { IfOk result (λ f. program.now.value.helpers ≡ no_helpers → f ≡ plain_run program.now.value change start.0 f.result) }
+    ensures run { IfOk result (IsRunOn program.now.value change start.0) }
+    ensures silent { IfOk result (λ f. program.now.value.helpers ≡ no_helpers → is_plain f ≡ true) }
 {
     // For the proof: a program without helpers asks nothing and writes nothing.
     without_helpers_silent();
@@ -128,6 +130,9 @@ pub fn visit<T: Tablet>(
     }
     let change = Record::new(cell, &version, acknowledged);
     let finished = finished_of(alloc, &program, change, start)?;
+    if !finished.is_plain() {
+        return Err(RunFault::Refused(Reason::NotItsDeclaration.code()));
+    }
     let what = Declaration::new(alloc, Declared::Run(number, finished))?;
     take(shared, seat, &Step::Declare(start, what))?;
     take(shared, seat, &Step::Prewrite(start, acknowledgment))?;

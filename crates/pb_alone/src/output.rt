@@ -1,22 +1,20 @@
 //! The report of a table.
-ghost use Rattle.std.specs.Prelude.{◌≡◌, ◌++◌, ◌∷◌, [], IfOk, map, string_bytes, true, false};
-ghost use Rattle.pb_alone.specs.Puts.{put_by, puts_by, AreTold};
+ghost use Rattle.std.specs.Prelude.{◌≡◌, ◌++◌, ◌∷◌, [], IfOk, map, string_bytes, false};
+ghost use Rattle.pb_alone.specs.Puts.{put_by, puts_by};
 ghost use Rattle.pb_alone.specs.Committed.{AreSeen, Gathers};
-ghost use Rattle.pb_base.specs.Batch.{is_batch};
 ghost use Rattle.pb_alone.specs.Runs.{IsReportIn, Reports};
 
 use crate::fault::ReportFault;
 use crate::tallies::tallies_of;
-use pb_base::{Batch, NoMemory, Sink, Ts};
+use pb_base::{Batch, Cell, Content, NoMemory, Sink, Ts};
 use pb_core::{Answer, Declared, Entry, Phase, Shared, Step};
 use pb_store::Tablet;
 use pb_texts::{Put, report_of, write_all};
 use std::alloc::Global;
 
-// Adds what a committed transaction wrote.
-fn add_writes(puts: &mut Vec<Put>, batch: &Batch, commit: Ts) -> Result<(), NoMemory>
-    ensures added { IfOk result (λ _. puts.new.items ≡ puts.old.items ++ map (put_by commit) batch.now) }
-    ensures batch { is_batch batch.now ≡ true }
+// Adds what a committed script transaction wrote.
+fn add_batch(puts: &mut Vec<Put>, batch: &Batch, commit: Ts) -> Result<(), NoMemory>
+    ensures { IfOk result (λ _. puts.new.items ≡ puts.old.items ++ map (put_by commit) batch.now) }
 {
     for place in 0..batch.len() {
         let (cell, content) = batch.at(place);
@@ -29,14 +27,27 @@ fn add_writes(puts: &mut Vec<Put>, batch: &Batch, commit: Ts) -> Result<(), NoMe
     Ok(())
 }
 
+// Adds what the program of a committed run wrote.
+fn add_writes(puts: &mut Vec<Put>, writes: &[(Cell, Content)], commit: Ts) -> Result<(), NoMemory>
+    ensures { IfOk result (λ _. puts.new.items ≡ puts.old.items ++ map (put_by commit) writes.now) }
+{
+    for write in writes {
+        puts.push(Put {
+            cell: write.0,
+            commit,
+            content: write.1,
+        })?;
+    }
+    Ok(())
+}
+
 // Adds what an entry's transaction wrote to data cells, if the entry declares it and it is committed.
 fn add_entry<T: Tablet>(
     puts: &mut Vec<Put>,
     shared: &Shared<T>,
     entry: &Entry,
 ) -> Result<(), NoMemory>
-    ensures added { IfOk result (λ _. puts.new.items ≡ puts.old.items ++ puts_by shared.now.state entry.now) }
-    ensures told { IfOk result (λ _. AreTold shared.now.state entry.now.step entry.now.answer) }
+    ensures { IfOk result (λ _. puts.new.items ≡ puts.old.items ++ puts_by shared.now.state entry.now) }
 {
     if entry.answer != Answer::Done {
         return Ok(());
@@ -48,8 +59,8 @@ fn add_entry<T: Tablet>(
         return Ok(());
     };
     match what.get() {
-        Declared::Script(batch) => add_writes(puts, batch, commit),
-        Declared::Run(_, _) => Ok(()),
+        Declared::Script(batch) => add_batch(puts, batch, commit),
+        Declared::Run(_, finished) => add_writes(puts, finished.writes(), commit),
     }
 }
 

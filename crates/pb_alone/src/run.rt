@@ -4,14 +4,15 @@ ghost use Rattle.pb_core.specs.Calls.{AreSeats};
 ghost use Rattle.pb_texts.specs.ScriptLines.{script_of};
 ghost use Rattle.pb_alone.specs.Runs.{IsUnread, Runs, KeepsSeats};
 ghost use Rattle.pb_alone.specs.Alone.{IsClean, Goes};
-ghost use Rattle.pb_alone.specs.Stops.{StopsIn, works_for};
-ghost use Rattle.pb_alone.specs.Rounds.{Works};
+ghost use Rattle.pb_alone.specs.Stops.{works_for};
+ghost use Rattle.pb_alone.specs.Sweeps.{WorksAndSweeps, EndsEarly};
 
 use crate::change::change_all;
 use crate::due::due_of;
 use crate::fault::RunFault;
 use crate::observe::visit_all;
 use crate::output::report;
+use crate::sweep::sweep_all;
 use pb_base::{Batch, Reason, Sink};
 use pb_core::{Seat, Shared};
 use pb_store::Tablet;
@@ -35,7 +36,7 @@ fn read(alloc: Global, text: &str) -> Result<Vec<Batch>, RunFault>
     }
 }
 
-// Every change in order, and then the observers, cell by cell.
+// Every change in order, then the observers, cell by cell, and then the marks are swept.
 fn work<T: Tablet>(
     alloc: Global,
     batches: &[Batch],
@@ -45,12 +46,15 @@ fn work<T: Tablet>(
     requires clean { IsClean shared.old.state }
     requires seated { seat.old.number < shared.old.state.seats }
     ensures goes { Goes shared.old seat.old shared.new seat.new }
-    ensures ok { OnOk result (Works shared.old seat.old.number batches.now shared.new) }
-    ensures err { IfErr result (StopsIn shared.old (works_for shared.old.state.observers batches.now) shared.new) }
+    ensures ok { OnOk result (WorksAndSweeps shared.old seat.old.number batches.now shared.new) }
+    ensures err { IfErr result (EndsEarly shared.old (works_for shared.old.state.observers batches.now) shared.new) }
 {
     change_all(alloc, batches, shared, seat)?;
     let due = due_of(alloc, shared.observers(), batches)?;
     visit_all(alloc, &due, shared, seat)?;
+    // For the proof: the journal leads to the state whose marks are swept.
+    let _ = shared.journal();
+    sweep_all(shared, seat)?;
     Ok(())
 }
 

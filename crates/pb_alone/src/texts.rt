@@ -2,12 +2,11 @@
 ghost use Rattle.std.specs.Prelude.{◌≡◌, ◌≤◌, false, length, Ok, IfOk, IfErr};
 ghost use Rattle.pb_store.specs.Contents.{nothing};
 ghost use Rattle.pb_registry.specs.Judging.{ReadsManifest};
-ghost use Rattle.pb_alone.specs.TextRuns.{RunsTexts, IsBadManifest, IsRead};
+ghost use Rattle.pb_alone.specs.TextRuns.{RunsTexts, IsBadManifest};
 
 use crate::fault::RunFault;
-use crate::observers::observers_of;
 use crate::run::run_alone;
-use pb_base::{MAX_ENTRIES, Reason, Sink, Ts};
+use pb_base::{MAX_ENTRIES, MAX_OBSERVERS, Reason, Sink, Ts};
 use pb_core::{OpenRefused, Shared};
 use pb_registry::Registry;
 use pb_state::Observer;
@@ -15,12 +14,16 @@ use pb_store::{Table, Tablet};
 use std::alloc::Global;
 
 // The manifest's observers, its fault as one of the run.
-fn read(alloc: Global, manifest: &str) -> Result<Registry, RunFault>
-    ensures ok { IfOk result (λ os. ReadsManifest manifest.now (Ok os)) }
+fn observers_in(alloc: Global, manifest: &str) -> Result<Vec<Observer>, RunFault>
+    ensures ok { IfOk result (λ v. ReadsManifest manifest.now (Ok v.items)) }
+    ensures few { IfOk result (λ v. length v.items ≤ MAX_OBSERVERS) }
     ensures err { IfErr result (IsBadManifest manifest.now) }
 {
     match Registry::from_json(alloc, manifest) {
-        Ok(registry) => Ok(registry),
+        Ok(registry) => match registry.into_observers(alloc) {
+            Ok(observers) => Ok(observers),
+            Err(_) => Err(RunFault::NoMemory),
+        },
         Err(fault) => {
             if fault.code == Reason::NoMemory.code() {
                 Err(RunFault::NoMemory)
@@ -29,16 +32,6 @@ fn read(alloc: Global, manifest: &str) -> Result<Registry, RunFault>
             }
         }
     }
-}
-
-// The same, as a table takes them.
-fn observers_in(alloc: Global, manifest: &str) -> Result<Vec<Observer>, RunFault>
-    ensures ok { IfOk result (λ v. IsRead manifest.now v.items) }
-    ensures few { IfOk result (λ v. length v.items ≤ 32) }
-    ensures err { IfErr result (IsBadManifest manifest.now) }
-{
-    let registry = read(alloc, manifest)?;
-    Ok(observers_of(alloc, registry)?)
 }
 
 /// Runs a manifest's and a script's texts on an empty table, with `last` the last timestamp given out, and writes the

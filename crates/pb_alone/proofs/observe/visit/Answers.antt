@@ -6,7 +6,9 @@ use Rattle.pb_base.specs.declared.names.Ts.{Ts}
 use Rattle.pb_helpers.specs.Record.{record_of}
 use Rattle.pb_steps.specs.declared.step.Work.TheVariants as works
 use Rattle.pb_isa.specs.Helpers.{no_helpers}
-use Rattle.pb_steps.specs.Declarations.{plain_run}
+use Rattle.pb_alone.specs.PlainRuns.{plain_run}
+use Rattle.pb_alone.specs.declared.fault.RunFault.TheVariants as faults
+use Rattle.pb_alone.proofs.SilentRuns.{plain_is}
 use Rattle.pb_core.specs.Calls.{SharedOf}
 use Rattle.pb_alone.specs.Stops.{StopsIn}
 use Rattle.pb_alone.proofs.RunVisit as visits
@@ -45,6 +47,17 @@ returns-then-not-is_newer-clause-ok g c =
 pub returns-in_err-finished-clause-goes : goal.returns-in_err-finished-clause-goes
 returns-in_err-finished-clause-goes g c = visits.goes3 c.args.shared.now c.args.seat.now c.args.number c.args.row c.in_ok-program.program.value c.in_ok-program.column c.in_ok-program.ensures c.requires.clean c.requires.seated _ c.take.new.shared c.take.new.seat c.in_ok-start.ensures.ok c.in-At.start c.in-At.is _ c.take-2.new.shared c.take-2.new.seat c.in_ok-of.ensures.ok _ c.take-3.new.shared c.take-3.new.seat c.in_ok-take.ensures.ok
 
+pub returns-then-not-is_plain-clause-goes : goal.returns-then-not-is_plain-clause-goes
+returns-then-not-is_plain-clause-goes g c = visits.goes3 c.args.shared.now c.args.seat.now c.args.number c.args.row c.in_ok-program.program.value c.in_ok-program.column c.in_ok-program.ensures c.requires.clean c.requires.seated _ c.take.new.shared c.take.new.seat c.in_ok-start.ensures.ok c.in-At.start c.in-At.is _ c.take-2.new.shared c.take-2.new.seat c.in_ok-of.ensures.ok _ c.take-3.new.shared c.take-3.new.seat c.in_ok-take.ensures.ok
+
+pub returns-then-not-is_plain-clause-err : goal.returns-then-not-is_plain-clause-err
+returns-then-not-is_plain-clause-err g c =
+    let later = ltb-true _ _ (sym c.is_newer.ensures ∙ c.if-not-is_newer.false) in
+    let newer = rw c.acknowledged_in-acknowledged.ensures at later in
+    let helped : c.in_ok-program.program.value.helpers ≡ no_helpers → ⊥ = λ none. let plain = c.in_ok-finished.ensures.silent none in let is = sym c.is_plain.ensures ∙ c.if-not-is_plain.true in cc in
+    subst (λ n. StopsIn c.args.shared.now (works.Run c.args.number c.args.row ∷ []) c.take-3.new.shared (faults.Refused n)) (sym c.code.ensures)
+    (visits.unplain c.args.shared.now c.args.seat.now c.args.number c.args.row c.in_ok-program.program.value c.in_ok-program.column c.in_ok-program.ensures c.requires.clean c.requires.seated _ c.take.new.shared c.take.new.seat c.in_ok-start.ensures.ok c.in-At.start c.in-At.is _ c.take-2.new.shared c.take-2.new.seat c.in_ok-of.ensures.ok _ c.take-3.new.shared c.take-3.new.seat c.in_ok-take.ensures.ok (record { start = c.in-Found.of; commit = c.in-Found.commit; content = c.in-Found.content }) c.in-Found.is newer helped)
+
 pub returns-in_err-what-clause-goes : goal.returns-in_err-what-clause-goes
 returns-in_err-what-clause-goes g c = visits.goes3 c.args.shared.now c.args.seat.now c.args.number c.args.row c.in_ok-program.program.value c.in_ok-program.column c.in_ok-program.ensures c.requires.clean c.requires.seated _ c.take.new.shared c.take.new.seat c.in_ok-start.ensures.ok c.in-At.start c.in-At.is _ c.take-2.new.shared c.take-2.new.seat c.in_ok-of.ensures.ok _ c.take-3.new.shared c.take-3.new.seat c.in_ok-take.ensures.ok
 
@@ -55,7 +68,7 @@ pub returns-in_err-take-2-clause-err : goal.returns-in_err-take-2-clause-err
 returns-in_err-take-2-clause-err g c =
     let later = ltb-true _ _ (sym c.is_newer.ensures ∙ c.if-not-is_newer.false) in
     let newer = rw c.acknowledged_in-acknowledged.ensures at later in
-    let made = λ (none : c.in_ok-program.program.value.helpers ≡ no_helpers). c.in_ok-finished.ensures none
+    let made = plain_is c.in_ok-program.program.value _ c.in-At.start.0 c.in_ok-finished.finished c.in_ok-finished.ensures.run (sym c.is_plain.ensures ∙ c.if-not-is_plain.false)
     ∙ ap (λ b. plain_run c.in_ok-program.program.value b c.in-At.start.0 c.in_ok-finished.finished.result)
     (c.new-change.ensures ∙ ap (λ (t : Ts). record_of (Data c.args.row c.in_ok-program.column) (record { start = c.in-Found.of; commit = c.in-Found.commit; content = c.in-Found.content }) t.0) c.acknowledged_in-acknowledged.ensures) in
     let p = err_from_is_err_and c.from_residual-in_err-take-2.result c.from_residual-in_err-take-2.ensures.1 in
@@ -66,7 +79,7 @@ pub returns-in_err-take-3-clause-goes : goal.returns-in_err-take-3-clause-goes
 returns-in_err-take-3-clause-goes g c =
     let later = ltb-true _ _ (sym c.is_newer.ensures ∙ c.if-not-is_newer.false) in
     let newer = rw c.acknowledged_in-acknowledged.ensures at later in
-    let made = λ (none : c.in_ok-program.program.value.helpers ≡ no_helpers). c.in_ok-finished.ensures none
+    let made = plain_is c.in_ok-program.program.value _ c.in-At.start.0 c.in_ok-finished.finished c.in_ok-finished.ensures.run (sym c.is_plain.ensures ∙ c.if-not-is_plain.false)
     ∙ ap (λ b. plain_run c.in_ok-program.program.value b c.in-At.start.0 c.in_ok-finished.finished.result)
     (c.new-change.ensures ∙ ap (λ (t : Ts). record_of (Data c.args.row c.in_ok-program.column) (record { start = c.in-Found.of; commit = c.in-Found.commit; content = c.in-Found.content }) t.0) c.acknowledged_in-acknowledged.ensures) in
     rw (c.in_err-take-3.ensures.table, c.in_err-take-3.ensures.seat) (visits.goes4 c.args.shared.now c.args.seat.now c.args.number c.args.row c.in_ok-program.program.value c.in_ok-program.column c.in_ok-program.ensures c.requires.clean c.requires.seated _ c.take.new.shared c.take.new.seat c.in_ok-start.ensures.ok c.in-At.start c.in-At.is _ c.take-2.new.shared c.take-2.new.seat c.in_ok-of.ensures.ok _ c.take-3.new.shared c.take-3.new.seat c.in_ok-take.ensures.ok (record { start = c.in-Found.of; commit = c.in-Found.commit; content = c.in-Found.content }) c.in-Found.is newer c.in_ok-finished.finished made c.in_ok-what.what c.in_ok-what.ensures.ok _ c.take-4.new.shared c.take-4.new.seat c.in_ok-take-2.ensures.ok)
@@ -75,7 +88,7 @@ pub returns-in_err-take-3-clause-err : goal.returns-in_err-take-3-clause-err
 returns-in_err-take-3-clause-err g c =
     let later = ltb-true _ _ (sym c.is_newer.ensures ∙ c.if-not-is_newer.false) in
     let newer = rw c.acknowledged_in-acknowledged.ensures at later in
-    let made = λ (none : c.in_ok-program.program.value.helpers ≡ no_helpers). c.in_ok-finished.ensures none
+    let made = plain_is c.in_ok-program.program.value _ c.in-At.start.0 c.in_ok-finished.finished c.in_ok-finished.ensures.run (sym c.is_plain.ensures ∙ c.if-not-is_plain.false)
     ∙ ap (λ b. plain_run c.in_ok-program.program.value b c.in-At.start.0 c.in_ok-finished.finished.result)
     (c.new-change.ensures ∙ ap (λ (t : Ts). record_of (Data c.args.row c.in_ok-program.column) (record { start = c.in-Found.of; commit = c.in-Found.commit; content = c.in-Found.content }) t.0) c.acknowledged_in-acknowledged.ensures) in
     let p = err_from_is_err_and c.from_residual-in_err-take-3.result c.from_residual-in_err-take-3.ensures.1 in
@@ -86,7 +99,7 @@ pub returns-in_err-take-4-clause-goes : goal.returns-in_err-take-4-clause-goes
 returns-in_err-take-4-clause-goes g c =
     let later = ltb-true _ _ (sym c.is_newer.ensures ∙ c.if-not-is_newer.false) in
     let newer = rw c.acknowledged_in-acknowledged.ensures at later in
-    let made = λ (none : c.in_ok-program.program.value.helpers ≡ no_helpers). c.in_ok-finished.ensures none
+    let made = plain_is c.in_ok-program.program.value _ c.in-At.start.0 c.in_ok-finished.finished c.in_ok-finished.ensures.run (sym c.is_plain.ensures ∙ c.if-not-is_plain.false)
     ∙ ap (λ b. plain_run c.in_ok-program.program.value b c.in-At.start.0 c.in_ok-finished.finished.result)
     (c.new-change.ensures ∙ ap (λ (t : Ts). record_of (Data c.args.row c.in_ok-program.column) (record { start = c.in-Found.of; commit = c.in-Found.commit; content = c.in-Found.content }) t.0) c.acknowledged_in-acknowledged.ensures) in
     rw (c.in_err-take-4.ensures.table, c.in_err-take-4.ensures.seat) (visits.goes5 c.args.shared.now c.args.seat.now c.args.number c.args.row c.in_ok-program.program.value c.in_ok-program.column c.in_ok-program.ensures c.requires.clean c.requires.seated _ c.take.new.shared c.take.new.seat c.in_ok-start.ensures.ok c.in-At.start c.in-At.is _ c.take-2.new.shared c.take-2.new.seat c.in_ok-of.ensures.ok _ c.take-3.new.shared c.take-3.new.seat c.in_ok-take.ensures.ok (record { start = c.in-Found.of; commit = c.in-Found.commit; content = c.in-Found.content }) c.in-Found.is newer c.in_ok-finished.finished made c.in_ok-what.what c.in_ok-what.ensures.ok _ c.take-4.new.shared c.take-4.new.seat c.in_ok-take-2.ensures.ok _ c.take-5.new.shared c.take-5.new.seat c.in_ok-take-3.ensures.ok)
@@ -95,7 +108,7 @@ pub returns-in_err-take-4-clause-err : goal.returns-in_err-take-4-clause-err
 returns-in_err-take-4-clause-err g c =
     let later = ltb-true _ _ (sym c.is_newer.ensures ∙ c.if-not-is_newer.false) in
     let newer = rw c.acknowledged_in-acknowledged.ensures at later in
-    let made = λ (none : c.in_ok-program.program.value.helpers ≡ no_helpers). c.in_ok-finished.ensures none
+    let made = plain_is c.in_ok-program.program.value _ c.in-At.start.0 c.in_ok-finished.finished c.in_ok-finished.ensures.run (sym c.is_plain.ensures ∙ c.if-not-is_plain.false)
     ∙ ap (λ b. plain_run c.in_ok-program.program.value b c.in-At.start.0 c.in_ok-finished.finished.result)
     (c.new-change.ensures ∙ ap (λ (t : Ts). record_of (Data c.args.row c.in_ok-program.column) (record { start = c.in-Found.of; commit = c.in-Found.commit; content = c.in-Found.content }) t.0) c.acknowledged_in-acknowledged.ensures) in
     let p = err_from_is_err_and c.from_residual-in_err-take-4.result c.from_residual-in_err-take-4.ensures.1 in
@@ -106,7 +119,7 @@ pub returns-in_err-take-5-clause-goes : goal.returns-in_err-take-5-clause-goes
 returns-in_err-take-5-clause-goes g c =
     let later = ltb-true _ _ (sym c.is_newer.ensures ∙ c.if-not-is_newer.false) in
     let newer = rw c.acknowledged_in-acknowledged.ensures at later in
-    let made = λ (none : c.in_ok-program.program.value.helpers ≡ no_helpers). c.in_ok-finished.ensures none
+    let made = plain_is c.in_ok-program.program.value _ c.in-At.start.0 c.in_ok-finished.finished c.in_ok-finished.ensures.run (sym c.is_plain.ensures ∙ c.if-not-is_plain.false)
     ∙ ap (λ b. plain_run c.in_ok-program.program.value b c.in-At.start.0 c.in_ok-finished.finished.result)
     (c.new-change.ensures ∙ ap (λ (t : Ts). record_of (Data c.args.row c.in_ok-program.column) (record { start = c.in-Found.of; commit = c.in-Found.commit; content = c.in-Found.content }) t.0) c.acknowledged_in-acknowledged.ensures) in
     rw (c.in_err-take-5.ensures.table, c.in_err-take-5.ensures.seat) (visits.goes6 c.args.shared.now c.args.seat.now c.args.number c.args.row c.in_ok-program.program.value c.in_ok-program.column c.in_ok-program.ensures c.requires.clean c.requires.seated _ c.take.new.shared c.take.new.seat c.in_ok-start.ensures.ok c.in-At.start c.in-At.is _ c.take-2.new.shared c.take-2.new.seat c.in_ok-of.ensures.ok _ c.take-3.new.shared c.take-3.new.seat c.in_ok-take.ensures.ok (record { start = c.in-Found.of; commit = c.in-Found.commit; content = c.in-Found.content }) c.in-Found.is newer c.in_ok-finished.finished made c.in_ok-what.what c.in_ok-what.ensures.ok _ c.take-4.new.shared c.take-4.new.seat c.in_ok-take-2.ensures.ok _ c.take-5.new.shared c.take-5.new.seat c.in_ok-take-3.ensures.ok _ c.take-6.new.shared c.take-6.new.seat c.in_ok-take-4.ensures.ok)
@@ -115,7 +128,7 @@ pub returns-in_err-take-5-clause-err : goal.returns-in_err-take-5-clause-err
 returns-in_err-take-5-clause-err g c =
     let later = ltb-true _ _ (sym c.is_newer.ensures ∙ c.if-not-is_newer.false) in
     let newer = rw c.acknowledged_in-acknowledged.ensures at later in
-    let made = λ (none : c.in_ok-program.program.value.helpers ≡ no_helpers). c.in_ok-finished.ensures none
+    let made = plain_is c.in_ok-program.program.value _ c.in-At.start.0 c.in_ok-finished.finished c.in_ok-finished.ensures.run (sym c.is_plain.ensures ∙ c.if-not-is_plain.false)
     ∙ ap (λ b. plain_run c.in_ok-program.program.value b c.in-At.start.0 c.in_ok-finished.finished.result)
     (c.new-change.ensures ∙ ap (λ (t : Ts). record_of (Data c.args.row c.in_ok-program.column) (record { start = c.in-Found.of; commit = c.in-Found.commit; content = c.in-Found.content }) t.0) c.acknowledged_in-acknowledged.ensures) in
     let p = err_from_is_err_and c.from_residual-in_err-take-5.result c.from_residual-in_err-take-5.ensures.1 in
@@ -126,7 +139,7 @@ pub returns-clause-goes : goal.returns-clause-goes
 returns-clause-goes g c =
     let later = ltb-true _ _ (sym c.is_newer.ensures ∙ c.if-not-is_newer.false) in
     let newer = rw c.acknowledged_in-acknowledged.ensures at later in
-    let made = λ (none : c.in_ok-program.program.value.helpers ≡ no_helpers). c.in_ok-finished.ensures none
+    let made = plain_is c.in_ok-program.program.value _ c.in-At.start.0 c.in_ok-finished.finished c.in_ok-finished.ensures.run (sym c.is_plain.ensures ∙ c.if-not-is_plain.false)
     ∙ ap (λ b. plain_run c.in_ok-program.program.value b c.in-At.start.0 c.in_ok-finished.finished.result)
     (c.new-change.ensures ∙ ap (λ (t : Ts). record_of (Data c.args.row c.in_ok-program.column) (record { start = c.in-Found.of; commit = c.in-Found.commit; content = c.in-Found.content }) t.0) c.acknowledged_in-acknowledged.ensures) in
     visits.goes7 c.args.shared.now c.args.seat.now c.args.number c.args.row c.in_ok-program.program.value c.in_ok-program.column c.in_ok-program.ensures c.requires.clean c.requires.seated _ c.take.new.shared c.take.new.seat c.in_ok-start.ensures.ok c.in-At.start c.in-At.is _ c.take-2.new.shared c.take-2.new.seat c.in_ok-of.ensures.ok _ c.take-3.new.shared c.take-3.new.seat c.in_ok-take.ensures.ok (record { start = c.in-Found.of; commit = c.in-Found.commit; content = c.in-Found.content }) c.in-Found.is newer c.in_ok-finished.finished made c.in_ok-what.what c.in_ok-what.ensures.ok _ c.take-4.new.shared c.take-4.new.seat c.in_ok-take-2.ensures.ok _ c.take-5.new.shared c.take-5.new.seat c.in_ok-take-3.ensures.ok _ c.take-6.new.shared c.take-6.new.seat c.in_ok-take-4.ensures.ok _ c.take-7.new.shared c.take-7.new.seat c.in_ok-take-5.ensures.ok
@@ -135,7 +148,7 @@ pub returns-clause-ok : goal.returns-clause-ok
 returns-clause-ok g c =
     let later = ltb-true _ _ (sym c.is_newer.ensures ∙ c.if-not-is_newer.false) in
     let newer = rw c.acknowledged_in-acknowledged.ensures at later in
-    let made = λ (none : c.in_ok-program.program.value.helpers ≡ no_helpers). c.in_ok-finished.ensures none
+    let made = plain_is c.in_ok-program.program.value _ c.in-At.start.0 c.in_ok-finished.finished c.in_ok-finished.ensures.run (sym c.is_plain.ensures ∙ c.if-not-is_plain.false)
     ∙ ap (λ b. plain_run c.in_ok-program.program.value b c.in-At.start.0 c.in_ok-finished.finished.result)
     (c.new-change.ensures ∙ ap (λ (t : Ts). record_of (Data c.args.row c.in_ok-program.column) (record { start = c.in-Found.of; commit = c.in-Found.commit; content = c.in-Found.content }) t.0) c.acknowledged_in-acknowledged.ensures) in
     visits.ran c.args.shared.now c.args.seat.now c.args.number c.args.row c.in_ok-program.program.value c.in_ok-program.column c.in_ok-program.ensures c.requires.clean c.requires.seated _ c.take.new.shared c.take.new.seat c.in_ok-start.ensures.ok c.in-At.start c.in-At.is _ c.take-2.new.shared c.take-2.new.seat c.in_ok-of.ensures.ok _ c.take-3.new.shared c.take-3.new.seat c.in_ok-take.ensures.ok (record { start = c.in-Found.of; commit = c.in-Found.commit; content = c.in-Found.content }) c.in-Found.is newer c.in_ok-finished.finished made c.in_ok-what.what c.in_ok-what.ensures.ok _ c.take-4.new.shared c.take-4.new.seat c.in_ok-take-2.ensures.ok _ c.take-5.new.shared c.take-5.new.seat c.in_ok-take-3.ensures.ok _ c.take-6.new.shared c.take-6.new.seat c.in_ok-take-4.ensures.ok _ c.take-7.new.shared c.take-7.new.seat c.in_ok-take-5.ensures.ok c.journal.ensures.history c.journal-2.ensures.history

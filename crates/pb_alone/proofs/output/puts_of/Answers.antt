@@ -1,9 +1,9 @@
 use Rattle.std.proofs.Common.{◌≡◌, ◌+◌, [], ◌∷◌, ◌++◌, ◌∙◌, sym, ap, subst, take}
 use Rattle.std.proofs.lemmas.List.{take_more, take_all}
 use Rattle.pb_history.specs.declared.entry.Entry.{Entry}
-use Rattle.pb_alone.specs.Puts.{puts_by, all_puts, AllTold}
+use Rattle.pb_alone.specs.Puts.{puts_by, all_puts}
 use Rattle.pb_alone.specs.Committed.{Gathers}
-use Rattle.pb_alone.proofs.Gathering.{gathers_on, told_on, gathers}
+use Rattle.pb_alone.proofs.Gathering.{gathers_on, gathers}
 use Rattle.pb_alone.proofs.output.puts_of.Goals as goal
 
 pub loop-entry-preserved : goal.loop-entry-preserved
@@ -13,16 +13,13 @@ loop-entry-preserved g c =
     let state = c.args.shared.now.state in
     let whole : take (i + 1) es ≡ take i es ++ c.entry-item.result ∷ [] =
     take_more es i c.entry-item.result c.loop-entry-test.true ∙ ap (λ (e : Entry). take i es ++ e ∷ []) (sym c.entry-item.is) in
-    record {
-      gathered = gathers_on (puts_by state) (take i es) c.entry-item.result c.loop-entry.puts.items c.add_entry.new.puts.items c.loop-entry.invariant.gathered c.in_ok-add_entry.ensures.added
-          ∙ ap (all_puts state) (sym whole);
-      told = subst (AllTold state) (sym whole) (told_on state (take i es) c.entry-item.result c.loop-entry.invariant.told c.in_ok-add_entry.ensures.told);
-    }
+    gathers_on (puts_by state) (take i es) c.entry-item.result c.loop-entry.puts.items c.add_entry.new.puts.items c.loop-entry.invariant c.in_ok-add_entry.ensures
+    ∙ ap (all_puts state) (sym whole)
 
 pub returns-clause-gathered : goal.returns-clause-gathered
 returns-clause-gathered g c =
     let es = c.journal-entry-items.result.now in
     let state = c.args.shared.now.state in
     let all : take c.loop-entry.entry-index es ≡ c.args.shared.now.journal = take_all c.loop-entry.entry-index es c.loop-entry-test.false ∙ c.journal-entry-items.ensures.entries in
-    subst (Gathers c.args.shared.now.state.observers c.args.shared.now.journal) (sym (c.loop-entry.invariant.gathered ∙ ap (all_puts state) all))
-    (gathers c.args.shared.now.journal state c.journal-entry-items.ensures.history (subst (AllTold state) all c.loop-entry.invariant.told))
+    subst (Gathers c.args.shared.now.state.observers c.args.shared.now.journal) (sym (c.loop-entry.invariant ∙ ap (all_puts state) all))
+    (gathers c.args.shared.now.journal state c.journal-entry-items.ensures.history)
