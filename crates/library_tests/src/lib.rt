@@ -1,20 +1,8 @@
-//! The tests of the libraries: tables of worked rows, and each public call once with ample memory.
+//! The tests of machines, tablets and texts: tables of worked rows, and each public call once with ample memory.
 //!
 //! They stand in a crate of their own, since a crate that has tests is proved twice.
 #![tactic(auto)]
 
-#[cfg(test)]
-mod asm;
-#[cfg(test)]
-mod decode;
-#[cfg(test)]
-mod helpers;
-#[cfg(test)]
-mod insns;
-#[cfg(test)]
-mod isa;
-#[cfg(test)]
-mod kinds;
 #[cfg(test)]
 mod memtablet;
 #[cfg(test)]
@@ -23,7 +11,5 @@ mod registry;
 mod sorted_list;
 #[cfg(test)]
 mod texts;
-#[cfg(test)]
-mod verify;
 #[cfg(test)]
 mod vm;

@@ -1,27 +1,23 @@
-ghost use Rattle.std.specs.Prelude.{◌≡◌, ◌≤◌, None, false, length};
+ghost use Rattle.std.specs.Prelude.{◌≡◌, None, false};
 
-use self::run_ends::number_of;
 use crate::end_all;
-use pb_alone::run_alone;
-use pb_base::{Column, NoMemory, Row, Sink, SinkFault, Ts};
+use pb_base::{NoMemory, Row, Sink, SinkFault};
 use pb_command::{PathFault, Paths, command};
-use pb_core::{Answer, Observer, OpenRefused, Shared, Step, Work};
-use pb_helpers::HelperTable;
 use pb_memtablet::ListTablet;
-use pb_registry::accept;
 use pb_store::{Table, Tablet};
 use pb_texts::Options;
 use std::alloc::Global;
 use std::process::Abort;
 use std::rt::HostRuntime;
-use std::sync::Arc;
 
 mod checks;
 mod clean_ups;
 mod helped_runs;
+mod marks;
 mod programs;
 mod refused_calls;
 mod run_ends;
+mod run_entries;
 mod whole_changes;
 
 type Boxed = Box<dyn Tablet + Send + Drop>;
@@ -279,15 +275,56 @@ fn observers_are_judged(rt: HostRuntime) {
             ("watch", 0, "[]", "85000000040000009500000000000000"),
             "manifest: observer 0 code 56 slot 0 code 30\n",
         ),
-        (("watch", 0, "[2]", WATCH), "manifest: code 57\n"),
+        (
+            ("watch", 0, "[2,2]", WATCH),
+            "manifest: observer 0 code 54\n",
+        ),
     ];
     for ((name, column, helpers, code), fault) in table {
         let manifest = manifest_of(&rt, rt.alloc(), name, column, helpers, code);
         assert!(rt; is_refused(&rt, manifest.as_str(), fault), "{fault}");
     }
-    let two =
-        "{\"profile\":1,\"observers\":[{\"name\":\"a\",\"column\":0,\"helpers\":[],\"code\":\"\"},{\"name\":\"b\",\"column\":0,\"helpers\":[],\"code\":\"\"}]}";
-    assert!(rt; is_refused(&rt, two, "manifest: code 57\n"));
+}
+
+// A manifest of three observers, with this name of the third: the first two of column 0, of which the second may call
+// helper 4 and ends with its start, and one of column 1.
+fn three(rt: &impl Abort, alloc: Global, name: &str) -> String {
+    format!(in alloc;
+        "{{\"profile\":1,\"observers\":[{{\"name\":\"watch\",\"column\":0,\"helpers\":[],\"code\":\"{WATCH}\"}},{{\"name\":\"start\",\"column\":0,\"helpers\":[4],\"code\":\"85000000040000009500000000000000\"}},{{\"name\":\"{name}\",\"column\":1,\"helpers\":[],\"code\":\"{WATCH}\"}}]}}"
+    ).expect(rt, "memory")
+}
+
+#[test]
+fn several_observers_run(rt: HostRuntime) {
+    let used = three(&rt, rt.alloc(), "watch");
+    assert!(rt; is_refused(&rt, used.as_str(), "manifest: observer 2 code 53\n"));
+    let manifest = three(&rt, rt.alloc(), "other");
+    let table = [
+        (
+            "put 7 0 2a\n",
+            "cell 7 0 commit 2 value 2a\nruns watch 1\nruns start 1\nruns other 0\nquiet\n",
+        ),
+        (
+            "put 7 1 2a; put 7 0 2b\n",
+            "cell 7 0 commit 2 value 2b\ncell 7 1 commit 2 value 2a\nruns watch 1\nruns start 1\nruns other 1\nquiet\n",
+        ),
+    ];
+    for (script, out) in table {
+        let files = Held {
+            alloc: rt.alloc(),
+            manifest: Ok(manifest.as_bytes()),
+            script: Ok(script.as_bytes()),
+        };
+        assert!(rt; ends(&rt, files, 0, out, ""), "{script}");
+    }
+}
+
+// A run that writes can't be declared yet.
+#[test]
+fn writes_of_a_manifest_are_refused(rt: HostRuntime) {
+    let deletes = "b701000005000000b70200000f00000085000000030000009500000000000000";
+    let manifest = manifest_of(&rt, rt.alloc(), "watch", 0, "[3]", deletes);
+    assert!(rt; is_refused(&rt, manifest.as_str(), "worker 0 code 43\n"));
 }
 
 #[test]
@@ -331,88 +368,6 @@ fn observers_run(rt: HostRuntime) {
         };
         assert!(rt; ends(&rt, files, 0, out, ""), "{script}");
     }
-}
-
-// How many entries the journal of one change and its run has, the run's start and commit, and whether it committed.
-fn told<T: Tablet>(shared: &Shared<T>) -> (usize, Ts, Ts, bool) {
-    let journal = shared.journal();
-    if journal.len() != 12 {
-        return (journal.len(), Ts(0), Ts(0), false);
-    }
-    match (&journal[5].step, journal[5].answer, journal[10].answer) {
-        (Step::Begin(Work::Run(_, _)), Answer::At(start), Answer::At(commit)) => {
-            let is_committed = matches!(journal[11].answer, Answer::Committed);
-            (12, start, commit, is_committed)
-        }
-        _ => (12, Ts(0), Ts(0), false),
-    }
-}
-
-// The same, of a run of one change on a table of these tablets with this observer of column 0, and the number that it ends
-// with, 0 where nothing is refused.
-fn told_of<T: Tablet>(
-    rt: &HostRuntime,
-    parts: Vec<(Row, T)>,
-    observers: Vec<Observer>,
-) -> ((usize, Ts, Ts, bool), u8)
-    requires { length observers.items ≤ 32 }
-{
-    let failed = ((0, Ts(0), Ts(0), false), 1);
-    match Table::new(parts) {
-        Ok(table) => match Shared::open(rt.alloc(), table, observers, 1, Ts(0), 100) {
-            Ok((shared, seats)) => {
-                let mut sheet = Sheet {
-                    bytes: Vec::new(rt.alloc()),
-                    left: usize::MAX,
-                    fails: true,
-                    failed: false,
-                };
-                let (shared, _seats, outcome) = run_alone(
-                    rt.alloc(),
-                    "put 7 0 2a\n",
-                    shared,
-                    seats,
-                    &mut sheet,
-                );
-                let told = told(&shared);
-                shared.close();
-                (told, number_of(outcome))
-            }
-            Err(
-                OpenRefused {
-                    table,
-                    observers: _,
-                    code: _,
-                },
-            ) => {
-                table.close();
-                failed
-            }
-        },
-        Err((parts, _)) => {
-            end_all(parts);
-            failed
-        }
-    }
-}
-
-#[test]
-fn a_run_has_seven_entries(rt: HostRuntime) -> Result<(), NoMemory> {
-    let bytes = b"\xb7\0\0\0\0\0\0\0\x95\0\0\0\0\0\0\0";
-    let program = match accept(rt.alloc(), bytes, HelperTable::none()) {
-        Ok(program) => program,
-        Err(_) => return Err(NoMemory),
-    };
-    let mut observers = Vec::new(rt.alloc());
-    observers.push(Observer {
-        name: String::from_str(rt.alloc(), "watch")?,
-        column: Column::new(0).expect(&rt, "a column"),
-        program: Arc::new(rt.alloc(), program)?,
-    })?;
-    let mut parts: Vec<(Row, Boxed)> = Vec::new(rt.alloc());
-    parts.push((Row(0), Box::new(rt.alloc(), ListTablet::new(rt.alloc()))?))?;
-    assert!(rt; told_of(&rt, parts, observers) == ((12, Ts(3), Ts(4), true), 0));
-    Ok(())
 }
 
 #[test]

@@ -1,11 +1,11 @@
 //! Transactions of several cells, and what becomes of those that stop half way.
-ghost use Rattle.std.specs.Prelude.{◌≡◌, false};
+ghost use Rattle.std.specs.Prelude.{◌≡◌, ◌≤◌, false, length};
 
 use super::{Boxed, Sheet};
 use crate::end_all;
 use pb_alone::report;
 use pb_base::{Batch, Cell, Column, Content, NoMemory, Row, Ts};
-use pb_core::{Answer, Declaration, Declared, OpenRefused, Seat, Shared, Step, Work};
+use pb_core::{Answer, Declaration, Declared, Observer, OpenRefused, Seat, Shared, Step, Work};
 use pb_memtablet::ListTablet;
 use pb_store::{Table, Tablet};
 use std::alloc::Global;
@@ -13,14 +13,14 @@ use std::process::Abort;
 use std::rt::HostRuntime;
 
 // A step of a seat, and what it is answered, or the number that it is refused with.
-type Told = (usize, Step, Result<Answer, u8>);
+pub type Told = (usize, Step, Result<Answer, u8>);
 
-fn cell(rt: &impl Abort, row: u64, number: u8) -> Cell {
+pub fn cell(rt: &impl Abort, row: u64, number: u8) -> Cell {
     Cell::Data(Row(row), Column::new(number).expect(rt, "a column"))
 }
 
 // A script's batch that writes these columns of the one row here.
-fn batch_of(rt: &impl Abort, alloc: Global, columns: &[u8]) -> Declaration {
+pub fn batch_of(rt: &impl Abort, alloc: Global, columns: &[u8]) -> Declaration {
     let mut writes = Vec::new(alloc);
     for number in columns {
         let column = Column::new(*number).expect(rt, "a column");
@@ -60,10 +60,17 @@ fn are_told<T: Tablet>(shared: Shared<T>, seats: Vec<Seat>, told: &[Told]) -> bo
     held
 }
 
-// The same, on a table of these tablets with three seats.
-fn are_told_on<T: Tablet>(rt: &HostRuntime, parts: Vec<(Row, T)>, told: &[Told]) -> bool {
+// The same, on a table of these tablets with these observers and three seats.
+pub fn are_told_on<T: Tablet>(
+    rt: &HostRuntime,
+    parts: Vec<(Row, T)>,
+    observers: Vec<Observer>,
+    told: &[Told],
+) -> bool
+    requires { length observers.items ≤ 32 }
+{
     match Table::new(parts) {
-        Ok(table) => match Shared::open(rt.alloc(), table, Vec::new(rt.alloc()), 3, Ts(0), 100) {
+        Ok(table) => match Shared::open(rt.alloc(), table, observers, 3, Ts(0), 100) {
             Ok((shared, seats)) => are_told(shared, seats, told),
             Err(
                 OpenRefused {
@@ -83,7 +90,7 @@ fn are_told_on<T: Tablet>(rt: &HostRuntime, parts: Vec<(Row, T)>, told: &[Told])
     }
 }
 
-fn tablets(rt: &HostRuntime) -> Result<Vec<(Row, Boxed)>, NoMemory> {
+pub fn tablets(rt: &HostRuntime) -> Result<Vec<(Row, Boxed)>, NoMemory> {
     let mut parts: Vec<(Row, Boxed)> = Vec::new(rt.alloc());
     parts.push((Row(0), Box::new(rt.alloc(), ListTablet::new(rt.alloc()))?))?;
     Ok(parts)
@@ -122,7 +129,7 @@ fn a_rival_rolls_back(rt: HostRuntime) -> Result<(), NoMemory> {
     told.push((1, Step::CommitSecondary(one, second), Err(42)))?;
     told.push((0, Step::Settle(first), Ok(Answer::Absent)))?;
     told.push((0, Step::Clear(second), Ok(Answer::Absent)))?;
-    assert!(rt; are_told_on(&rt, tablets(&rt)?, &told));
+    assert!(rt; are_told_on(&rt, tablets(&rt)?, Vec::new(rt.alloc()), &told));
     Ok(())
 }
 
@@ -152,7 +159,7 @@ fn a_rival_finishes(rt: HostRuntime) -> Result<(), NoMemory> {
     told.push((2, Step::Begin(Work::Script), Ok(Answer::At(Ts(3)))))?;
     told.push((2, Step::Read(Ts(3), first), Ok(found)))?;
     told.push((2, Step::Read(Ts(3), second), Ok(found)))?;
-    assert!(rt; are_told_on(&rt, tablets(&rt)?, &told));
+    assert!(rt; are_told_on(&rt, tablets(&rt)?, Vec::new(rt.alloc()), &told));
     Ok(())
 }
 

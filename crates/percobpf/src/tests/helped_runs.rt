@@ -1,5 +1,6 @@
 //! Runs of programs of the whole profile: by a manifest without helpers, and by observers opened with all of them.
-use super::{Boxed, Held, ends, manifest_of, told_of};
+use super::run_entries::told_of;
+use super::{Boxed, Held, ends, manifest_of};
 use pb_base::{Column, NoMemory, Row, Ts};
 use pb_core::Observer;
 use pb_helpers::HelperTable;
@@ -11,7 +12,7 @@ use std::rt::HostRuntime;
 use std::sync::Arc;
 
 // The one observer of column 0, whose program may call all helpers.
-fn observer_of(rt: &impl Abort, alloc: Global, digits: &str) -> Observer {
+pub fn observer_of(rt: &impl Abort, alloc: Global, digits: &str) -> Observer {
     let bytes = hex::decode(alloc, digits).ok().expect(rt, "digits");
     let program = accept(alloc, &bytes, HelperTable::all())
         .ok()
@@ -26,7 +27,7 @@ fn observer_of(rt: &impl Abort, alloc: Global, digits: &str) -> Observer {
 // Entries of a declaration that is refused, and of a run that commits.
 const REFUSED: (usize, Ts, Ts, bool) = (8, Ts(0), Ts(0), false);
 
-const COMMITTED: (usize, Ts, Ts, bool) = (12, Ts(3), Ts(4), true);
+const COMMITTED: (usize, Ts, Ts, bool) = (14, Ts(3), Ts(4), true);
 
 #[test]
 fn asks_and_writes_are_refused(rt: HostRuntime) -> Result<(), NoMemory> {
