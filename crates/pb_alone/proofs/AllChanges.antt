@@ -1,27 +1,12 @@
 -- One change after another.
-use Rattle.std.proofs.Common.{◌≡◌, ℕ, ◌+◌, ◌*◌, List, [], ◌∷◌, ◌++◌, length, length-append, map, suc, sym, ap, ◌∙◌, arith}
+use Rattle.std.proofs.Common.{◌≡◌, ℕ, ◌+◌, ◌*◌, ◌<◌, List, [], ◌∷◌, ◌++◌, length, length-append, take, drop, get_or, zero, suc, sym, ap, subst, ◌∙◌, arith}
 use Rattle.std.specs.List.{flat_map}
 use Rattle.pb_base.specs.Batch.{Writes}
-use Rattle.pb_history.specs.declared.entry.Received.{Received}
-use Rattle.pb_core.specs.Calls.{SharedOf, SeatOf}
-use Rattle.pb_alone.specs.Alone.{Goes, Changes, IsClean, entry, change_at, changes_from, change_entries}
-use Rattle.pb_alone.proofs.Going.{append_assoc, append_nil, map_append}
-
-pub goes_on : (a : SharedOf) (p : SeatOf) (b : SharedOf) (q : SeatOf) (c : SharedOf) (r : SeatOf) → Goes a p b q → Goes b q c r → Goes a p c r
-goes_on a p b q c r g h = record {
-  more = g.more ++ h.more;
-  journal =
-      h.journal
-      ∙ (λ i. g.journal i ++ map (λ (x : Received). entry (g.number i) x.step x.answer) h.more)
-      ∙ append_assoc a.journal (map (λ (x : Received). entry p.number x.step x.answer) g.more) (map (λ (x : Received). entry p.number x.step x.answer) h.more)
-      ∙ ap (λ l. a.journal ++ l) (sym (map_append (λ (x : Received). entry p.number x.step x.answer) g.more h.more));
-  received = h.received ∙ ap (λ l. l ++ h.more) g.received ∙ append_assoc p.received g.more h.more;
-  number = h.number ∙ g.number;
-  opened = h.opened ∙ g.opened;
-  limit = h.limit ∙ g.limit;
-  seats = h.seats ∙ g.seats;
-  observers = h.observers ∙ g.observers;
-}
+use Rattle.pb_core.specs.Calls.{SharedOf}
+use Rattle.pb_alone.specs.declared.fault.RunFault.{RunFault}
+use Rattle.pb_alone.specs.Alone.{Changes, IsClean, change_at, changes_from, change_entries}
+use Rattle.pb_alone.specs.Stops.{StoppedAt, IfRefused, ChangeAsks, ChangesStopped}
+use Rattle.pb_alone.proofs.Going.{append_assoc, append_nil, if_refused}
 
 pub no_changes : (s : SharedOf) (seat : ℕ) → IsClean s.state → Changes s seat [] s
 no_changes s seat clean = record { clean = clean; clock = omega arith; journal = sym (append_nil s.journal) }
@@ -53,3 +38,24 @@ one_more s seat bs m b n g h =
           ∙ ap (λ l. s.journal ++ l) (sym (flat_map_push change_entries (changes_from seat s.state.clock bs) (change_at seat (s.state.clock + 2 * length bs) b)))
           ∙ ap (λ l. s.journal ++ flat_map change_entries l) (sym (changes_push seat s.state.clock bs b));
     }
+
+-- ---- where they stop
+
+-- a list in three parts: before a place, at it, and after it
+parted : {A : Type 0} (xs : List A) (i : ℕ) (d y : A) → i < length xs → get_or xs i d ≡ y → xs ≡ take i xs ++ (y ∷ drop (suc i) xs)
+parted [] i d y lt e = absurd (omega (arith, lt))
+parted (x ∷ xs) zero d y lt e = ap (λ z. z ∷ xs) e
+parted (x ∷ xs) (suc i) d y lt e = ap (λ l. x ∷ l) (parted xs i d y (omega (arith, lt)) e)
+
+pub stopped_at : (a : SharedOf) (n k : ℕ) (batches : List Writes) (i : ℕ) (d batch : Writes) (b c : SharedOf) (f : RunFault) → k ≡ n → i < length batches → get_or batches i d ≡ batch → Changes a n (take i batches) b
+    → IfRefused (StoppedAt (ChangeAsks batch) b k c) f → IfRefused (ChangesStopped a n batches c) f
+stopped_at a n k batches i d batch b c f same lt here changes s =
+    if_refused f (λ code t. record {
+      before = take i batches;
+      batch = batch;
+      later = drop (suc i) batches;
+      batches_are = parted batches i d batch lt here;
+      changed = b;
+      changes = changes;
+      stopped = subst (λ m. StoppedAt (ChangeAsks batch) b m c code) same t;
+    }) s

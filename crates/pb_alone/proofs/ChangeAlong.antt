@@ -1,10 +1,8 @@
 -- A table and a seat on their way through a change.
-use Rattle.std.proofs.Common.{◌≡◌, ◌≢◌, ◌+◌, ◌<◌, ◌⊎◌, inl, inr, Bool, true, false, List, [], ◌∷◌, ◌++◌, length, map, Some, None, refl, sym, ap, subst, ◌∙◌, arith}
-use Rattle.std.specs.Prelude.{◌==◌}
+use Rattle.std.proofs.Common.{◌≡◌, ◌≢◌, ◌+◌, ◌<◌, ◌⊎◌, inl, inr, Bool, true, false, List, [], ◌∷◌, ◌++◌, length, map, Option, Some, None, refl, sym, ap, subst, ◌∙◌, arith}
 use Rattle.pb_base.specs.Batch.{Writes, are_distinct}
 use Rattle.pb_base.specs.declared.refusal.Reason.{Reason}
-use Rattle.pb_base.specs.declared.refusal.Reason.TheVariants.{OutOfTimestamps, JournalFull}
-use Rattle.pb_steps.specs.declared.step.Work.TheVariants as works
+use Rattle.pb_base.specs.declared.refusal.Reason.TheVariants.{OutOfTimestamps}
 use Rattle.pb_steps.specs.declared.step.Step.{Step}
 use Rattle.pb_steps.specs.declared.step.Answer.{Answer}
 use Rattle.pb_steps.specs.Reasons.{is_out, first_reason}
@@ -12,16 +10,15 @@ use Rattle.pb_steps.specs.Steps.{StepCase}
 use Rattle.pb_steps.specs.Answers.{CanAnswer}
 use Rattle.pb_history.specs.declared.entry.Entry.{Entry}
 use Rattle.pb_history.specs.declared.entry.Received.{Received}
-use Rattle.pb_core.specs.Calls.{SharedOf, SeatOf, Calls, or_full, call_reason}
+use Rattle.pb_core.specs.Calls.{SharedOf, SeatOf, Calls}
 use Rattle.pb_txn.specs.declared.place.Outcome.TheVariants as outcomes
 use Rattle.pb_txn.specs.Talks.{told}
 use Rattle.pb_txn.specs.Changes.{ChangeOf, new_change, next_of, plan_after, answered, Talks, IsWholeChange, ChangesEnd}
 use Rattle.pb_alone.specs.declared.fault.RunFault.{RunFault}
-use Rattle.pb_alone.specs.declared.fault.RunFault.TheVariants as faults
 use Rattle.pb_alone.specs.Alone.{IsClean, Goes, Changes, ts, entry, change_at, change_entries}
 use Rattle.pb_alone.specs.Faults.{IsRefusedBy}
-use Rattle.pb_alone.specs.Stops.{StopsIn}
-use Rattle.pb_alone.proofs.Going.{append_assoc, append_nil, map_append, full_is, out_or_full}
+use Rattle.pb_alone.specs.Stops.{StoppedAt, IfRefused, ChangeAsks}
+use Rattle.pb_alone.proofs.Going.{append_assoc, append_nil, map_append, refused_at}
 use Rattle.pb_alone.proofs.BatchCells.{names}
 use Rattle.pb_alone.proofs.ChangeStands.{StandsAt}
 use Rattle.pb_alone.proofs.ChangeEnds as ends
@@ -85,42 +82,21 @@ module _ (s0 : SharedOf) (q0 : SeatOf) (batch : Writes) where
 
     -- ---- where it stops
 
-    either_end : (full out : Bool) (why : Reason) → or_full (first_reason ((OutOfTimestamps, out) ∷ [])) full ≡ Some why → (why ≡ OutOfTimestamps) ⊎ (why ≡ JournalFull)
-    either_end full out why e = elim (out_or_full out full why e) [ inl p ↦ inl p.0 | inr p ↦ inr p.0 ]
+    no_reason : (why : Reason) → ◌≡◌ {A = Option Reason} None (Some why) → ⊥
+    no_reason why e = cc
 
-    pub stops : q0.number < s0.state.seats → (step : Step) → next_of job ≡ Some step → (f : RunFault) → IsRefusedBy s q.number step f → StopsIn s0 (works.Script ∷ []) s f
-    stops seated step e (faults.Refused n) h =
-        let refused : call_reason s q0.number step ≡ Some h.0 = subst (λ k. call_reason s k step ≡ Some h.0) along.number h.1 in
-        let full = length s.journal == s.limit in
-        record {
-          before = [];
-          rest = map as_entry along.more;
-          journal = along.journal;
-          work = works.Script;
-          later = [];
-          works_are = refl;
-          stopped = record {
-            batch = batch;
-            seat = q0.number;
-            said = along.more;
-            rest_is = refl;
-            job = job;
-            talk = along.talk;
-            step = step;
-            next = e;
-            why = h.0;
-            refused = refused;
-            at_end = elim (ends.stands_refused s0.state q0.number batch some distinct clean seated job.plan s.state along.stands step e) [
-              | inl none ↦ inr (full_is full h.0 (ap (λ r. or_full r full) (sym none) ∙ refused)).0
-              | inr out ↦ either_end full (is_out s.state) h.0 (ap (λ r. or_full r full) (sym out) ∙ refused)
-            ];
-            told = h.2;
-          };
-        }
-    stops seated step e faults.NoMemory h = tt
-    stops seated step e (faults.Manifest m) h = h
-    stops seated step e (faults.Script m) h = h
-    stops seated step e faults.Output h = h
+    out_alone : (out : Bool) (why : Reason) → first_reason ((OutOfTimestamps, out) ∷ []) ≡ Some why → why ≡ OutOfTimestamps
+    out_alone true why e = cc
+    out_alone false why e = absurd (no_reason why e)
+
+    pub stops : q0.number < s0.state.seats → (step : Step) → next_of job ≡ Some step → (f : RunFault) → IsRefusedBy s q.number step f → IfRefused (StoppedAt (ChangeAsks batch) s0 q0.number s) f
+    stops seated step e f h =
+        refused_at s0 q0.number s step f (record { said = along.more; journal = along.journal; are_such = (job, along.talk, e) })
+        (λ why is. elim (ends.stands_refused s0.state q0.number batch some distinct clean seated job.plan s.state along.stands step e) [
+          | inl none ↦ absurd (no_reason why (sym none ∙ is))
+          | inr out ↦ out_alone (is_out s.state) why (sym out ∙ is)
+        ])
+        (subst (λ k. IsRefusedBy s k step f) along.number h)
 
     -- ---- at its end
 

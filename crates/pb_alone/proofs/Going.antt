@@ -1,26 +1,20 @@
--- A table on its way through a run.
-use Rattle.std.proofs.Common.{◌≡◌, ℕ, ◌⊎◌, inl, inr, Bool, true, false, List, [], ◌∷◌, ◌++◌, length, map, Some, None, refl, sym, ap, subst, ◌∙◌}
+-- A table and a seat on their way through a run.
+use Rattle.std.proofs.Common.{◌≡◌, ℕ, ◌+◌, ◌<◌, ◌≤◌, ◌-◌, ◌⊎◌, inl, inr, Bool, true, false, List, [], ◌∷◌, ◌++◌, length, length-append, map, Option, Some, None, refl, sym, ap, subst, ◌∙◌, arith}
 use Rattle.std.specs.Prelude.{◌==◌}
-use Rattle.std.proofs.lemmas.Bool.{eqb-true}
 use Rattle.pb_base.specs.declared.refusal.Reason.{Reason}
-use Rattle.pb_base.specs.declared.refusal.Reason.TheVariants.{OutOfTimestamps, NotItsDeclaration, JournalFull}
-use Rattle.pb_base.specs.Reasons.{reason_code}
+use Rattle.pb_base.specs.declared.refusal.Reason.TheVariants.{OutOfTimestamps, JournalFull}
 use Rattle.pb_steps.specs.declared.step.Step.{Step}
 use Rattle.pb_steps.specs.declared.step.Answer.{Answer}
-use Rattle.pb_steps.specs.State.{StateOf}
-use Rattle.pb_steps.specs.Reasons.{is_out, first_reason}
-use Rattle.pb_steps.specs.Steps.{step_reason, StepCase}
-use Rattle.pb_steps.specs.declared.step.Work.{Work}
-use Rattle.pb_steps.specs.declared.step.Work.TheVariants as works
-use Rattle.pb_base.specs.declared.names.Row.{Row}
+use Rattle.pb_steps.specs.Steps.{step_reason}
 use Rattle.pb_history.specs.declared.entry.Entry.{Entry}
 use Rattle.pb_history.specs.declared.entry.Received.{Received}
-use Rattle.pb_core.specs.Calls.{SharedOf, SeatOf, Calls, or_full, call_reason}
+use Rattle.pb_core.specs.Calls.{SharedOf, SeatOf, Calls, or_full}
+use Rattle.pb_txn.specs.Talks.{told}
 use Rattle.pb_alone.specs.declared.fault.RunFault.{RunFault}
 use Rattle.pb_alone.specs.declared.fault.RunFault.TheVariants as faults
-use Rattle.pb_alone.specs.Alone.{Goes, entry}
+use Rattle.pb_alone.specs.Alone.{Goes, Gains, entry, entries_by}
 use Rattle.pb_alone.specs.Faults.{IsRefusedBy}
-use Rattle.pb_alone.specs.Stops.{works_in, answers_in, is_over, takes_timestamp, BeginsWith, HasBegun, MayCallHelpers, IsAtEnd, HasStopped, StopsIn}
+use Rattle.pb_alone.specs.Stops.{IsEnd, StoppedAt, IfRefused}
 
 -- ---- lists
 
@@ -36,100 +30,119 @@ pub map_append : {A B : Type 0} (f : A → B) (xs ys : List A) → map f (xs ++ 
 map_append f [] ys = refl
 map_append f (x ∷ xs) ys = ap (λ l. f x ∷ l) (map_append f xs ys)
 
+-- entries of one seat after entries of it
+entries_on : (j : List Entry) (n : ℕ) (xs ys : List Received) → (j ++ entries_by n xs) ++ entries_by n ys ≡ j ++ entries_by n (xs ++ ys)
+entries_on j n xs ys = append_assoc j (entries_by n xs) (entries_by n ys) ∙ ap (λ l. j ++ l) (sym (map_append (λ (r : Received). entry n r.step r.answer) xs ys))
+
+-- ---- a table goes on
+
+pub stays : (a : SharedOf) (p : SeatOf) → Goes a p a p
+stays a p = record { more = []; journal = sym (append_nil a.journal); received = sym (append_nil p.received); number = refl; opened = refl; limit = refl; seats = refl; observers = refl }
+
+pub goes_on : (a : SharedOf) (p : SeatOf) (b : SharedOf) (q : SeatOf) (c : SharedOf) (r : SeatOf) → Goes a p b q → Goes b q c r → Goes a p c r
+goes_on a p b q c r g h = record {
+  more = g.more ++ h.more;
+  journal = h.journal ∙ (λ i. g.journal i ++ entries_by (g.number i) h.more) ∙ entries_on a.journal p.number g.more h.more;
+  received = h.received ∙ ap (λ l. l ++ h.more) g.received ∙ append_assoc p.received g.more h.more;
+  number = h.number ∙ g.number;
+  opened = h.opened ∙ g.opened;
+  limit = h.limit ∙ g.limit;
+  seats = h.seats ∙ g.seats;
+  observers = h.observers ∙ g.observers;
+}
+
+pub called : (a : SharedOf) (p : SeatOf) (step : Step) (answer : Answer) (b : SharedOf) (q : SeatOf) → Calls a p step answer b q → Goes a p b q
+called a p step answer b q c = record {
+  more = told step answer ∷ [];
+  journal = c.journal;
+  received = c.received;
+  number = c.number;
+  opened = c.opened;
+  limit = c.limit;
+  seats = c.seats;
+  observers = c.observers;
+}
+
+-- the room left in the journal
+pub room_of : SharedOf → ℕ
+room_of s = s.limit - length s.journal
+
+-- a call takes some of it, and what follows gives none back
+pub less_room : (a : SharedOf) (p : SeatOf) (step : Step) (answer : Answer) (b : SharedOf) (q : SeatOf) (c : SharedOf) (r : SeatOf) → Calls a p step answer b q → length b.journal ≤ b.limit → Goes b q c r → room_of c < room_of a
+less_room a p step answer b q c r call room g =
+    let one : length b.journal ≡ length a.journal + 1 = ap (λ (l : List Entry). length l) call.journal ∙ length-append a.journal (entry p.number step answer ∷ []) in
+    let more : length c.journal ≡ length b.journal + length (entries_by q.number g.more) = ap (λ (l : List Entry). length l) g.journal ∙ length-append b.journal (entries_by q.number g.more) in
+    let first = call.limit in
+    let then = g.limit in
+    omega (arith, one, more, room, first, then)
+
+-- ---- what its journal gains
+
+pub gains_none : {P : List Received → Type 0} (a : SharedOf) (n : ℕ) → P [] → Gains P a n a
+gains_none a n is = record { said = []; journal = sym (append_nil a.journal); are_such = is }
+
+pub gains_more : {P R : List Received → Type 0} (a b c : SharedOf) (n : ℕ) (more : List Received) → Gains P a n b → c.journal ≡ b.journal ++ entries_by n more → ((said : List Received) → P said → R (said ++ more)) → Gains R a n c
+gains_more a b c n more g journal join = record {
+  said = g.said ++ more;
+  journal = journal ∙ ap (λ j. j ++ entries_by n more) g.journal ∙ entries_on a.journal n g.said more;
+  are_such = join g.said g.are_such;
+}
+
+pub gains_on : {P Q R : List Received → Type 0} (a b c : SharedOf) (n k : ℕ) → k ≡ n → Gains P a n b → Gains Q b k c → ((said more : List Received) → P said → Q more → R (said ++ more)) → Gains R a n c
+gains_on a b c n k same g h join =
+    gains_more a b c n h.said g (h.journal ∙ ap (λ m. b.journal ++ entries_by m h.said) same) (λ said is. join said h.said is h.are_such)
+
+-- ---- where it stops
+
+pub if_refused : {P Q : ℕ → Type 0} (f : RunFault) → ((code : ℕ) → P code → Q code) → IfRefused P f → IfRefused Q f
+if_refused (faults.Refused code) h s = h code s
+if_refused faults.NoMemory h s = tt
+if_refused (faults.Manifest m) h s = s
+if_refused (faults.Script m) h s = s
+if_refused faults.Output h s = s
+
+end_on : (s : SharedOf) (n k : ℕ) (step : Step) (code : ℕ) → k ≡ n → IsEnd s k step code → IsEnd s n step code
+end_on s n k step code same e = subst (λ m. IsEnd s m step code) same e
+
+pub stops_on : {P : List Received → Type 0} {Asks All : List Received → Step → Type 0} (a b c : SharedOf) (n k : ℕ) (f : RunFault) → k ≡ n → Gains P a n b → IfRefused (StoppedAt Asks b k c) f
+    → ((said more : List Received) (step : Step) → P said → Asks more step → All (said ++ more) step) → IfRefused (StoppedAt All a n c) f
+stops_on {All = All} a b c n k f same g s join =
+    if_refused f (λ code t. record {
+      said = g.said ++ t.said;
+      journal =
+          t.journal
+          ∙ (λ i. g.journal i ++ entries_by (same i) t.said)
+          ∙ entries_on a.journal n g.said t.said;
+      step = t.step;
+      asks = join g.said t.said t.step g.are_such t.asks;
+      end = end_on c n k t.step code same t.end;
+    }) s
+
 -- ---- why a call is refused that only the ends of clock and journal refuse
 
-pub full_is : (full : Bool) (why : Reason) → or_full None full ≡ Some why → (why ≡ JournalFull) × (full ≡ true)
-full_is true why e = (cc, refl)
+full_is : (full : Bool) (why : Reason) → or_full None full ≡ Some why → why ≡ JournalFull
+full_is true why e = cc
 full_is false why e = cc
 
-pub out_or_full : (out full : Bool) (why : Reason) → or_full (first_reason ((OutOfTimestamps, out) ∷ [])) full ≡ Some why → ((why ≡ OutOfTimestamps) × (out ≡ true)) ⊎ ((why ≡ JournalFull) × (full ≡ true))
-out_or_full true true why e = inl (cc, refl)
-out_or_full true false why e = inl (cc, refl)
-out_or_full false full why e = inr (full_is full why e)
+out_is : (full : Bool) (why : Reason) → or_full (Some OutOfTimestamps) full ≡ Some why → why ≡ OutOfTimestamps
+out_is true why e = cc
+out_is false why e = cc
 
--- ---- from the start of a run to here
+end_of : (o : Option Reason) (full : Bool) (why : Reason) → ((w : Reason) → o ≡ Some w → w ≡ OutOfTimestamps) → or_full o full ≡ Some why → (why ≡ OutOfTimestamps) ⊎ (why ≡ JournalFull)
+end_of None full why h e = inr (full_is full why e)
+end_of (Some w) full why h e = inl (out_is full why (ap (λ r. or_full (Some r) full) (sym (h w refl)) ∙ e))
 
-pub record AtStage (s0 : SharedOf) (q0 : SeatOf) (s : SharedOf) (q : SeatOf) (state : StateOf) (more : List Received) : Type 0 where
-  pub state_is : s.state ≡ state
-  pub journal : s.journal ≡ s0.journal ++ map (λ r. entry q0.number r.step r.answer) more
-  pub told : q.received ≡ q0.received ++ more
-  pub number : q.number ≡ q0.number
-  pub opened : s.opened ≡ s0.opened
-  pub limit : s.limit ≡ s0.limit
-
-pub stage0 : (s : SharedOf) (q : SeatOf) → AtStage s q s q s.state []
-stage0 s q = record { state_is = refl; journal = sym (append_nil s.journal); told = sym (append_nil q.received); number = refl; opened = refl; limit = refl }
-
-module _ (s0 : SharedOf) (q0 : SeatOf) (s : SharedOf) (q : SeatOf) (state : StateOf) (more : List Received) (at : AtStage s0 q0 s q state more) where
-  pub goes : state.seats ≡ s0.state.seats → state.observers ≡ s0.state.observers → Goes s0 q0 s q
-  goes seats observers = record {
-    more = more;
-    journal = at.journal;
-    received = at.told;
-    number = at.number;
-    opened = at.opened;
-    limit = at.limit;
-    seats = ap (λ (z : StateOf). z.seats) at.state_is ∙ seats;
-    observers = ap (λ (z : StateOf). z.observers) at.state_is ∙ observers;
-  }
-
-  pub next : (step : Step) (answer : Answer) (s' : SharedOf) (q' : SeatOf) (a : Answer) (state' : StateOf) → Calls s q step answer s' q'
-      → (StepCase state q0.number step answer s'.state → (answer ≡ a) × (s'.state ≡ state')) → AtStage s0 q0 s' q' state' (more ++ record { step = step; answer = a } ∷ [])
-  next step answer s' q' a state' c only =
-      let taken : StepCase state q0.number step answer s'.state = subst (λ n. StepCase state n step answer s'.state) at.number (subst (λ z. StepCase z q.number step answer s'.state) at.state_is c.machine.taken) in
-      let o = only taken in
-      record {
-        state_is = o.1;
-        journal =
-            c.journal
-            ∙ (λ i. at.journal i ++ record { seat = at.number i; step = step; answer = o.0 i } ∷ [])
-            ∙ append_assoc s0.journal (map (λ r. entry q0.number r.step r.answer) more) (entry q0.number step a ∷ [])
-            ∙ ap (λ l. s0.journal ++ l) (sym (map_append (λ r. entry q0.number r.step r.answer) more (record { step = step; answer = a } ∷ [])));
-        told = c.received ∙ (λ i. at.told i ++ record { step = step; answer = o.0 i } ∷ []) ∙ append_assoc q0.received more (record { step = step; answer = a } ∷ []);
-        number = c.number ∙ at.number;
-        opened = c.opened ∙ at.opened;
-        limit = c.limit ∙ at.limit;
-      }
-
-  -- ---- why a call was refused
-
-  refused_here : (step : Step) (why : Reason) → call_reason s q.number step ≡ Some why → or_full (step_reason state q0.number step) (length s.journal == s.limit) ≡ Some why
-  refused_here step why e = subst (λ k. or_full (step_reason state k step) (length s.journal == s.limit) ≡ Some why) at.number (subst (λ z. or_full (step_reason z q.number step) (length s.journal == s.limit) ≡ Some why) at.state_is e)
-
-  -- ---- what was begun, and where it stopped
-
-  abbrev entries : List Entry
-  entries = map (λ r. entry q0.number r.step r.answer) more
-
-  pub begun : (ws : List Work) → works_in entries ≡ ws → HasBegun s0 ws s
-  begun ws e = record { more = entries; journal = at.journal; works_are = e }
-
-  module _ (o : ℕ) (row : Row) (begins : BeginsWith (works.Run o row) entries) (goes_on : is_over (answers_in entries) ≡ false) where
-    abbrev w : Work
-    w = works.Run o row
-
-    stops : (code : ℕ) → IsAtEnd s w entries code → HasStopped s0 (w ∷ []) s code
-    stops code end = record { before = []; rest = entries; journal = at.journal; work = w; later = []; works_are = refl; stopped = record { begins = begins; goes_on = goes_on; at_end = end } }
-
-    pub end_if_none : (step : Step) (f : RunFault) → step_reason state q0.number step ≡ None → IsRefusedBy s q.number step f → StopsIn s0 (w ∷ []) s f
-    end_if_none step (faults.Refused n) none e =
-        let p = full_is (length s.journal == s.limit) e.0 (ap (λ r. or_full r (length s.journal == s.limit)) (sym none) ∙ refused_here step e.0 e.1) in
-        stops n (inr (inl (e.2 ∙ ap reason_code p.0, eqb-true _ _ p.1)))
-    end_if_none step faults.NoMemory none e = tt
-    end_if_none step (faults.Manifest m) none e = e
-    end_if_none step (faults.Script m) none e = e
-    end_if_none step faults.Output none e = e
-
-    pub end_if_out : (step : Step) (f : RunFault) → takes_timestamp entries ≡ true → step_reason state q0.number step ≡ first_reason ((OutOfTimestamps, is_out state) ∷ []) → IsRefusedBy s q.number step f → StopsIn s0 (w ∷ []) s f
-    end_if_out step (faults.Refused n) takes why e =
-        elim (out_or_full (is_out state) (length s.journal == s.limit) e.0 (ap (λ r. or_full r (length s.journal == s.limit)) (sym why) ∙ refused_here step e.0 e.1)) [
-          | inl p ↦ stops n (inl (e.2 ∙ ap reason_code p.0, ap (λ (z : StateOf). z.clock) at.state_is ∙ eqb-true _ _ p.1, takes))
-          | inr p ↦ stops n (inr (inl (e.2 ∙ ap reason_code p.0, eqb-true _ _ p.1)))
-        ]
-    end_if_out step faults.NoMemory takes why e = tt
-    end_if_out step (faults.Manifest m) takes why e = e
-    end_if_out step (faults.Script m) takes why e = e
-    end_if_out step faults.Output takes why e = e
-
-    pub end_unplain : MayCallHelpers s.state.observers w → StopsIn s0 (w ∷ []) s (faults.Refused (reason_code NotItsDeclaration))
-    end_unplain helped = stops (reason_code NotItsDeclaration) (inr (inr (refl, helped)))
+-- the step that is asked next was refused
+pub refused_at : {Asks : List Received → Step → Type 0} (a : SharedOf) (n : ℕ) (s : SharedOf) (step : Step) (f : RunFault) → Gains (λ said. Asks said step) a n s
+    → ((why : Reason) → step_reason s.state n step ≡ Some why → why ≡ OutOfTimestamps) → IsRefusedBy s n step f → IfRefused (StoppedAt Asks a n s) f
+refused_at a n s step (faults.Refused code) g only e = record {
+  said = g.said;
+  journal = g.journal;
+  step = step;
+  asks = g.are_such;
+  end = record { why = e.0; refused = e.1; at_end = end_of (step_reason s.state n step) (length s.journal == s.limit) e.0 only e.1; told = e.2 };
+}
+refused_at a n s step faults.NoMemory g only e = tt
+refused_at a n s step (faults.Manifest m) g only e = e
+refused_at a n s step (faults.Script m) g only e = e
+refused_at a n s step faults.Output g only e = e

@@ -8,18 +8,12 @@ pub mod ChangeSteps
 pub mod ChangeEnds
 pub mod ChangeAlong
 pub mod AllChanges
+pub mod RunAlong
+pub mod PassAlong
+pub mod Scriptless
 pub mod Blocks
 pub mod Gathering
 pub mod Told
 pub mod Seated
 pub mod Whole
 pub mod OnTexts
-mod Ends
-mod RunStages
-pub mod RunUpto
-pub mod Stopping
-mod Extending
-pub mod RunVisit
-pub mod OneRound
-pub mod Sweeping
-pub mod SilentRuns

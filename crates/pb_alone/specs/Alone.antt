@@ -51,10 +51,20 @@ abbrev pub changes_from : ℕ → ℕ → List Writes → List Member
 changes_from seat clock [] = []
 changes_from seat clock (batch ∷ batches) = change_at seat clock batch ∷ changes_from seat (clock + 2) batches
 
+-- as the entries of a seat
+abbrev pub entries_by : ℕ → List Received → List Entry
+entries_by seat said = map (λ r. entry seat r.step r.answer) said
+
+-- the journal went on by entries of this seat alone, which are such
+pub record Gains (AreSuch : List Received → Type 0) (old : SharedOf) (seat : ℕ) (new : SharedOf) : Type 0 where
+  pub said : List Received
+  pub journal : new.journal ≡ old.journal ++ entries_by seat said
+  pub are_such : AreSuch said
+
 -- the table went on by entries of this seat alone, which it received
 pub record Goes (old : SharedOf) (seat : SeatOf) (new : SharedOf) (told : SeatOf) : Type 0 where
   pub more : List Received
-  pub journal : new.journal ≡ old.journal ++ map (λ r. entry seat.number r.step r.answer) more
+  pub journal : new.journal ≡ old.journal ++ entries_by seat.number more
   pub received : told.received ≡ seat.received ++ more
   pub number : told.number ≡ seat.number
   pub opened : new.opened ≡ old.opened

@@ -1,13 +1,9 @@
 pub mod Alone
 pub mod Faults
+pub mod Passes
+pub mod Stops
 pub mod Committed
 pub mod Puts
-pub mod Visits
-pub mod Due
-pub mod PlainRuns
-pub mod Stops
-pub mod Rounds
-pub mod Sweeps
 pub mod Tallies
 pub mod Runs
 pub mod TextRuns

@@ -1,11 +1,10 @@
 //! One change after another, by one seat.
-ghost use Rattle.std.specs.Prelude.{◌≡◌, ◌<◌, ◌∷◌, [], IfOk, IfErr, OnOk, OnErr};
+ghost use Rattle.std.specs.Prelude.{◌≡◌, ◌<◌, ◌≤◌, [], ◌∷◌, length, IfOk, IfErr, OnOk, OnErr};
 ghost use Rattle.pb_core.specs.Calls.{Calls};
 ghost use Rattle.pb_alone.specs.Alone.{IsClean, Goes, Changes};
 ghost use Rattle.pb_alone.specs.Faults.{IsRefusedBy};
-ghost use Rattle.pb_alone.specs.Stops.{StopsIn, changes_for};
+ghost use Rattle.pb_alone.specs.Stops.{StoppedAt, IfRefused, ChangeAsks, ChangesStopped};
 ghost use Rattle.pb_steps.specs.Answers.{CanAnswer};
-ghost use Rattle.pb_steps.specs.declared.step.Work.TheVariants as works;
 
 use crate::fault::RunFault;
 use pb_base::{Batch, Reason};
@@ -25,8 +24,12 @@ pub(crate) fn take<T: Tablet>(
     ensures fault { IfErr result (IsRefusedBy shared.old seat.old.number step.now) }
     ensures table { OnErr result (shared.new ≡ shared.old) }
     ensures seat { OnErr result (seat.new ≡ seat.old) }
+    ensures room { length shared.new.journal ≤ shared.new.limit }
 {
-    match shared.call(seat, step) {
+    let answered = shared.call(seat, step);
+    // For the proof: the journal isn't longer than it may be.
+    let _ = shared.limit();
+    match answered {
         Ok(answer) => Ok(answer),
         Err(refusal) => {
             if refusal.0 == Reason::NoMemory.code() {
@@ -49,7 +52,7 @@ fn change<T: Tablet>(
     requires seated { seat.old.number < shared.old.state.seats }
     ensures goes { Goes shared.old seat.old shared.new seat.new }
     ensures ok { OnOk result (Changes shared.old seat.old.number (batch ∷ []) shared.new) }
-    ensures err { IfErr result (StopsIn shared.old (works.Script ∷ []) shared.new) }
+    ensures err { IfErr result (IfRefused (StoppedAt (ChangeAsks batch) shared.old seat.old.number shared.new)) }
 {
     // For the proof: a batch has some cells, each named once; and what a change has asked at its end.
     let _ = batch.len();
@@ -75,7 +78,7 @@ pub fn change_all<T: Tablet>(
     requires seated { seat.old.number < shared.old.state.seats }
     ensures goes { Goes shared.old seat.old shared.new seat.new }
     ensures ok { OnOk result (Changes shared.old seat.old.number batches.now shared.new) }
-    ensures err { IfErr result (StopsIn shared.old (changes_for batches.now) shared.new) }
+    ensures err { IfErr result (IfRefused (ChangesStopped shared.old seat.old.number batches.now shared.new)) }
 {
     for batch in batches {
         let batch = batch.copy()?;

@@ -19,8 +19,7 @@ pub enum RunFault {
     /// The script was refused, for another cause than memory.
     #[error("script: {0}")]
     Script(ScriptFault),
-    /// A step of the one seat was refused with this number: 40 out of timestamps, 44 journal full, or 43
-    /// where a run of an observer that may call helpers asks or writes.
+    /// A step of the one seat was refused with this number: 40 out of timestamps, or 44 journal full.
     #[error("worker 0 code {0}")]
     Refused(u8),
     /// A write of the report failed, or took no byte.

@@ -1,19 +1,18 @@
-//! A script's changes made one after another, by one seat alone.
+//! A script's changes made one after another and then the observers run on the changed cells, by one seat alone.
 #![tactic(auto)]
 
 mod change;
-mod due;
 mod fault;
-mod observe;
+mod job;
 mod output;
+mod passes;
 mod run;
-mod sweep;
 mod tallies;
 mod texts;
 
 pub use change::change_all;
 pub use fault::{ReportFault, RunFault};
-pub use observe::visit;
 pub use output::report;
+pub use passes::MAX_PASSES;
 pub use run::run_alone;
 pub use texts::run_texts;

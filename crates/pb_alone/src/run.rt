@@ -2,17 +2,14 @@
 ghost use Rattle.std.specs.Prelude.{◌≡◌, ◌<◌, [], false, Ok, IfOk, IfErr, OnOk};
 ghost use Rattle.pb_core.specs.Calls.{AreSeats};
 ghost use Rattle.pb_texts.specs.ScriptLines.{script_of};
-ghost use Rattle.pb_alone.specs.Runs.{IsUnread, Runs, KeepsSeats};
+ghost use Rattle.pb_alone.specs.Runs.{IsUnread, Works, Runs, KeepsSeats};
 ghost use Rattle.pb_alone.specs.Alone.{IsClean, Goes};
-ghost use Rattle.pb_alone.specs.Stops.{works_for};
-ghost use Rattle.pb_alone.specs.Sweeps.{WorksAndSweeps, EndsEarly};
+ghost use Rattle.pb_alone.specs.Stops.{IfRefused, WorkStopped};
 
 use crate::change::change_all;
-use crate::due::due_of;
 use crate::fault::RunFault;
-use crate::observe::visit_all;
 use crate::output::report;
-use crate::sweep::sweep_all;
+use crate::passes::drain;
 use pb_base::{Batch, Reason, Sink};
 use pb_core::{Seat, Shared};
 use pb_store::Tablet;
@@ -36,7 +33,7 @@ fn read(alloc: Global, text: &str) -> Result<Vec<Batch>, RunFault>
     }
 }
 
-// Every change in order, then the observers, cell by cell, and then the marks are swept.
+// Every change in order, and then passes over the marked cells.
 fn work<T: Tablet>(
     alloc: Global,
     batches: &[Batch],
@@ -46,19 +43,15 @@ fn work<T: Tablet>(
     requires clean { IsClean shared.old.state }
     requires seated { seat.old.number < shared.old.state.seats }
     ensures goes { Goes shared.old seat.old shared.new seat.new }
-    ensures ok { OnOk result (WorksAndSweeps shared.old seat.old.number batches.now shared.new) }
-    ensures err { IfErr result (EndsEarly shared.old (works_for shared.old.state.observers batches.now) shared.new) }
+    ensures ok { OnOk result (Works shared.old seat.old.number batches.now shared.new) }
+    ensures err { IfErr result (IfRefused (WorkStopped shared.old seat.old.number batches.now shared.new)) }
 {
     change_all(alloc, batches, shared, seat)?;
-    let due = due_of(alloc, shared.observers(), batches)?;
-    visit_all(alloc, &due, shared, seat)?;
-    // For the proof: the journal leads to the state whose marks are swept.
-    let _ = shared.journal();
-    sweep_all(shared, seat)?;
+    drain(alloc, shared, seat)?;
     Ok(())
 }
 
-// Every change in order, then the observers, and then the report.
+// Every change in order, then the passes, and then the report.
 fn run<T: Tablet, S: Sink>(
     alloc: Global,
     text: &str,
@@ -76,15 +69,18 @@ fn run<T: Tablet, S: Sink>(
     prove!(shared.journal().is_empty());
     prove!(shared.seats() > 0);
     work(alloc, &batches, shared, &mut seats[0])?;
+    // For the proof: what the journal tells of its history.
+    let _ = shared.journal();
     report(alloc, sink, shared)?;
     Ok(())
 }
 
-/// Makes a script's changes in order, then runs the observers on each changed cell, by row and column, where it is newer
-/// than their acknowledgment, all by calls of the first seat alone, and writes the report.
+/// Makes a script's changes in order, then passes over the marked cells, and writes the report, all by calls of the first
+/// seat alone. A pass goes from mark to mark, and runs each observer of the marked cell's column on it, in file order. The
+/// first pass that finds no mark is the last, or the [`MAX_PASSES`](crate::MAX_PASSES)th.
 ///
 /// Table and seats come back on every path. The fault is the script's, a refused step (40 out of timestamps, 44 journal
-/// full; 43 where an observer that may call helpers asks or writes), a write that failed, or want of memory.
+/// full), a write that failed, or want of memory.
 pub fn run_alone<T: Tablet, S: Sink>(
     alloc: Global,
     text: &str,

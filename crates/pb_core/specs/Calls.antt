@@ -32,12 +32,14 @@ or_full (Some r) full = if full then (if nat_lt (reason_code JournalFull) (reaso
 abbrev pub call_reason : SharedOf → ℕ → Step → Option Reason
 call_reason s seat step = or_full (step_reason s.state seat step) (length s.journal == s.limit)
 
--- one step was taken, and is kept in the journal and in the seat's list
+-- One step was taken, and is kept in the journal and in the seat's list. The observers and the number of seats stay.
 pub record Calls (old : SharedOf) (seat : SeatOf) (step : Step) (answer : Answer) (new : SharedOf) (told : SeatOf) : Type 0 where
   pub machine : TableStep old.state seat.number step answer new.state
   pub journal : new.journal ≡ old.journal ++ record { seat = seat.number; step = step; answer = answer } ∷ []
   pub opened : new.opened ≡ old.opened
   pub limit : new.limit ≡ old.limit
+  pub seats : new.state.seats ≡ old.state.seats
+  pub observers : new.state.observers ≡ old.state.observers
   pub number : told.number ≡ seat.number
   pub received : told.received ≡ seat.received ++ record { step = step; answer = answer } ∷ []
 

@@ -241,6 +241,7 @@ impl<T: Tablet> Shared<T> {
     pub fn limit(&self) -> usize
         ensures limit { result ≡ self.now.limit }
         ensures bounded { result ≤ MAX_ENTRIES }
+        ensures room { length self.now.journal ≤ self.now.limit }
     {
         self.limit
     }

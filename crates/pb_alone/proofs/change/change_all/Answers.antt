@@ -1,11 +1,9 @@
 use Rattle.std.proofs.Common.{◌≡◌, ◌+◌, [], ◌∷◌, ◌++◌, ◌∙◌, sym, subst, get_or, take, ap}
 use Rattle.std.proofs.lemmas.List.{take_more}
 use Rattle.pb_alone.specs.Alone.{Changes}
-use Rattle.pb_alone.proofs.AllChanges.{goes_on, one_more}
+use Rattle.pb_alone.proofs.Going.{goes_on}
+use Rattle.pb_alone.proofs.AllChanges.{one_more, stopped_at}
 use Rattle.std.proofs.lemmas.Result.{err_from_is_err_and}
-use Rattle.pb_base.specs.Batch.{Writes}
-use Rattle.pb_steps.specs.declared.step.Work.TheVariants as works
-use Rattle.pb_alone.proofs.Stopping.{changes_begun, stops_at}
 use Rattle.pb_alone.proofs.change.change_all.Goals as goal
 
 pub returns-in_err-change-clause-goes : goal.returns-in_err-change-clause-goes
@@ -15,10 +13,8 @@ returns-in_err-change-clause-goes g c =
 pub returns-in_err-change-clause-err : goal.returns-in_err-change-clause-err
 returns-in_err-change-clause-err g c =
     let p = err_from_is_err_and c.from_residual-in_err-change.result c.from_residual-in_err-change.ensures.1 in
-    rw (p.1, p.2) (stops_at (λ (b : Writes). works.Script) c.args.shared.now c.args.batches.now c.loop-batch.batch-index c.batch-item.result c.loop-batch.shared c.change.new.shared c.in_err-change.field-0.0
-    c.loop-batch-test.true (sym c.batch-item.is)
-    (changes_begun c.args.shared.now c.args.seat.now.number (take c.loop-batch.batch-index c.args.batches.now) c.loop-batch.shared c.loop-batch.invariant.changes)
-    c.in_err-change.ensures.err)
+    rw (p.1, p.2) (stopped_at c.args.shared.now c.args.seat.now.number c.loop-batch.seat.number c.args.batches.now c.loop-batch.batch-index c.batch-item.result c.in_ok-batch.batch c.loop-batch.shared c.change.new.shared c.in_err-change.field-0.0
+    c.loop-batch.invariant.goes.number c.loop-batch-test.true (sym c.batch-item.is ∙ sym c.in_ok-batch.ensures) c.loop-batch.invariant.changes c.in_err-change.ensures.err)
 
 pub loop-batch-preserved : goal.loop-batch-preserved
 loop-batch-preserved g c =
