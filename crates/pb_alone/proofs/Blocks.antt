@@ -19,7 +19,7 @@ use Rattle.pb_alone.specs.Alone.{ts, entry, change_entries, changes_from, second
 
 -- ---- lists of lists
 
-has_left : {A : Type 0} (xs ys : List A) (z : A) → Has xs z → Has (xs ++ ys) z
+pub has_left : {A : Type 0} (xs ys : List A) (z : A) → Has xs z → Has (xs ++ ys) z
 has_left [] ys z h = absurd h
 has_left (x ∷ xs) ys z (inl e) = inl e
 has_left (x ∷ xs) ys z (inr h) = inr (has_left xs ys z h)
@@ -38,7 +38,7 @@ in_block f [] x y h k = absurd h
 in_block f (z ∷ xs) x y (inl e) k = has_left (f z) (flat_map f xs) y (subst (λ w. Has (f w) y) (sym e) k)
 in_block f (z ∷ xs) x y (inr h) k = has_right (f z) (flat_map f xs) y (in_block f xs x y h k)
 
-which_block : {A B : Type 0} (f : A → List B) (xs : List A) (y : B) → Has (flat_map f xs) y → (x : A) × Has xs x × Has (f x) y
+pub which_block : {A B : Type 0} (f : A → List B) (xs : List A) (y : B) → Has (flat_map f xs) y → (x : A) × Has xs x × Has (f x) y
 which_block f [] y h = absurd h
 which_block f (z ∷ xs) y h = elim (has_which (f z) (flat_map f xs) y h) [
   | inl k ↦ (z, inl refl, k)
@@ -88,7 +88,7 @@ answer_of e = e.answer
 at_is : (s t : ℕ) → At (ts s) ≡ At (ts t) → s ≡ t
 at_is s t e = let k : ts s ≡ ts t = cc in ap (λ (x : Ts). x.0) k
 
-begin_is : (n m : Member) → Has (change_entries n) (entry m.seat (Begin m.work) (At (ts m.start))) → IsBegin n m
+pub begin_is : (n m : Member) → Has (change_entries n) (entry m.seat (Begin m.work) (At (ts m.start))) → IsBegin n m
 begin_is n m (inl e) =
     let s : Begin n.work ≡ Begin m.work = ap step_of e in
     let a : At (ts n.start) ≡ At (ts m.start) = ap answer_of e in
@@ -150,10 +150,6 @@ one_each seat clock (b ∷ bs) m n (inr h) (inr k) e = one_each seat (clock + 2)
 rise : (low seat clock : ℕ) (bs : List Writes) → low ≤ clock → RiseFrom low (changes_from seat clock bs)
 rise low seat clock [] le = tt
 rise low seat clock (b ∷ bs) le = (omega arith, rise (clock + 2) seat (clock + 2) bs (omega arith))
-
-pub writes_are : (seat clock : ℕ) (bs : List Writes) → map (λ (m : Member). m.writes) (changes_from seat clock bs) ≡ bs
-writes_are seat clock [] = refl
-writes_are seat clock (b ∷ bs) = ap (λ l. b ∷ l) (writes_are seat (clock + 2) bs)
 
 module _ (observers : List ObserverOf) (seat clock : ℕ) (bs : List Writes) where
   abbrev ms : List Member

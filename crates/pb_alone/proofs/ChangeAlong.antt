@@ -91,7 +91,7 @@ module _ (s0 : SharedOf) (q0 : SeatOf) (batch : Writes) where
 
     pub stops : q0.number < s0.state.seats → (step : Step) → next_of job ≡ Some step → (f : RunFault) → IsRefusedBy s q.number step f → IfRefused (StoppedAt (ChangeAsks batch) s0 q0.number s) f
     stops seated step e f h =
-        refused_at s0 q0.number s step f (record { said = along.more; journal = along.journal; are_such = (job, along.talk, e) })
+        refused_at (ChangeAsks batch) s0 q0.number s step f (record { said = along.more; journal = along.journal; are_such = (job, along.talk, e) })
         (λ why is. elim (ends.stands_refused s0.state q0.number batch some distinct clean seated job.plan s.state along.stands step e) [
           | inl none ↦ absurd (no_reason why (sym none ∙ is))
           | inr out ↦ out_alone (is_out s.state) why (sym out ∙ is)

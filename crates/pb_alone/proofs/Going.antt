@@ -64,7 +64,7 @@ called a p step answer b q c = record {
 }
 
 -- the room left in the journal
-pub room_of : SharedOf → ℕ
+abbrev pub room_of : SharedOf → ℕ
 room_of s = s.limit - length s.journal
 
 -- a call takes some of it, and what follows gives none back
@@ -104,9 +104,9 @@ if_refused faults.Output h s = s
 end_on : (s : SharedOf) (n k : ℕ) (step : Step) (code : ℕ) → k ≡ n → IsEnd s k step code → IsEnd s n step code
 end_on s n k step code same e = subst (λ m. IsEnd s m step code) same e
 
-pub stops_on : {P : List Received → Type 0} {Asks All : List Received → Step → Type 0} (a b c : SharedOf) (n k : ℕ) (f : RunFault) → k ≡ n → Gains P a n b → IfRefused (StoppedAt Asks b k c) f
+pub stops_on : (P : List Received → Type 0) (Asks All : List Received → Step → Type 0) (a b c : SharedOf) (n k : ℕ) (f : RunFault) → k ≡ n → Gains P a n b → IfRefused (StoppedAt Asks b k c) f
     → ((said more : List Received) (step : Step) → P said → Asks more step → All (said ++ more) step) → IfRefused (StoppedAt All a n c) f
-stops_on {All = All} a b c n k f same g s join =
+stops_on P Asks All a b c n k f same g s join =
     if_refused f (λ code t. record {
       said = g.said ++ t.said;
       journal =
@@ -133,16 +133,16 @@ end_of None full why h e = inr (full_is full why e)
 end_of (Some w) full why h e = inl (out_is full why (ap (λ r. or_full (Some r) full) (sym (h w refl)) ∙ e))
 
 -- the step that is asked next was refused
-pub refused_at : {Asks : List Received → Step → Type 0} (a : SharedOf) (n : ℕ) (s : SharedOf) (step : Step) (f : RunFault) → Gains (λ said. Asks said step) a n s
+pub refused_at : (Asks : List Received → Step → Type 0) (a : SharedOf) (n : ℕ) (s : SharedOf) (step : Step) (f : RunFault) → Gains (λ said. Asks said step) a n s
     → ((why : Reason) → step_reason s.state n step ≡ Some why → why ≡ OutOfTimestamps) → IsRefusedBy s n step f → IfRefused (StoppedAt Asks a n s) f
-refused_at a n s step (faults.Refused code) g only e = record {
+refused_at Asks a n s step (faults.Refused code) g only e = record {
   said = g.said;
   journal = g.journal;
   step = step;
   asks = g.are_such;
   end = record { why = e.0; refused = e.1; at_end = end_of (step_reason s.state n step) (length s.journal == s.limit) e.0 only e.1; told = e.2 };
 }
-refused_at a n s step faults.NoMemory g only e = tt
-refused_at a n s step (faults.Manifest m) g only e = e
-refused_at a n s step (faults.Script m) g only e = e
-refused_at a n s step faults.Output g only e = e
+refused_at Asks a n s step faults.NoMemory g only e = tt
+refused_at Asks a n s step (faults.Manifest m) g only e = e
+refused_at Asks a n s step (faults.Script m) g only e = e
+refused_at Asks a n s step faults.Output g only e = e

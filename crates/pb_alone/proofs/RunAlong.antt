@@ -2,6 +2,7 @@
 use Rattle.std.proofs.Common.{◌≡◌, ◌≢◌, ℕ, ◌+◌, ◌-◌, ◌<◌, ◌≤◌, List, [], ◌∷◌, ◌++◌, Option, Some, None, refl, sym, ap, subst, ◌∙◌, arith}
 use Rattle.std.specs.Prelude.{slice_get}
 use Rattle.pb_base.specs.declared.cell.Cell.{Cell}
+use Rattle.pb_base.specs.declared.cell.Cell.TheVariants.{Data}
 use Rattle.pb_base.specs.Cell.{row_of}
 use Rattle.pb_base.specs.declared.names.Ts.{Ts}
 use Rattle.pb_base.specs.declared.refusal.Reason.{Reason}
@@ -26,8 +27,7 @@ use Rattle.pb_notify.specs.declared.place.Place.TheVariants.{Starting, Computing
 use Rattle.pb_notify.specs.Places.{ComesFrom, Comes, place_of}
 use Rattle.pb_notify.specs.Steps.{Steps}
 use Rattle.pb_notify.specs.Runs.{RunOf, HasNext, next_of, need_of, answered, IsTold, Computes}
-use Rattle.pb_notify.specs.Talks.{Reaches}
-use Rattle.pb_notify.specs.Talks.Reaches as runs
+use Rattle.pb_notify.specs.Talks.{Reaches, made, took, computed}
 use Rattle.pb_notify.specs.Forms.{JobsEnd}
 use Rattle.pb_alone.specs.Alone.{Goes, Gains}
 use Rattle.pb_alone.specs.Passes.{IsObserverOf, HasColumn, IsJobOn, IsComputed, IsRun, RunAsks, job_on}
@@ -36,7 +36,7 @@ use Rattle.pb_alone.proofs.Going.{gains_none, gains_more, stays, goes_on, called
 -- ---- its machine
 
 -- how many instructions are left at most, and one more
-pub left : JudgedOf → Place → ℕ
+abbrev pub left : JudgedOf → Place → ℕ
 left judged (Starting s seen) = slots judged.program.insns + 2
 left judged (Computing s v) = (slots v.judged.program.insns - v.taken) + 1
 left judged _ = 0
@@ -58,20 +58,20 @@ less_left judged o x (Starting s seen) after c = let l = comes_less judged o s _
 less_left judged o x (Computing s v) after c = comes_less judged o s v after c
 less_left judged o x _ after c = absurd c
 
-pub left_of : RunOf → ℕ
+abbrev pub left_of : RunOf → ℕ
 left_of j = left j.judged j.place
 
 pub less : (j k : RunOf) → Computes j k → left_of k < left_of j
 less j k c =
     let same : k.judged ≡ j.judged = ap (λ (z : RunOf). z.judged) c.same in
-    subst (λ d. left d k.place < left_of j) (sym same) (less_left j.judged j.observer _ j.place k.place c.comes)
+    subst (λ d. left d k.place < left_of j) (sym same) (less_left j.judged j.observer (Data j.row j.column) j.place k.place c.comes)
 
 -- what it has reached by its machine's instructions
 abbrev pub ReachesOn : RunOf → RunOf → Type 0
 ReachesOn j k = (first : RunOf) (said : List Received) → Reaches first said j → Reaches first said k
 
 pub on : (j k l : RunOf) → ReachesOn j k → need_of k ≡ Local → Computes k l → ReachesOn j l
-on j k l r is c first said h = runs.computed said k l (r first said h) is c
+on j k l r is c first said h = computed said k l (r first said h) is c
 
 -- ---- its steps
 
@@ -97,21 +97,21 @@ first observers n x s q job known is =
       goes = stays s q;
       o = o;
       observer = known.1;
-      gains = gains_none s q.number (subst (λ j. Reaches (job_on n o x) [] j) (sym here) runs.made);
+      gains = gains_none s q.number (subst (λ j. Reaches (job_on n o x) [] j) (sym here) made);
       calls = subst (λ j. need_of j ≢ Local) (sym here) (begins n o x);
     }
 
 module _ (observers : List ObserverOf) (n : ℕ) (x : Cell) (s0 : SharedOf) (q0 : SeatOf) (s : SharedOf) (q : SeatOf) (job : RunOf) (along : IsAlong observers n x s0 q0 s q job) where
-  pub next : (step : Step) → next_of job ≡ Some step → (a : Answer) → CanAnswer step a → (s' : SharedOf) (q' : SeatOf) → Calls s q step a s' q' → IsTold job a (answered job a) → (k : RunOf) → IsComputed (answered job a) k
+  pub next : (step : Step) → next_of job ≡ Some step → (a : Answer) → CanAnswer step a → (s' : SharedOf) (q' : SeatOf) → Calls s q step a s' q' → (l : RunOf) → l ≡ answered job a → IsTold job a l → (k : RunOf) → IsComputed l k
       → IsAlong observers n x s0 q0 s' q' k
-  next step e a can s' q' c is k computed = record {
+  next step e a can s' q' c l answer is k on_to = record {
     goes = goes_on s0 q0 s q s' q' along.goes (called s q step a s' q' c);
     o = along.o;
     observer = along.observer;
     gains = gains_more s0 s s' q0.number (told step a ∷ []) along.gains
         (c.journal ∙ (λ i. s.journal ++ record { seat = along.goes.number i; step = step; answer = a } ∷ []))
-        (λ said h. computed.reaches (job_on n along.o x) (said ++ told step a ∷ []) (runs.took said job (told step a) (answered job a) h e can refl is));
-    calls = computed.calls;
+        (λ said h. on_to.reaches (job_on n along.o x) (said ++ told step a ∷ []) (took said job (told step a) l h e can answer is));
+    calls = on_to.calls;
   }
 
   pub asks : (step : Step) → next_of job ≡ Some step → Gains (λ said. RunAsks observers n x said step) s0 q0.number s

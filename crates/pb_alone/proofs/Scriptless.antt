@@ -23,12 +23,8 @@ use Rattle.pb_notify.specs.declared.place.Place.TheVariants.{Beginning, Observin
 use Rattle.pb_notify.specs.Looks.{look_step}
 use Rattle.pb_notify.specs.Places.{step_at}
 use Rattle.pb_notify.specs.Runs.{RunOf}
-use Rattle.pb_notify.specs.Talks.{Reaches}
-use Rattle.pb_notify.specs.Talks.Reaches as runs
-use Rattle.pb_alone.specs.Passes.{AreRuns, IsWalk, IsPass, ArePasses, IsDrain}
-use Rattle.pb_alone.specs.Passes.AreRuns as all
-use Rattle.pb_alone.specs.Passes.IsWalk as walks
-use Rattle.pb_alone.specs.Passes.ArePasses as many
+use Rattle.pb_notify.specs.Talks.{Reaches, made, took, computed}
+use Rattle.pb_alone.specs.Passes.{AreRuns, before_all, runs, passes_by, IsWalk, at_beginning, found as found_then, IsPass, ArePasses, at_first, one_more, IsDrain}
 use Rattle.pb_alone.proofs.Blocks.{has_which}
 
 abbrev IsNone : Step → Type 0
@@ -89,28 +85,28 @@ of_job o row column (Sweeping end) t e = subst IsNone (same_step (Sweep _) t e) 
 of_job o row column (Over end) t e = absurd cc
 
 reached : (j : RunOf) (said : List Received) (k : RunOf) → Reaches j said k → BeginNoScript said
-reached j _ _ runs.made = none
-reached j _ _ (runs.took said k r l h e can is told) = both said (r ∷ []) (reached j said k h) (one r (of_job k.observer k.row k.column k.place r.step e))
-reached j said l (runs.computed _ k _ h local c) = reached j said k h
+reached j said k made = none
+reached j all m (took said k r l h e can is told) = both said (r ∷ []) (reached j said k h) (one r (of_job k.observer k.row k.column k.place r.step e))
+reached j all m (computed said k l h local c) = reached j said k h
 
 -- ---- passes
 
 of_runs : (observers : List ObserverOf) (x : Cell) (n : ℕ) (said : List Received) → AreRuns observers x n said → BeginNoScript said
-of_runs observers x _ _ all.before_all = none
-of_runs observers x _ _ (all.runs n said next h r) = both said next (of_runs observers x n said h) (reached _ next r.job r.reaches)
-of_runs observers x _ said (all.passes_by n _ h other) = of_runs observers x n said h
+of_runs observers x n said before_all = none
+of_runs observers x m all (runs n said next h r) = both said next (of_runs observers x n said h) (reached _ next r.job r.reaches)
+of_runs observers x m all (passes_by n said h other) = of_runs observers x n said h
 
 of_walk : (observers : List ObserverOf) (said : List Received) (last : Option Cell) → IsWalk observers said last → BeginNoScript said
-of_walk observers _ _ walks.at_beginning = none
-of_walk observers _ _ (walks.found said after x next h r) = both said (told (NextMark after) (Marked x) ∷ next) (of_walk observers said after h) (more (told (NextMark after) (Marked x)) next (λ e. cc) (of_runs observers x _ next r))
+of_walk observers said last at_beginning = none
+of_walk observers all last (found_then said after x next h r) = both said (told (NextMark after) (Marked x) ∷ next) (of_walk observers said after h) (more (told (NextMark after) (Marked x)) next (λ e. cc) (of_runs observers x _ next r))
 
 of_pass : (observers : List ObserverOf) (last : Option Cell) (said : List Received) → IsPass observers last said → BeginNoScript said
 of_pass observers last said p =
     subst BeginNoScript (sym p.said_is) (both p.before (told (NextMark last) NoMark ∷ []) (of_walk observers p.before last p.walk) (one (told (NextMark last) NoMark) (λ e. cc)))
 
 of_passes : (observers : List ObserverOf) (n : ℕ) (said : List Received) → ArePasses observers n said → BeginNoScript said
-of_passes observers _ _ many.at_first = none
-of_passes observers _ _ (many.one_more n said next x h p) = both said next (of_passes observers n said h) (of_pass observers (Some x) next p)
+of_passes observers n said at_first = none
+of_passes observers m all (one_more n said next x h p) = both said next (of_passes observers n said h) (of_pass observers (Some x) next p)
 
 pub of_drain : (observers : List ObserverOf) (said : List Received) → IsDrain observers said → BeginNoScript said
 of_drain observers said d = subst BeginNoScript (sym d.said_is) (both d.before d.rest (of_passes observers d.count d.before d.passes) (elim d.ends [ inl p ↦ of_pass observers None d.rest p.1 | inr p ↦ subst BeginNoScript (sym p.1) none ]))

@@ -29,6 +29,11 @@ others from n more (q ∷ qs) lt h =
     let apart : n ≢ from = (λ e. less_apart n from lt e) in
     (h.0, h.1 ∙ sym (none_alone from n more apart), others (from + 1) n more qs (omega arith) h.2)
 
+-- the first of all seats is numbered 0
+pub first_number : (s : SharedOf) (q : SeatOf) (seats : List SeatOf) → AreSeats s seats → 0 < length seats → slice_index_or seats 0 q ≡ q → q.number ≡ 0
+first_number s q [] are some here = absurd (omega (arith, some))
+first_number s q (p ∷ ps) are some here = subst (λ (x : SeatOf). x.number ≡ 0) here are.each.0
+
 pub goes_on_seated : (s : SharedOf) (q : SeatOf) (s' : SharedOf) (q' : SeatOf) (seats : List SeatOf) → s.journal ≡ [] → AreSeats s seats → 0 < length seats → slice_index_or seats 0 q ≡ q → Goes s q s' q' → KeepsSeats s s' (slice_set seats 0 q')
 goes_on_seated s q s' q' [] empty are some here g = absurd (omega (arith, some))
 goes_on_seated s q s' q' (p ∷ ps) empty are some here g =

@@ -58,7 +58,7 @@ pub record Works (old : SharedOf) (seat : ℕ) (batches : List Writes) (new : Sh
 pub record Made (text : List ℕ) (before after : SharedOf) : Type 0 where
   pub batches : List Writes
   pub read : script_of text ≡ Ok batches
-  pub works : Works before 0 batches after
+  pub work : Works before 0 batches after
   pub each : (m : Member) → Has (changes_from 0 before.state.clock batches) m → InHistory after.state.observers after.journal m
   pub only : (m : Member) → InHistory after.state.observers after.journal m → m.work ≡ works.Script → Has (changes_from 0 before.state.clock batches) m
 

@@ -1,7 +1,7 @@
 //! Passes over the marked cells (OSDI 2010, section 2.4).
-ghost use Rattle.std.specs.Prelude.{◌<◌, IfOk, IfErr, OnOk};
+ghost use Rattle.std.specs.Prelude.{◌≡◌, ◌<◌, true, false, length, IfOk, IfErr, OnOk};
 ghost use Rattle.pb_alone.specs.Alone.{Goes, Gains};
-ghost use Rattle.pb_alone.specs.Passes.{AreAllRuns, RunsAsk, IsPassThat, PassAsks, IsDrain, DrainAsks};
+ghost use Rattle.pb_alone.specs.Passes.{HasColumn, IsOfOther, AreAllRuns, RunsAsk, IsPassThat, PassAsks, IsDrain, DrainAsks};
 ghost use Rattle.pb_alone.specs.Stops.{StoppedAt, IfRefused};
 
 use crate::change::take;
@@ -15,24 +15,34 @@ use std::alloc::Global;
 /// How many passes are made at most.
 pub const MAX_PASSES: u32 = 1000;
 
+// Whether the observer of this number is one of the cell's column.
+fn is_observer_of<T: Tablet>(shared: &Shared<T>, place: usize, cell: &Cell) -> bool
+    requires { place < length shared.now.state.observers }
+    ensures is { result ≡ true → HasColumn shared.now.state.observers place cell.now }
+    ensures isnt { result ≡ false → IsOfOther shared.now.state.observers place cell.now }
+{
+    let observer = &shared.observers()[place];
+    observer.column == cell.column()
+}
+
 // Runs each observer of the cell's column, in file order.
 fn run_all<T: Tablet>(
     alloc: Global,
-    cell: Cell,
+    cell: &Cell,
     shared: &mut Shared<T>,
     seat: &mut Seat,
 ) -> Result<(), RunFault>
     requires seated { seat.old.number < shared.old.state.seats }
     ensures goes { Goes shared.old seat.old shared.new seat.new }
-    ensures ok { OnOk result (Gains (AreAllRuns shared.old.state.observers cell) shared.old seat.old.number shared.new) }
-    ensures err { IfErr result (IfRefused (StoppedAt (RunsAsk shared.old.state.observers cell) shared.old seat.old.number shared.new)) }
+    ensures ok { OnOk result (Gains (AreAllRuns shared.old.state.observers cell.now) shared.old seat.old.number shared.new) }
+    ensures err { IfErr result (IfRefused (StoppedAt (RunsAsk shared.old.state.observers cell.now) shared.old seat.old.number shared.new)) }
 {
     for place in 0..shared.observers().len() {
-        if shared.observers()[place].column == cell.column() {
+        if is_observer_of(shared, place, cell) {
             let Some(number) = ObserverNo::new(place as u8) else {
                 unreachable!()
             };
-            run_one(alloc, number, cell, shared, seat)?;
+            run_one(alloc, number, *cell, shared, seat)?;
         }
     }
     Ok(())
@@ -55,7 +65,7 @@ fn pass<T: Tablet>(
         let Answer::Marked(cell) = &next else {
             return Ok(last.is_some());
         };
-        run_all(alloc, *cell, shared, seat)?;
+        run_all(alloc, cell, shared, seat)?;
         last = Some(*cell);
     }
 }

@@ -13,4 +13,4 @@ told_by None a r is some none other = let e = none refl in absurd (other (ap (λ
 told_by (Some why) a r is some none other = let e = some why refl in let same : r ≡ refusal_by why = cc in (why, refl, ap (λ (x : Refusal). x.0) same)
 
 pub returns-else-refusal-code-clause-fault : goal.returns-else-refusal-code-clause-fault
-returns-else-refusal-code-clause-fault g c = told_by (call_reason c.args.shared.now c.args.seat.now.number c.args.step.now) c.call.result c.in-Err.refusal c.in-Err.is c.call.ensures.refused c.in-Err.ensures.allowed (λ e. c.if-refusal-code.false (e ∙ sym c.code.ensures))
+returns-else-refusal-code-clause-fault g c = told_by (call_reason c.args.shared.now c.args.seat.now.number c.args.step.now) c.call-answered.result c.in-Err.refusal c.in-Err.is c.call-answered.ensures.refused c.in-Err.ensures.allowed (λ e. c.if-refusal-code.false (e ∙ sym c.code.ensures))
