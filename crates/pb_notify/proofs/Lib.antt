@@ -9,3 +9,4 @@ pub mod PlanSteps
 pub mod PlanEntries
 pub mod OwnSteps
 pub mod Allowed
+pub mod RunsKept

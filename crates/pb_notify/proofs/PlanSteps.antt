@@ -105,11 +105,11 @@ pub record IsSameRun (u v : TransactionOf) : Type 0 where
   pub seat : v.seat ≡ u.seat
   pub work : v.work ≡ u.work
 
-abbrev pub IsKept : TransactionOf → Option TransactionOf → Type 0
-IsKept u o = (v : TransactionOf) × (o ≡ Some v) × IsSameRun u v
+abbrev pub KeepsRun : TransactionOf → Option TransactionOf → Type 0
+KeepsRun u o = (v : TransactionOf) × (o ≡ Some v) × IsSameRun u v
 
 module _ (observers : List ObserverOf) (seat : ℕ) where
-  after_one : (step : Step) (a : Answer) (u : TransactionOf) → is_begin step ≡ false → IsKept u (transaction_after observers seat step a (Some u))
+  after_one : (step : Step) (a : Answer) (u : TransactionOf) → is_begin step ≡ false → KeepsRun u (transaction_after observers seat step a (Some u))
   after_one (Begin work) a u n = absurd cc
   after_one (Read m x) (Found start commit content) u n = (_, refl, record { seat = refl; work = refl })
   after_one (Read m x) Absent u n = (_, refl, record { seat = refl; work = refl })
@@ -121,11 +121,11 @@ module _ (observers : List ObserverOf) (seat : ℕ) where
   after_one (CommitPrimary m) Lost u n = (_, refl, record { seat = refl; work = refl })
   after_one _ _ u n = (u, refl, record { seat = refl; work = refl })
 
-  if_named : (b : Bool) (u : TransactionOf) (o : Option TransactionOf) → IsKept u o → IsKept u (cond b o (Some u))
+  if_named : (b : Bool) (u : TransactionOf) (o : Option TransactionOf) → KeepsRun u o → KeepsRun u (cond b o (Some u))
   if_named true u o k = k
   if_named false u o k = (u, refl, record { seat = refl; work = refl })
 
-  pub plan_keeps : (s : Ts) (p q : PlanOf) (said : List Received) (u : TransactionOf) → Talks p said q → IsKept u (after observers seat s said (Some u))
+  pub plan_keeps : (s : Ts) (p q : PlanOf) (said : List Received) (u : TransactionOf) → Talks p said q → KeepsRun u (after observers seat s said (Some u))
   plan_keeps s p q [] u talk = (u, refl, record { seat = refl; work = refl })
   plan_keeps s p q (r ∷ rs) u talk =
       let n = no_begin p.start p.place r.step (plan_step p.start p.what p.place r.step talk.0) in

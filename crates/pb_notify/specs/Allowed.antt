@@ -1,6 +1,6 @@
 -- No step of a job comes at a wrong time, or declares what isn't its run: in a legal journal it is refused for want of a
 -- timestamp alone.
-use Rattle.std.specs.Prelude.{◌≡◌, ℕ, ◌<◌, ◌^◌, List, map, Some, slice_get}
+use Rattle.std.specs.Prelude.{◌≡◌, ℕ, ◌<◌, ◌^◌, List, ◌++◌, map, Some, slice_get}
 use Rattle.pb_base.specs.declared.refusal.Reason.{Reason}
 use Rattle.pb_base.specs.declared.refusal.Reason.TheVariants.{OutOfTimestamps}
 use Rattle.pb_base.specs.declared.names.Row.{Row}
@@ -14,6 +14,7 @@ use Rattle.pb_steps.specs.State.{StateOf}
 use Rattle.pb_steps.specs.Steps.{step_reason}
 use Rattle.pb_history.specs.declared.entry.Entry.{Entry}
 use Rattle.pb_history.specs.declared.entry.Received.{Received}
+use Rattle.pb_history.specs.Places.{entries_of}
 use Rattle.pb_history.specs.Journals.{IsLegal}
 use Rattle.pb_history.specs.History.{Has}
 use Rattle.pb_history.specs.TransactionsTold.{entries_naming}
@@ -38,3 +39,8 @@ JobsAreAllowed = (observers : List ObserverOf) (seats clock : ℕ) (journal : Li
     → seat < state.seats → slice_get observers o ≡ Some observer → row.0 < 2 ^ 64 → observer.column < 2 ^ 64
     → Reaches (fresh o observer.program row observer.column) said k → HasRun journal seat o row said → next_of k ≡ Some step
     → step_reason state seat step ≡ Some why → why ≡ OutOfTimestamps
+
+-- it is so where the seat's entries end with the conversation
+abbrev pub RunsAreKept : Type 0
+RunsAreKept = (observers : List ObserverOf) (seats clock : ℕ) (journal : List Entry) (state : StateOf) → IsLegal observers seats clock journal state
+    → (seat o : ℕ) (row : Row) (before said : List Received) → entries_of seat journal ≡ before ++ said → HasRun journal seat o row said

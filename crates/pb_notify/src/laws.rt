@@ -1,7 +1,7 @@
 //! What the steps of a run are, and that the table takes them.
 ghost use Rattle.pb_notify.specs.Forms.{JobsTalk, JobsEnd};
 ghost use Rattle.pb_notify.specs.Led.{MachinesAreLed};
-ghost use Rattle.pb_notify.specs.Allowed.{JobsAreAllowed};
+ghost use Rattle.pb_notify.specs.Allowed.{JobsAreAllowed, RunsAreKept};
 
 use pb_history::{journals_are_sound, transactions_are_told};
 use pb_txn::{plans_are_allowed, plans_talk};
@@ -24,9 +24,10 @@ pub fn machines_are_led()
 }
 
 /// Where the entries of a legal journal that name a run's start are those of its job, the job's next step is refused only
-/// where no timestamp is left.
+/// where no timestamp is left. They are its job's where the seat's entries end with what the job asked.
 pub fn jobs_are_allowed()
-    ensures { JobsAreAllowed }
+    ensures allowed { JobsAreAllowed }
+    ensures kept { RunsAreKept }
 {
     plans_talk();
     plans_are_allowed();
