@@ -11,6 +11,7 @@ use Rattle.pb_steps.specs.declared.step.Answer.{Answer}
 use Rattle.pb_steps.specs.declared.step.Answer.TheVariants.{At, Locked, Found, Absent, Done, Conflict, Committed, Lost, RolledBack, Waits, CommittedAt, Marked, NoMark, StillBehind}
 use Rattle.pb_steps.specs.Observers.{ObserverOf}
 use Rattle.pb_steps.specs.State.{StateOf, TransactionOf, opening, new_transaction}
+use Rattle.pb_steps.specs.Reasons.{IsOwn}
 use Rattle.pb_steps.specs.Steps.{StepCase}
 use Rattle.pb_history.specs.declared.entry.Entry.{Entry}
 use Rattle.pb_history.specs.Journals.{JournalLeads, IsLegal}
@@ -22,31 +23,36 @@ use Rattle.pb_history.proofs.OpeningSound.{opening_sound}
 use Rattle.pb_history.proofs.TransactionAfter.{case_tells}
 
 -- the state has a transaction of this start
-abbrev Has : StateOf → ℕ → Type 0
+abbrev pub Has : StateOf → ℕ → Type 0
 Has state s = (t : TransactionOf) × (got state s ≡ Some t)
 
-both : (o : Option TransactionOf) (t : TransactionOf) → o ≡ Some t → o ≡ None → ⊥
+-- and it is this seat's
+abbrev pub Owns : StateOf → ℕ → ℕ → Type 0
+Owns state seat s = (t : TransactionOf) × (got state s ≡ Some t) × (t.seat ≡ seat)
+
+pub both : (o : Option TransactionOf) (t : TransactionOf) → o ≡ Some t → o ≡ None → ⊥
 both o t p q = cc
 
 -- ---- one step
 
 module _ (old : StateOf) (seat : ℕ) (new : StateOf) (s : ℕ) where
-  there : (n : ℕ) (t : TransactionOf) → (s == n) ≡ true → got old n ≡ Some t → Has old s
-  there n t e h = (t, ap (got old) (eqb-true s n e) ∙ h)
+  there : (n : ℕ) (t : TransactionOf) → (s == n) ≡ true → IsOwn old seat n t → Owns old seat s
+  there n t e own = (t, ap (got old) (eqb-true s n e) ∙ own.there, own.mine)
 
-  -- what names s begins it, with a fresh start, or finds it there
-  named : (step : Step) (answer : Answer) → StepCase old seat step answer new → names_start s step answer ≡ true → ((is_begin step ≡ true) × (s ≡ old.clock + 1)) ⊎ ((is_begin step ≡ false) × Has old s)
+  -- what names s begins it, with a fresh start, or finds it there as its seat's
+  pub named : (step : Step) (answer : Answer) → StepCase old seat step answer new → names_start s step answer ≡ true
+      → ((is_begin step ≡ true) × (s ≡ old.clock + 1)) ⊎ ((is_begin step ≡ false) × Owns old seat s)
   named (Begin work) (At n) m e = inl (refl, eqb-true s n.0 e ∙ m.fresh)
-  named (Read n x) (Locked start primary) m e = inr (refl, there n.0 m.t e m.own.there)
-  named (Read n x) (Found start commit content) m e = inr (refl, there n.0 m.t e m.own.there)
-  named (Read n x) Absent m e = inr (refl, there n.0 m.t e m.own.there)
-  named (Declare n what) Done m e = inr (refl, there n.0 m.t e m.own.there)
-  named (Prewrite n x) Done m e = inr (refl, there n.0 m.t e m.own.there)
-  named (Prewrite n x) Conflict m e = inr (refl, there n.0 m.t e m.own.there)
-  named (Stamp n) (At c) m e = inr (refl, there n.0 m.t e m.own.there)
-  named (CommitPrimary n) Committed m e = inr (refl, there n.0 m.t e m.own.there)
-  named (CommitPrimary n) Lost m e = inr (refl, there n.0 m.t e m.own.there)
-  named (CommitSecondary n x) Done m e = inr (refl, there n.0 m.t e m.own.there)
+  named (Read n x) (Locked start primary) m e = inr (refl, there n.0 m.t e m.own)
+  named (Read n x) (Found start commit content) m e = inr (refl, there n.0 m.t e m.own)
+  named (Read n x) Absent m e = inr (refl, there n.0 m.t e m.own)
+  named (Declare n what) Done m e = inr (refl, there n.0 m.t e m.own)
+  named (Prewrite n x) Done m e = inr (refl, there n.0 m.t e m.own)
+  named (Prewrite n x) Conflict m e = inr (refl, there n.0 m.t e m.own)
+  named (Stamp n) (At c) m e = inr (refl, there n.0 m.t e m.own)
+  named (CommitPrimary n) Committed m e = inr (refl, there n.0 m.t e m.own)
+  named (CommitPrimary n) Lost m e = inr (refl, there n.0 m.t e m.own)
+  named (CommitSecondary n x) Done m e = inr (refl, there n.0 m.t e m.own)
   named (Settle x) Absent m e = cc
   named (Settle x) (Locked start primary) m e = cc
   named (Settle x) RolledBack m e = cc
@@ -63,29 +69,35 @@ module _ (old : StateOf) (seat : ℕ) (new : StateOf) (s : ℕ) where
 
 -- ---- the transaction after it
 
-begun : (observers : List ObserverOf) (seat s : ℕ) (step : Step) (answer : Answer) (o : Option TransactionOf) → is_begin step ≡ true → names_start s step answer ≡ true → (t : TransactionOf) × (transaction_after observers seat step answer o ≡ Some t)
-begun observers seat s (Begin work) (At n) o b e = (new_transaction seat work, refl)
+-- a transaction of this seat
+abbrev pub IsOf : ℕ → Option TransactionOf → Type 0
+IsOf seat o = (u : TransactionOf) × (o ≡ Some u) × (u.seat ≡ seat)
+
+pub begun : (observers : List ObserverOf) (seat s : ℕ) (step : Step) (answer : Answer) (o : Option TransactionOf) → is_begin step ≡ true → names_start s step answer ≡ true
+    → IsOf seat (transaction_after observers seat step answer o)
+begun observers seat s (Begin work) (At n) o b e = (new_transaction seat work, refl, refl)
 begun observers seat s (Begin work) _ o b e = absurd cc
 begun observers seat s _ _ o b e = absurd cc
 
-stays : (observers : List ObserverOf) (seat : ℕ) (step : Step) (answer : Answer) (t : TransactionOf) → (u : TransactionOf) × (transaction_after observers seat step answer (Some t) ≡ Some u)
-stays observers seat (Begin work) (At s) t = (_, refl)
-stays observers seat (Read s x) (Found start commit content) t = (_, refl)
-stays observers seat (Read s x) Absent t = (_, refl)
-stays observers seat (Declare s what) Done t = (_, refl)
-stays observers seat (Prewrite s x) Done t = (_, refl)
-stays observers seat (Prewrite s x) Conflict t = (_, refl)
-stays observers seat (Stamp s) (At c) t = (_, refl)
-stays observers seat (CommitPrimary s) Committed t = (_, refl)
-stays observers seat (CommitPrimary s) Lost t = (_, refl)
-stays observers seat _ _ t = (t, refl)
+stays : (observers : List ObserverOf) (seat : ℕ) (step : Step) (answer : Answer) (t : TransactionOf) → is_begin step ≡ false → IsOf t.seat (transaction_after observers seat step answer (Some t))
+stays observers seat (Begin work) answer t b = absurd cc
+stays observers seat (Read s x) (Found start commit content) t b = (_, refl, refl)
+stays observers seat (Read s x) Absent t b = (_, refl, refl)
+stays observers seat (Declare s what) Done t b = (_, refl, refl)
+stays observers seat (Prewrite s x) Done t b = (_, refl, refl)
+stays observers seat (Prewrite s x) Conflict t b = (_, refl, refl)
+stays observers seat (Stamp s) (At c) t b = (_, refl, refl)
+stays observers seat (CommitPrimary s) Committed t b = (_, refl, refl)
+stays observers seat (CommitPrimary s) Lost t b = (_, refl, refl)
+stays observers seat _ _ t b = (t, refl, refl)
 
-stays_by : (observers : List ObserverOf) (seat : ℕ) (step : Step) (answer : Answer) (o : Option TransactionOf) → ((t : TransactionOf) × (o ≡ Some t)) → (u : TransactionOf) × (transaction_after observers seat step answer o ≡ Some u)
-stays_by observers seat step answer o h = subst (λ z. (u : TransactionOf) × (transaction_after observers seat step answer z ≡ Some u)) (sym h.1) (stays observers seat step answer h.0)
+pub stays_by : (observers : List ObserverOf) (seat : ℕ) (step : Step) (answer : Answer) (o : Option TransactionOf) (h : (t : TransactionOf) × (o ≡ Some t)) → is_begin step ≡ false
+    → IsOf h.0.seat (transaction_after observers seat step answer o)
+stays_by observers seat step answer o h b = subst (λ z. IsOf h.0.seat (transaction_after observers seat step answer z)) (sym h.1) (stays observers seat step answer h.0 b)
 
 -- ---- a run of steps
 
-early : (state : StateOf) (s : ℕ) → IsSoundTable state → Has state s → s ≤ state.clock
+pub early : (state : StateOf) (s : ℕ) → IsSoundTable state → Has state s → s ≤ state.clock
 early state s i h = i.begun s h.0.phase (ap (option_map (λ (u : TransactionOf). u.phase)) h.1)
 
 none_later : (old : StateOf) (es : List Entry) (new : StateOf) (s : ℕ) → IsSoundTable old → Has old s → JournalLeads old es new → list_any (λ d. is_begin d.step) (entries_naming s es) ≡ false
@@ -97,7 +109,7 @@ none_later old (e ∷ es) new s i h r =
     elim (names_start s e.step e.answer) as (λ b. names_start s e.step e.answer ≡ b → list_any (λ d. is_begin d.step) (cond b (e ∷ entries_naming s es) (entries_naming s es)) ≡ false) [
       | true ↦ λ n. elim (named old e.seat r.0 s e.step e.answer r.1.taken n) [
         | inl f ↦ (let low = early old s i h in let is = f.1 in absurd (omega (arith, low, is)))
-        | inr f ↦ (let u = stays_by old.observers e.seat e.step e.answer (got old s) h in ap (λ b. b || list_any (λ d. is_begin d.step) (entries_naming s es)) f.0 ∙ on (u.0, after ∙ ap told n ∙ u.1) r.2)
+        | inr f ↦ (let u = stays_by old.observers e.seat e.step e.answer (got old s) h f.0 in ap (λ b. b || list_any (λ d. is_begin d.step) (entries_naming s es)) f.0 ∙ on (u.0, after ∙ ap told n ∙ u.1) r.2)
       ]
       | false ↦ λ n. on (h.0, after ∙ ap told n ∙ h.1) r.2
     ] refl

@@ -23,6 +23,7 @@ pub mod RunsTold
 pub mod MarksCover
 pub mod ChangesHandled
 pub mod BeginsOnce
+pub mod OneSeat
 pub mod TransactionsTold
 pub mod ScriptsTold
 pub mod StepsCanAnswer

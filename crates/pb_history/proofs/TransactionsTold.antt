@@ -10,6 +10,7 @@ use Rattle.pb_history.specs.TransactionsTold.{names_start, entries_naming, trans
 use Rattle.pb_history.proofs.Agreement.{got}
 use Rattle.pb_history.proofs.TransactionAfter.{case_tells, case_observers}
 use Rattle.pb_history.proofs.BeginsOnce.{begins_once}
+use Rattle.pb_history.proofs.OneSeat.{one_seat}
 
 -- the entries that name s, with one more before them
 from_first : (observers : List ObserverOf) (s : ℕ) (e : Entry) (es : List Entry) (t : Option TransactionOf) (b : Bool)
@@ -30,6 +31,7 @@ run_tells old (e ∷ es) new s r =
 pub tells_transactions : (observers : List ObserverOf) (seats clock : ℕ) (journal : List Entry) (state : StateOf) → IsLegal observers seats clock journal state → TellsTransactions journal state
 tells_transactions observers seats clock journal state l = record {
   begins = begins_once observers seats clock journal state l;
+  one_seat = one_seat observers seats clock journal state l;
   each = λ s.
       let on = run_tells (opening observers seats clock) journal state s l.run in
       on.1 ∙ (λ i. transaction_from (sym on.0 i) (map.get-empty {X = TransactionOf} nat_cmp s i) (entries_naming s journal));

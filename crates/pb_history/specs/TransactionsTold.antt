@@ -1,5 +1,5 @@
 -- What a legal journal tells of each transaction: all that the table keeps of it follows from the entries that name its
--- start.
+-- start, which are one seat's.
 use Rattle.std.specs.Prelude.{◌≡◌, ℕ, Bool, true, false, ◌==◌, List, [], ◌∷◌, ◌++◌, Option, Some, None, option_map}
 use Rattle.std.specs.List.{filter, list_any}
 use Rattle.std.specs.FinMap as map
@@ -13,6 +13,7 @@ use Rattle.pb_steps.specs.Observers.{ObserverOf}
 use Rattle.pb_steps.specs.State.{StateOf, TransactionOf, new_transaction, cells_of}
 use Rattle.pb_steps.specs.Read.{with_read}
 use Rattle.pb_history.specs.declared.entry.Entry.{Entry}
+use Rattle.pb_history.specs.History.{Has}
 
 -- a step names a start, and a begin the one that it is answered
 abbrev pub names_start : ℕ → Step → Answer → Bool
@@ -65,7 +66,8 @@ abbrev pub BeginsOnce : List Entry → Type 0
 BeginsOnce [] = Unit {0}
 BeginsOnce (e ∷ es) = (is_begin e.step ≡ true) × (list_any (λ d. is_begin d.step) es ≡ false)
 
--- the state has that transaction, or none where no entry names the start
+-- the state has that transaction, or none where no entry names the start, and the entries that do are one seat's
 pub record TellsTransactions (journal : List Entry) (state : StateOf) : Type 0 where
   pub begins : (s : ℕ) → BeginsOnce (entries_naming s journal)
+  pub one_seat : (s : ℕ) (d e : Entry) → Has (entries_naming s journal) d → Has (entries_naming s journal) e → d.seat ≡ e.seat
   pub each : (s : ℕ) → map.get state.transactions s ≡ transaction_by state.observers (entries_naming s journal)

@@ -3,3 +3,10 @@ pub mod Kept
 pub mod LookTalk
 pub mod RunTalk
 pub mod Led
+pub mod RecordedReads
+pub mod ItsRun
+pub mod PlanSteps
+pub mod PlanEntries
+pub mod OwnSteps
+pub mod Allowed
+pub mod RunsKept

@@ -6,3 +6,4 @@ pub mod Runs
 pub mod Talks
 pub mod Forms
 pub mod Led
+pub mod Allowed

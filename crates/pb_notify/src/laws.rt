@@ -1,8 +1,10 @@
-//! What the steps of a run are.
+//! What the steps of a run are, and that the table takes them.
 ghost use Rattle.pb_notify.specs.Forms.{JobsTalk, JobsEnd};
 ghost use Rattle.pb_notify.specs.Led.{MachinesAreLed};
+ghost use Rattle.pb_notify.specs.Allowed.{JobsAreAllowed, RunsAreKept};
 
-use pb_txn::plans_talk;
+use pb_history::{journals_are_sound, transactions_are_told};
+use pb_txn::{plans_are_allowed, plans_talk};
 
 /// What a job has asked is a beginning of a run's conversation, and at its end a whole one, whose declared run is what its
 /// program means.
@@ -19,4 +21,16 @@ pub fn machines_are_led()
     ensures { MachinesAreLed }
 {
     plans_talk();
+}
+
+/// Where the entries of a legal journal that name a run's start are those of its job, the job's next step is refused only
+/// where no timestamp is left. They are its job's where the seat's entries end with what the job asked.
+pub fn jobs_are_allowed()
+    ensures allowed { JobsAreAllowed }
+    ensures kept { RunsAreKept }
+{
+    plans_talk();
+    plans_are_allowed();
+    transactions_are_told();
+    journals_are_sound();
 }

@@ -9,6 +9,6 @@ mod need;
 mod place;
 
 pub use job::ObserverJob;
-pub use laws::{jobs_talk, machines_are_led};
+pub use laws::{jobs_are_allowed, jobs_talk, machines_are_led};
 pub use look::MAX_LOCKED;
 pub use need::{JobEnd, Need};

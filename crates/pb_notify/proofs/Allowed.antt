@@ -1,0 +1,175 @@
+-- No step of a job comes at a wrong time, or declares what isn't its run.
+use Rattle.std.proofs.Common.{◌≡◌, ℕ, ◌<◌, ◌^◌, List, [], Option, Some, None, slice_get, refl, sym, ap, subst, ◌∙◌, true}
+use Rattle.std.specs.FinMap as finite
+use Rattle.pb_base.specs.declared.refusal.Reason.{Reason}
+use Rattle.pb_base.specs.declared.refusal.Reason.TheVariants.{OutOfTimestamps}
+use Rattle.pb_base.specs.declared.cell.Cell.{Cell}
+use Rattle.pb_base.specs.declared.cell.Cell.TheVariants.{Data, Ack}
+use Rattle.pb_base.specs.declared.names.Row.{Row}
+use Rattle.pb_base.specs.declared.names.Ts.{Ts}
+use Rattle.pb_helpers.specs.Record.{record_of}
+use Rattle.pb_steps.specs.declared.seen.RecordedRead.{RecordedRead}
+use Rattle.pb_steps.specs.declared.step.Work.TheVariants as works
+use Rattle.pb_steps.specs.declared.step.Declared.{Declared}
+use Rattle.pb_steps.specs.declared.step.Declared.TheVariants as declared
+use Rattle.pb_steps.specs.declared.step.Step.{Step}
+use Rattle.pb_steps.specs.declared.step.Step.TheVariants.{Begin, Declare, Sweep}
+use Rattle.pb_steps.specs.declared.step.Answer.TheVariants.{At}
+use Rattle.pb_steps.specs.Declarations.{AreReplies, is_its}
+use Rattle.pb_steps.specs.Observers.{ObserverOf, column_or_zero, observed_column}
+use Rattle.pb_steps.specs.State.{StateOf, TransactionOf}
+use Rattle.pb_steps.specs.Reasons.{IsOwn}
+use Rattle.pb_steps.specs.Steps.{step_reason}
+use Rattle.pb_history.specs.declared.entry.Entry.{Entry}
+use Rattle.pb_history.specs.declared.entry.Received.{Received}
+use Rattle.pb_history.specs.Journals.{IsLegal}
+use Rattle.pb_history.specs.History.{Has}
+use Rattle.pb_history.specs.Laws.{TransactionsAreTold, JournalsAreSound}
+use Rattle.pb_history.specs.TransactionsTold.{entries_naming, transaction_by, TellsTransactions}
+use Rattle.pb_txn.specs.declared.place.Place.TheVariants as orders
+use Rattle.pb_txn.specs.declared.place.Place as order
+use Rattle.pb_txn.specs.Places as steps
+use Rattle.pb_txn.specs.Plans.{PlanOf}
+use Rattle.pb_txn.specs.Plans as plans
+use Rattle.pb_txn.specs.Talks.{told}
+use Rattle.pb_txn.specs.Allowed.{IsInRange, IsTimely, PlansAreAllowed}
+use Rattle.pb_txn.specs.Forms.{PlansTalk, PlansEnd}
+use Rattle.pb_notify.specs.declared.look.Look.{Look}
+use Rattle.pb_notify.specs.declared.place.Place.{Place}
+use Rattle.pb_notify.specs.declared.place.Place.TheVariants.{Beginning, Observing, Acknowledging, Starting, Computing, Asking, Planning, Sweeping, Over}
+use Rattle.pb_notify.specs.Looks.{look_step}
+use Rattle.pb_notify.specs.Places.{step_at}
+use Rattle.pb_notify.specs.Allowed.{entries_by, HasRun, JobsAreAllowed}
+use Rattle.pb_notify.proofs.RunTalk as talk
+use Rattle.pb_notify.proofs.RecordedReads.{after, after_is, after_append, has_append, with_reads, IsRecorded, HasRead, in_look, cell_begins, observed, has_read, is_newer}
+use Rattle.pb_notify.proofs.ItsRun.{its_run}
+use Rattle.pb_notify.proofs.PlanEntries.{has_said}
+use Rattle.pb_notify.proofs.PlanSteps.{keeps, declaring_said_nothing, plan_step, plan_keeps}
+use Rattle.pb_notify.proofs.OwnSteps.{begins_in_time, no_transaction, looks_in_time, declares_in_time, goes_in_time}
+
+same_step : (t u : Step) → Some t ≡ Some u → t ≡ u
+same_step t u e = cc
+
+none_some : (t : Step) → None ≡ Some t → ⊥
+none_some t e = cc
+
+same_transaction : (o : Option TransactionOf) (t v : TransactionOf) → o ≡ Some t → o ≡ Some v → t ≡ v
+same_transaction o t v p q = cc
+
+module _ (observers : List ObserverOf) (seats clock : ℕ) (journal : List Entry) (state : StateOf) (legal : IsLegal observers seats clock journal state) (allowed : PlansAreAllowed)
+    (tells : TellsTransactions journal state) (seat o : ℕ) (row : Row) (observer : ObserverOf) (first_there : slice_get observers o ≡ Some observer) (there : slice_get state.observers o ≡ Some observer)
+    (row_fits : row.0 < 2 ^ 64) (column_fits : observer.column < 2 ^ 64) (seated : seat < state.seats) (said : List Received) (has : HasRun journal seat o row said) where
+  column_is : observed_column state.observers o ≡ observer.column
+  column_is = ap column_or_zero there
+
+  -- the table has the transaction that the conversation makes
+  got : (s : Ts) → Has said (told (Begin (works.Run o row)) (At s)) → finite.get state.transactions s.0 ≡ after state.observers seat s said None
+  got s begun = tells.each s.0 ∙ ap (transaction_by state.observers) (has s begun) ∙ after_is state.observers seat s said None
+
+  own_read : (s : Ts) (reads : List RecordedRead) → IsRecorded state.observers seat s o row said reads → IsOwn state seat s.0 (with_reads state.observers seat s o row reads)
+  own_read s reads i = record { there = got s i.begun ∙ i.there; mine = refl }
+
+  module _ (step : Step) (why : Reason) (refused : step_reason state seat step ≡ Some why) where
+    at_look : (s : Ts) (x : Cell) (look : Look) (reads : List RecordedRead) → IsRecorded state.observers seat s o row said reads → Some (look_step s x look) ≡ Some step → why ≡ OutOfTimestamps
+    at_look s x look reads i next =
+        absurd (looks_in_time state seat why seated s.0 (with_reads state.observers seat s o row reads) (own_read s reads i) s x look step refl refl next refused)
+
+    module _ (n r : ℕ) (p : PlanOf) (i : talk.IsPlanned o observer.program row observer.column n r p said) where
+      abbrev what : Declared
+      what = declared.Run o i.run
+
+      read : HasRead state.observers seat i.s o row observer.column i.seen i.talk i.base
+      read = has_read state.observers seat i.s o row observer.column i.seen i.talk n i.base i.asked
+
+      abbrev u : TransactionOf
+      u = with_reads state.observers seat i.s o row read.reads
+
+      begun : Has said (told (Begin (works.Run o row)) (At i.s))
+      begun = subst (λ l. Has l (told (Begin (works.Run o row)) (At i.s))) (sym i.said_is) (has_append i.base i.plan _ read.recorded.begun)
+
+      got_is : finite.get state.transactions i.s.0 ≡ after state.observers seat i.s i.plan (Some u)
+      got_is =
+          got i.s begun
+          ∙ ap (λ l. after state.observers seat i.s l None) i.said_is
+          ∙ after_append state.observers seat i.s i.base i.plan None
+          ∙ ap (after state.observers seat i.s i.plan) read.recorded.there
+
+      -- it may declare what its plan declares
+      its : is_its state.observers (works.Run o row) i.s.0 read.reads what ≡ true
+      its =
+          let w = read.was in
+          its_run state.observers o row i.s.0 read.reads i.run (record {
+            observer = observer;
+            observer_is = there;
+            seen = i.seen;
+            asked = read.asked;
+            was = record {
+              first = w.first;
+              second = w.second;
+              reads_are = w.reads_are;
+              observed = w.observed ∙ ap (Data row) (sym column_is);
+              found = w.found;
+              acknowledgment = w.acknowledgment ∙ ap (Ack o row) (sym column_is);
+              acknowledged = w.acknowledged;
+            };
+            newer = is_newer i.s o row observer.column i.seen i.talk n i.base i.asked;
+            program = i.run_on.program;
+            bytes = i.run_on.bytes ∙ ap (λ c. record_of (Data row c) i.seen.version i.seen.acknowledged.0) (sym column_is);
+            began = i.run_on.began;
+            replied = subst (AreReplies read.asked) (sym i.run_on.talk_is) read.replied;
+          })
+
+      at_declaration : p.place ≡ orders.Declaring → Some (Declare i.s what) ≡ Some step → ⊥
+      at_declaration is next =
+          let nothing = declaring_said_nothing (plans.fresh i.s.0 what) p i.plan is i.talks_are in
+          let own : IsOwn state seat i.s.0 u = record { there = got_is ∙ ap (λ l. after state.observers seat i.s l (Some u)) nothing; mine = refl } in
+          declares_in_time state seat why seated i.s.0 u own i.s what refl refl its (subst (λ z. step_reason state seat z ≡ Some why) (sym (same_step (Declare i.s what) step next)) refused)
+
+      in_range : (t : TransactionOf) → t.work ≡ works.Run o row → IsInRange observers t.work
+      in_range t is = subst (IsInRange observers) (sym is) (row_fits, subst (λ c. c < 2 ^ 64) (sym (ap column_or_zero first_there)) column_fits)
+
+      timely : plans.next_of p ≡ Some step → IsTimely why
+      timely next =
+          let kept = plan_keeps state.observers seat i.s (plans.fresh i.s.0 what) p i.plan u i.talks_are in
+          let said_by = subst (λ l. entries_naming i.s.0 journal ≡ entries_naming i.s.0 (entries_by seat l)) i.said_is (has i.s begun) in
+          allowed observers seats clock journal state legal seat i.s.0 what i.plan p step why
+          (λ t h. in_range t (ap (λ (z : TransactionOf). z.work) (same_transaction _ t kept.0 h (got_is ∙ kept.1)) ∙ kept.2.work)) i.talks_are
+          (has_said journal seat i.s i.base i.plan read.recorded.bare said_by) next refused
+
+      later_on : (at : order.Place) → (at ≡ orders.Declaring → ⊥) → steps.step_at i.s.0 what at ≡ Some step → plans.next_of p ≡ Some step → why ≡ OutOfTimestamps
+      later_on at later here next =
+          let kept = plan_keeps state.observers seat i.s (plans.fresh i.s.0 what) p i.plan u i.talks_are in
+          goes_in_time state seat why seated i.s.0 kept.0 (record { there = got_is ∙ kept.1; mine = kept.2.seat }) at step later (plan_step i.s.0 what at step here) (timely next) refused
+
+      by_place : (at : order.Place) → p.place ≡ at → steps.step_at i.s.0 what at ≡ Some step → plans.next_of p ≡ Some step → why ≡ OutOfTimestamps
+      by_place orders.Declaring is here next = absurd (at_declaration is here)
+      by_place at is here next = later_on at (λ e. cc) here next
+
+      at_plan : plans.next_of p ≡ Some step → why ≡ OutOfTimestamps
+      at_plan next =
+          let ks = keeps (plans.fresh i.s.0 what) p i.plan i.talks_are in
+          by_place p.place refl ((λ j. steps.step_at (sym ks.0 j) (sym ks.1 j) p.place) ∙ next) next
+
+    at_place : (n : ℕ) (place : Place) → talk.SoFar o observer.program row observer.column n place said → step_at o row observer.column place ≡ Some step → why ≡ OutOfTimestamps
+    at_place n Beginning so next =
+        begins_in_time state seat why seated o row observer there (subst (λ z. step_reason state seat z ≡ Some why) (sym (same_step (Begin (works.Run o row)) step next)) refused)
+    at_place n (Observing s look) so next = at_look s _ look [] (cell_begins state.observers seat s o row observer.column look n said so) next
+    at_place n (Acknowledging s found look) so next =
+        at_look s _ look _ (in_look state.observers seat s o row (Ack o row observer.column) so.0 so.1 look n said _ (observed state.observers seat s o row observer.column found so.0 so.1 so.2) so.3) next
+    at_place n (Starting s seen) so next = absurd (none_some step next)
+    at_place n (Computing s v) so next = absurd (none_some step next)
+    at_place n (Asking s v q look) so next =
+        let r = has_read state.observers seat s o row observer.column so.0 v.talk so.1 so.2 so.4 in
+        at_look s _ look r.reads (in_look state.observers seat s o row (Data q.row q.column) so.1 so.2 look n said r.reads r.recorded so.5) next
+    at_place n (Planning r p) so next = at_plan n r p so next
+    at_place n (Sweeping end) so next =
+        absurd (no_transaction state seat why seated (subst (λ z. step_reason state seat z ≡ Some why) (sym (same_step (Sweep (Data row observer.column)) step next)) refused))
+    at_place n (Over end) so next = absurd (none_some step next)
+
+pub jobs_allowed : PlansTalk → PlansEnd → PlansAreAllowed → TransactionsAreTold → JournalsAreSound → JobsAreAllowed
+jobs_allowed pt pe allowed told_by sound observers seats clock journal state legal seat o observer row said k step why seated there row_fits column_fits reaches has next refused =
+    let h = talk.holds o observer.program row observer.column pt pe said k reaches in
+    let os_is = (sound observers seats clock journal state legal).observers_stay in
+    let here : step_at o row observer.column k.place ≡ Some step = (λ i. step_at (sym h.observer i) (sym h.in_row i) (sym h.in_column i) k.place) ∙ next in
+    at_place observers seats clock journal state legal allowed (told_by observers seats clock journal state legal) seat o row observer there (ap (λ os. slice_get os o) os_is ∙ there)
+    row_fits column_fits seated said has step why refused k.locked k.place h.so here

@@ -1,0 +1,112 @@
+-- Why a step of a transaction that the table has is refused.
+use Rattle.std.proofs.Common.{◌≡◌, ℕ, ◌<◌, Bool, true, false, cond, not, length, Option, Some, None, slice_get, refl, sym, ap, subst, ◌∙◌}
+use Rattle.std.proofs.lemmas.Bool.{eq-eqb, lt-ltb}
+use Rattle.std.proofs.lemmas.Option.{slice_get_within}
+use Rattle.pb_base.specs.declared.cell.Cell.{Cell}
+use Rattle.pb_base.specs.declared.names.Row.{Row}
+use Rattle.pb_base.specs.declared.names.Ts.{Ts}
+use Rattle.pb_base.specs.declared.refusal.Reason.{Reason}
+use Rattle.pb_base.specs.declared.refusal.Reason.TheVariants.{OutOfTimestamps, NotOfSeat, NoSuchObserver, WrongPhase, NotItsDeclaration, NotDeclared, AlreadyPrewritten}
+use Rattle.pb_steps.specs.declared.step.Work.TheVariants as works
+use Rattle.pb_steps.specs.declared.step.Declared.{Declared}
+use Rattle.pb_steps.specs.declared.step.Step.{Step}
+use Rattle.pb_steps.specs.declared.step.Step.TheVariants.{Begin, Declare, Prewrite, Stamp, CommitPrimary, CommitSecondary, Settle, Clear}
+use Rattle.pb_steps.specs.Phases.{is_reading}
+use Rattle.pb_steps.specs.Observers.{ObserverOf}
+use Rattle.pb_steps.specs.State.{StateOf, TransactionOf}
+use Rattle.pb_steps.specs.Declarations.{is_its}
+use Rattle.pb_steps.specs.Read.{read_reasons}
+use Rattle.pb_steps.specs.Declare.{declare_reasons}
+use Rattle.pb_steps.specs.Prewrite.{prewrite_reasons}
+use Rattle.pb_steps.specs.Stamp.{unstamped_reasons}
+use Rattle.pb_steps.specs.CommitPrimary.{commit_reasons}
+use Rattle.pb_steps.specs.CommitSecondary.{secondary_reasons}
+use Rattle.pb_steps.specs.Reasons.{Reasons, IsOwn, is_out, no_seat, if_of_seat, first_reason, reasons_of, own_reasons}
+use Rattle.pb_steps.specs.Steps.{step_reason}
+use Rattle.pb_txn.specs.declared.place.Place.{Place}
+use Rattle.pb_txn.specs.declared.place.Place.TheVariants.{Declaring}
+use Rattle.pb_txn.specs.Allowed.{IsTimely}
+use Rattle.pb_notify.specs.declared.look.Look.{Look}
+use Rattle.pb_notify.specs.declared.look.Look.TheVariants.{Reading, Clearing, Settling, ClearingAgain}
+use Rattle.pb_notify.specs.Looks.{look_step}
+use Rattle.pb_notify.proofs.PlanSteps.{IsPlanStep}
+
+none_why : (why : Reason) → ◌≡◌ {A = Option Reason} None (Some why) → ⊥
+none_why why e = cc
+
+same_reason : (r why : Reason) → Some r ≡ Some why → why ≡ r
+same_reason r why e = cc
+
+-- the first applies, or another
+first_or : (b : Bool) (r why : Reason) (rest : Option Reason) → (why ≡ r → ⊥) → cond b (Some r) rest ≡ Some why → rest ≡ Some why
+first_or true r why rest isnt e = absurd (isnt (same_reason r why e))
+first_or false r why rest isnt e = e
+
+it_or_none : (b : Bool) (r why : Reason) → cond b (Some r) None ≡ Some why → why ≡ r
+it_or_none true r why e = same_reason r why e
+it_or_none false r why e = absurd (none_why why e)
+
+it_or : (b : Bool) (r why : Reason) (rest : Option Reason) → (rest ≡ Some why → ⊥) → cond b (Some r) rest ≡ Some why → why ≡ r
+it_or true r why rest isnt e = same_reason r why e
+it_or false r why rest isnt e = absurd (isnt e)
+
+module _ (state : StateOf) (seat : ℕ) (why : Reason) (seated : seat < state.seats) where
+  has_seat : no_seat state seat ≡ false
+  has_seat = ap not (lt-ltb seat state.seats seated)
+
+  -- a step that names no transaction isn't refused
+  pub no_transaction : cond (no_seat state seat) (Some NotOfSeat) None ≡ Some why → ⊥
+  no_transaction e = none_why why (ap (λ b. cond b (Some NotOfSeat) None) (sym has_seat) ∙ e)
+
+  -- of an observer that there is
+  pub begins_in_time : (o : ℕ) (row : Row) (observer : ObserverOf) → slice_get state.observers o ≡ Some observer → step_reason state seat (Begin (works.Run o row)) ≡ Some why → why ≡ OutOfTimestamps
+  begins_in_time o row observer there e =
+      let known : length state.observers ≡ length state.observers = refl in
+      it_or_none (is_out state) OutOfTimestamps why
+      ((λ i. cond (is_out state) (Some OutOfTimestamps) (cond (sym has_seat i) (Some NotOfSeat) (cond (not (sym (lt-ltb o (length state.observers) (slice_get_within state.observers o observer there)) i)) (Some NoSuchObserver) None))) ∙ e)
+
+  module _ (s : ℕ) (t : TransactionOf) (own : IsOwn state seat s t) where
+    by_own : (reasons : TransactionOf → Reasons) → first_reason (own_reasons state seat s reasons) ≡ first_reason (reasons t)
+    by_own reasons =
+        ap (λ o. first_reason (reasons_of o reasons))
+        ((λ i. cond (has_seat i) None (if_of_seat seat (own.there i))) ∙ ap (λ b. cond b (Some t) None) (eq-eqb t.seat seat own.mine))
+
+    -- a look of one that reads
+    pub looks_in_time : (start : Ts) (x : Cell) (look : Look) (step : Step) → start.0 ≡ s → is_reading t.phase ≡ true → Some (look_step start x look) ≡ Some step → step_reason state seat step ≡ Some why → ⊥
+    looks_in_time start x look step is reads at e = by look (subst (λ z. step_reason state seat z ≡ Some why) (sym (same_step (look_step start x look) step at)) e) where
+      same_step : (a b : Step) → Some a ≡ Some b → a ≡ b
+      same_step a b h = cc
+
+      by : (l : Look) → step_reason state seat (look_step start x l) ≡ Some why → ⊥
+      by Reading h =
+          none_why why (ap (λ b. cond (not b) (Some WrongPhase) None) (sym reads) ∙ sym (by_own read_reasons) ∙ ap (λ n. first_reason (own_reasons state seat n read_reasons)) (sym is) ∙ h)
+      by (Clearing primary) h = no_transaction h
+      by (Settling primary) h = no_transaction h
+      by ClearingAgain h = no_transaction h
+
+    -- the declaration of one that reads, where it is its own
+    pub declares_in_time : (start : Ts) (what : Declared) → start.0 ≡ s → is_reading t.phase ≡ true → is_its state.observers t.work s t.reads what ≡ true
+        → step_reason state seat (Declare start what) ≡ Some why → ⊥
+    declares_in_time start what is reads its e =
+        none_why why
+        ((λ i. cond (not (sym reads i)) (Some WrongPhase) (cond (not (sym its i)) (Some NotItsDeclaration) None))
+        ∙ sym (by_own (declare_reasons state.observers s what))
+        ∙ ap (λ n. first_reason (own_reasons state seat n (declare_reasons state.observers n what))) (sym is)
+        ∙ e)
+
+    own_step : (start : Ts) (reasons : TransactionOf → Reasons) → start.0 ≡ s → first_reason (own_reasons state seat start.0 reasons) ≡ Some why → first_reason (reasons t) ≡ Some why
+    own_step start reasons is e = sym (by_own reasons) ∙ ap (λ n. first_reason (own_reasons state seat n reasons)) (sym is) ∙ e
+
+    -- a later step of a plan, at its time
+    pub goes_in_time : (p : Place) (step : Step) → (p ≡ Declaring → ⊥) → IsPlanStep s p step → IsTimely why → step_reason state seat step ≡ Some why → why ≡ OutOfTimestamps
+    goes_in_time p (Declare start what) later i timely e = absurd (later i)
+    goes_in_time p (Prewrite start x) later i timely e =
+        absurd (none_why why (first_or _ AlreadyPrewritten why None timely.once (first_or _ NotDeclared why _ timely.declared (first_or _ WrongPhase why _ timely.phase (own_step start (prewrite_reasons x) i e)))))
+    goes_in_time p (Stamp start) later i timely e =
+        it_or (is_out state) OutOfTimestamps why _ (λ f. none_why why (first_or _ WrongPhase why None timely.phase (own_step start unstamped_reasons i f))) e
+    goes_in_time p (CommitPrimary start) later i timely e = absurd (none_why why (first_or _ WrongPhase why None timely.phase (own_step start commit_reasons i e)))
+    goes_in_time p (CommitSecondary start x) later i timely e =
+        absurd (none_why why (first_or _ NotDeclared why None timely.declared (first_or _ WrongPhase why _ timely.phase (own_step start (secondary_reasons x) i e))))
+    goes_in_time p (Settle x) later i timely e = absurd (no_transaction e)
+    goes_in_time p (Clear x) later i timely e = absurd (no_transaction e)
+    goes_in_time p _ later i timely e = absurd i
