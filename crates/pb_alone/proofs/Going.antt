@@ -12,7 +12,8 @@ use Rattle.pb_core.specs.Calls.{SharedOf, SeatOf, Calls, or_full}
 use Rattle.pb_txn.specs.Talks.{told}
 use Rattle.pb_alone.specs.declared.fault.RunFault.{RunFault}
 use Rattle.pb_alone.specs.declared.fault.RunFault.TheVariants as faults
-use Rattle.pb_alone.specs.Alone.{Goes, Gains, entry, entries_by}
+use Rattle.pb_notify.specs.Allowed.{entries_by}
+use Rattle.pb_alone.specs.Alone.{Goes, Gains, entry}
 use Rattle.pb_alone.specs.Faults.{IsRefusedBy}
 use Rattle.pb_alone.specs.Stops.{IsEnd, StoppedAt, IfRefused}
 

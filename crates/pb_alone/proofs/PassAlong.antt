@@ -1,5 +1,5 @@
 -- Passes over the marked cells on their way.
-use Rattle.std.proofs.Common.{◌≡◌, ◌≢◌, ℕ, ◌<◌, suc, Bool, true, false, cond, not, List, [], ◌∷◌, ◌++◌, length, Option, Some, None, refl, sym, ap, subst, ◌∙◌, inl, inr}
+use Rattle.std.proofs.Common.{◌≡◌, ◌≢◌, ℕ, ◌+◌, ◌<◌, Bool, true, false, cond, not, List, [], ◌∷◌, ◌++◌, length, Option, Some, None, refl, sym, ap, subst, ◌∙◌, inl, inr}
 use Rattle.std.specs.Prelude.{is_some, nat_lt}
 use Rattle.std.proofs.lemmas.Bool.{lt-ltb}
 use Rattle.pb_base.specs.declared.cell.Cell.{Cell}
@@ -19,7 +19,8 @@ use Rattle.pb_core.specs.Calls.{SharedOf, SeatOf, Calls}
 use Rattle.pb_txn.specs.Talks.{told}
 use Rattle.pb_alone.specs.declared.fault.RunFault.{RunFault}
 use Rattle.pb_alone.specs.declared.passes.TheConstants.{MAX_PASSES}
-use Rattle.pb_alone.specs.Alone.{Gains, entries_by}
+use Rattle.pb_notify.specs.Allowed.{entries_by}
+use Rattle.pb_alone.specs.Alone.{Gains}
 use Rattle.pb_alone.specs.Faults.{IsRefusedBy}
 use Rattle.pb_alone.specs.Passes.{IsRun, RunAsks, IsOfOther, AreRuns, before_all, runs as ran_then, passes_by, AreAllRuns, RunsAsk, IsWalk, at_beginning, found as found_then, IsPass, IsPassThat, PassAsks, a_mark, a_run, ArePasses, at_first, one_more, IsDrain, DrainAsks}
 use Rattle.pb_alone.specs.Stops.{StoppedAt, IfRefused}
@@ -28,10 +29,10 @@ use Rattle.pb_alone.proofs.Going.{append_assoc, append_nil, gains_none, gains_mo
 -- ---- the observers of a cell, one after another
 
 module _ (observers : List ObserverOf) (x : Cell) (a b : SharedOf) (n i : ℕ) (runs : Gains (AreRuns observers x i) a n b) where
-  pub one_run : (c : SharedOf) (k : ℕ) → k ≡ n → Gains (IsRun observers i x) b k c → Gains (AreRuns observers x (suc i)) a n c
+  pub one_run : (c : SharedOf) (k : ℕ) → k ≡ n → Gains (IsRun observers i x) b k c → Gains (AreRuns observers x (i + 1)) a n c
   one_run c k same h = gains_on a b c n k same runs h (λ said more p r. ran_then i said more p r)
 
-  pub no_run : IsOfOther observers i x → Gains (AreRuns observers x (suc i)) a n b
+  pub no_run : IsOfOther observers i x → Gains (AreRuns observers x (i + 1)) a n b
   no_run other = record { said = runs.said; journal = runs.journal; are_such = passes_by i runs.said runs.are_such other }
 
   pub runs_stop : (c : SharedOf) (k : ℕ) (f : RunFault) → k ≡ n → IfRefused (StoppedAt (RunAsks observers i x) b k c) f → IfRefused (StoppedAt (RunsAsk observers x) a n c) f
@@ -105,7 +106,7 @@ pub no_passes : (observers : List ObserverOf) (a : SharedOf) (n : ℕ) → Gains
 no_passes observers a n = gains_none a n at_first
 
 module _ (observers : List ObserverOf) (count : ℕ) (a b : SharedOf) (n : ℕ) (before : Gains (ArePasses observers count) a n b) where
-  pub pass_on : (c : SharedOf) (k : ℕ) (marked : Bool) → marked ≡ true → k ≡ n → Gains (IsPassThat observers marked) b k c → Gains (ArePasses observers (suc count)) a n c
+  pub pass_on : (c : SharedOf) (k : ℕ) (marked : Bool) → marked ≡ true → k ≡ n → Gains (IsPassThat observers marked) b k c → Gains (ArePasses observers (count + 1)) a n c
   pass_on c k true is same h = gains_on a b c n k same before h (λ said more p r. one_more count said more r.0 p r.1)
   pass_on c k false is same h = cc
 

@@ -1,9 +1,9 @@
 -- An observer's run on its way to its end.
-use Rattle.std.proofs.Common.{◌≡◌, ◌≢◌, ℕ, ◌+◌, ◌-◌, ◌<◌, ◌≤◌, List, [], ◌∷◌, ◌++◌, Option, Some, None, refl, sym, ap, subst, ◌∙◌, arith}
+use Rattle.std.proofs.Common.{◌≡◌, ◌≢◌, ℕ, ◌+◌, ◌-◌, ◌^◌, ◌<◌, ◌≤◌, List, [], ◌∷◌, ◌++◌, Option, Some, None, refl, sym, ap, subst, ◌∙◌, arith}
 use Rattle.std.specs.Prelude.{slice_get}
 use Rattle.pb_base.specs.declared.cell.Cell.{Cell}
 use Rattle.pb_base.specs.declared.cell.Cell.TheVariants.{Data}
-use Rattle.pb_base.specs.Cell.{row_of}
+use Rattle.pb_base.specs.Cell.{row_of, column_of}
 use Rattle.pb_base.specs.declared.names.Ts.{Ts}
 use Rattle.pb_base.specs.declared.refusal.Reason.{Reason}
 use Rattle.pb_base.specs.declared.refusal.Reason.TheVariants.{OutOfTimestamps}
@@ -15,6 +15,9 @@ use Rattle.pb_steps.specs.declared.step.Answer.{Answer}
 use Rattle.pb_steps.specs.Answers.{CanAnswer}
 use Rattle.pb_steps.specs.Observers.{ObserverOf}
 use Rattle.pb_history.specs.declared.entry.Received.{Received}
+use Rattle.pb_history.specs.Journals.{IsLegal}
+use Rattle.pb_history.specs.Places.{entries_of}
+use Rattle.pb_steps.specs.Steps.{step_reason}
 use Rattle.pb_core.specs.Calls.{SharedOf, SeatOf, Calls}
 use Rattle.pb_txn.specs.Talks.{told}
 use Rattle.pb_notify.specs.declared.machine.stepped.Stepped.{Stepped}
@@ -29,9 +32,11 @@ use Rattle.pb_notify.specs.Steps.{Steps}
 use Rattle.pb_notify.specs.Runs.{RunOf, HasNext, next_of, need_of, answered, IsTold, Computes}
 use Rattle.pb_notify.specs.Talks.{Reaches, made, took, computed}
 use Rattle.pb_notify.specs.Forms.{JobsEnd}
+use Rattle.pb_notify.specs.Allowed.{JobsAreAllowed, RunsAreKept}
 use Rattle.pb_alone.specs.Alone.{Goes, Gains}
 use Rattle.pb_alone.specs.Passes.{IsObserverOf, HasColumn, IsJobOn, IsComputed, IsRun, RunAsks, job_on}
 use Rattle.pb_alone.proofs.Going.{gains_none, gains_more, stays, goes_on, called}
+use Rattle.pb_alone.proofs.Seated.{entries_then}
 
 -- ---- its machine
 
@@ -120,6 +125,17 @@ module _ (observers : List ObserverOf) (n : ℕ) (x : Cell) (s0 : SharedOf) (q0 
     journal = along.gains.journal;
     are_such = record { o = along.o; observer = along.observer; job = job; reaches = along.gains.are_such; next = e };
   }
+
+  -- only the clock refuses its steps
+  pub allowed : JobsAreAllowed → RunsAreKept → IsLegal s.state.observers s.state.seats s.opened s.journal s.state → q0.number < s0.state.seats → (row_of x).0 < 2 ^ 64 → column_of x < 2 ^ 64
+      → observers ≡ s0.state.observers → (step : Step) → next_of job ≡ Some step → (why : Reason) → step_reason s.state q0.number step ≡ Some why → why ≡ OutOfTimestamps
+  allowed law kept legal seated tall narrow same step e why refused =
+      let same_now : s.state.observers ≡ observers = along.goes.observers ∙ sym same in
+      let there : slice_get s.state.observers n ≡ Some along.o = ap (λ os. slice_get os n) same_now ∙ along.observer.there in
+      let here : entries_of q0.number s.journal ≡ entries_of q0.number s0.journal ++ along.gains.said = ap (entries_of q0.number) along.gains.journal ∙ entries_then q0.number s0.journal along.gains.said in
+      let has = kept s.state.observers s.state.seats s.opened s.journal s.state legal q0.number n (row_of x) (entries_of q0.number s0.journal) along.gains.said here in
+      law s.state.observers s.state.seats s.opened s.journal s.state legal q0.number n along.o (row_of x) along.gains.said job step why
+      (subst (λ k. q0.number < k) (sym along.goes.seats) seated) there tall (subst (λ k. k < 2 ^ 64) (sym along.observer.column) narrow) along.gains.are_such has e refused
 
   -- at its end
   over_by : (need : Need) → need_of job ≡ need → next_of job ≡ None → (need_of job ≡ Call → HasNext job) → (end : JobEnd) × (need_of job ≡ Over end)

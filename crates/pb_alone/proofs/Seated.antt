@@ -1,15 +1,24 @@
 -- All seats of a table are still all its seats after one of them made steps.
-use Rattle.std.proofs.Common.{◌≡◌, ◌≢◌, ℕ, ◌+◌, ◌<◌, List, [], ◌∷◌, ◌++◌, length, map, slice_set, refl, sym, ap, subst, ◌∙◌, arith, eq-eqb, ne_eqb}
-use Rattle.std.specs.Prelude.{slice_index_or}
+use Rattle.std.proofs.Common.{◌≡◌, ◌≢◌, ℕ, ◌+◌, ◌<◌, Bool, true, false, cond, List, [], ◌∷◌, ◌++◌, length, slice_set, refl, sym, ap, subst, ◌∙◌, arith, eq-eqb, ne_eqb}
+use Rattle.std.specs.Prelude.{slice_index_or, ◌==◌}
 use Rattle.pb_history.specs.declared.entry.Entry.{Entry}
 use Rattle.pb_history.specs.declared.entry.Received.{Received}
 use Rattle.pb_history.specs.Places.{entries_of}
 use Rattle.pb_core.specs.Calls.{SharedOf, SeatOf, AreSeatsFrom, AreSeats}
-use Rattle.pb_alone.specs.Alone.{entry, Goes}
+use Rattle.pb_notify.specs.Allowed.{entries_by}
+use Rattle.pb_alone.specs.Alone.{Goes}
 use Rattle.pb_alone.specs.Runs.{KeepsSeats}
 
 abbrev of_seat : ℕ → List Received → List Entry
-of_seat n more = map (λ r. entry n r.step r.answer) more
+of_seat n more = entries_by n more
+
+one_more : (b : Bool) (r : Received) (all xs ys : List Received) → all ≡ xs ++ ys → cond b (r ∷ all) all ≡ cond b (r ∷ xs) xs ++ ys
+one_more true r all xs ys e = ap (λ l. r ∷ l) e
+one_more false r all xs ys e = e
+
+entries_join : (n : ℕ) (xs ys : List Entry) → entries_of n (xs ++ ys) ≡ entries_of n xs ++ entries_of n ys
+entries_join n [] ys = refl
+entries_join n (x ∷ xs) ys = one_more (x.seat == n) (record { step = x.step; answer = x.answer }) (entries_of n (xs ++ ys)) (entries_of n xs) (entries_of n ys) (entries_join n xs ys)
 
 own_alone : (n : ℕ) (more : List Received) → entries_of n (of_seat n more) ≡ more
 own_alone n [] = refl
@@ -21,6 +30,10 @@ none_alone k n (r ∷ rs) apart = rw (ne_eqb n k apart) (none_alone k n rs apart
 
 less_apart : (a b : ℕ) → a < b → a ≢ b
 less_apart a b lt e = omega (arith, lt, e)
+
+-- a seat's entries are those before, and those that were added
+pub entries_then : (n : ℕ) (j : List Entry) (more : List Received) → entries_of n (j ++ of_seat n more) ≡ entries_of n j ++ more
+entries_then n j more = entries_join n j (of_seat n more) ∙ ap (λ l. entries_of n j ++ l) (own_alone n more)
 
 -- seats numbered from higher on
 others : (from n : ℕ) (more : List Received) (seats : List SeatOf) → n < from → AreSeatsFrom from [] seats → AreSeatsFrom from (of_seat n more) seats

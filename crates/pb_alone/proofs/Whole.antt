@@ -25,7 +25,8 @@ use Rattle.pb_alone.specs.declared.fault.ReportFault.TheVariants as ends
 use Rattle.pb_alone.specs.declared.fault.RunFault.{RunFault}
 use Rattle.pb_alone.specs.declared.fault.RunFault.TheVariants as faults
 use Rattle.pb_base.specs.declared.names.Ts.{Ts}
-use Rattle.pb_alone.specs.Alone.{IsClean, ts, entry, entries_by, change_entries, changes_from}
+use Rattle.pb_notify.specs.Allowed.{entries_by}
+use Rattle.pb_alone.specs.Alone.{IsClean, ts, entry, change_entries, changes_from}
 use Rattle.pb_alone.specs.Faults.{of_report}
 use Rattle.pb_alone.specs.Stops.{IfRefused, WorkStopped}
 use Rattle.pb_alone.specs.Runs.{Works, Made, Reports, Runs}

@@ -16,6 +16,7 @@ use Rattle.pb_history.specs.declared.entry.Entry.{Entry}
 use Rattle.pb_history.specs.declared.entry.Received.{Received}
 use Rattle.pb_core.specs.Calls.{SharedOf, SeatOf}
 use Rattle.pb_history.specs.History.{Member}
+use Rattle.pb_notify.specs.Allowed.{entries_by}
 
 -- no lock stands, and no write record is later than the clock
 pub record IsClean (state : StateOf) : Type 0 where
@@ -50,10 +51,6 @@ change_at seat clock batch = record { start = clock + 1; commit = clock + 2; sea
 abbrev pub changes_from : ℕ → ℕ → List Writes → List Member
 changes_from seat clock [] = []
 changes_from seat clock (batch ∷ batches) = change_at seat clock batch ∷ changes_from seat (clock + 2) batches
-
--- as the entries of a seat
-abbrev pub entries_by : ℕ → List Received → List Entry
-entries_by seat said = map (λ r. entry seat r.step r.answer) said
 
 -- the journal went on by entries of this seat alone, which are such
 pub record Gains (AreSuch : List Received → Type 0) (old : SharedOf) (seat : ℕ) (new : SharedOf) : Type 0 where

@@ -1,5 +1,5 @@
 -- Passes over the marked cells (OSDI 2010, section 2.4): each mark is found, and the observers of its column are run on it.
-use Rattle.std.specs.Prelude.{◌≡◌, ◌≢◌, ℕ, suc, ◌<◌, ◌⊎◌, Bool, true, false, List, [], ◌∷◌, ◌++◌, length, Option, Some, None, slice_get}
+use Rattle.std.specs.Prelude.{◌≡◌, ◌≢◌, ℕ, ◌+◌, ◌<◌, ◌⊎◌, Bool, true, false, List, [], ◌∷◌, ◌++◌, length, Option, Some, None, slice_get}
 use Rattle.pb_base.specs.declared.cell.Cell.{Cell}
 use Rattle.pb_base.specs.Cell.{row_of, column_of}
 use Rattle.pb_vm.specs.Finished.{Meant}
@@ -59,8 +59,8 @@ pub record IsOfOther (observers : List ObserverOf) (n : ℕ) (x : Cell) : Type 0
 -- a run of each observer of the cell's column among the first so many, in file order
 pub data AreRuns (observers : List ObserverOf) (x : Cell) : ℕ → List Received → Type 0 where
   before_all : AreRuns observers x 0 []
-  runs : (n : ℕ) (said more : List Received) → AreRuns observers x n said → IsRun observers n x more → AreRuns observers x (suc n) (said ++ more)
-  passes_by : (n : ℕ) (said : List Received) → AreRuns observers x n said → IsOfOther observers n x → AreRuns observers x (suc n) said
+  runs : (n : ℕ) (said more : List Received) → AreRuns observers x n said → IsRun observers n x more → AreRuns observers x (n + 1) (said ++ more)
+  passes_by : (n : ℕ) (said : List Received) → AreRuns observers x n said → IsOfOther observers n x → AreRuns observers x (n + 1) said
 
 abbrev pub AreAllRuns : List ObserverOf → Cell → List Received → Type 0
 AreAllRuns observers x said = AreRuns observers x (length observers) said
@@ -85,7 +85,7 @@ IsPassThat observers false said = IsPass observers None said
 -- so many passes, each of which found a mark
 pub data ArePasses (observers : List ObserverOf) : ℕ → List Received → Type 0 where
   at_first : ArePasses observers 0 []
-  one_more : (n : ℕ) (said more : List Received) (x : Cell) → ArePasses observers n said → IsPass observers (Some x) more → ArePasses observers (suc n) (said ++ more)
+  one_more : (n : ℕ) (said more : List Received) (x : Cell) → ArePasses observers n said → IsPass observers (Some x) more → ArePasses observers (n + 1) (said ++ more)
 
 -- the first pass that finds no mark is the last, or the last that may be made
 pub record IsDrain (observers : List ObserverOf) (said : List Received) : Type 0 where

@@ -11,7 +11,8 @@ use Rattle.pb_core.specs.Calls.{SharedOf, call_reason}
 use Rattle.pb_txn.specs.Changes.{ChangeOf, new_change, next_of, Talks}
 use Rattle.pb_alone.specs.declared.fault.RunFault.{RunFault}
 use Rattle.pb_alone.specs.declared.fault.RunFault.TheVariants as faults
-use Rattle.pb_alone.specs.Alone.{Changes, entries_by, change_entries, changes_from}
+use Rattle.pb_notify.specs.Allowed.{entries_by}
+use Rattle.pb_alone.specs.Alone.{Changes, change_entries, changes_from}
 use Rattle.pb_alone.specs.Passes.{DrainAsks}
 
 -- the step was refused with this number, for want of a timestamp or of room in the journal

@@ -6,9 +6,9 @@ ghost use Rattle.pb_alone.specs.Stops.{StoppedAt, IfRefused};
 
 use crate::change::take;
 use crate::fault::RunFault;
-use pb_base::{Cell, NoMemory, ObserverNo};
+use pb_base::{COLUMNS, Cell, NoMemory, ObserverNo};
 use pb_core::{Seat, Shared};
-use pb_notify::{Need, ObserverJob, jobs_talk};
+use pb_notify::{Need, ObserverJob, jobs_are_allowed, jobs_talk};
 use pb_store::Tablet;
 use std::alloc::Global;
 use std::sync::Arc;
@@ -56,10 +56,15 @@ pub(crate) fn run_one<T: Tablet>(
     ensures ok { OnOk result (Gains (IsRun shared.old.state.observers number cell) shared.old seat.old.number shared.new) }
     ensures err { IfErr result (IfRefused (StoppedAt (RunAsks shared.old.state.observers number cell) shared.old seat.old.number shared.new)) }
 {
-    // For the proof: what a job has asked at its end is a whole conversation.
+    // For the proof: what a job has asked at its end is a whole conversation, and only the clock refuses its steps.
     jobs_talk();
+    jobs_are_allowed();
+    prove!(cell.row().0 <= u64::MAX);
+    prove!(cell.column().number() < COLUMNS);
     let mut job = job_on(shared, number, cell)?;
     while let Some(step) = job.next() {
+        // For the proof: the journal is legal.
+        let _ = shared.journal();
         let answer = take(shared, seat, step)?;
         job.took(answer);
         compute(alloc, &mut job)?;

@@ -24,7 +24,7 @@ returns-in_err-marked-clause-err g c =
 pub returns-then-not-marked-clause-ok : goal.returns-then-not-marked-clause-ok
 returns-then-not-marked-clause-ok g c =
     let i = c.loop-count.invariant in
-    last_pass c.args.shared.now.state.observers c.loop-count._count c.args.shared.now c.loop-count.shared c.args.seat.now.number i.passes c.loop-count-test.true c.pass.new.shared c.loop-count.seat.number c.in_ok-marked.marked ? i.goes.number
+    last_pass c.args.shared.now.state.observers c.loop-count._count c.args.shared.now c.loop-count.shared c.args.seat.now.number i.passes c.loop-count-test.true c.pass.new.shared c.loop-count.seat.number c.in_ok-marked.marked c.if-not-marked.true i.goes.number
     (subst (λ (os : List ObserverOf). Gains (IsPassThat os c.in_ok-marked.marked) c.loop-count.shared c.loop-count.seat.number c.pass.new.shared) i.goes.observers c.in_ok-marked.ensures.ok)
 
 pub loop-count-preserved : goal.loop-count-preserved
@@ -32,6 +32,6 @@ loop-count-preserved g c =
     let i = c.loop-count.invariant in
     record {
       goes = goes_on c.args.shared.now c.args.seat.now c.loop-count.shared c.loop-count.seat c.pass.new.shared c.pass.new.seat i.goes c.in_ok-marked.ensures.goes;
-      passes = pass_on c.args.shared.now.state.observers c.loop-count._count c.args.shared.now c.loop-count.shared c.args.seat.now.number i.passes c.pass.new.shared c.loop-count.seat.number c.in_ok-marked.marked ? i.goes.number
+      passes = pass_on c.args.shared.now.state.observers c.loop-count._count c.args.shared.now c.loop-count.shared c.args.seat.now.number i.passes c.pass.new.shared c.loop-count.seat.number c.in_ok-marked.marked c.if-not-marked.false i.goes.number
           (subst (λ (os : List ObserverOf). Gains (IsPassThat os c.in_ok-marked.marked) c.loop-count.shared c.loop-count.seat.number c.pass.new.shared) i.goes.observers c.in_ok-marked.ensures.ok);
     }

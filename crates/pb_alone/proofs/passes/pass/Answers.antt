@@ -33,7 +33,7 @@ pub returns-in_default : goal.returns-in_default
 returns-in_default g c =
     let i = c.loop-next.invariant in
     let observers = c.args.shared.now.state.observers in
-    let none : c.in_ok-next.next ≡ NoMark = no_mark c.loop-next.last c.in_ok-next.next c.in_ok-next.ensures.can ? in
+    let none : c.in_ok-next.next ≡ NoMark = no_mark c.loop-next.last c.in_ok-next.next c.in_ok-next.ensures.can c.in_default.not-Marked in
     let call = subst (λ (a : Answer). Calls c.loop-next.shared c.loop-next.seat (NextMark c.loop-next.last) a c.take.new.shared c.take.new.seat) none c.in_ok-next.ensures.ok in
     record {
       goes = goes_on c.args.shared.now c.args.seat.now c.loop-next.shared c.loop-next.seat c.take.new.shared c.take.new.seat i.goes (called c.loop-next.shared c.loop-next.seat (NextMark c.loop-next.last) c.in_ok-next.next c.take.new.shared c.take.new.seat c.in_ok-next.ensures.ok);

@@ -35,6 +35,6 @@ loop-place-preserved g c =
       | else-is_observer_of w ↦ rw (w.shared-is, w.seat-is) (record {
           goes = i.goes;
           runs = no_run observers c.args.cell.now c.args.shared.now c.loop-place.shared c.args.seat.now.number c.loop-place.place i.runs
-              (subst (λ (os : List ObserverOf). IsOfOther os c.loop-place.place c.args.cell.now) i.goes.observers (c.is_observer_of.ensures.isnt ?));
+              (subst (λ (os : List ObserverOf). IsOfOther os c.loop-place.place c.args.cell.now) i.goes.observers (c.is_observer_of.ensures.isnt w.if-is_observer_of.false));
         })
     ]
