@@ -60,14 +60,13 @@ fn run_of(rt: &impl Abort, alloc: Global, observer: &Observer, reply: Reply) -> 
 
 // A change of column 0, committed, and a run that has read its cell and its acknowledgment.
 fn begun(rt: &impl Abort, alloc: Global) -> Result<Vec<Told>, NoMemory> {
-    let x = cell(rt, 7, 0);
     let ack = acknowledgment(rt);
     let observer = ObserverNo::new(0).expect(rt, "an observer");
     let what = batch_of(rt, alloc, &[0]);
     let mut told = Vec::new(alloc);
     told.push((1, Step::Begin(Work::Script), Ok(Answer::At(ONE))))?;
     told.push((1, Step::Declare(ONE, what), Ok(Answer::Done)))?;
-    told.push((1, Step::Prewrite(ONE, x), Ok(Answer::Done)))?;
+    told.push((1, Step::Prewrite(ONE, cell(rt, 7, 0)), Ok(Answer::Done)))?;
     told.push((1, Step::Stamp(ONE), Ok(Answer::At(Ts(2)))))?;
     told.push((1, Step::CommitPrimary(ONE), Ok(Answer::Committed)))?;
     told.push((
@@ -75,7 +74,7 @@ fn begun(rt: &impl Abort, alloc: Global) -> Result<Vec<Told>, NoMemory> {
         Step::Begin(Work::Run(observer, Row(7))),
         Ok(Answer::At(THREE)),
     ))?;
-    told.push((2, Step::Read(THREE, x), Ok(FOUND)))?;
+    told.push((2, Step::Read(THREE, cell(rt, 7, 0)), Ok(FOUND)))?;
     told.push((2, Step::Read(THREE, ack), Ok(Answer::Absent)))?;
     Ok(told)
 }
