@@ -14,6 +14,7 @@ mod checks;
 mod clean_ups;
 mod helped_runs;
 mod marks;
+mod passes;
 mod programs;
 mod refused_calls;
 mod run_ends;
@@ -317,14 +318,6 @@ fn several_observers_run(rt: HostRuntime) {
         };
         assert!(rt; ends(&rt, files, 0, out, ""), "{script}");
     }
-}
-
-// A run that writes can't be declared yet.
-#[test]
-fn writes_of_a_manifest_are_refused(rt: HostRuntime) {
-    let deletes = "b701000005000000b70200000f00000085000000030000009500000000000000";
-    let manifest = manifest_of(&rt, rt.alloc(), "watch", 0, "[3]", deletes);
-    assert!(rt; is_refused(&rt, manifest.as_str(), "worker 0 code 43\n"));
 }
 
 #[test]

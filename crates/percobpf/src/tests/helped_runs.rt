@@ -24,45 +24,41 @@ pub fn observer_of(rt: &impl Abort, alloc: Global, digits: &str) -> Observer {
     }
 }
 
-// Entries of a declaration that is refused, and of a run that commits.
-const REFUSED: (usize, Ts, Ts, bool) = (8, Ts(0), Ts(0), false);
-
-const COMMITTED: (usize, Ts, Ts, bool) = (14, Ts(3), Ts(4), true);
-
 #[test]
-fn asks_and_writes_are_refused(rt: HostRuntime) -> Result<(), NoMemory> {
+fn asks_and_writes_are_committed(rt: HostRuntime) -> Result<(), NoMemory> {
     let table = [
-        // It asks.
+        // It asks, which is a read more.
         (
             "b701000007000000b702000001000000bfa300000000000007030000e0ffffff85000000010000009500000000000000",
-            (REFUSED, 43),
+            17,
         ),
-        // It writes.
+        // It writes a cell, which is prewritten and committed besides.
         (
             "b701000005000000b70200000f00000085000000030000009500000000000000",
-            (REFUSED, 43),
+            18,
         ),
         // It asks, and writes.
         (
             "b701000007000000b702000001000000bfa300000000000007030000e0ffffff8500000001000000b701000005000000b70200000f00000085000000030000009500000000000000",
-            (REFUSED, 43),
+            19,
         ),
         // What it writes isn't kept, since it ends with 1.
         (
             "b701000005000000b70200000f0000008500000003000000b7000000010000009500000000000000",
-            (COMMITTED, 0),
+            16,
         ),
         // It ends with its start.
-        ("85000000040000009500000000000000", (COMMITTED, 0)),
+        ("85000000040000009500000000000000", 16),
         // No helper is called.
-        ("b7000000000000009500000000000000", (COMMITTED, 0)),
+        ("b7000000000000009500000000000000", 16),
     ];
-    for (digits, wanted) in table {
+    for (digits, entries) in table {
         let mut observers = Vec::new(rt.alloc());
         observers.push(observer_of(&rt, rt.alloc(), digits))?;
         let mut parts: Vec<(Row, Boxed)> = Vec::new(rt.alloc());
         parts.push((Row(0), Box::new(rt.alloc(), ListTablet::new(rt.alloc()))?))?;
-        assert!(rt; told_of(&rt, parts, observers) == wanted, "{digits}");
+        let told = told_of(&rt, parts, observers);
+        assert!(rt; told == ((entries, Ts(3), Ts(4), true), 0), "{digits}");
     }
     Ok(())
 }

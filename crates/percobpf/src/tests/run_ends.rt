@@ -110,12 +110,14 @@ fn a_refused_step_ends_a_run(rt: HostRuntime) -> Result<(), NoMemory> {
         (one, u64::MAX - 1, 100, 40),
         (one, u64::MAX - 2, 100, 0),
         ("", u64::MAX, 100, 0),
-        // It makes five entries.
+        // It makes five entries, and the one pass one more.
         (one, 0, 0, 44),
         (one, 0, 4, 44),
-        (one, 0, 5, 0),
-        ("put 7 0 2a\ndel 7 0\n", 0, 5, 44),
-        ("", 0, 0, 0),
+        (one, 0, 5, 44),
+        (one, 0, 6, 0),
+        ("put 7 0 2a\ndel 7 0\n", 0, 6, 44),
+        ("", 0, 0, 44),
+        ("", 0, 1, 0),
         // The script's own fault comes first.
         ("x", u64::MAX, 100, 70),
         ("x", 0, 0, 70),

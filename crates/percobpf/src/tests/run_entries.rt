@@ -18,16 +18,16 @@ use std::sync::Arc;
 // How many entries the journal of one change and its run has, the run's start and commit, and whether it committed.
 fn told<T: Tablet>(shared: &Shared<T>) -> (usize, Ts, Ts, bool) {
     let journal = shared.journal();
-    if journal.len() != 14 {
-        return (journal.len(), Ts(0), Ts(0), false);
-    }
-    match (&journal[5].step, journal[5].answer, journal[10].answer) {
-        (Step::Begin(Work::Run(_, _)), Answer::At(start), Answer::At(commit)) => {
-            let is_committed = matches!(journal[11].answer, Answer::Committed);
-            (14, start, commit, is_committed)
+    let mut told = (journal.len(), Ts(0), Ts(0), false);
+    for entry in journal {
+        match (&entry.step, entry.answer) {
+            (Step::Begin(Work::Run(_, _)), Answer::At(start)) => told.1 = start,
+            (Step::Stamp(_), Answer::At(commit)) => told.2 = commit,
+            (Step::CommitPrimary(_), Answer::Committed) => told.3 = told.1.0 > 0,
+            _ => {}
         }
-        _ => (14, Ts(0), Ts(0), false),
     }
+    told
 }
 
 // The same, of a run of one change on a table of these tablets with this observer of column 0, and the number that it ends
@@ -79,7 +79,7 @@ pub fn told_of<T: Tablet>(
 }
 
 #[test]
-fn a_run_has_seven_entries(rt: HostRuntime) -> Result<(), NoMemory> {
+fn a_change_and_its_run_have_sixteen_entries(rt: HostRuntime) -> Result<(), NoMemory> {
     let bytes = b"\xb7\0\0\0\0\0\0\0\x95\0\0\0\0\0\0\0";
     let program = match accept(rt.alloc(), bytes, HelperTable::none()) {
         Ok(program) => program,
@@ -93,6 +93,6 @@ fn a_run_has_seven_entries(rt: HostRuntime) -> Result<(), NoMemory> {
     })?;
     let mut parts: Vec<(Row, Boxed)> = Vec::new(rt.alloc());
     parts.push((Row(0), Box::new(rt.alloc(), ListTablet::new(rt.alloc()))?))?;
-    assert!(rt; told_of(&rt, parts, observers) == ((14, Ts(3), Ts(4), true), 0));
+    assert!(rt; told_of(&rt, parts, observers) == ((16, Ts(3), Ts(4), true), 0));
     Ok(())
 }
