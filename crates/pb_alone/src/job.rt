@@ -24,12 +24,7 @@ fn job_on<T: Tablet>(
 {
     let observer = &shared.observers()[number.number() as usize];
     let program = Arc::try_clone(&observer.program)?;
-    Ok(ObserverJob::new(
-        number,
-        program,
-        cell.row(),
-        observer.column,
-    ))
+    Ok(ObserverJob::new(number, program, cell.row(), observer.column))
 }
 
 // The instructions of its machine up to the next ask or the exit, if it is at one.

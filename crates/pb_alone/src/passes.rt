@@ -49,11 +49,7 @@ fn run_all<T: Tablet>(
 }
 
 // One pass, from mark to mark up to where there is none, and whether it found one.
-fn pass<T: Tablet>(
-    alloc: Global,
-    shared: &mut Shared<T>,
-    seat: &mut Seat,
-) -> Result<bool, RunFault>
+fn pass<T: Tablet>(alloc: Global, shared: &mut Shared<T>, seat: &mut Seat) -> Result<bool, RunFault>
     requires seated { seat.old.number < shared.old.state.seats }
     ensures goes { Goes shared.old seat.old shared.new seat.new }
     ensures ok { IfOk result (λ marked. Gains (IsPassThat shared.old.state.observers marked) shared.old seat.old.number shared.new) }

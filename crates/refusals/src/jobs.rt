@@ -1,9 +1,24 @@
-//! Changes of a script.
-use crate::calls::{is_same, three_cells};
-use pb_base::{Batch, NoMemory};
-use pb_core::{Step, Work};
+//! Changes of a script, and runs of an observer.
+ghost use Rattle.std.specs.Prelude.{◌≡◌};
+ghost use Rattle.pb_notify.specs.declared.need.Need.TheVariants.{Local};
+ghost use Rattle.pb_notify.specs.Runs.{need_of};
+
+use crate::calls::{batch, calls, column, is_same, table, three_cells};
+use crate::observers::observers;
+use pb_base::{Batch, Cell, NoMemory, ObserverNo, Row, Ts};
+use pb_core::{Declaration, Declared, OpenRefused, Seat, Shared, Step, Work};
+use pb_helpers::HelperTable;
+use pb_memtablet::ListTablet;
+use pb_notify::{JobEnd, Need, ObserverJob};
+use pb_registry::accept;
 use pb_txn::ChangeJob;
+use pb_verify::Accepted;
 use std::alloc::Global;
+use std::sync::Arc;
+
+// It asks for cell 7 1 with its fifth instruction, deletes cell 5 15 with its eighth, and exits.
+const ASK_AND_DELETE: &[u8] =
+    b"\xb7\x01\0\0\x07\0\0\0\xb7\x02\0\0\x01\0\0\0\xbf\xa3\0\0\0\0\0\0\x07\x03\0\0\xe0\xff\xff\xff\x85\0\0\0\x01\0\0\0\xb7\x01\0\0\x05\0\0\0\xb7\x02\0\0\x0f\0\0\0\x85\0\0\0\x03\0\0\0\x95\0\0\0\0\0\0\0";
 
 // A job of the batch; refused, of the batch that was handed back, which has to be the same.
 fn job_of(alloc: Global, batch: Batch, same: &Batch) -> Result<(ChangeJob, bool), NoMemory> {
@@ -26,4 +41,116 @@ pub fn changes_are_made(alloc: Global) -> Result<bool, NoMemory> {
     let (job, held) = job_of(alloc, batch, &same)?;
     let begins = matches!(job.next(), Some(Step::Begin(Work::Script)));
     Ok(held && begins)
+}
+
+// The answer of a job's next step, also where that is refused once.
+fn answers(shared: &mut Shared<ListTablet>, seats: &mut Vec<Seat>, job: &mut ObserverJob) -> bool {
+    let Some(seat) = seats.first_mut() else {
+        return false;
+    };
+    let Some(step) = job.next() else {
+        return false;
+    };
+    let answer = match shared.call(seat, step) {
+        Ok(answer) => answer,
+        Err(_) => match shared.call(seat, step) {
+            Ok(answer) => answer,
+            Err(_) => return false,
+        },
+    };
+    job.took(answer);
+    true
+}
+
+// Whether a job does an instruction, or is refused with nothing changed and then does it.
+fn computes(alloc: Global, job: &mut ObserverJob) -> bool
+    requires { need_of job.old ≡ Local }
+{
+    if job.local(alloc).is_ok() {
+        return true;
+    }
+    let is_same = job.needs() == Need::Local && job.next().is_none();
+    is_same && job.local(alloc).is_ok()
+}
+
+// Follows a job to its end, and tells after how many instructions it came there so, each done once.
+fn followed(
+    alloc: Global,
+    shared: &mut Shared<ListTablet>,
+    seats: &mut Vec<Seat>,
+    job: &mut ObserverJob,
+) -> Option<u32> {
+    let mut taken = 0u32;
+    for _ in 0..64u32 {
+        let held = match job.needs() {
+            Need::Local => {
+                taken = taken.saturating_add(1);
+                computes(alloc, job)
+            }
+            Need::Call => answers(shared, seats, job),
+            Need::Over(_) => true,
+        };
+        if !held {
+            return None;
+        }
+    }
+    Some(taken)
+}
+
+// Whether the steps of a change are answered, and the job then runs to its end in nine instructions.
+fn runs(
+    alloc: Global,
+    shared: Shared<ListTablet>,
+    seats: Vec<Seat>,
+    change: &[Step],
+    job: ObserverJob,
+) -> bool {
+    let mut shared = shared;
+    let mut seats = seats;
+    let mut job = job;
+    let mut held = true;
+    for step in change {
+        held = held && calls(&mut shared, &mut seats, step);
+    }
+    held = held && followed(alloc, &mut shared, &mut seats, &mut job) == Some(9);
+    shared.close();
+    held && job.needs() == Need::Over(JobEnd::Ran(0))
+}
+
+fn program(alloc: Global) -> Result<Arc<Accepted>, NoMemory> {
+    match accept(alloc, ASK_AND_DELETE, HelperTable::all()) {
+        Ok(program) => Ok(Arc::new(alloc, program)?),
+        Err(_) => Err(NoMemory),
+    }
+}
+
+/// `ObserverJob::local`, from the start of its machine to the declaration at its exit.
+pub fn observers_run(alloc: Global) -> Result<bool, NoMemory> {
+    let program = program(alloc)?;
+    let Some(watch) = ObserverNo::new(0) else {
+        return Ok(false);
+    };
+    let what = Declaration::new(alloc, Declared::Script(batch(alloc)?))?;
+    let change = [
+        Step::Begin(Work::Script),
+        Step::Declare(Ts(1), what),
+        Step::Prewrite(Ts(1), Cell::Data(Row(7), column()?)),
+        Step::Stamp(Ts(1)),
+        Step::CommitPrimary(Ts(1)),
+    ];
+    let observers = observers(alloc, &program)?;
+    let job = ObserverJob::new(watch, program, Row(7), column()?);
+    match Shared::open(alloc, table(alloc)?, observers, 1, Ts(0), 100) {
+        Ok((shared, seats)) => Ok(runs(alloc, shared, seats, &change, job)),
+        Err(
+            OpenRefused {
+                table,
+                observers: _,
+                code: _,
+            },
+        ) => {
+            table.close();
+            Err(NoMemory)
+        }
+    }
 }

@@ -25,7 +25,9 @@ fn all(rt: &HostRuntime) -> Result<bool, NoMemory> {
     let table = calls::table_applies(alloc)?
         && tablets::chunks_are_parted(alloc)?
         && calls::state_takes(alloc)?;
-    let shared = calls::shared_calls(alloc)? && jobs::changes_are_made(alloc)?;
+    let shared = calls::shared_calls(alloc)?
+        && jobs::changes_are_made(alloc)?
+        && jobs::observers_run(alloc)?;
     let runs = runs::script_parses(alloc)?
         && runs::shared_opens(alloc)?
         && runs::script_runs(alloc)?;

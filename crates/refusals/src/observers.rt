@@ -84,8 +84,8 @@ pub fn machines_start(alloc: Global) -> Result<bool, NoMemory> {
     Ok(finished.is_of(&program) && finished.run() == Ts(3) && finished.result() == 0)
 }
 
-// The one observer of a table.
-fn observers(alloc: Global, program: &Arc<Accepted>) -> Result<Vec<Observer>, NoMemory>
+/// The one observer of a table.
+pub fn observers(alloc: Global, program: &Arc<Accepted>) -> Result<Vec<Observer>, NoMemory>
     ensures { IfOk result (λ v. length v.items ≤ 32) }
 {
     let mut observers = Vec::new(alloc);

@@ -28,13 +28,13 @@ loop-place-preserved g c =
     let observers = c.args.shared.now.state.observers in
     elim c.if-is_observer_of.branch [
       | then-is_observer_of+in-Some+in_ok-run_one w ↦ rw (w.shared-is, w.seat-is) (record {
-          goes = goes_on c.args.shared.now c.args.seat.now c.loop-place.shared c.loop-place.seat w.run_one.new.shared w.run_one.new.seat i.goes w.in_ok-run_one.ensures.goes;
-          runs = one_run observers c.args.cell.now c.args.shared.now c.loop-place.shared c.args.seat.now.number c.loop-place.place i.runs w.run_one.new.shared c.loop-place.seat.number i.goes.number
-              (subst (λ (os : List ObserverOf). Gains (IsRun os c.loop-place.place c.args.cell.now) c.loop-place.shared c.loop-place.seat.number w.run_one.new.shared) i.goes.observers (rw w.in-Some.ensures.some at w.in_ok-run_one.ensures.ok));
-        })
+        goes = goes_on c.args.shared.now c.args.seat.now c.loop-place.shared c.loop-place.seat w.run_one.new.shared w.run_one.new.seat i.goes w.in_ok-run_one.ensures.goes;
+        runs = one_run observers c.args.cell.now c.args.shared.now c.loop-place.shared c.args.seat.now.number c.loop-place.place i.runs w.run_one.new.shared c.loop-place.seat.number i.goes.number
+            (subst (λ (os : List ObserverOf). Gains (IsRun os c.loop-place.place c.args.cell.now) c.loop-place.shared c.loop-place.seat.number w.run_one.new.shared) i.goes.observers (rw w.in-Some.ensures.some at w.in_ok-run_one.ensures.ok));
+      })
       | else-is_observer_of w ↦ rw (w.shared-is, w.seat-is) (record {
-          goes = i.goes;
-          runs = no_run observers c.args.cell.now c.args.shared.now c.loop-place.shared c.args.seat.now.number c.loop-place.place i.runs
-              (subst (λ (os : List ObserverOf). IsOfOther os c.loop-place.place c.args.cell.now) i.goes.observers (c.is_observer_of.ensures.isnt w.if-is_observer_of.false));
-        })
+        goes = i.goes;
+        runs = no_run observers c.args.cell.now c.args.shared.now c.loop-place.shared c.args.seat.now.number c.loop-place.place i.runs
+            (subst (λ (os : List ObserverOf). IsOfOther os c.loop-place.place c.args.cell.now) i.goes.observers (c.is_observer_of.ensures.isnt w.if-is_observer_of.false));
+      })
     ]
