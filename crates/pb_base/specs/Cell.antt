@@ -30,8 +30,12 @@ abbrev pub rank_of : Cell → ℕ
 rank_of (Data row column) = 0
 rank_of (Ack observer row column) = observer + 1
 
+-- within a row
+abbrev pub in_row_cmp : Cell → Cell → Ordering
+in_row_cmp = then_cmp (on column_of nat_cmp) (on rank_of nat_cmp)
+
 abbrev pub cell_cmp : Cell → Cell → Ordering
-cell_cmp = then_cmp (on (λ c. (row_of c).0) nat_cmp) (then_cmp (on column_of nat_cmp) (on rank_of nat_cmp))
+cell_cmp = then_cmp (on (λ c. (row_of c).0) nat_cmp) in_row_cmp
 
 pub cell_cmp_total : IsTotalOrder cell_cmp
 cell_cmp_total = then_total (on_total (λ c. (row_of c).0) nat_cmp_total) (then_total (on_total column_of nat_cmp_total) (on_total rank_of nat_cmp_total))

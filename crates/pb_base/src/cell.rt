@@ -14,7 +14,7 @@ pub enum Cell {
 }
 
 impl Cell {
-    ghost use Rattle.pb_base.specs.Cell.{row_of, column_of, rank_of, cell_cmp};
+    ghost use Rattle.pb_base.specs.Cell.{row_of, column_of, rank_of, in_row_cmp, cell_cmp};
 
     /// Its row.
     pub fn row(&self) -> Row
@@ -45,13 +45,23 @@ impl Cell {
         }
     }
 
+    // Columns and ranks, where the rows are alike.
+    fn compare_in_row(&self, other: &Cell) -> Ordering
+        ensures { result ≡ in_row_cmp self.now other.now }
+    {
+        match self.column().number().cmp(&other.column().number()) {
+            Ordering::Equal => self.rank().cmp(&other.rank()),
+            unequal => unequal,
+        }
+    }
+
     fn compare(&self, other: &Cell) -> Ordering
         ensures { result ≡ cell_cmp self.now other.now }
     {
-        self.row()
-            .cmp(&other.row())
-            .then(self.column().cmp(&other.column()))
-            .then(self.rank().cmp(&other.rank()))
+        match self.row().0.cmp(&other.row().0) {
+            Ordering::Equal => self.compare_in_row(other),
+            unequal => unequal,
+        }
     }
 }
 

@@ -18,8 +18,12 @@ sort_rank Data = 0
 sort_rank Lock = 1
 sort_rank Write = 2
 
+-- within a cell
+abbrev pub in_cell_cmp : Slot → Slot → Ordering
+in_cell_cmp = then_cmp (on (λ s. sort_rank s.sort) nat_cmp) (on (λ s. s.ts.0) nat_cmp)
+
 abbrev pub slot_cmp : Slot → Slot → Ordering
-slot_cmp = then_cmp (on (λ s. s.cell) cell_cmp) (then_cmp (on (λ s. sort_rank s.sort) nat_cmp) (on (λ s. s.ts.0) nat_cmp))
+slot_cmp = then_cmp (on (λ s. s.cell) cell_cmp) in_cell_cmp
 
 pub slot_cmp_total : IsTotalOrder slot_cmp
 slot_cmp_total = then_total (on_total (λ s. s.cell) cell_cmp_total) (then_total (on_total (λ s. sort_rank s.sort) nat_cmp_total) (on_total (λ s. s.ts.0) nat_cmp_total))

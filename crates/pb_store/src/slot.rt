@@ -54,15 +54,25 @@ impl Sort {
 }
 
 impl Slot {
-    ghost use Rattle.pb_store.specs.Slot.{slot_cmp};
+    ghost use Rattle.pb_store.specs.Slot.{in_cell_cmp, slot_cmp};
+
+    // Sorts and timestamps, where the cells are one.
+    fn compare_in_cell(&self, other: &Slot) -> Ordering
+        ensures { result ≡ in_cell_cmp self.now other.now }
+    {
+        match self.sort.place().cmp(&other.sort.place()) {
+            Ordering::Equal => self.ts.0.cmp(&other.ts.0),
+            unequal => unequal,
+        }
+    }
 
     fn compare(&self, other: &Slot) -> Ordering
         ensures { result ≡ slot_cmp self.now other.now }
     {
-        self.cell
-            .cmp(&other.cell)
-            .then(self.sort.place().cmp(&other.sort.place()))
-            .then(self.ts.0.cmp(&other.ts.0))
+        match self.cell.cmp(&other.cell) {
+            Ordering::Equal => self.compare_in_cell(other),
+            unequal => unequal,
+        }
     }
 }
 
