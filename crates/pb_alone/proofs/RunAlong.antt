@@ -59,7 +59,7 @@ comes_less : (judged : JudgedOf) (o : ℕ) (s : Ts) (v : Position) (after : Plac
 comes_less judged o s v after c = subst (λ p. left judged p < (slots v.judged.program.insns - v.taken) + 1) (sym c.place_is) (comes_by judged o s v c.stepped c.steps)
 
 less_left : (judged : JudgedOf) (o : ℕ) (x : Cell) (before after : Place) → ComesFrom o judged x before after → left judged after < left judged before
-less_left judged o x (Starting s seen) after c = let l = comes_less judged o s _ after c in omega (arith, l)
+less_left judged o x (Starting s seen) after c = let l = comes_less judged o s _ after c.comes in omega (arith, l)
 less_left judged o x (Computing s v) after c = comes_less judged o s v after c
 less_left judged o x _ after c = absurd c
 

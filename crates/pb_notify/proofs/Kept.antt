@@ -115,7 +115,7 @@ at_come : (locked o : ℕ) (s : Ts) (v : Position) (place : Place) → Comes o s
 at_come locked o s v place comes few = subst (AtPlace locked) (sym comes.place_is) (at_stepped locked o s v comes.stepped comes.steps few)
 
 pub at_computed : (locked o : ℕ) (judged : JudgedOf) (x : Cell) (place next : Place) → ComesFrom o judged x place next → AtPlace locked place → AtPlace locked next
-at_computed locked o judged x (Starting s seen) next comes at = at_come locked o s _ next comes at
+at_computed locked o judged x (Starting s seen) next comes at = at_come locked o s _ next comes.comes at
 at_computed locked o judged x (Computing s v) next comes at = at_come locked o s v next comes at.0
 at_computed locked o judged x _ next comes at = absurd comes
 

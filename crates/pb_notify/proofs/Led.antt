@@ -1,11 +1,12 @@
 -- The machine of a job was led from entry to where it stands.
-use Rattle.std.proofs.Common.{◌≡◌, ℕ, Bool, true, false, cond, List, [], length, Option, Some, None, refl, sym, subst, append-nil}
+use Rattle.std.proofs.Common.{◌≡◌, ℕ, Bool, true, false, cond, List, [], length, Option, Some, None, refl, sym, ap, subst, ◌∙◌, append-nil}
 use Rattle.std.specs.Prelude.{nat_lt}
 use Rattle.pb_base.specs.declared.cell.Cell.{Cell}
 use Rattle.pb_base.specs.declared.cell.Cell.TheVariants.{Data}
 use Rattle.pb_base.specs.declared.names.Row.{Row}
 use Rattle.pb_base.specs.declared.names.Ts.{Ts}
 use Rattle.pb_base.specs.declared.content.Version.{Version}
+use Rattle.pb_isa.specs.declared.limits.TheConstants.{RECORD_BYTES}
 use Rattle.pb_isa.specs.Programs.{JudgedOf}
 use Rattle.pb_isa.specs.Machine.{Placement, IsPlacement, Environment, State, start}
 use Rattle.pb_isa.specs.Meaning.{Leads, point_after, environment_of}
@@ -66,9 +67,15 @@ asks_led v q w asks a p =
 
 -- ---- at a place
 
+abbrev HasSize : Position → Type 0
+HasSize v = length v.bytes ≡ RECORD_BYTES
+
+sized : (v w : Position) → SameGiven v w → HasSize v → HasSize w
+sized v w given size = ap length given.bytes ∙ size
+
 abbrev AtLed : Place → Type 0
-AtLed (Computing s v) = IsLed v
-AtLed (Asking s v q look) = IsLed v
+AtLed (Computing s v) = IsLed v × HasSize v
+AtLed (Asking s v q look) = IsLed v × HasSize v
 AtLed place = Unit {0}
 
 begun_led : (a : Answer) → AtLed (after_begin a)
@@ -93,9 +100,9 @@ acknowledged_led s found (On look) = tt
 acknowledged_led s found (Tells a) = dirty_led (nat_lt (acknowledged_in a).0 found.commit.0) s (record { version = found; acknowledged = acknowledged_in a })
 acknowledged_led s found Blocks = tt
 
-asked_led : (s : Ts) (v : Position) (q : Ask) (looked : Looked) → IsLed v → IsToldBy v q looked (after_ask s v q looked) → AtLed (after_ask s v q looked)
+asked_led : (s : Ts) (v : Position) (q : Ask) (looked : Looked) → IsLed v × HasSize v → IsToldBy v q looked (after_ask s v q looked) → AtLed (after_ask s v q looked)
 asked_led s v q (On look) led is = led
-asked_led s v q (Tells b) led is = λ a p. (_, (is.told.at a p).now)
+asked_led s v q (Tells b) led is = (λ a p. (_, (is.told.at a p).now), led.1)
 asked_led s v q Blocks led is = tt
 
 outcome_led : (r : ℕ) (p : PlanOf) (out : Option Outcome) → AtLed (by_outcome r p out)
@@ -115,25 +122,25 @@ answered_led locked (Planning r p) a led is = outcome_led r (plans.answered p a)
 answered_led locked (Sweeping end) a led is = tt
 answered_led locked (Over end) a led is = tt
 
-stepped_led : (o : ℕ) (s : Ts) (v : Position) (stepped : Stepped) → Steps o v stepped → AtLed (place_of s stepped)
-stepped_led o s v (did.Went w) st = went_led v w st.went
-stepped_led o s v (did.Asks w q) st = asks_led v q w st
-stepped_led o s v (did.Ended r what) st = tt
+stepped_led : (o : ℕ) (s : Ts) (v : Position) (stepped : Stepped) → HasSize v → Steps o v stepped → AtLed (place_of s stepped)
+stepped_led o s v (did.Went w) size st = (went_led v w st.went, sized v w st.went.given size)
+stepped_led o s v (did.Asks w q) size st = (asks_led v q w st, sized v w st.given size)
+stepped_led o s v (did.Ended r what) size st = tt
 
-comes_led : (o : ℕ) (s : Ts) (v : Position) (place : Place) → Comes o s v place → AtLed place
-comes_led o s v place c = subst AtLed (sym c.place_is) (stepped_led o s v c.stepped c.steps)
+comes_led : (o : ℕ) (s : Ts) (v : Position) (place : Place) → HasSize v → Comes o s v place → AtLed place
+comes_led o s v place size c = subst AtLed (sym c.place_is) (stepped_led o s v c.stepped size c.steps)
 
-computed_led : (o : ℕ) (judged : JudgedOf) (x : Cell) (place next : Place) → ComesFrom o judged x place next → AtLed next
-computed_led o judged x (Starting s seen) next c = comes_led o s _ next c
-computed_led o judged x (Computing s v) next c = comes_led o s v next c
-computed_led o judged x _ next c = absurd c
+computed_led : (o : ℕ) (judged : JudgedOf) (x : Cell) (place next : Place) → AtLed place → ComesFrom o judged x place next → AtLed next
+computed_led o judged x (Starting s seen) next led c = comes_led o s _ next c.size c.comes
+computed_led o judged x (Computing s v) next led c = comes_led o s v next led.1 c
+computed_led o judged x _ next led c = absurd c
 
 reached_led : (j : RunOf) (said : List Received) (k : RunOf) → AtLed j.place → Reaches j said k → AtLed k.place
 reached_led j said k led made = led
 reached_led j said k led (took before from r to reaches next can is told) =
     let told-at = subst (λ (z : RunOf). IsToldAt from.locked from.place r.answer z.place) is told in
     subst (λ (z : RunOf). AtLed z.place) (sym is) (answered_led from.locked from.place r.answer (reached_led j before from led reaches) told-at)
-reached_led j said k led (computed before from to reaches need c) = computed_led from.observer from.judged (Data from.row from.column) from.place to.place c.comes
+reached_led j said k led (computed before from to reaches need c) = computed_led from.observer from.judged (Data from.row from.column) from.place to.place (reached_led j said from led reaches) c.comes
 
 -- ---- with what was said
 
@@ -143,12 +150,12 @@ module _ (o : ℕ) (judged : JudgedOf) (row : Row) (column : ℕ) where
   machine_at said n (Computing t w) s v stands so led =
       subst (λ (z : Position). IsMachineOf o judged row column s z said) stands.1
       (subst (λ (z : Ts). IsMachineOf o judged row column z w said) stands.0
-      (record { seen = so.0; program = so.1.program; bytes = so.1.bytes; began = so.1.began; met = n; base = said; rest = []; said_is = sym (append-nil said); asked = so.2; led = led }))
+      (record { seen = so.0; program = so.1.program; bytes = so.1.bytes; began = so.1.began; met = n; base = said; rest = []; said_is = sym (append-nil said); asked = so.2; size = led.1; led = led.0 }))
   machine_at said n (Asking t w q look) s v stands so led =
       let from = talk.look_goes_on t (Data q.row q.column) so.1 so.2 look n said so.5 in
       subst (λ (z : Position). IsMachineOf o judged row column s z said) stands.1
       (subst (λ (z : Ts). IsMachineOf o judged row column z w said) stands.0
-      (record { seen = so.0; program = so.3.program; bytes = so.3.bytes; began = so.3.began; met = so.1; base = so.2; rest = from.0; said_is = from.1; asked = so.4; led = led }))
+      (record { seen = so.0; program = so.3.program; bytes = so.3.bytes; began = so.3.began; met = so.1; base = so.2; rest = from.0; said_is = from.1; asked = so.4; size = led.1; led = led.0 }))
   machine_at said n _ s v stands so led = absurd stands
 
 pub machines_are_led : PlansTalk → PlansEnd → MachinesAreLed

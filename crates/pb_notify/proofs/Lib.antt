@@ -1,3 +1,4 @@
+pub mod Exits
 pub mod PlansFit
 pub mod Kept
 pub mod LookTalk

@@ -297,7 +297,7 @@ module _ (o : ℕ) (judged : JudgedOf) (row : Row) (column : ℕ) where
     comes_more n s v seen place said few given was c = subst (λ p. SoFar n p said) (sym c.place_is) (stepped_more n s v seen c.stepped said few given was c.steps)
 
     computed_more : (n : ℕ) (place next : Place) (said : List Received) → AtPlace n place → SoFar n place said → ComesFrom o judged cell place next → SoFar n next said
-    computed_more n (Starting s seen) next said at i c = comes_more n s _ seen next said at (record { program = refl; bytes = refl; began = refl }) i c
+    computed_more n (Starting s seen) next said at i c = comes_more n s _ seen next said at (record { program = refl; bytes = refl; began = refl }) i c.comes
     computed_more n (Computing s v) next said at i c = comes_more n s v i.0 next said at.0 i.1 i.2 c
     computed_more n _ next said at i c = absurd c
 

@@ -4,6 +4,7 @@ use Rattle.std.specs.Prelude.{◌≡◌, ℕ, List, ◌++◌, length}
 use Rattle.pb_base.specs.declared.cell.Cell.TheVariants.{Data}
 use Rattle.pb_base.specs.declared.names.Row.{Row}
 use Rattle.pb_base.specs.declared.names.Ts.{Ts}
+use Rattle.pb_isa.specs.declared.limits.TheConstants.{RECORD_BYTES}
 use Rattle.pb_isa.specs.Programs.{JudgedOf}
 use Rattle.pb_isa.specs.Machine.{Placement, IsPlacement, State}
 use Rattle.pb_helpers.specs.Record.{record_of}
@@ -32,6 +33,7 @@ pub record IsMachineOf (o : ℕ) (judged : JudgedOf) (row : Row) (column : ℕ) 
   pub seen : Seen
   pub program : v.judged ≡ judged
   pub bytes : v.bytes ≡ record_of (Data row column) seen.version seen.acknowledged.0
+  pub size : length v.bytes ≡ RECORD_BYTES
   pub began : v.began ≡ s.0
   pub met : ℕ
   pub base : List Received

@@ -5,11 +5,13 @@ use Rattle.pb_base.specs.declared.cell.Cell.TheVariants.{Data, Ack}
 use Rattle.pb_base.specs.declared.names.Row.{Row}
 use Rattle.pb_base.specs.declared.names.Ts.{Ts}
 use Rattle.pb_base.specs.declared.content.Version.{Version}
+use Rattle.pb_isa.specs.declared.limits.TheConstants.{RECORD_BYTES}
 use Rattle.pb_isa.specs.Programs.{JudgedOf}
 use Rattle.pb_helpers.specs.declared.ask.Ask.{Ask}
 use Rattle.pb_helpers.specs.Record.{record_of}
 use Rattle.pb_vm.specs.declared.moved.Phase.TheVariants as phases
 use Rattle.pb_vm.specs.Position.{Position}
+use Rattle.pb_steps.specs.declared.seen.Seen.{Seen}
 use Rattle.pb_steps.specs.declared.step.Work.TheVariants as works
 use Rattle.pb_steps.specs.declared.step.Step.{Step}
 use Rattle.pb_steps.specs.declared.step.Step.TheVariants as steps
@@ -131,9 +133,14 @@ pub record Comes (o : ℕ) (s : Ts) (v : Position) (place : Place) : Type 0 wher
   pub steps : Steps o v stepped
   pub place_is : place ≡ place_of s stepped
 
--- from a place: the machine begins on the record of what was seen of the cell, or goes on where it stands
+-- the machine begins on the record of what was seen of the cell
+pub record Starts (o : ℕ) (judged : JudgedOf) (x : Cell) (s : Ts) (seen : Seen) (place : Place) : Type 0 where
+  pub size : length (record_of x seen.version seen.acknowledged.0) ≡ RECORD_BYTES
+  pub comes : Comes o s (entry judged (record_of x seen.version seen.acknowledged.0) s.0) place
+
+-- from a place: the machine begins, or goes on where it stands
 abbrev pub ComesFrom : ℕ → JudgedOf → Cell → Place → Place → Type 0
-ComesFrom o judged x (Starting s seen) place = Comes o s (entry judged (record_of x seen.version seen.acknowledged.0) s.0) place
+ComesFrom o judged x (Starting s seen) place = Starts o judged x s seen place
 ComesFrom o judged x (Computing s v) place = Comes o s v place
 ComesFrom o judged x _ place = ⊥
 

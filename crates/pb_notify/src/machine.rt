@@ -24,7 +24,8 @@ pub struct Machine {
 
 #[derive(Drop)]
 enum Standing {
-    Running(Vm),
+    /// On the heap, since a job is moved with each of its steps.
+    Running(Box<Vm>),
     /// What it left at its exit, with the instructions before that.
     Exited(Finished, u16),
 }
@@ -51,6 +52,7 @@ impl Machine {
         ensures { IfOk result (λ m. m ≡ entry accepted.now.value change run.0) }
     {
         let vm = Vm::start(alloc, accepted, change, run)?;
+        let vm = Box::new(alloc, vm)?;
         Ok(Machine {
             standing: Standing::Running(vm),
         })

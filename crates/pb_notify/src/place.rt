@@ -1,10 +1,8 @@
 //! Where a job stands, and where an answer or an instruction leads.
 ghost use Rattle.std.specs.Prelude.{◌≡◌, ◌<◌, IfOk, IfErr};
-ghost use Rattle.pb_helpers.specs.Record.{record_of};
 ghost use Rattle.pb_txn.specs.Plans as plans;
 ghost use Rattle.pb_notify.specs.declared.place.Place.TheVariants as places;
-ghost use Rattle.pb_notify.specs.Machines.{entry};
-ghost use Rattle.pb_notify.specs.Places.{stored_step, place_after, locked_at, place_of, CanTakeAt, AtPlace, IsLocal, IsToldBy, IsToldAt, Comes, ComesFrom};
+ghost use Rattle.pb_notify.specs.Places.{stored_step, place_after, locked_at, place_of, CanTakeAt, AtPlace, IsLocal, IsToldBy, IsToldAt, Starts, Comes, ComesFrom};
 ghost use Rattle.pb_vm.specs.declared.moved.Phase.TheVariants.{Going, Asking};
 
 use crate::look::{Look, Looked, locked_after, look_after, look_step};
@@ -197,10 +195,12 @@ fn begin(
     start: Ts,
     seen: Seen,
 ) -> Result<Place, Place>
-    ensures ok { IfOk result (Comes observer start (entry accepted.now.value (record_of cell seen.version seen.acknowledged.0) start.0)) }
+    ensures ok { IfOk result (Starts observer accepted.now.value cell start seen) }
     ensures same { IfErr result (λ p. p ≡ places.Starting start seen) }
 {
     let record = Record::new(cell, &seen.version, seen.acknowledged);
+    // For the proof: the record's size.
+    let _ = record.bytes();
     let Ok(machine) = Machine::start(alloc, accepted, record, start) else {
         return Err(Place::Starting(start, seen));
     };

@@ -66,7 +66,7 @@ impl Machine {
                         ask,
                     )),
                     Moved::Ended(_) => {
-                        let finished = vm.finish();
+                        let finished = Box::into_inner(vm).finish();
                         // For the proof: result and writes are what the program means.
                         finished.known();
                         declare(alloc, observer, finished, taken)

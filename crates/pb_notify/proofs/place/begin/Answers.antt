@@ -1,4 +1,4 @@
-use Rattle.std.proofs.Common.{subst, ap, ◌∙◌}
+use Rattle.std.proofs.Common.{subst, ap, sym, length, ◌∙◌}
 use Rattle.pb_notify.specs.Machines.{entry}
 use Rattle.pb_notify.specs.Steps.{Steps}
 use Rattle.pb_notify.proofs.place.begin.Goals as goal
@@ -6,7 +6,10 @@ use Rattle.pb_notify.proofs.place.begin.Goals as goal
 pub returns-in-Ok-step-clause-ok : goal.returns-in-Ok-step-clause-ok
 returns-in-Ok-step-clause-ok c =
     record {
-      stepped = c.in-Ok-step.stepped;
-      steps = subst (λ v. Steps c.args.observer v c.in-Ok-step.stepped) (c.in-Ok.ensures ∙ ap (λ b. entry c.args.accepted.now.value b c.args.start.0) c.new-record.ensures) c.in-Ok-step.ensures.ok;
-      place_is = c.place_of.ensures;
+      size = ap length (sym c.new-record.ensures) ∙ c.bytes.ensures.size;
+      comes = record {
+        stepped = c.in-Ok-step.stepped;
+        steps = subst (λ v. Steps c.args.observer v c.in-Ok-step.stepped) (c.in-Ok.ensures ∙ ap (λ b. entry c.args.accepted.now.value b c.args.start.0) c.new-record.ensures) c.in-Ok-step.ensures.ok;
+        place_is = c.place_of.ensures;
+      };
     }
