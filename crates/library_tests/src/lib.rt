@@ -8,6 +8,8 @@ mod memtablet;
 #[cfg(test)]
 mod registry;
 #[cfg(test)]
+mod schedules;
+#[cfg(test)]
 mod sorted_list;
 #[cfg(test)]
 mod texts;

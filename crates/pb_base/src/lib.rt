@@ -12,7 +12,9 @@ mod sink;
 pub use batch::Batch;
 pub use cell::Cell;
 pub use content::{Content, Value, Version};
-pub use limits::{COLUMNS, MAX_CELLS, MAX_CHANGES, MAX_ENTRIES, MAX_OBSERVERS, MAX_SEATS};
+pub use limits::{
+    COLUMNS, MAX_CELLS, MAX_CHANGES, MAX_ENTRIES, MAX_EVENTS, MAX_OBSERVERS, MAX_SEATS,
+};
 pub use names::{Column, ObserverNo, Row, Ts};
 pub use refusal::{NoMemory, Reason, Refusal, Refused};
 pub use sink::{Out, Sink, SinkFault};

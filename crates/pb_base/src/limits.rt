@@ -17,3 +17,6 @@ pub const MAX_ENTRIES: usize = 1_000_000;
 
 /// How many changes a script may have.
 pub const MAX_CHANGES: usize = 10_000;
+
+/// How many events a schedule may have.
+pub const MAX_EVENTS: usize = 1_000_000;

@@ -33,6 +33,7 @@ fn all(rt: &HostRuntime) -> Result<bool, NoMemory> {
         && runs::script_runs(alloc)?;
     let observers = observers::programs_are_accepted(alloc)?
         && observers::manifests_are_read(alloc)?
+        && observers::schedules_are_read(alloc)?
         && observers::machines_start(alloc)?
         && observers::runs_are_declared(alloc)?;
     let programs = programs::programs_are_made(alloc)?

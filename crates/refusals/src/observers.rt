@@ -1,4 +1,4 @@
-//! Calls on programs, machines, manifests, and tables with an observer.
+//! Calls on programs, machines, manifests, schedules, and tables with an observer.
 ghost use Rattle.std.specs.Prelude.{◌≡◌, ◌≤◌, length, IfOk};
 
 use crate::calls::{batch, calls, column, table};
@@ -8,6 +8,7 @@ use pb_core::{Declaration, Declared, Finished, Observer, OpenRefused, Seat, Shar
 use pb_helpers::HelperTable;
 use pb_memtablet::ListTablet;
 use pb_registry::{Registry, accept};
+use pb_script::{Event, Job, parse_schedule};
 use pb_verify::{Accepted, VerifyFault};
 use std::alloc::Global;
 use std::sync::Arc;
@@ -95,6 +96,29 @@ pub fn observers(alloc: Global, program: &Arc<Accepted>) -> Result<Vec<Observer>
         program: Arc::try_clone(program)?,
     })?;
     Ok(observers)
+}
+
+const SCHEDULE: &str = "launch 1 run watch 7\nstep 1 100\nsettle ack watch 7\n";
+
+fn are_the_schedules(events: &[Event]) -> bool {
+    events.len() == 102
+        && matches!(&events[0], Event::Launch(1, Job::Run(_, Row(7))))
+        && matches!(&events[1], Event::Step(1))
+        && matches!(&events[100], Event::Step(1))
+        && matches!(&events[101], Event::Settle(Cell::Ack(_, Row(7), _)))
+}
+
+/// `parse_schedule`.
+pub fn schedules_are_read(alloc: Global) -> Result<bool, NoMemory> {
+    let program = Arc::new(alloc, program(alloc)?)?;
+    let observers = observers(alloc, &program)?;
+    match parse_schedule(alloc, SCHEDULE, &observers) {
+        Ok(events) => Ok(are_the_schedules(&events)),
+        Err(fault) => match parse_schedule(alloc, SCHEDULE, &observers) {
+            Ok(events) => Ok(fault.line == 0 && fault.code == 1 && are_the_schedules(&events)),
+            Err(_) => Ok(false),
+        },
+    }
 }
 
 // Whether each step is answered, also where it is refused once.

@@ -1,0 +1,10 @@
+pub mod Numerals
+pub mod Blanks
+pub mod Steps
+pub mod OrdersWritten
+pub mod OrdersRead
+pub mod WholeSchedules
+pub mod FirstFault
+pub mod FieldsRefused
+pub mod FieldsTold
+pub mod FirstLineAtFault
