@@ -11,14 +11,8 @@ use std::process::Abort;
 use std::rt::HostRuntime;
 
 mod checks;
-mod clean_ups;
-mod helped_runs;
-mod marks;
 mod passes;
 mod programs;
-mod refused_calls;
-mod run_ends;
-mod run_entries;
 mod whole_changes;
 
 type Boxed = Box<dyn Tablet + Send + Drop>;
@@ -360,6 +354,29 @@ fn observers_run(rt: HostRuntime) {
             script: Ok(script.as_bytes()),
         };
         assert!(rt; ends(&rt, files, 0, out, ""), "{script}");
+    }
+}
+
+#[test]
+fn programs_without_helpers_run(rt: HostRuntime) {
+    let table = [
+        // A division by zero.
+        "b700000007000000b7010000000000003f100000000000009500000000000000",
+        // A pair.
+        "180000000700000000000000010000009500000000000000",
+        // A load from the record, a way over the stack, and both ways of a comparison.
+        "79123000000000007b2af8ff0000000079a0f8ff00000000550001002a000000b7000000000000009500000000000000",
+        "79122000000000001502010000000000b700000001000000b7000000000000009500000000000000",
+    ];
+    for digits in table {
+        let manifest = manifest_of(&rt, rt.alloc(), "watch", 0, "[]", digits);
+        let files = Held {
+            alloc: rt.alloc(),
+            manifest: Ok(manifest.as_bytes()),
+            script: Ok(b"put 7 0 2a\n"),
+        };
+        let out = "cell 7 0 commit 2 value 2a\nruns watch 1\nquiet\n";
+        assert!(rt; ends(&rt, files, 0, out, ""), "{digits}");
     }
 }
 

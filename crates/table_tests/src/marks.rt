@@ -1,8 +1,7 @@
 //! Marks of changed cells, and what runs may declare.
-use super::WATCH;
-use super::clean_ups::{Told, are_told_on, batch_of, cell, tablets};
-use super::helped_runs::observer_of;
-use pb_base::{Cell, Column, Content, NoMemory, ObserverNo, Row, Ts, Version};
+use crate::clean_ups::{Told, are_told_on};
+use crate::tables::{WATCH, acknowledgment, cell, deletes, first, observer_of, observers_of};
+use pb_base::{Content, NoMemory, Row, Ts, Version};
 use pb_core::{Answer, Declaration, Declared, Observer, Step, Work};
 use pb_helpers::{Record, Reply};
 use pb_vm::{Finished, Phase, Vm};
@@ -20,11 +19,6 @@ const FOUND: Answer = Answer::Found {
     commit: Ts(2),
     content: Content::Deleted,
 };
-
-fn acknowledgment(rt: &impl Abort) -> Cell {
-    let observer = ObserverNo::new(0).expect(rt, "an observer");
-    Cell::Ack(observer, Row(7), Column::new(0).expect(rt, "a column"))
-}
 
 // A machine's run to its end, where each ask is answered by this reply.
 fn finished_by(rt: &impl Abort, vm: Vm, reply: Reply) -> Finished {
@@ -53,16 +47,14 @@ fn run_of(rt: &impl Abort, alloc: Global, observer: &Observer, reply: Reply) -> 
     };
     let record = Record::new(cell(rt, 7, 0), &version, Ts(0));
     let vm = Vm::start(alloc, &observer.program, record, THREE).expect(rt, "memory");
-    let number = ObserverNo::new(0).expect(rt, "an observer");
-    let declared = Declared::Run(number, finished_by(rt, vm, reply));
+    let declared = Declared::Run(first(rt), finished_by(rt, vm, reply));
     Declaration::new(alloc, declared).ok().expect(rt, "memory")
 }
 
 // A change of column 0, committed, and a run that has read its cell and its acknowledgment.
 fn begun(rt: &impl Abort, alloc: Global) -> Result<Vec<Told>, NoMemory> {
     let ack = acknowledgment(rt);
-    let observer = ObserverNo::new(0).expect(rt, "an observer");
-    let what = batch_of(rt, alloc, &[0]);
+    let what = deletes(rt, alloc, &[0]);
     let mut told = Vec::new(alloc);
     told.push((1, Step::Begin(Work::Script), Ok(Answer::At(ONE))))?;
     told.push((1, Step::Declare(ONE, what), Ok(Answer::Done)))?;
@@ -71,7 +63,7 @@ fn begun(rt: &impl Abort, alloc: Global) -> Result<Vec<Told>, NoMemory> {
     told.push((1, Step::CommitPrimary(ONE), Ok(Answer::Committed)))?;
     told.push((
         2,
-        Step::Begin(Work::Run(observer, Row(7))),
+        Step::Begin(Work::Run(first(rt), Row(7))),
         Ok(Answer::At(THREE)),
     ))?;
     told.push((2, Step::Read(THREE, cell(rt, 7, 0)), Ok(FOUND)))?;
@@ -85,11 +77,10 @@ fn a_cleared_cell_is_marked_and_swept(rt: HostRuntime) -> Result<(), NoMemory> {
     let other = cell(&rt, 7, 1);
     let ack = acknowledgment(&rt);
     let observer = observer_of(&rt, rt.alloc(), WATCH);
-    let number = ObserverNo::new(0).expect(&rt, "an observer");
     let run = run_of(&rt, rt.alloc(), &observer, Reply::Absent);
     let mut told = Vec::new(rt.alloc());
     told.push((1, Step::Begin(Work::Script), Ok(Answer::At(ONE))))?;
-    let what = batch_of(&rt, rt.alloc(), &[1, 0]);
+    let what = deletes(&rt, rt.alloc(), &[1, 0]);
     told.push((1, Step::Declare(ONE, what), Ok(Answer::Done)))?;
     told.push((1, Step::Prewrite(ONE, other), Ok(Answer::Done)))?;
     told.push((1, Step::Prewrite(ONE, x), Ok(Answer::Done)))?;
@@ -109,7 +100,7 @@ fn a_cleared_cell_is_marked_and_swept(rt: HostRuntime) -> Result<(), NoMemory> {
     told.push((0, Step::Sweep(x), Ok(Answer::StillBehind)))?;
     told.push((
         2,
-        Step::Begin(Work::Run(number, Row(7))),
+        Step::Begin(Work::Run(first(&rt), Row(7))),
         Ok(Answer::At(THREE)),
     ))?;
     told.push((2, Step::Read(THREE, x), Ok(FOUND)))?;
@@ -125,9 +116,8 @@ fn a_cleared_cell_is_marked_and_swept(rt: HostRuntime) -> Result<(), NoMemory> {
     told.push((0, Step::Sweep(x), Ok(Answer::Done)))?;
     told.push((0, Step::Sweep(x), Ok(Answer::NoMark)))?;
     told.push((0, Step::NextMark(None), Ok(Answer::NoMark)))?;
-    let mut observers = Vec::new(rt.alloc());
-    observers.push(observer)?;
-    assert!(rt; are_told_on(&rt, tablets(&rt)?, observers, &told));
+    let observers = observers_of(rt.alloc(), observer)?;
+    assert!(rt; are_told_on(rt.alloc(), observers, &told)?);
     Ok(())
 }
 
@@ -147,9 +137,8 @@ fn a_run_declares_what_it_read(rt: HostRuntime) -> Result<(), NoMemory> {
     told.push((2, Step::Read(THREE, cell(&rt, 7, 1)), Ok(Answer::Absent)))?;
     told.push((2, Step::Declare(THREE, invented), Err(43)))?;
     told.push((2, Step::Declare(THREE, absent), Ok(Answer::Done)))?;
-    let mut observers = Vec::new(rt.alloc());
-    observers.push(observer)?;
-    assert!(rt; are_told_on(&rt, tablets(&rt)?, observers, &told));
+    let observers = observers_of(rt.alloc(), observer)?;
+    assert!(rt; are_told_on(rt.alloc(), observers, &told)?);
     Ok(())
 }
 
@@ -187,8 +176,7 @@ fn a_run_writes_its_acknowledgment_and_more(rt: HostRuntime) -> Result<(), NoMem
     };
     told.push((0, Step::Read(five, ack), Ok(stamp)))?;
     told.push((0, Step::Read(five, written), Ok(deleted)))?;
-    let mut observers = Vec::new(rt.alloc());
-    observers.push(observer)?;
-    assert!(rt; are_told_on(&rt, tablets(&rt)?, observers, &told));
+    let observers = observers_of(rt.alloc(), observer)?;
+    assert!(rt; are_told_on(rt.alloc(), observers, &told)?);
     Ok(())
 }

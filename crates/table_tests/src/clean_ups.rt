@@ -1,36 +1,18 @@
 //! Transactions of several cells, and what becomes of those that stop half way.
-ghost use Rattle.std.specs.Prelude.{◌≡◌, ◌≤◌, false, length};
+ghost use Rattle.std.specs.Prelude.{◌≡◌, ◌≤◌, length};
 
-use super::{Boxed, Sheet};
-use crate::end_all;
+use crate::sheet::Sheet;
+use crate::tables::{cell, deletes, opened};
 use pb_alone::report;
-use pb_base::{Batch, Cell, Column, Content, NoMemory, Row, Ts};
-use pb_core::{Answer, Declaration, Declared, Observer, OpenRefused, Seat, Shared, Step, Work};
-use pb_memtablet::ListTablet;
-use pb_store::{Table, Tablet};
+use pb_base::{Content, NoMemory, Ts};
+use pb_core::{Answer, Observer, Seat, Shared, Step, Work};
+use pb_store::Tablet;
 use std::alloc::Global;
 use std::process::Abort;
 use std::rt::HostRuntime;
 
 // A step of a seat, and what it is answered, or the number that it is refused with.
 pub type Told = (usize, Step, Result<Answer, u8>);
-
-pub fn cell(rt: &impl Abort, row: u64, number: u8) -> Cell {
-    Cell::Data(Row(row), Column::new(number).expect(rt, "a column"))
-}
-
-// A script's batch that writes these columns of the one row here.
-pub fn batch_of(rt: &impl Abort, alloc: Global, columns: &[u8]) -> Declaration {
-    let mut writes = Vec::new(alloc);
-    for number in columns {
-        let column = Column::new(*number).expect(rt, "a column");
-        writes
-            .push((Row(7), column, Content::Deleted))
-            .expect(rt, "memory");
-    }
-    let batch = Batch::new(writes).ok().expect(rt, "a batch");
-    Declaration::new(alloc, Declared::Script(batch)).expect(rt, "memory")
-}
 
 // What a seat's step is answered.
 fn call<T: Tablet>(
@@ -60,40 +42,12 @@ fn are_told<T: Tablet>(shared: Shared<T>, seats: Vec<Seat>, told: &[Told]) -> bo
     held
 }
 
-// The same, on a table of these tablets with these observers and three seats.
-pub fn are_told_on<T: Tablet>(
-    rt: &HostRuntime,
-    parts: Vec<(Row, T)>,
-    observers: Vec<Observer>,
-    told: &[Told],
-) -> bool
+// The same, on a table with these observers and three seats.
+pub fn are_told_on(alloc: Global, observers: Vec<Observer>, told: &[Told]) -> Result<bool, NoMemory>
     requires { length observers.items ≤ 32 }
 {
-    match Table::new(parts) {
-        Ok(table) => match Shared::open(rt.alloc(), table, observers, 3, Ts(0), 100) {
-            Ok((shared, seats)) => are_told(shared, seats, told),
-            Err(
-                OpenRefused {
-                    table,
-                    observers: _,
-                    code: _,
-                },
-            ) => {
-                table.close();
-                false
-            }
-        },
-        Err((parts, _)) => {
-            end_all(parts);
-            false
-        }
-    }
-}
-
-pub fn tablets(rt: &HostRuntime) -> Result<Vec<(Row, Boxed)>, NoMemory> {
-    let mut parts: Vec<(Row, Boxed)> = Vec::new(rt.alloc());
-    parts.push((Row(0), Box::new(rt.alloc(), ListTablet::new(rt.alloc()))?))?;
-    Ok(parts)
+    let (shared, seats) = opened(alloc, observers, 3, Ts(0), 100)?;
+    Ok(are_told(shared, seats, told))
 }
 
 #[test]
@@ -106,7 +60,7 @@ fn a_rival_rolls_back(rt: HostRuntime) -> Result<(), NoMemory> {
         start: one,
         primary: first,
     };
-    let what = batch_of(&rt, rt.alloc(), &[1, 0]);
+    let what = deletes(&rt, rt.alloc(), &[1, 0]);
     let mut told = Vec::new(rt.alloc());
     told.push((1, Step::Begin(Work::Script), Ok(Answer::At(one))))?;
     told.push((1, Step::Declare(one, what), Ok(Answer::Done)))?;
@@ -129,7 +83,7 @@ fn a_rival_rolls_back(rt: HostRuntime) -> Result<(), NoMemory> {
     told.push((1, Step::CommitSecondary(one, second), Err(42)))?;
     told.push((0, Step::Settle(first), Ok(Answer::Absent)))?;
     told.push((0, Step::Clear(second), Ok(Answer::Absent)))?;
-    assert!(rt; are_told_on(&rt, tablets(&rt)?, Vec::new(rt.alloc()), &told));
+    assert!(rt; are_told_on(rt.alloc(), Vec::new(rt.alloc()), &told)?);
     Ok(())
 }
 
@@ -143,7 +97,7 @@ fn a_rival_finishes(rt: HostRuntime) -> Result<(), NoMemory> {
         commit: Ts(2),
         content: Content::Deleted,
     };
-    let what = batch_of(&rt, rt.alloc(), &[1, 0]);
+    let what = deletes(&rt, rt.alloc(), &[1, 0]);
     let mut told = Vec::new(rt.alloc());
     told.push((1, Step::Begin(Work::Script), Ok(Answer::At(one))))?;
     told.push((1, Step::Declare(one, what), Ok(Answer::Done)))?;
@@ -159,7 +113,7 @@ fn a_rival_finishes(rt: HostRuntime) -> Result<(), NoMemory> {
     told.push((2, Step::Begin(Work::Script), Ok(Answer::At(Ts(3)))))?;
     told.push((2, Step::Read(Ts(3), first), Ok(found)))?;
     told.push((2, Step::Read(Ts(3), second), Ok(found)))?;
-    assert!(rt; are_told_on(&rt, tablets(&rt)?, Vec::new(rt.alloc()), &told));
+    assert!(rt; are_told_on(rt.alloc(), Vec::new(rt.alloc()), &told)?);
     Ok(())
 }
 
@@ -167,7 +121,7 @@ fn a_rival_finishes(rt: HostRuntime) -> Result<(), NoMemory> {
 fn change_steps(rt: &impl Abort, alloc: Global, count: usize) -> Result<Vec<Step>, NoMemory> {
     let mut steps = Vec::new(alloc);
     steps.push(Step::Begin(Work::Script))?;
-    steps.push(Step::Declare(Ts(1), batch_of(rt, alloc, &[2, 0, 1])))?;
+    steps.push(Step::Declare(Ts(1), deletes(rt, alloc, &[2, 0, 1])))?;
     steps.push(Step::Prewrite(Ts(1), cell(rt, 7, 2)))?;
     steps.push(Step::Prewrite(Ts(1), cell(rt, 7, 0)))?;
     steps.push(Step::Prewrite(Ts(1), cell(rt, 7, 1)))?;
@@ -181,13 +135,8 @@ fn change_steps(rt: &impl Abort, alloc: Global, count: usize) -> Result<Vec<Step
 
 // Whether the report of the table is this.
 fn reports<T: Tablet>(alloc: Global, shared: &Shared<T>, text: &str) -> bool {
-    let mut sheet = Sheet {
-        bytes: Vec::new(alloc),
-        left: usize::MAX,
-        fails: true,
-        failed: false,
-    };
-    report(alloc, &mut sheet, shared).is_ok() && sheet.bytes.as_slice() == text.as_bytes()
+    let mut sheet = Sheet::new(alloc);
+    report(alloc, &mut sheet, shared).is_ok() && sheet.bytes() == text.as_bytes()
 }
 
 // Makes each step by the seat of this number.
@@ -220,36 +169,6 @@ fn leaves<T: Tablet>(
     stops_so && ends_so
 }
 
-// The same, on a table of these tablets.
-fn leaves_on<T: Tablet>(
-    alloc: Global,
-    parts: Vec<(Row, T)>,
-    steps: &[Step],
-    left: &str,
-    clean: &[Step],
-    cleaned: &str,
-) -> bool {
-    match Table::new(parts) {
-        Ok(table) => match Shared::open(alloc, table, Vec::new(alloc), 2, Ts(0), 100) {
-            Ok(opened) => leaves(alloc, opened, steps, left, clean, cleaned),
-            Err(
-                OpenRefused {
-                    table,
-                    observers: _,
-                    code: _,
-                },
-            ) => {
-                table.close();
-                false
-            }
-        },
-        Err((parts, _)) => {
-            end_all(parts);
-            false
-        }
-    }
-}
-
 const WHOLE: &str =
     "cell 7 0 commit 2 deleted\ncell 7 1 commit 2 deleted\ncell 7 2 commit 2 deleted\n";
 
@@ -278,10 +197,10 @@ fn workers_stop_after_each_step(rt: HostRuntime) -> Result<(), NoMemory> {
         let cells = if is_committed { WHOLE } else { "" };
         let left = format!(in rt.alloc(); "{cells}{line}").expect(&rt, "memory");
         let cleaned = format!(in rt.alloc(); "{cells}quiet\n").expect(&rt, "memory");
-        let parts = tablets(&rt)?;
-        let is_so = leaves_on(
+        let opened = opened(rt.alloc(), Vec::new(rt.alloc()), 2, Ts(0), 100)?;
+        let is_so = leaves(
             rt.alloc(),
-            parts,
+            opened,
             &steps,
             left.as_str(),
             &clean,
