@@ -1,3 +1,4 @@
 pub mod Calls
 pub mod Codes
 pub mod Keeping
+pub mod Histories

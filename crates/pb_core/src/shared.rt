@@ -5,8 +5,10 @@ ghost use Rattle.pb_core.specs.Calls.{IsFresh, IsBlank};
 use crate::seat::{Book, Seat};
 use pb_base::{MAX_ENTRIES, MAX_OBSERVERS, MAX_SEATS, NoMemory, Reason, Refusal, Ts};
 use pb_history::{
-    Entry, Received, histories_are_told, reads_are_told, runs_are_counted, runs_are_told,
-    steps_can_answer, timestamps_rise,
+    Entry, Received, behind_is_marked, commits_are_ordered, handled_at_most_once,
+    handled_when_quiet, histories_are_told, reads_are_told, reads_tell_snapshots, records_are_told,
+    runs_are_counted, runs_are_told, scripts_write_batches, steps_can_answer, timestamps_rise,
+    writers_are_apart,
 };
 use pb_state::State;
 use pb_steps::{Answer, Observer, Phase, Step};
@@ -136,12 +138,11 @@ impl<T: Tablet> Shared<T> {
     ghost use Rattle.pb_steps.specs.Readings.{lock_count};
     ghost use Rattle.pb_steps.specs.Answers.{CanAnswer};
     ghost use Rattle.pb_core.specs.Calls.{AreSeats, Calls, call_reason};
-    ghost use Rattle.pb_history.specs.Journals.{IsLegal};
     ghost use Rattle.pb_history.specs.History.{TellsHistory};
     ghost use Rattle.pb_history.specs.ReadsTold.{TellsReads};
-    ghost use Rattle.pb_history.specs.RunsTold.{TellsRuns};
     ghost use Rattle.pb_history.specs.RunCounts.{TellsRunCounts};
-    ghost use Rattle.pb_history.specs.Timestamps.{TellsTimestamps};
+    ghost use Rattle.pb_history.specs.RecordsTold.{TellsRecords};
+    ghost use Rattle.pb_core.specs.Histories.{IsLegalTable, IsSnapshotHistory, HandlesOnce};
     ghost use Rattle.pb_base.specs.Reasons.{reason_code};
 
     /// Opens a table for these observers and as many seats, with `last` the last timestamp given out so far and room for
@@ -212,21 +213,31 @@ impl<T: Tablet> Shared<T> {
         state.close();
     }
 
-    /// The entries of all answered calls, in order.
+    /// The entries of all answered calls, in order. Its committed transactions are a legal snapshot history, and each committed
+    /// change is handled by at most one committed run of each observer of its column.
     pub fn journal(&self) -> &[Entry]
         ensures entries { result.now ≡ self.now.journal }
-        ensures legal { IsLegal self.now.state.observers self.now.state.seats self.now.opened self.now.journal self.now.state }
+        ensures legal { IsLegalTable self.now }
         ensures history { TellsHistory self.now.journal self.now.state }
         ensures reads { TellsReads self.now.state.observers self.now.state.seats self.now.opened self.now.journal }
-        ensures runs { TellsRuns self.now.journal self.now.state }
         ensures counts { TellsRunCounts self.now.journal self.now.state }
-        ensures timestamps { TellsTimestamps self.now.opened self.now.journal self.now.state }
+        ensures snapshots { IsSnapshotHistory self.now }
+        ensures records { TellsRecords self.now.journal self.now.state }
+        ensures once { HandlesOnce self.now }
     {
         histories_are_told();
         reads_are_told();
-        runs_are_told();
         runs_are_counted();
         timestamps_rise();
+        commits_are_ordered();
+        reads_tell_snapshots();
+        writers_are_apart();
+        runs_are_told();
+        scripts_write_batches();
+        records_are_told();
+        behind_is_marked();
+        handled_at_most_once();
+        handled_when_quiet();
         &self.journal
     }
 

@@ -1,0 +1,30 @@
+-- What holds of a table's journal and state (OSDI 2010, sections 2.2 to 2.4).
+use Rattle.pb_history.specs.Journals.{IsLegal}
+use Rattle.pb_history.specs.Timestamps.{TellsTimestamps}
+use Rattle.pb_history.specs.CommitOrder.{TellsCommitOrder}
+use Rattle.pb_history.specs.SnapshotsTold.{TellsSnapshots}
+use Rattle.pb_history.specs.WritersTold.{TellsWriters}
+use Rattle.pb_history.specs.RunsTold.{TellsRuns}
+use Rattle.pb_history.specs.ScriptsTold.{TellsScripts}
+use Rattle.pb_history.specs.MarksTold.{TellsMarks}
+use Rattle.pb_history.specs.Handled.{TellsOneHandler, TellsHandlers}
+use Rattle.pb_core.specs.Calls.{SharedOf}
+
+-- the journal is legal, and leads to the state
+abbrev pub IsLegalTable : SharedOf → Type 0
+IsLegalTable s = IsLegal s.state.observers s.state.seats s.opened s.journal s.state
+
+-- the committed transactions are a legal snapshot history
+pub record IsSnapshotHistory (s : SharedOf) : Type 0 where
+  pub timestamps : TellsTimestamps s.opened s.journal s.state
+  pub order : TellsCommitOrder s.journal s.state
+  pub reads : TellsSnapshots s.journal s.state
+  pub writers : TellsWriters s.journal s.state
+  pub runs : TellsRuns s.journal s.state
+  pub scripts : TellsScripts s.journal s.state
+
+-- each committed change is handled by at most one committed run of each observer of its column, and by one when all is quiet
+pub record HandlesOnce (s : SharedOf) : Type 0 where
+  pub behind : TellsMarks s.state
+  pub most : TellsOneHandler s.journal s.state
+  pub quiet : TellsHandlers s.journal s.state
