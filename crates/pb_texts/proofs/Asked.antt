@@ -1,61 +1,17 @@
 -- A command line that `clap` takes asks for something.
-use Rattle.std.proofs.Common.{◌≡◌, ℕ, ◌<◌, Bool, true, false, cond, List, [], ◌∷◌, length, Option, Some, None, refl, sym, ap, subst, ◌∙◌, arith, inl, inr, codes}
-use Rattle.std.specs.Prelude.{◌⊎◌, ◌||◌, not, find, fold, slice_get, is_some, option_map, option_and_then}
-use Rattle.std.specs.Option.{option_map_or}
+use Rattle.std.proofs.Common.{◌≡◌, ℕ, Bool, true, false, cond, List, [], ◌∷◌, Option, Some, None, refl, sym, ap, subst, ◌∙◌, inl, inr, codes}
+use Rattle.std.specs.Prelude.{◌⊎◌, ◌||◌, not, fold, is_some, option_map, option_and_then}
 use Rattle.std.specs.Str.{bytes_eq}
 use Rattle.clap.specs.Lexer.{long_of, short_of}
-use Rattle.clap.specs.Facts.{explicit_source}
 use Rattle.clap.specs.Walk.{Text, Rule, Row, Held, Waiting, idle, option, positional, Outcome, done, waits, plain, refused, Step, Walk, Names, next, trailing, subcommand, value}
-use Rattle.clap.specs.Walk.{first_of, answers_to, arg_by_long, arg_by_index, long_met, bundle, plain_word, after_flag, short_or_plain, long_or_other, subcommand_met, subcommand_or_other, word_met, to_positional, after_step, walked_from, walked, walk_from, walk, finished, nothing_held, rows_after}
-use Rattle.clap.specs.Simple.{Shape, built, argument_words, entered, names_of}
-use Rattle.clap.specs.Kinds.{Kinds, or_else, check_kinds}
+use Rattle.clap.specs.Walk.{first_of, one_of, answers_to, arg_by_long, arg_by_index, long_met, bundle, plain_word, after_flag, short_or_plain, long_or_other, subcommand_met, subcommand_or_other, word_met, to_positional, after_step, walked_from, walked, walk_from, walk, finished, nothing_held, rows_after}
+use Rattle.clap.specs.Simple.{Shape, built, built_leaf, inherited, with_leaf_noted, marked_built, argument_words, entered, names_of}
+use Rattle.clap.specs.Kinds.{check_kinds}
 use Rattle.clap.specs.Takes.{is_given}
-use Rattle.clap.specs.Faults.{fault_of, level_fault, entered_fault, check_fault, walk_fault, turn_fault, word_fault, other_fault}
-use Rattle.pb_texts.specs.CommandLines.{program_app, Request, Run, Asm, Dis, Check, both, command_in, command_of}
-use Rattle.pb_texts.proofs.Filled.{Full, one_operand, two_operands, one_alone, two_alone, full_rows}
-
-chosen : {A : Type 0} (b : Bool) (x y z : A) → cond b x y ≡ z → ((b ≡ true) × (x ≡ z)) ⊎ ((b ≡ false) × (y ≡ z))
-chosen true x y z h = inl (refl, h)
-chosen false x y z h = inr (refl, h)
-
-some_same : {A : Type 0} (x y : A) → Some x ≡ Some y → x ≡ y
-some_same x y h = cc
-
--- ---- a row that is given has a first value
-
-found_full : (p : Row → Bool) (rows : List Row) (r : Row) → Full rows → find p rows ≡ Some r → 0 < length r.values
-found_full p [] r f h = absurd cc
-found_full p (x ∷ xs) r f h = elim (chosen (p x) (Some x) (find p xs) (Some r) h) [
-  | inl here ↦ subst (λ (y : Row). 0 < length y.values) (some_same x r here.1) f.0
-  | inr later ↦ found_full p xs r f.1 later.1
-]
-
-first_value : (vs : List Text) → 0 < length vs → (t : Text) × (slice_get vs 0 ≡ Some t)
-first_value [] h = absurd (omega arith)
-first_value (v ∷ vs) h = (v, refl)
-
-first_in : (rows : List Row) (p : Row → Bool) (o : Option Row) → Full rows → find p rows ≡ o → option_map_or (λ r. explicit_source r.source) o false ≡ true → (t : Text) × (option_and_then (λ (r : Row). slice_get r.values 0) o ≡ Some t)
-first_in rows p None f e g = absurd cc
-first_in rows p (Some r) f e g = first_value r.values (found_full p rows r f e)
-
-given_first : (id : Text) (rows : List Row) → Full rows → is_given id rows ≡ true → (t : Text) × (first_of id rows ≡ Some t)
-given_first id rows f g = first_in rows (λ r. bytes_eq r.id id) (find (λ r. bytes_eq r.id id) rows) f refl g
-
--- ---- faults, part by part
-
-or_else_none : (a b : Kinds) → or_else a b ≡ [] → (a ≡ []) × (b ≡ [])
-or_else_none [] b h = (refl, h)
-or_else_none (k ∷ ks) b h = absurd cc
-
--- the checks at the end of one level, and the faults of the level below
-level_none : (s : Shape) (names : Names) (h : Held) (words : List Text) (b : Bool) (below : Kinds) → level_fault s names h words b below ≡ []
-    → (walk_fault s names (walk_from h) words ≡ []) × (below ≡ []) × (check_fault s (finished s.rules (walk s.rules names h words).held) b ≡ [])
-level_none s names h words b below e =
-    let a = or_else_none _ _ e in
-    let d = or_else_none _ _ a.1 in
-    let f = or_else_none _ _ d.1 in
-    let g = or_else_none _ _ f.1 in
-    (a.0, d.0, g.1)
+use Rattle.clap.specs.Faults.{fault_of, entered_fault, check_fault, walk_fault, turn_fault, word_fault, other_fault}
+use Rattle.pb_texts.specs.CommandLines.{run_app, replay_app, asm_app, dis_app, check_app, program_app, Request, Run, Replay, Asm, Dis, Check, both, all_three, clock_of, command_in, command_of}
+use Rattle.pb_texts.proofs.Kept.{Each, HasNoDefault, or_else_none, level_none, unless_stopped, rows_kept}
+use Rattle.pb_texts.proofs.Filled.{HasValue, ReadsClock, help_keeps, operand_has_value, operand_keeps_clock, clock_has_value, clock_reads_clock, given_first, has_clock}
 
 -- ---- the top level
 
@@ -66,7 +22,7 @@ abbrev names : Names
 names = names_of (built program_app)
 
 abbrev IsName : Text → Type 0
-IsName name = (name ≡ codes "run") ⊎ ((name ≡ codes "asm") ⊎ ((name ≡ codes "dis") ⊎ (name ≡ codes "check")))
+IsName name = (name ≡ codes "run") ⊎ ((name ≡ codes "replay") ⊎ ((name ≡ codes "asm") ⊎ ((name ≡ codes "dis") ⊎ (name ≡ codes "check"))))
 
 -- a walk that stopped did so at one of the subcommands
 abbrev Stops : Option (Text × List Text) → Type 0
@@ -86,16 +42,17 @@ Named (Some name) = IsName name ⊎ (name ≡ codes "help")
 abbrev name_if : Bool → Text → Option (Text × List Text) → Option (Text × List Text)
 name_if b name others = cond b (Some (name, [])) others
 
-named_by : (a b c d e : Bool) → Named (option_map (λ (s : Text × List Text). s.0) (name_if a (codes "run") (name_if b (codes "asm") (name_if c (codes "dis") (name_if d (codes "check") (name_if e (codes "help") None))))))
-named_by true b c d e = inl (inl refl)
-named_by false true c d e = inl (inr (inl refl))
-named_by false false true d e = inl (inr (inr (inl refl)))
-named_by false false false true e = inl (inr (inr (inr refl)))
-named_by false false false false true = inr refl
-named_by false false false false false = tt
+named_by : (a b c d e f : Bool) → Named (option_map (λ (s : Text × List Text). s.0) (name_if a (codes "run") (name_if b (codes "replay") (name_if c (codes "asm") (name_if d (codes "dis") (name_if e (codes "check") (name_if f (codes "help") None)))))))
+named_by true b c d e f = inl (inl refl)
+named_by false true c d e f = inl (inr (inl refl))
+named_by false false true d e f = inl (inr (inr (inl refl)))
+named_by false false false true e f = inl (inr (inr (inr (inl refl))))
+named_by false false false false true f = inl (inr (inr (inr (inr refl))))
+named_by false false false false false true = inr refl
+named_by false false false false false false = tt
 
 named : (w : Waiting) (word : Text) → Named (subcommand_met names w word)
-named idle word = named_by (answers_to word (codes "run", [])) (answers_to word (codes "asm", [])) (answers_to word (codes "dis", [])) (answers_to word (codes "check", [])) (answers_to word (codes "help", []))
+named idle word = named_by (answers_to word (codes "run", [])) (answers_to word (codes "replay", [])) (answers_to word (codes "asm", [])) (answers_to word (codes "dis", [])) (answers_to word (codes "check", [])) (answers_to word (codes "help", []))
 named (option id) word = tt
 named positional word = tt
 
@@ -143,10 +100,6 @@ step_stops word w h (trailing p) r g = g
 step_stops word w h (subcommand name) r g = r
 step_stops word w h value r g = positional_stops (arg_by_index top.rules w.position) word w h g
 
-unless_stopped : (o : Option (Text × List Text)) (k : Kinds) → o ≡ None → cond (is_some o) [] k ≡ [] → k ≡ []
-unless_stopped None k is h = h
-unless_stopped (Some p) k is h = absurd cc
-
 -- a word, at a walk that has stopped there or not
 turn_stops : (o : Option (Text × List Text)) (w : Walk) (word : Text) → w.stopped ≡ o → Stops o → turn_fault top names w word ≡ [] → Stops (walked_from top.rules names o w word).stopped
 turn_stops (Some p) w word is g e = g
@@ -161,19 +114,36 @@ walk_stops (word ∷ words) w g e =
 
 -- ---- the subcommand
 
-both_given : (a b : Bool) → (not a || (not b || false)) ≡ false → (a ≡ true) × (b ≡ true)
-both_given true true h = (refl, refl)
-both_given true false h = absurd cc
-both_given false b h = absurd cc
-
-both_some : (make : Text → Text → Request) (a b : Option Text) (s t : Text) → a ≡ Some s → b ≡ Some t → both make a b ≡ Some (make s t)
-both_some make a b s t e f = ap (λ x. both make x b) e ∙ ap (both make (Some s)) f
+-- a subcommand, once built
+abbrev leaf : Shape → Shape
+leaf s = built_leaf (inherited (with_leaf_noted (marked_built program_app.top)) s)
 
 checked : (b : Bool) → check_kinds false false b ≡ [] → b ≡ false
 checked true h = absurd cc
 checked false h = refl
 
-both_ask : (make : Text → Text → Request) (first second : Text) (rows : List Row) → Full rows → check_kinds false false (not (is_given first rows) || (not (is_given second rows) || false)) ≡ []
+one_given : (a : Bool) → (not a || false) ≡ false → a ≡ true
+one_given true h = refl
+one_given false h = absurd cc
+
+both_given : (a b : Bool) → (not a || (not b || false)) ≡ false → (a ≡ true) × (b ≡ true)
+both_given true b h = (refl, one_given b h)
+both_given false b h = absurd cc
+
+all_given : (a b c : Bool) → (not a || (not b || (not c || false))) ≡ false → (a ≡ true) × (b ≡ true) × (c ≡ true)
+all_given true b c h = let rest = both_given b c h in (refl, rest.0, rest.1)
+all_given false b c h = absurd cc
+
+one_asks : (make : Text → Request) (id : Text) (rows : List Row) → Each HasValue rows → check_kinds false false (not (is_given id rows) || false) ≡ []
+    → (r : Request) × (option_map make (first_of id rows) ≡ Some r)
+one_asks make id rows f e =
+    let m = given_first id rows f (one_given (is_given id rows) (checked _ e)) in
+    (make m.0, ap (option_map make) m.1)
+
+both_some : (make : Text → Text → Request) (a b : Option Text) (s t : Text) → a ≡ Some s → b ≡ Some t → both make a b ≡ Some (make s t)
+both_some make a b s t e f = ap (λ x. both make x b) e ∙ ap (both make (Some s)) f
+
+both_ask : (make : Text → Text → Request) (first second : Text) (rows : List Row) → Each HasValue rows → check_kinds false false (not (is_given first rows) || (not (is_given second rows) || false)) ≡ []
     → (r : Request) × (both make (first_of first rows) (first_of second rows) ≡ Some r)
 both_ask make first second rows f e =
     let g = both_given (is_given first rows) (is_given second rows) (checked _ e) in
@@ -181,15 +151,18 @@ both_ask make first second rows f e =
     let s = given_first second rows f g.1 in
     (make m.0 s.0, both_some make _ _ m.0 s.0 m.1 s.1)
 
-one_given : (a : Bool) → (not a || false) ≡ false → a ≡ true
-one_given true h = refl
-one_given false h = absurd cc
+all_some : (make : Text → Text → Text → Request) (a b c : Option Text) (s t u : Text) → a ≡ Some s → b ≡ Some t → c ≡ Some u → all_three make a b c ≡ Some (make s t u)
+all_some make a b c s t u e f g = ap (λ x. all_three make x b c) e ∙ both_some (make s) b c t u f g
 
-one_asks : (make : Text → Request) (id : Text) (rows : List Row) → Full rows → check_kinds false false (not (is_given id rows) || false) ≡ []
-    → (r : Request) × (option_map make (first_of id rows) ≡ Some r)
-one_asks make id rows f e =
-    let m = given_first id rows f (one_given (is_given id rows) (checked _ e)) in
-    (make m.0, ap (option_map make) m.1)
+all_ask : (make : Text → Text → Text → Request) (first second third : Text) (rows : List Row) → Each HasValue rows
+    → check_kinds false false (not (is_given first rows) || (not (is_given second rows) || (not (is_given third rows) || false))) ≡ []
+    → (r : Request) × (all_three make (first_of first rows) (first_of second rows) (first_of third rows) ≡ Some r)
+all_ask make first second third rows f e =
+    let g = all_given (is_given first rows) (is_given second rows) (is_given third rows) (checked _ e) in
+    let m = given_first first rows f g.0 in
+    let s = given_first second rows f g.1 in
+    let t = given_first third rows f g.2 in
+    (make m.0 s.0 t.0, all_some make _ _ _ m.0 s.0 t.0 m.1 s.1 t.1)
 
 -- what is asked for where the walk stopped at this name, with these words behind
 abbrev Asks : Text → List Text → Type 0
@@ -197,25 +170,49 @@ Asks name words = (r : Request) × (command_in (entered (built program_app) (Som
 
 run_asks : (words : List Text) → entered_fault (built program_app) (Some (codes "run", words)) ≡ [] → Asks (codes "run") words
 run_asks words f =
-    let c = level_none _ [] nothing_held words false [] f in
-    both_ask Run (codes "MANIFEST") (codes "SCRIPT") (rows_after (two_operands (codes "MANIFEST") (codes "SCRIPT")) [] words)
-    (full_rows (two_operands (codes "MANIFEST") (codes "SCRIPT")) (two_alone (codes "MANIFEST") (codes "SCRIPT")) [] words) c.2
+    let s = leaf run_app.top in
+    let values = rows_kept s HasValue (operand_has_value 1 (codes "MANIFEST"), (operand_has_value 2 (codes "SCRIPT"), (help_keeps HasValue, tt))) words (refl, (refl, (refl, tt))) f in
+    both_ask Run (codes "MANIFEST") (codes "SCRIPT") (rows_after s.rules [] words) values (level_none s [] nothing_held words false [] f).3
+
+-- the request of a replay, from a clock on
+abbrev replay_from : List Row → ℕ → Option Request
+replay_from rows clock = all_three (λ manifest script schedule. Replay manifest script schedule clock) (first_of (codes "MANIFEST") rows) (first_of (codes "SCRIPT") rows) (first_of (codes "SCHEDULE") rows)
+
+clock_asks : (clock : Option ℕ) (ask : ℕ → Option Request) (n : ℕ) → clock ≡ Some n → (r : Request) × (ask n ≡ Some r) → (r : Request) × (option_and_then ask clock ≡ Some r)
+clock_asks clock ask n e asked = (asked.0, ap (option_and_then ask) e ∙ asked.1)
+
+replay_asks : (words : List Text) → entered_fault (built program_app) (Some (codes "replay", words)) ≡ [] → Asks (codes "replay") words
+replay_asks words f =
+    let s = leaf replay_app.top in
+    let rows = rows_after s.rules [] words in
+    let bare : Each HasNoDefault s.rules = (refl, (refl, (refl, (refl, (refl, tt))))) in
+    let values = rows_kept s HasValue
+    (operand_has_value 1 (codes "MANIFEST"), (operand_has_value 2 (codes "SCRIPT"), (operand_has_value 3 (codes "SCHEDULE"), (clock_has_value, (help_keeps HasValue, tt)))))
+    words bare f in
+    let clocks = rows_kept s ReadsClock
+    (operand_keeps_clock 1 (codes "MANIFEST") (λ e. absurd cc), (operand_keeps_clock 2 (codes "SCRIPT") (λ e. absurd cc), (operand_keeps_clock 3 (codes "SCHEDULE") (λ e. absurd cc), (clock_reads_clock, (help_keeps ReadsClock, tt)))))
+    words bare f in
+    let clock = has_clock rows clocks in
+    clock_asks (clock_of (one_of (codes "clock") rows)) (replay_from rows) clock.0 clock.1
+    (all_ask (λ manifest script schedule. Replay manifest script schedule clock.0) (codes "MANIFEST") (codes "SCRIPT") (codes "SCHEDULE") rows values (level_none s [] nothing_held words false [] f).3)
 
 asm_asks : (words : List Text) → entered_fault (built program_app) (Some (codes "asm", words)) ≡ [] → Asks (codes "asm") words
 asm_asks words f =
-    let c = level_none _ [] nothing_held words false [] f in
-    both_ask Asm (codes "IN") (codes "OUT") (rows_after (two_operands (codes "IN") (codes "OUT")) [] words)
-    (full_rows (two_operands (codes "IN") (codes "OUT")) (two_alone (codes "IN") (codes "OUT")) [] words) c.2
+    let s = leaf asm_app.top in
+    let values = rows_kept s HasValue (operand_has_value 1 (codes "IN"), (operand_has_value 2 (codes "OUT"), (help_keeps HasValue, tt))) words (refl, (refl, (refl, tt))) f in
+    both_ask Asm (codes "IN") (codes "OUT") (rows_after s.rules [] words) values (level_none s [] nothing_held words false [] f).3
 
 dis_asks : (words : List Text) → entered_fault (built program_app) (Some (codes "dis", words)) ≡ [] → Asks (codes "dis") words
 dis_asks words f =
-    let c = level_none _ [] nothing_held words false [] f in
-    one_asks Dis (codes "FILE") (rows_after (one_operand (codes "FILE")) [] words) (full_rows (one_operand (codes "FILE")) (one_alone (codes "FILE")) [] words) c.2
+    let s = leaf dis_app.top in
+    let values = rows_kept s HasValue (operand_has_value 1 (codes "FILE"), (help_keeps HasValue, tt)) words (refl, (refl, tt)) f in
+    one_asks Dis (codes "FILE") (rows_after s.rules [] words) values (level_none s [] nothing_held words false [] f).3
 
 check_asks : (words : List Text) → entered_fault (built program_app) (Some (codes "check", words)) ≡ [] → Asks (codes "check") words
 check_asks words f =
-    let c = level_none _ [] nothing_held words false [] f in
-    one_asks Check (codes "FILE") (rows_after (one_operand (codes "FILE")) [] words) (full_rows (one_operand (codes "FILE")) (one_alone (codes "FILE")) [] words) c.2
+    let s = leaf check_app.top in
+    let values = rows_kept s HasValue (operand_has_value 1 (codes "FILE"), (help_keeps HasValue, tt)) words (refl, (refl, tt)) f in
+    one_asks Check (codes "FILE") (rows_after s.rules [] words) values (level_none s [] nothing_held words false [] f).3
 
 -- the same for a name that is one of these
 renamed : (name known : Text) (words : List Text) → name ≡ known → (entered_fault (built program_app) (Some (known, words)) ≡ [] → Asks known words)
@@ -225,9 +222,10 @@ renamed name known words e asks f = subst (λ (n : Text). entered_fault (built p
 asks_at : (o : Option (Text × List Text)) → Stops o → is_some (entered (built program_app) o) ≡ true → entered_fault (built program_app) o ≡ [] → (r : Request) × (command_in (entered (built program_app) o) ≡ Some r)
 asks_at None r e f = absurd cc
 asks_at (Some q) (inl run) e f = renamed q.0 (codes "run") q.1 run (run_asks q.1) f
-asks_at (Some q) (inr (inl asm)) e f = renamed q.0 (codes "asm") q.1 asm (asm_asks q.1) f
-asks_at (Some q) (inr (inr (inl dis))) e f = renamed q.0 (codes "dis") q.1 dis (dis_asks q.1) f
-asks_at (Some q) (inr (inr (inr check))) e f = renamed q.0 (codes "check") q.1 check (check_asks q.1) f
+asks_at (Some q) (inr (inl replay)) e f = renamed q.0 (codes "replay") q.1 replay (replay_asks q.1) f
+asks_at (Some q) (inr (inr (inl asm))) e f = renamed q.0 (codes "asm") q.1 asm (asm_asks q.1) f
+asks_at (Some q) (inr (inr (inr (inl dis)))) e f = renamed q.0 (codes "dis") q.1 dis (dis_asks q.1) f
+asks_at (Some q) (inr (inr (inr (inr check)))) e f = renamed q.0 (codes "check") q.1 check (check_asks q.1) f
 
 has_one : (b : Bool) (rows : List Row) → check_fault top rows b ≡ [] → b ≡ true
 has_one true rows h = refl
@@ -237,4 +235,4 @@ pub asks : (words : List Text) → fault_of program_app words ≡ [] → (r : Re
 asks words e =
     let ws = argument_words (built program_app) words in
     let c = level_none top names nothing_held ws _ _ e in
-    asks_at (walk top.rules names nothing_held ws).stopped (walk_stops ws (walk_from nothing_held) tt c.0) (has_one _ (finished top.rules (walk top.rules names nothing_held ws).held) c.2) c.1
+    asks_at (walk top.rules names nothing_held ws).stopped (walk_stops ws (walk_from nothing_held) tt c.0) (has_one _ (finished top.rules (walk top.rules names nothing_held ws).held) c.3) c.1

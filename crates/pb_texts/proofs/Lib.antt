@@ -13,6 +13,8 @@ pub mod Parts
 pub mod Trims
 pub mod Newests
 pub mod OneReport
+pub mod Clocks
+pub mod Kept
 pub mod Filled
 pub mod Asked
 pub mod Taken

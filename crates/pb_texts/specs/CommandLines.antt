@@ -1,7 +1,11 @@
 -- What a command line asks for, as `clap` reads it.
-use Rattle.std.specs.Prelude.{◌≡◌, Bool, true, not, ◌==◌, if◌then◌else◌, List, [], ◌∷◌, codes, Option, Some, None, option_map}
+use Rattle.std.specs.Prelude.{◌≡◌, ℕ, Bool, true, not, ◌==◌, if◌then◌else◌, List, [], ◌∷◌, codes, Option, Some, None, option_map, option_and_then}
 use Rattle.std.specs.Str.{bytes_eq}
-use Rattle.clap.specs.Words.{App, Row, Rule, Text, fault_of, first_of, new_app, new_rule, subcommand_of, with_rule, with_subcommand}
+use Rattle.std.specs.Str.Parse.{digits_value, without_leading_plus}
+use Rattle.clap.specs.Words.{App, Row, Rule, Text, fault_of, first_of, new_app, new_rule, one_of, subcommand_of, with_rule, with_subcommand}
+use Rattle.clap.specs.ValueTests.{is_unsigned_in}
+use Rattle.clap.specs.declared.builder.value_parser.ValueParser.TheVariants.{Unsigned}
+use Rattle.clap.specs.declared.error.kind.ErrorKind.TheVariants.{ValueValidation}
 use Rattle.clap.specs.Simple.{on_top}
 use Rattle.pb_texts.specs.declared.words.choice.Options.{Options}
 use Rattle.pb_texts.specs.declared.words.choice.Options.TheVariants as options
@@ -12,6 +16,18 @@ required_rule id = record (new_rule id) { required = true }
 -- `run MANIFEST SCRIPT`
 abbrev pub run_app : App
 run_app = with_rule (with_rule (new_app (codes "run")) (required_rule (codes "MANIFEST"))) (required_rule (codes "SCRIPT"))
+
+-- the greatest number of `u64`
+abbrev pub last_clock : ℕ
+last_clock = 18446744073709551615
+
+-- `--clock N`, where N is a number of `u64`
+abbrev pub clock_rule : Rule
+clock_rule = record (new_rule (codes "clock")) { long = Some (codes "clock"); value_names = 1; parser = Some (Unsigned 0 last_clock) }
+
+-- `replay MANIFEST SCRIPT SCHEDULE [--clock N]`
+abbrev pub replay_app : App
+replay_app = with_rule (with_rule (with_rule (with_rule (new_app (codes "replay")) (required_rule (codes "MANIFEST"))) (required_rule (codes "SCRIPT"))) (required_rule (codes "SCHEDULE"))) clock_rule
 
 -- `asm IN OUT`
 abbrev pub asm_app : App
@@ -30,16 +46,17 @@ needs_subcommand = on_top (λ s. record s { subcommand_required = true })
 
 -- the program, which needs a subcommand, with those that read texts
 abbrev pub texts_app : App
-texts_app = with_subcommand (with_subcommand (needs_subcommand (new_app (codes "percobpf"))) run_app.top) asm_app.top
+texts_app = with_subcommand (with_subcommand (with_subcommand (needs_subcommand (new_app (codes "percobpf"))) run_app.top) replay_app.top) asm_app.top
 
 -- the program
 abbrev pub program_app : App
 program_app = with_subcommand (with_subcommand texts_app dis_app.top) check_app.top
 
--- what a command line can ask for: a manifest and a script to run, a text to read and a path for its bytes, a file to list
--- or to check
+-- what a command line can ask for: a manifest and a script to run, the same with a schedule to replay from a clock on, a
+-- text to read and a path for its bytes, a file to list or to check
 pub data Request : Type 0 where
   Run : Text → Text → Request
+  Replay : Text → Text → Text → ℕ → Request
   Asm : Text → Text → Request
   Dis : Text → Request
   Check : Text → Request
@@ -49,9 +66,31 @@ both make None second = None
 both make (Some first) None = None
 both make (Some first) (Some second) = Some (make first second)
 
+abbrev pub all_three : (Text → Text → Text → Request) → Option Text → Option Text → Option Text → Option Request
+all_three make None second third = None
+all_three make (Some first) second third = both (make first) second third
+
+-- the text is a number of `u64`: decimal digits, before which a plus may stand
+abbrev pub is_clock : Text → Bool
+is_clock text = is_unsigned_in 0 last_clock text
+
+abbrev pub clock_number : Text → ℕ
+clock_number text = digits_value 10 (without_leading_plus text)
+
+-- the clock that a text names, 0 where there is no text, and none where it names none
+abbrev pub clock_of : Option Text → Option ℕ
+clock_of None = Some 0
+clock_of (Some text) = if is_clock text then Some (clock_number text) else None
+
 -- what the matches of each subcommand ask for
 abbrev pub run_in : List Row → Option Request
 run_in rows = both Run (first_of (codes "MANIFEST") rows) (first_of (codes "SCRIPT") rows)
+
+abbrev pub replay_in : List Row → Option Request
+replay_in rows =
+    option_and_then (λ clock. all_three (λ manifest script schedule. Replay manifest script schedule clock)
+    (first_of (codes "MANIFEST") rows) (first_of (codes "SCRIPT") rows) (first_of (codes "SCHEDULE") rows))
+    (clock_of (one_of (codes "clock") rows))
 
 abbrev pub asm_in : List Row → Option Request
 asm_in rows = both Asm (first_of (codes "IN") rows) (first_of (codes "OUT") rows)
@@ -67,6 +106,7 @@ abbrev pub command_in : Option (Text × List Row) → Option Request
 command_in None = None
 command_in (Some p) =
     if bytes_eq p.0 (codes "run") then run_in p.1
+    else if bytes_eq p.0 (codes "replay") then replay_in p.1
     else if bytes_eq p.0 (codes "asm") then asm_in p.1
     else if bytes_eq p.0 (codes "dis") then dis_in p.1
     else if bytes_eq p.0 (codes "check") then check_in p.1
@@ -77,6 +117,7 @@ command_of words = command_in (subcommand_of program_app words)
 
 abbrev pub request_of : Options → Request
 request_of (options.Run manifest script) = Run manifest.now script.now
+request_of (options.Replay manifest script schedule clock) = Replay manifest.now script.now schedule.now clock.0
 request_of (options.Asm input output) = Asm input.now output.now
 request_of (options.Dis file) = Dis file.now
 request_of (options.Check file) = Check file.now
@@ -90,6 +131,13 @@ is_plain_word (x ∷ xs) = not (x == 45)
 abbrev pub run_words : Text → Text → Text → List Text
 run_words program manifest script = program ∷ codes "run" ∷ manifest ∷ script ∷ []
 
+abbrev pub replay_words : Text → Text → Text → Text → List Text
+replay_words program manifest script schedule = program ∷ codes "replay" ∷ manifest ∷ script ∷ schedule ∷ []
+
+-- the same with `--clock`
+abbrev pub clock_words : Text → Text → Text → Text → Text → List Text
+clock_words program manifest script schedule clock = program ∷ codes "replay" ∷ manifest ∷ script ∷ schedule ∷ codes "--clock" ∷ clock ∷ []
+
 abbrev pub asm_words : Text → Text → Text → List Text
 asm_words program input output = program ∷ codes "asm" ∷ input ∷ output ∷ []
 
@@ -102,3 +150,7 @@ check_words program file = program ∷ codes "check" ∷ file ∷ []
 -- the words are taken without fault, and ask for this
 abbrev pub AskFor : List Text → Request → Type 0
 AskFor words request = (fault_of program_app words ≡ []) × (command_of words ≡ Some request)
+
+-- the words are refused for a value that isn't what its argument takes
+abbrev pub HaveBadValue : List Text → Type 0
+HaveBadValue words = fault_of program_app words ≡ ValueValidation ∷ []

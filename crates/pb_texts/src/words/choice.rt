@@ -1,14 +1,33 @@
 //! What a command line asks for.
+use pb_base::Ts;
 
 /// What the program is to do.
 #[derive(Clone, Copy, Debug)]
 pub enum Options<'a> {
     /// Reads a manifest and a script, runs the transactions, and tells what is newest then.
-    Run { manifest: &'a str, script: &'a str },
+    Run {
+        manifest: &'a str,
+        script: &'a str,
+    },
+    /// Reads a manifest, a script and a schedule, does the schedule's events with this as the last timestamp given out
+    /// before them, and tells what is newest then.
+    Replay {
+        manifest: &'a str,
+        script: &'a str,
+        schedule: &'a str,
+        clock: Ts,
+    },
     /// Reads a program's text, and writes its bytes.
-    Asm { input: &'a str, output: &'a str },
+    Asm {
+        input: &'a str,
+        output: &'a str,
+    },
     /// Reads a program's bytes, and lists it.
-    Dis { file: &'a str },
+    Dis {
+        file: &'a str,
+    },
     /// Reads a program's bytes, and tells whether it is accepted.
-    Check { file: &'a str },
+    Check {
+        file: &'a str,
+    },
 }

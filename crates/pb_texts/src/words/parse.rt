@@ -1,26 +1,70 @@
 //! A command line, read with `clap`.
-ghost use Rattle.std.specs.Prelude.{◌≡◌, ℕ, List, true, IfOk, Some, [], false, option_map};
-ghost use Rattle.clap.specs.Words.{FailsBy, app_of, fault_of, first_of, found_of, rows_of, subcommand_of, subcommand_rows_of};
+ghost use Rattle.std.specs.Prelude.{◌≡◌, ℕ, List, true, IfOk, Some, [], false, option_map, codes};
+ghost use Rattle.clap.specs.Words.{FailsBy, app_of, fault_of, first_of, found_of, one_of, rows_of, rule_of, subcommand_of, subcommand_rows_of};
 ghost use Rattle.pb_texts.specs.ScriptWords.{plain};
-ghost use Rattle.pb_texts.specs.CommandLines.{run_app, asm_app, dis_app, check_app, texts_app, program_app, run_in, asm_in, dis_in, check_in, command_in, command_of, request_of, is_plain_word, run_words, asm_words, dis_words, check_words, Run, Asm, Dis, Check, AskFor};
+ghost use Rattle.pb_texts.specs.CommandLines.{required_rule, run_app, clock_rule, replay_app, asm_app, dis_app, check_app, texts_app, program_app, run_in, clock_of, replay_in, asm_in, dis_in, check_in, command_in, command_of, request_of, is_plain_word, is_clock, clock_number, run_words, replay_words, clock_words, asm_words, dis_words, check_words, Run, Replay, Asm, Dis, Check, AskFor, HaveBadValue};
 ghost use Rattle.clap.specs.declared.builder.command.Command.TheViews.{out-Command as fields_of};
 
 use crate::words::choice::Options;
-use clap::{Arg, ArgMatches, Command, Error};
+use clap::{Arg, ArgMatches, Command, Error, value_parser};
+use pb_base::Ts;
 use std::alloc::{AllocError, Global};
+
+fn manifest_operand<'a>(alloc: Global) -> Arg<'a>
+    ensures rule { rule_of result ≡ required_rule (codes "MANIFEST") }
+    ensures local { result.global ≡ false }
+{
+    let manifest = Arg::new(alloc, "MANIFEST").required(true);
+    manifest.help("A JSON file with the observers and their programs")
+}
+
+fn script_operand<'a>(alloc: Global) -> Arg<'a>
+    ensures rule { rule_of result ≡ required_rule (codes "SCRIPT") }
+    ensures local { result.global ≡ false }
+{
+    let script = Arg::new(alloc, "SCRIPT").required(true);
+    script.help("A text file with the changes, one a line")
+}
+
+fn schedule_operand<'a>(alloc: Global) -> Arg<'a>
+    ensures rule { rule_of result ≡ required_rule (codes "SCHEDULE") }
+    ensures local { result.global ≡ false }
+{
+    let schedule = Arg::new(alloc, "SCHEDULE").required(true);
+    schedule.help("A text file with the events, one a line")
+}
 
 fn run_command<'a>(alloc: Global) -> Result<Command<'a>, AllocError>
     ensures app { IfOk result (λ c. app_of c ≡ run_app) }
     ensures local { IfOk result (λ c. (fields_of c).has_globals ≡ false) }
 {
-    let manifest = Arg::new(alloc, "MANIFEST").required(true);
-    let script = Arg::new(alloc, "SCRIPT").required(true);
-    let manifest = manifest.help("A JSON file with the observers and their programs");
-    let script = script.help("A text file with the changes, one a line");
     let bare = Command::new(alloc, "run");
     bare.about("Makes a script's changes, runs the observers on them, and prints the report")
-        .arg(manifest)?
-        .arg(script)
+        .arg(manifest_operand(alloc))?
+        .arg(script_operand(alloc))
+}
+
+fn clock_option<'a>(alloc: Global) -> Arg<'a>
+    ensures rule { rule_of result ≡ clock_rule }
+    ensures local { result.global ≡ false }
+{
+    Arg::new(alloc, "clock")
+        .long("clock")
+        .value_name("N")
+        .value_parser(value_parser!(u64))
+        .help("The last timestamp given out before the events, 0 where none is named")
+}
+
+fn replay_command<'a>(alloc: Global) -> Result<Command<'a>, AllocError>
+    ensures app { IfOk result (λ c. app_of c ≡ replay_app) }
+    ensures local { IfOk result (λ c. (fields_of c).has_globals ≡ false) }
+{
+    let bare = Command::new(alloc, "replay");
+    bare.about("Does a schedule's events with a script's changes, and prints the report")
+        .arg(manifest_operand(alloc))?
+        .arg(script_operand(alloc))?
+        .arg(schedule_operand(alloc))?
+        .arg(clock_option(alloc))
 }
 
 fn asm_command<'a>(alloc: Global) -> Result<Command<'a>, AllocError>
@@ -64,12 +108,13 @@ fn texts_program<'a>(alloc: Global) -> Result<Command<'a>, AllocError>
     ensures { IfOk result (λ c. app_of c ≡ texts_app) }
 {
     let run = run_command(alloc)?;
+    let replay = replay_command(alloc)?;
     let asm = asm_command(alloc)?;
     let bare = Command::new(alloc, "percobpf").subcommand_required(true);
     let bare = bare.about(
         "A table of cells with snapshot transactions, and BPF observers that run on its changes",
     );
-    bare.subcommand(run)?.subcommand(asm)
+    bare.subcommand(run)?.subcommand(replay)?.subcommand(asm)
 }
 
 fn program<'a>(alloc: Global) -> Result<Command<'a>, AllocError>
@@ -102,6 +147,28 @@ fn run_in<'a>(run: &ArgMatches<'a>) -> Option<Options<'a>>
         (Some(manifest), Some(script)) => Some(Options::Run { manifest, script }),
         _ => None,
     }
+}
+
+// The clock that the matches of `replay` name.
+fn clock_in(replay: &ArgMatches) -> Option<Ts>
+    ensures { option_map (λ t. t.0) result ≡ clock_of (one_of (codes "clock") (rows_of (found_of replay.now))) }
+{
+    match replay.try_get_one::<u64>("clock") {
+        Ok(clock) => Some(Ts(clock.unwrap_or(0))),
+        Err(_) => None,
+    }
+}
+
+// What the matches of `replay` name.
+fn replay_in<'a>(replay: &ArgMatches<'a>) -> Option<Options<'a>>
+    ensures { option_map request_of result ≡ replay_in (rows_of (found_of replay.now)) }
+{
+    Some(Options::Replay {
+        clock: clock_in(replay)?,
+        manifest: value_in(replay, "MANIFEST")?,
+        script: value_in(replay, "SCRIPT")?,
+        schedule: value_in(replay, "SCHEDULE")?,
+    })
 }
 
 // What the matches of `asm` name.
@@ -140,6 +207,7 @@ fn command_in<'a>(matches: &ArgMatches<'a>) -> Option<Options<'a>>
 {
     match matches.subcommand() {
         Some(("run", run)) => run_in(run),
+        Some(("replay", replay)) => replay_in(replay),
         Some(("asm", asm)) => asm_in(asm),
         Some(("dis", dis)) => dis_in(dis),
         Some(("check", check)) => check_in(check),
@@ -160,9 +228,13 @@ pub fn options<'a>(alloc: Global, words: &'a [&'a str]) -> Result<Options<'a>, E
     }
 }
 
-/// A subcommand with as many words behind it as it has operands, none of which begins with a hyphen, is taken.
+/// A subcommand with as many words behind it as it has operands, none of which begins with a hyphen, is taken. So is
+/// `replay` with `--clock` and a number of `u64` behind them; with another such word there it is refused.
 pub fn plain_words_are_taken()
     ensures run { (program manifest script : List ℕ) → is_plain_word manifest ≡ true → is_plain_word script ≡ true → AskFor (run_words program manifest script) (Run manifest script) }
+    ensures replay { (program manifest script schedule : List ℕ) → is_plain_word manifest ≡ true → is_plain_word script ≡ true → is_plain_word schedule ≡ true → AskFor (replay_words program manifest script schedule) (Replay manifest script schedule 0) }
+    ensures clock { (program manifest script schedule clock : List ℕ) → is_plain_word manifest ≡ true → is_plain_word script ≡ true → is_plain_word schedule ≡ true → is_clock clock ≡ true → AskFor (clock_words program manifest script schedule clock) (Replay manifest script schedule (clock_number clock)) }
+    ensures other_clock { (program manifest script schedule clock : List ℕ) → is_plain_word manifest ≡ true → is_plain_word script ≡ true → is_plain_word schedule ≡ true → is_plain_word clock ≡ true → is_clock clock ≡ false → HaveBadValue (clock_words program manifest script schedule clock) }
     ensures asm { (program input output : List ℕ) → is_plain_word input ≡ true → is_plain_word output ≡ true → AskFor (asm_words program input output) (Asm input output) }
     ensures dis { (program file : List ℕ) → is_plain_word file ≡ true → AskFor (dis_words program file) (Dis file) }
     ensures check { (program file : List ℕ) → is_plain_word file ≡ true → AskFor (check_words program file) (Check file) }

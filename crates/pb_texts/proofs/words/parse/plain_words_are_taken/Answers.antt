@@ -1,8 +1,17 @@
-use Rattle.pb_texts.proofs.Taken.{run_taken, asm_taken, dis_taken, check_taken}
+use Rattle.pb_texts.proofs.Taken.{run_taken, replay_taken, clock_taken, other_clock_refused, asm_taken, dis_taken, check_taken}
 use Rattle.pb_texts.proofs.words.parse.plain_words_are_taken.Goals as goal
 
 pub returns-clause-run : goal.returns-clause-run
 returns-clause-run c = run_taken
+
+pub returns-clause-replay : goal.returns-clause-replay
+returns-clause-replay c = replay_taken
+
+pub returns-clause-clock : goal.returns-clause-clock
+returns-clause-clock c = clock_taken
+
+pub returns-clause-other_clock : goal.returns-clause-other_clock
+returns-clause-other_clock c = other_clock_refused
 
 pub returns-clause-asm : goal.returns-clause-asm
 returns-clause-asm c = asm_taken
