@@ -1,0 +1,97 @@
+-- What a call, a launch, a step and a crash make of a world.
+use Rattle.std.proofs.Common.{◌≡◌, ℕ, ◌<◌, ◌≤◌, ◌==◌, if◌then◌else◌, Bool, true, false, List, length, get_or, slice_set, refl, sym, ◌∙◌, ap, subst, arith, Option, Some, None, slice_get, MatchOption}
+use Rattle.std.proofs.lemmas.Option.{slice_get_read, slice_get_within}
+use Rattle.std.proofs.lemmas.List.{set-get_or}
+use Rattle.pb_base.specs.declared.refusal.Reason.{Reason}
+use Rattle.pb_base.specs.Reasons.{reason_code}
+use Rattle.pb_steps.specs.declared.step.Step.{Step}
+use Rattle.pb_steps.specs.declared.step.Answer.{Answer}
+use Rattle.pb_core.specs.Calls.{SharedOf, SeatOf, Calls, call_reason}
+use Rattle.pb_script.specs.declared.event.Job.{Job}
+use Rattle.pb_world.specs.declared.actor.Actor.{Actor}
+use Rattle.pb_world.specs.declared.job.ActorJob.{ActorJob}
+use Rattle.pb_world.specs.declared.note.Note.{Note}
+use Rattle.pb_world.specs.declared.note.Note.TheVariants.{Launched, Called, Refused}
+use Rattle.pb_world.specs.Jobs.{IsReady}
+use Rattle.pb_world.specs.Actors.{ActorSteps, launched, crashed, crash_note}
+use Rattle.pb_world.specs.Events.{WorldOf, IsWorld, with_actor, actor_of, job_for, no_launch, no_actor, Launches, StepsActor, CrashesActor, OwnAnswers, OwnCalls}
+
+pub here : {A : Type 0} (xs : List A) (k : ℕ) (x : A) → k < length xs → x ≡ get_or xs k x → slice_get xs k ≡ Some x
+here xs k x lt at = slice_get_read xs (length xs) k x refl lt at
+
+same_list : {A : Type 0} (xs : List A) (k : ℕ) (x y : A) → x ≡ get_or xs k x → y ≡ x → slice_set xs k y ≡ xs
+same_list xs k x y at is = ap (λ z. slice_set xs k z) (is ∙ at) ∙ set-get_or xs k x
+
+some_none : {A : Type 0} (x : A) → Some x ≡ None → ⊥
+some_none x e = cc
+
+-- ---- where an event isn't at fault, its actor is there
+
+read_within : (w : WorldOf) (k : ℕ) (a : Actor) (b : Bool) → (if b then None else slice_get w.actors k) ≡ Some a → k < length w.actors
+read_within w k a true e = absurd (some_none a (sym e))
+read_within w k a false e = slice_get_within w.actors k a e
+
+actor_within : (w : WorldOf) (k : ℕ) (o : Option Actor) → actor_of w k ≡ o → no_actor o ≡ None → k < length w.actors
+actor_within w k (Some a) is h = read_within w k a (k == 0) is
+actor_within w k None is h = absurd (some_none _ h)
+
+launch_within : (w : WorldOf) (k : ℕ) (made : Option ActorJob) (o : Option Actor) → actor_of w k ≡ o → no_launch o made ≡ None → k < length w.actors
+launch_within w k made (Some a) is h = read_within w k a (k == 0) is
+launch_within w k made None is h = absurd (some_none _ h)
+
+module _ (w u : WorldOf) (u-is : w ≡ u) where
+  pub launches : (k : ℕ) (job : Job) (seat : SeatOf) (b : Actor) (made : ActorJob) → IsWorld w → no_launch (actor_of u k) (job_for u job) ≡ None → seat ≡ get_or w.seats k seat → job_for u job ≡ Some made → IsReady made
+      → b ≡ launched (length seat.received) made → Launches u k job Launched (with_actor w k b)
+  launches k job seat b made i can at is ready b-is =
+      let lt : k < length w.actors = launch_within w k (job_for w job) (actor_of w k) refl (subst (λ x. no_launch (actor_of x k) (job_for x job) ≡ None) (sym u-is) can) in
+      let lt' : k < length w.seats = subst (λ n. k < n) i.seated lt in
+      let did : Launches w k job Launched (with_actor w k b) = record {
+        seat = seat;
+        made = made;
+        its_seat = here w.seats k seat lt' at;
+        made_is = subst (λ x. job_for x job ≡ Some made) (sym u-is) is;
+        ready = ready;
+        note = refl;
+        after = ap (λ x. with_actor w k x) b-is;
+      } in
+      subst (λ x. Launches x k job Launched (with_actor w k b)) u-is did
+
+  pub own_answers : (seat told : SeatOf) (t : SharedOf) (step : Step) (a : Answer) → 1 ≤ length w.seats → seat ≡ get_or w.seats 0 seat → call_reason w.shared seat.number step ≡ None → Calls w.shared seat step a t told
+      → OwnCalls u step (Called a) (record w { shared = t; seats = slice_set w.seats 0 told })
+  own_answers seat told t step a some at none calls =
+      let v : WorldOf = record w { shared = t; seats = slice_set w.seats 0 told } in
+      let did : OwnAnswers w seat step (Called a) v = record { answer = a; told = told; note = refl; calls = calls; after = refl } in
+      let own : OwnCalls w step (Called a) v = record { seat = seat; its_seat = here w.seats 0 seat some at; calls = subst (λ r. MatchOption r (OwnAnswers w seat step (Called a) v) (λ why. (Called a ≡ Refused (reason_code why)) × (v ≡ w))) (sym none) did } in
+      subst (λ x. OwnCalls x step (Called a) v) u-is own
+
+  pub own_same : (seat told : SeatOf) (t : SharedOf) → seat ≡ get_or w.seats 0 seat → t ≡ w.shared → told ≡ seat → record w { shared = t; seats = slice_set w.seats 0 told } ≡ u
+  own_same seat told t at t-is told-is = ap (λ x. record w { shared = t; seats = x }) (same_list w.seats 0 seat told at told-is) ∙ (ap (λ x. record w { shared = x }) t-is ∙ u-is)
+
+  pub own_refused : (seat told : SeatOf) (t : SharedOf) (step : Step) (code : ℕ) → 1 ≤ length w.seats → seat ≡ get_or w.seats 0 seat → (why : Reason) × (call_reason w.shared seat.number step ≡ Some why) × (code ≡ reason_code why)
+      → t ≡ w.shared → told ≡ seat → OwnCalls u step (Refused code) (record w { shared = t; seats = slice_set w.seats 0 told })
+  own_refused seat told t step code some at why t-is told-is =
+      let v : WorldOf = record w { shared = t; seats = slice_set w.seats 0 told } in
+      let same : v ≡ w = own_same seat told t at t-is told-is ∙ sym u-is in
+      let own : OwnCalls w step (Refused code) v = record { seat = seat; its_seat = here w.seats 0 seat some at; calls = subst (λ r. MatchOption r (OwnAnswers w seat step (Refused code) v) (λ y. (Refused code ≡ Refused (reason_code y)) × (v ≡ w))) (sym (why.1)) (ap (λ n. Refused n) (why.2), same) } in
+      subst (λ x. OwnCalls x step (Refused code) v) u-is own
+
+  pub steps : (k : ℕ) (seat told : SeatOf) (a b : Actor) (n : Note) (t : SharedOf) → IsWorld w → no_actor (actor_of u k) ≡ None → seat ≡ get_or w.seats k seat → a ≡ get_or w.actors k a → ActorSteps w.shared seat a n t told b
+      → StepsActor u k n (record w { shared = t; seats = slice_set w.seats k told; actors = slice_set w.actors k b })
+  steps k seat told a b n t i can at at' does =
+      let lt : k < length w.actors = actor_within w k (actor_of w k) refl (subst (λ x. no_actor (actor_of x k) ≡ None) (sym u-is) can) in
+      let lt' : k < length w.seats = subst (λ m. k < m) i.seated lt in
+      let v : WorldOf = record w { shared = t; seats = slice_set w.seats k told; actors = slice_set w.actors k b } in
+      let did : StepsActor w k n v = record { seat = seat; actor = a; told = told; stepped = b; its_seat = here w.seats k seat lt' at; its_actor = here w.actors k a lt at'; steps = does; after = refl } in
+      subst (λ x. StepsActor x k n v) u-is did
+
+  pub step_same : (k : ℕ) (seat told : SeatOf) (a b : Actor) (t : SharedOf) → seat ≡ get_or w.seats k seat → a ≡ get_or w.actors k a → t ≡ w.shared → told ≡ seat → b ≡ a
+      → record w { shared = t; seats = slice_set w.seats k told; actors = slice_set w.actors k b } ≡ u
+  step_same k seat told a b t at at' t-is told-is b-is =
+      ap (λ x. record w { shared = t; seats = x; actors = slice_set w.actors k b }) (same_list w.seats k seat told at told-is)
+      ∙ (ap (λ x. record w { shared = t; actors = x }) (same_list w.actors k a b at' b-is) ∙ (ap (λ x. record w { shared = x }) t-is ∙ u-is))
+
+  pub crashes : (k : ℕ) (a b : Actor) (n : Note) → no_actor (actor_of u k) ≡ None → a ≡ get_or w.actors k a → n ≡ crash_note a.job → b ≡ crashed a → CrashesActor u k n (with_actor w k b)
+  crashes k a b n can at note b-is =
+      let lt : k < length w.actors = actor_within w k (actor_of w k) refl (subst (λ x. no_actor (actor_of x k) ≡ None) (sym u-is) can) in
+      let did : CrashesActor w k n (with_actor w k b) = record { actor = a; its_actor = here w.actors k a lt at; note = note; after = ap (λ x. with_actor w k x) b-is } in
+      subst (λ x. CrashesActor x k n (with_actor w k b)) u-is did

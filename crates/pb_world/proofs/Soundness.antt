@@ -1,0 +1,372 @@
+-- Whatever events happen, a world stays sound.
+use Rattle.std.proofs.Common.{◌≡◌, ◌≢◌, ℕ, ◌+◌, ◌<◌, Bool, true, false, eqb, List, [], ◌∷◌, ◌++◌, length, get_or, slice_set, replicate, refl, sym, ◌∙◌, ap, subst, arith, Option, Some, None, slice_get, MatchBool, MatchOption, get_or-set_same, get_or-set_other, length-set}
+use Rattle.std.specs.Prelude.{◌==◌, if◌then◌else◌}
+use Rattle.std.specs.Option.{option_map}
+use Rattle.std.proofs.lemmas.Bool.{eqb-false, eqb-true}
+use Rattle.std.proofs.lemmas.List.{set-get_or}
+use Rattle.std.proofs.lemmas.Option.{slice_get_within, slice_get-get_or, get_or_from_slice_get}
+use Rattle.pb_base.specs.declared.refusal.Reason.{Reason}
+use Rattle.pb_base.specs.Reasons.{reason_code}
+use Rattle.pb_base.specs.Batch.{Writes, is_batch}
+use Rattle.pb_base.specs.declared.names.Row.{Row}
+use Rattle.pb_steps.specs.declared.step.Step.{Step}
+use Rattle.pb_steps.specs.declared.step.Step.TheVariants as step
+use Rattle.pb_steps.specs.declared.step.Answer.{Answer}
+use Rattle.pb_steps.specs.Answers.{CanAnswer}
+use Rattle.pb_steps.specs.State.{StateOf, opening}
+use Rattle.pb_steps.specs.Steps.{TableStep}
+use Rattle.pb_steps.specs.Observers.{ObserverOf}
+use Rattle.pb_history.specs.declared.entry.Entry.{Entry}
+use Rattle.pb_history.specs.declared.entry.Received.{Received}
+use Rattle.pb_history.specs.Journals.{JournalLeads, IsLegal}
+use Rattle.pb_core.specs.Calls.{SharedOf, SeatOf, Calls, call_reason, AreSeats}
+use Rattle.pb_core.specs.Histories.{IsLegalTable}
+use Rattle.pb_txn.specs.Changes.{ChangeOf, new_change, Talks}
+use Rattle.pb_txn.specs.Changes as changes
+use Rattle.pb_notify.specs.declared.need.Need.{Need}
+use Rattle.pb_notify.specs.declared.need.Need.TheVariants.{Local, Call, Over}
+use Rattle.pb_notify.specs.Runs.{RunOf, fresh, need_of}
+use Rattle.pb_notify.specs.Runs as runs
+use Rattle.pb_notify.specs.Talks.{Reaches, took, computed}
+use Rattle.pb_notify.specs.Talks as talk
+use Rattle.pb_script.specs.declared.event.Event.{Event}
+use Rattle.pb_script.specs.declared.event.Event.TheVariants as events
+use Rattle.pb_script.specs.declared.event.Job.{Job}
+use Rattle.pb_script.specs.declared.event.Job.TheVariants as jobs
+use Rattle.pb_world.specs.declared.actor.Actor.{Actor}
+use Rattle.pb_world.specs.declared.job.ActorJob.{ActorJob}
+use Rattle.pb_world.specs.declared.job.ActorJob.TheVariants.{Change, Run}
+use Rattle.pb_world.specs.declared.note.Note.{Note}
+use Rattle.pb_world.specs.declared.note.Note.TheVariants.{Refused}
+use Rattle.pb_world.specs.Jobs.{next_of, is_local, is_local_need, is_over, kept, Takes, Computes, IsReady}
+use Rattle.pb_world.specs.Actors.{AnswersJob, RefusesJob, CallSteps, Instructs, IsIdle, IsLeft, JobSteps, ActorSteps, launched, crashed}
+use Rattle.pb_world.specs.Events.{WorldOf, change_of, job_for, with_actor, actor_of, no_actor, no_launch, fault_of, Launches, StepsActor, CrashesActor, OwnAnswers, OwnCalls, Does, Happens, RunsTo}
+use Rattle.pb_world.specs.Sound.{ChangeCame, RunCame, Came, IsTied, IsSound, EventsKeepSound}
+use Rattle.pb_world.proofs.SeatLists.{called}
+
+-- ---- lists
+
+some_same : {A : Type 0} (x y : A) → Some x ≡ Some y → x ≡ y
+some_same x y e = cc
+
+some_none : {A : Type 0} (x : A) → None ≡ Some x → ⊥
+some_none x e = cc
+
+append_assoc' : (xs ys zs : List Received) → (xs ++ ys) ++ zs ≡ xs ++ (ys ++ zs)
+append_assoc' [] ys zs = refl
+append_assoc' (x ∷ xs) ys zs = ap (λ l. x ∷ l) (append_assoc' xs ys zs)
+
+append-none : (xs : List Received) → xs ++ [] ≡ xs
+append-none [] = refl
+append-none (x ∷ xs) = ap (λ l. x ∷ l) (append-none xs)
+
+-- what stands at a place of a list with one item changed
+data IsAfterSet {A : Type 0} (xs : List A) (k : ℕ) (y : A) (i : ℕ) (x : A) : Type 0 where
+  changed : i ≡ k → x ≡ y → IsAfterSet xs k y i x
+  unchanged : i ≢ k → slice_get xs i ≡ Some x → IsAfterSet xs k y i x
+
+after_set : {A : Type 0} (xs : List A) (k : ℕ) (y : A) (i : ℕ) (x : A) → slice_get (slice_set xs k y) i ≡ Some x → IsAfterSet xs k y i x
+after_set xs k y i x is = by (eqb i k) refl
+  where
+    lt : i < length xs
+    lt = rw length-set at (slice_get_within (slice_set xs k y) i x is)
+
+    read : get_or (slice_set xs k y) i x ≡ x
+    read = get_or_from_slice_get (slice_set xs k y) i x x is
+
+    by : (d : Bool) → eqb i k ≡ d → IsAfterSet xs k y i x
+    by true e =
+        let here : i ≡ k = eqb-true i k e in
+        let lt' : k < length xs = subst (λ n. n < length xs) here lt in
+        changed here (sym (sym (get_or-set_same xs k y x lt') ∙ (ap (λ n. get_or (slice_set xs k y) n x) (sym here) ∙ read)))
+    by false e =
+        let apart : i ≢ k = eqb-false i k e in
+        let at : get_or xs i x ≡ x = sym (get_or-set_other xs k i y x apart) ∙ read in
+        unchanged apart (slice_get-get_or xs i x lt ∙ ap (λ z. Some z) at)
+
+-- ---- the table
+
+leads_more : (s : StateOf) (es : List Entry) (t : StateOf) (e : Entry) (u : StateOf) → JournalLeads s es t → TableStep t e.seat e.step e.answer u → JournalLeads s (es ++ e ∷ []) u
+leads_more s [] t e u r m = (u, subst (λ x. TableStep x e.seat e.step e.answer u) r m, refl)
+leads_more s (d ∷ es) t e u r m = (r.0, r.1, leads_more r.0 es t e u r.2 m)
+
+call_legal : (s : SharedOf) (seat told : SeatOf) (st : Step) (a : Answer) (t : SharedOf) → IsLegalTable s → Calls s seat st a t told → IsLegalTable t
+call_legal s seat told st a t l c =
+    let e : Entry = record { seat = seat.number; step = st; answer = a } in
+    let more : JournalLeads (opening s.state.observers s.state.seats s.opened) (s.journal ++ e ∷ []) t.state = leads_more (opening s.state.observers s.state.seats s.opened) s.journal s.state e t.state l.run c.machine in
+    let l' : IsLegal s.state.observers s.state.seats s.opened t.journal t.state = record { fits = l.fits; run = subst (λ j. JournalLeads (opening s.state.observers s.state.seats s.opened) j t.state) (sym c.journal) more } in
+    subst (λ o. IsLegal t.state.observers t.state.seats o t.journal t.state) (sym c.opened)
+    (subst (λ os. IsLegal os t.state.seats s.opened t.journal t.state) (sym c.observers) (subst (λ n. IsLegal s.state.observers n s.opened t.journal t.state) (sym c.seats) l'))
+
+-- ---- jobs
+
+talks_push : (p : ChangeOf) (said : List Received) (q : ChangeOf) (st : Step) (a : Answer) → Talks p said q → changes.next_of q ≡ Some st → CanAnswer st a → Talks p (said ++ record { step = st; answer = a } ∷ []) (changes.answered q a)
+talks_push p [] q st a t next can = (subst (λ x. changes.next_of x ≡ Some st) t next, can, ap (λ x. changes.answered x a) t)
+talks_push p (r ∷ rs) q st a t next can = (t.0, t.1, talks_push (changes.answered p r.answer) rs q st a t.2 next can)
+
+-- a job that took an answer has come on by it
+came_on : (w : WorldOf) (j k : ActorJob) (said : List Received) (st : Step) (a : Answer) → Came w j said → next_of j ≡ Some st → CanAnswer st a → Takes j a k → Came w k (said ++ record { step = st; answer = a } ∷ [])
+came_on w (Change c) k said st a m next can takes =
+    let more : ChangeCame w (changes.answered c a) (said ++ record { step = st; answer = a } ∷ []) = record { number = m.number; batch = m.batch; there = m.there; is = m.is; talks = talks_push (new_change m.batch) said c st a m.talks next can } in
+    subst (λ x. Came w x (said ++ record { step = st; answer = a } ∷ [])) (sym takes) more
+came_on w (Run r) k said st a m next can takes =
+    let l = takes.0 in
+    let more : RunCame w l (said ++ record { step = st; answer = a } ∷ []) = record {
+      number = m.number;
+      observer = m.observer;
+      row = m.row;
+      there = m.there;
+      accepted = m.accepted;
+      reaches = took said r (record { step = st; answer = a }) l m.reaches next can takes.2 takes.3;
+    } in
+    subst (λ x. Came w x (said ++ record { step = st; answer = a } ∷ [])) (sym takes.1) more
+
+local_by : (n : Need) → is_local_need n ≡ true → n ≡ Local
+local_by Local e = refl
+local_by Call e = cc
+local_by (Over end) e = cc
+
+-- an instruction leaves what it was told
+came_by : (w : WorldOf) (j k : ActorJob) (said : List Received) → Came w j said → is_local j ≡ true → Computes j k → Came w k said
+came_by w (Change c) k said m local did = absurd did
+came_by w (Run r) k said m local did =
+    let l = did.0 in
+    let more : RunCame w l said = record { number = m.number; observer = m.observer; row = m.row; there = m.there; accepted = m.accepted; reaches = computed said r l m.reaches (local_by (need_of r) local) did.2 } in
+    subst (λ x. Came w x said) (sym did.1) more
+
+-- what a job came by depends on the observers and the changes alone
+came_in : (w v : WorldOf) (j : ActorJob) (said : List Received) → v.shared.state.observers ≡ w.shared.state.observers → v.batches ≡ w.batches → Came w j said → Came v j said
+came_in w v (Change c) said os bs m = record { number = m.number; batch = m.batch; there = subst (λ x. change_of x m.number ≡ Some m.batch) (sym bs) m.there; is = m.is; talks = m.talks }
+came_in w v (Run r) said os bs m = record { number = m.number; observer = m.observer; row = m.row; there = subst (λ x. slice_get x m.number ≡ Some m.observer) (sym os) m.there; accepted = m.accepted; reaches = m.reaches }
+
+tied_in : (w v : WorldOf) (seat : SeatOf) (n : ℕ) (j : ActorJob) → v.shared.state.observers ≡ w.shared.state.observers → v.batches ≡ w.batches → IsTied w seat n j → IsTied v seat n j
+tied_in w v seat n j os bs t = record { before = t.before; said = t.said; counted = t.counted; received = t.received; came = came_in w v j t.said os bs t.came }
+
+-- a job that is over is gone
+kept_is : (b : Bool) (k j : ActorJob) → Some j ≡ (if b then None else Some k) → j ≡ k
+kept_is true k j e = absurd (some_none j (sym e))
+kept_is false k j e = some_same j k e
+
+-- ---- what a step does to the table and to its seat
+
+data Moves (s : SharedOf) (seat : SeatOf) (t : SharedOf) (told : SeatOf) : Type 0 where
+  stays : t ≡ s → told ≡ seat → Moves s seat t told
+  calls : (st : Step) (a : Answer) → Calls s seat st a t told → Moves s seat t told
+
+moves_legal : (s : SharedOf) (seat : SeatOf) (t : SharedOf) (told : SeatOf) → Moves s seat t told → IsLegalTable s → IsLegalTable t
+moves_legal s seat t told (stays t-is told-is) l = subst (λ x. IsLegalTable x) (sym t-is) l
+moves_legal s seat t told (calls st a c) l = call_legal s seat told st a t l c
+
+moves_observers : (s : SharedOf) (seat : SeatOf) (t : SharedOf) (told : SeatOf) → Moves s seat t told → t.state.observers ≡ s.state.observers
+moves_observers s seat t told (stays t-is told-is) = ap (λ (x : SharedOf). x.state.observers) t-is
+moves_observers s seat t told (calls st a c) = c.observers
+
+set_same : {A : Type 0} (xs : List A) (k : ℕ) (x y : A) → slice_get xs k ≡ Some x → y ≡ x → slice_set xs k y ≡ xs
+set_same xs k x y is same =
+    let read : get_or xs k x ≡ x = get_or_from_slice_get xs k x x is in
+    ap (λ z. slice_set xs k z) (same ∙ sym read) ∙ set-get_or xs k x
+
+moves_seats : (s : SharedOf) (seats : List SeatOf) (k : ℕ) (seat : SeatOf) (t : SharedOf) (told : SeatOf) → Moves s seat t told → slice_get seats k ≡ Some seat → AreSeats s seats → AreSeats t (slice_set seats k told)
+moves_seats s seats k seat t told (stays t-is told-is) is are = subst (λ xs. AreSeats t xs) (sym (set_same seats k seat told is told-is)) (subst (λ x. AreSeats x seats) (sym t-is) are)
+moves_seats s seats k seat t told (calls st a c) is are = called s seats k seat told st a t are is c
+
+-- ---- what a step leaves of a job
+
+record IsSteppedTo (w : WorldOf) (seat : SeatOf) (n : ℕ) (t : SharedOf) (told : SeatOf) (rest : Option ActorJob) : Type 0 where
+  pub moves : Moves w.shared seat t told
+  pub tied : (k : ActorJob) → rest ≡ Some k → IsTied w told n k
+
+none_left : (w : WorldOf) (told : SeatOf) (n : ℕ) (rest : Option ActorJob) → rest ≡ None → (k : ActorJob) → rest ≡ Some k → IsTied w told n k
+none_left w told n rest none k some = absurd (some_none k (sym none ∙ some))
+
+instructed : (w : WorldOf) (seat : SeatOf) (n : ℕ) (j : ActorJob) (note : Note) (t : SharedOf) (told : SeatOf) (rest : Option ActorJob) → is_local j ≡ true → IsTied w seat n j → Instructs w.shared seat j note t told rest → IsSteppedTo w seat n t told rest
+instructed w seat n j note t told rest local tie d = record {
+  moves = stays d.same.table d.same.list;
+  tied = λ k is.
+      let same : d.after ≡ k = some_same d.after k (sym d.left ∙ is) in
+      let here : Came w k tie.said = subst (λ x. Came w x tie.said) same (came_by w j d.after tie.said tie.came local d.computes) in
+      record { before = tie.before; said = tie.said; counted = tie.counted; received = ap (λ (x : SeatOf). x.received) d.same.list ∙ tie.received; came = here };
+}
+
+idled : (w : WorldOf) (seat : SeatOf) (n : ℕ) (note : Note) (t : SharedOf) (told : SeatOf) (rest : Option ActorJob) → IsIdle w.shared seat note t told rest → IsSteppedTo w seat n t told rest
+idled w seat n note t told rest d = record { moves = stays d.same.table d.same.list; tied = none_left w told n rest d.left }
+
+answered : (w : WorldOf) (seat : SeatOf) (n : ℕ) (j : ActorJob) (st : Step) (note : Note) (t : SharedOf) (told : SeatOf) (rest : Option ActorJob) → next_of j ≡ Some st → IsTied w seat n j → AnswersJob w.shared seat j st note t told rest → IsSteppedTo w seat n t told rest
+answered w seat n j st note t told rest next tie d = record {
+  moves = calls st d.answer d.calls;
+  tied = λ k is.
+      let r : Received = record { step = st; answer = d.answer } in
+      let same : k ≡ d.after = kept_is (is_over d.after) d.after k (sym is ∙ d.left) in
+      let here : Came w k (tie.said ++ r ∷ []) = subst (λ x. Came w x (tie.said ++ r ∷ [])) (sym same) (came_on w j d.after tie.said st d.answer tie.came next d.can d.takes) in
+      record { before = tie.before; said = tie.said ++ r ∷ []; counted = tie.counted; received = d.calls.received ∙ (ap (λ l. l ++ r ∷ []) tie.received ∙ append_assoc' tie.before tie.said (r ∷ [])); came = here };
+}
+
+called_by : (w : WorldOf) (seat : SeatOf) (n : ℕ) (j : ActorJob) (st : Step) (note : Note) (t : SharedOf) (told : SeatOf) (rest : Option ActorJob) (why : Option Reason) → next_of j ≡ Some st → IsTied w seat n j
+    → MatchOption why (AnswersJob w.shared seat j st note t told rest) (λ y. RefusesJob w.shared seat y note t told rest) → IsSteppedTo w seat n t told rest
+called_by w seat n j st note t told rest None next tie d = answered w seat n j st note t told rest next tie d
+called_by w seat n j st note t told rest (Some y) next tie d = record { moves = stays d.same.table d.same.list; tied = none_left w told n rest d.left }
+
+asked : (w : WorldOf) (seat : SeatOf) (n : ℕ) (j : ActorJob) (note : Note) (t : SharedOf) (told : SeatOf) (rest : Option ActorJob) (o : Option Step) → next_of j ≡ o → IsTied w seat n j
+    → MatchOption o (IsIdle w.shared seat note t told rest) (λ st. CallSteps w.shared seat j st note t told rest) → IsSteppedTo w seat n t told rest
+asked w seat n j note t told rest None is tie d = idled w seat n note t told rest d
+asked w seat n j note t told rest (Some st) is tie d = called_by w seat n j st note t told rest (call_reason w.shared seat.number st) is tie d
+
+job_steps : (w : WorldOf) (seat : SeatOf) (n : ℕ) (j : ActorJob) (note : Note) (t : SharedOf) (told : SeatOf) (rest : Option ActorJob) → IsTied w seat n j → JobSteps w.shared seat j note t told rest → IsSteppedTo w seat n t told rest
+job_steps w seat n j note t told rest tie d = by (is_local j) refl d
+  where
+    by : (b : Bool) → is_local j ≡ b → MatchBool b (Instructs w.shared seat j note t told rest) (MatchOption (next_of j) (IsIdle w.shared seat note t told rest) (λ st. CallSteps w.shared seat j st note t told rest)) → IsSteppedTo w seat n t told rest
+    by true local d = instructed w seat n j note t told rest local tie d
+    by false local d = asked w seat n j note t told rest (next_of j) refl tie d
+
+actor_steps : (w : WorldOf) (seat : SeatOf) (a : Actor) (note : Note) (t : SharedOf) (told : SeatOf) (b : Actor) → ((j : ActorJob) → a.job ≡ Some j → IsTied w seat a.launched j) → ActorSteps w.shared seat a note t told b → IsSteppedTo w seat b.launched t told b.job
+actor_steps w seat a note t told b tie d = subst (λ n. IsSteppedTo w seat n t told b.job) (sym d.launched) (by a.job refl d.steps)
+  where
+    by : (o : Option ActorJob) → a.job ≡ o → MatchOption o (IsIdle w.shared seat note t told b.job) (λ j. JobSteps w.shared seat j note t told b.job) → IsSteppedTo w seat a.launched t told b.job
+    by None is d = idled w seat a.launched note t told b.job d
+    by (Some j) is d = job_steps w seat a.launched j note t told b.job (tie j is) d
+
+-- ---- events
+
+-- one actor changed, and its seat
+pub stepped : (w v : WorldOf) (k : ℕ) (n : Note) → 0 < k → IsSound w → StepsActor w k n v → IsSound v
+stepped w v k n some s d = subst (λ x. IsSound x) (sym d.after) here
+  where
+    u : WorldOf
+    u = record w { shared = v.shared; seats = slice_set w.seats k d.told; actors = slice_set w.actors k d.stepped }
+
+    left : IsSteppedTo w d.seat d.stepped.launched v.shared d.told d.stepped.job
+    left = actor_steps w d.seat d.actor n v.shared d.told d.stepped (λ j is. s.tied k d.actor d.seat j d.its_actor d.its_seat is) d.steps
+
+    observers : v.shared.state.observers ≡ w.shared.state.observers
+    observers = moves_observers w.shared d.seat v.shared d.told left.moves
+
+    tie : (i : ℕ) (a : Actor) (seat : SeatOf) (j : ActorJob) → IsAfterSet w.actors k d.stepped i a → IsAfterSet w.seats k d.told i seat → a.job ≡ Some j → IsTied u seat a.launched j
+    tie i a seat j (changed e a-is) (changed f seat-is) job =
+        let here : IsTied w d.told d.stepped.launched j = left.tied j (subst (λ (x : Actor). x.job ≡ Some j) a-is job) in
+        tied_in w u seat a.launched j observers refl (subst (λ (x : Actor). IsTied w seat x.launched j) (sym a-is) (subst (λ x. IsTied w x d.stepped.launched j) (sym seat-is) here))
+    tie i a seat j (changed e a-is) (unchanged apart is) job = absurd (apart e)
+    tie i a seat j (unchanged apart is) (changed f seat-is) job = absurd (apart f)
+    tie i a seat j (unchanged apart is) (unchanged apart' is') job = tied_in w u seat a.launched j observers refl (s.tied i a seat j is is' job)
+
+    none : (a : Actor) → IsAfterSet w.actors k d.stepped 0 a → a.job ≡ None
+    none a (changed e a-is) = absurd (omega (arith, some, e))
+    none a (unchanged apart is) = s.own a is
+
+    here : IsSound u
+    here = record {
+      legal = moves_legal w.shared d.seat v.shared d.told left.moves s.legal;
+      seats = moves_seats w.shared w.seats k d.seat v.shared d.told left.moves d.its_seat s.seats;
+      own = λ a is. none a (after_set w.actors k d.stepped 0 a is);
+      tied = λ i a seat j is is' job. tie i a seat j (after_set w.actors k d.stepped i a is) (after_set w.seats k d.told i seat is') job;
+    }
+
+-- one actor changed alone
+with_sound : (w : WorldOf) (k : ℕ) (b : Actor) → 0 < k → IsSound w → ((seat : SeatOf) (j : ActorJob) → slice_get w.seats k ≡ Some seat → b.job ≡ Some j → IsTied w seat b.launched j) → IsSound (with_actor w k b)
+with_sound w k b some s tie = record {
+  legal = s.legal;
+  seats = s.seats;
+  own = λ a is. none a (after_set w.actors k b 0 a is);
+  tied = λ i a seat j is is' job. at i a seat j (after_set w.actors k b i a is) is' job;
+}
+  where
+    none : (a : Actor) → IsAfterSet w.actors k b 0 a → a.job ≡ None
+    none a (changed e a-is) = absurd (omega (arith, some, e))
+    none a (unchanged apart is) = s.own a is
+
+    at : (i : ℕ) (a : Actor) (seat : SeatOf) (j : ActorJob) → IsAfterSet w.actors k b i a → slice_get w.seats i ≡ Some seat → a.job ≡ Some j → IsTied (with_actor w k b) seat a.launched j
+    at i a seat j (changed e a-is) is' job =
+        let here : IsTied w seat b.launched j = tie seat j (subst (λ n. slice_get w.seats n ≡ Some seat) e is') (subst (λ (x : Actor). x.job ≡ Some j) a-is job) in
+        tied_in w (with_actor w k b) seat a.launched j refl refl (subst (λ (x : Actor). IsTied w seat x.launched j) (sym a-is) here)
+    at i a seat j (unchanged apart is) is' job = tied_in w (with_actor w k b) seat a.launched j refl refl (s.tied i a seat j is is' job)
+
+crashed_sound : (w v : WorldOf) (k : ℕ) (n : Note) → 0 < k → IsSound w → CrashesActor w k n v → IsSound v
+crashed_sound w v k n some s d = subst (λ x. IsSound x) (sym d.after) (with_sound w k (crashed d.actor) some s (λ seat j is job. absurd (some_none j job)))
+
+-- a job that is made has come there without a word
+change_made : (w : WorldOf) (k : ℕ) (o : Option Writes) (made : ActorJob) → change_of w.batches k ≡ o → option_map (λ batch. Change (new_change batch)) o ≡ Some made → IsReady made → Came w made []
+change_made w k None made is e ready = absurd (some_none made e)
+change_made w k (Some batch) made is e ready =
+    let same : Change (new_change batch) ≡ made = some_same (Change (new_change batch)) made e in
+    let fits : is_batch batch ≡ true = subst (λ x. IsReady x) (sym same) ready in
+    let here : ChangeCame w (new_change batch) [] = record { number = k; batch = batch; there = is; is = fits; talks = refl } in
+    subst (λ x. Came w x []) same here
+
+run_made : (w : WorldOf) (o : ℕ) (row : Row) (found : Option ObserverOf) (made : ActorJob) → slice_get w.shared.state.observers o ≡ found → option_map (λ (x : ObserverOf). Run (fresh o x.program row x.column)) found ≡ Some made → IsReady made → Came w made []
+run_made w o row None made is e ready = absurd (some_none made e)
+run_made w o row (Some x) made is e ready =
+    let same : Run (fresh o x.program row x.column) ≡ made = some_same (Run (fresh o x.program row x.column)) made e in
+    let fits = subst (λ y. IsReady y) (sym same) ready in
+    let here : RunCame w (fresh o x.program row x.column) [] = record { number = o; observer = x; row = row; there = is; accepted = fits; reaches = talk.made } in
+    subst (λ y. Came w y []) same here
+
+came_first : (w : WorldOf) (job : Job) (made : ActorJob) → job_for w job ≡ Some made → IsReady made → Came w made []
+came_first w (jobs.Change k) made is ready = change_made w k (change_of w.batches k) made refl is ready
+came_first w (jobs.Run o row) made is ready = run_made w o row (slice_get w.shared.state.observers o) made refl is ready
+
+launched_sound : (w v : WorldOf) (k : ℕ) (job : Job) (n : Note) → 0 < k → IsSound w → Launches w k job n v → IsSound v
+launched_sound w v k job n some s d = subst (λ x. IsSound x) (sym d.after) (with_sound w k (launched (length d.seat.received) d.made) some s at)
+  where
+    at : (seat : SeatOf) (j : ActorJob) → slice_get w.seats k ≡ Some seat → Some d.made ≡ Some j → IsTied w seat (length d.seat.received) j
+    at seat j is e =
+        let same : d.seat ≡ seat = some_same d.seat seat (sym d.its_seat ∙ is) in
+        let here : IsTied w seat (length d.seat.received) d.made = record {
+          before = seat.received;
+          said = [];
+          counted = ap (λ (x : SeatOf). length x.received) (sym same);
+          received = sym (append-none seat.received);
+          came = came_first w job d.made d.made_is d.ready;
+        } in
+        subst (λ x. IsTied w seat (length d.seat.received) x) (some_same d.made j e) here
+
+-- the world's own step
+own_moved : (w v : WorldOf) (seat told : SeatOf) → IsSound w → slice_get w.seats 0 ≡ Some seat → Moves w.shared seat v.shared told → v ≡ record w { shared = v.shared; seats = slice_set w.seats 0 told } → IsSound v
+own_moved w v seat told s its m after = subst (λ x. IsSound x) (sym after) (record {
+  legal = moves_legal w.shared seat v.shared told m s.legal;
+  seats = moves_seats w.shared w.seats 0 seat v.shared told m its s.seats;
+  own = s.own;
+  tied = λ i a p j is is' job. at i a p j is (after_set w.seats 0 told i p is') job;
+})
+  where
+    u : WorldOf
+    u = record w { shared = v.shared; seats = slice_set w.seats 0 told }
+
+    at : (i : ℕ) (a : Actor) (p : SeatOf) (j : ActorJob) → slice_get w.actors i ≡ Some a → IsAfterSet w.seats 0 told i p → a.job ≡ Some j → IsTied u p a.launched j
+    at i a p j is (changed e p-is) job = absurd (some_none j (sym (s.own a (subst (λ n. slice_get w.actors n ≡ Some a) e is)) ∙ job))
+    at i a p j is (unchanged apart is') job = tied_in w u p a.launched j (moves_observers w.shared seat v.shared told m) refl (s.tied i a p j is is' job)
+
+own_sound : (w v : WorldOf) (st : Step) (n : Note) → IsSound w → OwnCalls w st n v → IsSound v
+own_sound w v st n s d = by (call_reason w.shared d.seat.number st) d.calls
+  where
+    by : (r : Option Reason) → MatchOption r (OwnAnswers w d.seat st n v) (λ why. (n ≡ Refused (reason_code why)) × (v ≡ w)) → IsSound v
+    by None c = own_moved w v d.seat c.told s d.its_seat (calls st c.answer c.calls) c.after
+    by (Some y) c = subst (λ x. IsSound x) (sym c.1) s
+
+none_some : {A : Type 0} (x : A) → Some x ≡ None → ⊥
+none_some x e = cc
+
+read_some : (w : WorldOf) (k : ℕ) (a : Actor) (b : Bool) → (k == 0) ≡ b → (if b then None else slice_get w.actors k) ≡ Some a → 0 < k
+read_some w k a true same e = absurd (none_some a (sym e))
+read_some w k a false same e = let apart : k ≢ 0 = eqb-false k 0 same in omega (arith, apart)
+
+-- where an event isn't at fault its actor isn't the world's own
+not_own : (w : WorldOf) (k : ℕ) (o : Option Actor) → actor_of w k ≡ o → no_actor o ≡ None → 0 < k
+not_own w k None is h = absurd (none_some _ h)
+not_own w k (Some a) is h = read_some w k a (k == 0) refl is
+
+not_own_launch : (w : WorldOf) (k : ℕ) (made : Option ActorJob) (o : Option Actor) → actor_of w k ≡ o → no_launch o made ≡ None → 0 < k
+not_own_launch w k made None is h = absurd (none_some _ h)
+not_own_launch w k made (Some a) is h = read_some w k a (k == 0) refl is
+
+does_sound : (w : WorldOf) (e : Event) (n : Note) (v : WorldOf) → IsSound w → fault_of w e ≡ None → Does w e n v → IsSound v
+does_sound w (events.Launch k job) n v s can d = launched_sound w v k job n (not_own_launch w k (job_for w job) (actor_of w k) refl can) s d
+does_sound w (events.Step k) n v s can d = stepped w v k n (not_own w k (actor_of w k) refl can) s d
+does_sound w (events.Crash k) n v s can d = crashed_sound w v k n (not_own w k (actor_of w k) refl can) s d
+does_sound w (events.Settle x) n v s can d = own_sound w v (step.Settle x) n s d
+does_sound w (events.Clear x) n v s can d = own_sound w v (step.Clear x) n s d
+does_sound w (events.Sweep x) n v s can d = own_sound w v (step.Sweep x) n s d
+
+pub events_keep_sound : EventsKeepSound
+events_keep_sound w [] [] v s r = subst (λ y. IsSound y) (sym r) s
+events_keep_sound w (e ∷ es) (n ∷ ns) v s r = events_keep_sound r.0 es ns v (does_sound w e n r.0 s r.1.can r.1.does) r.2
+events_keep_sound w [] (n ∷ ns) v s r = absurd r
+events_keep_sound w (e ∷ es) [] v s r = absurd r

@@ -1,0 +1,22 @@
+use Rattle.std.proofs.Common.{rules, ◌≡◌, subst}
+use Rattle.pb_world.specs.declared.actor.NotCalled.TheVariants as causes
+use Rattle.pb_world.specs.Actors.{IsRefusedBy}
+use Rattle.pb_world.specs.Events.{WorldOf}
+use Rattle.pb_world.proofs.Happenings.{own_answers, own_refused, own_same}
+use Rattle.pb_world.proofs.world.World.own_call.Goals.{in-Ok, in-Err-Refused, in-Err-NoMemory}
+use Rattle.pb_world.proofs.world.World.own_call.Goals as goal
+
+pub returns : goal.returns
+returns g c =
+    let i = c.self.inside in
+    let w : WorldOf = record { shared = i.shared; seats = i.seats.items; actors = i.actors.items; batches = i.batches.items } in
+    let seat = c.index_mut.result.now in
+    let at = c.index_mut.ensures.value in
+    elim c.match-call.branch [
+      | in-Ok z ↦ rw z.result-is (own_answers w c.args.self.now c.self.view_is seat c.call.new.seat c.call.new.shared c.args.step.now z.in-Ok.answer c.self.invariant.some at z.in-Ok.ensures.allowed z.in-Ok.ensures.ok)
+      | in-Err-Refused z ↦
+          let is : z.in-Err-Refused.field-0 ≡ causes.Refused z.in-Err-Refused.code = search rules in
+          let refused = subst (λ y. IsRefusedBy w.shared seat.number c.args.step.now y) is z.in-Err-Refused.ensures.refused in
+          rw z.result-is (own_refused w c.args.self.now c.self.view_is seat c.call.new.seat c.call.new.shared c.args.step.now z.in-Err-Refused.code c.self.invariant.some at refused z.in-Err-Refused.ensures.table z.in-Err-Refused.ensures.seat)
+      | in-Err-NoMemory z ↦ rw z.result-is (own_same w c.args.self.now c.self.view_is seat c.call.new.seat c.call.new.shared at z.in-Err-NoMemory.ensures.table z.in-Err-NoMemory.ensures.seat)
+    ]

@@ -1,0 +1,102 @@
+-- What a step does to an actor and to the table.
+use Rattle.std.specs.Prelude.{◌≡◌, ℕ, List, Bool, MatchBool, Option, Some, None, MatchOption, Result, MatchResult, length}
+use Rattle.pb_base.specs.declared.refusal.Reason.{Reason}
+use Rattle.pb_base.specs.Reasons.{reason_code}
+use Rattle.pb_steps.specs.declared.step.Step.{Step}
+use Rattle.pb_steps.specs.declared.step.Answer.{Answer}
+use Rattle.pb_steps.specs.Answers.{CanAnswer}
+use Rattle.pb_core.specs.Calls.{SharedOf, SeatOf, Calls, call_reason}
+use Rattle.pb_world.specs.declared.actor.Actor.{Actor}
+use Rattle.pb_world.specs.declared.actor.NotCalled.{NotCalled}
+use Rattle.pb_world.specs.declared.actor.NotCalled.TheVariants as causes
+use Rattle.pb_world.specs.declared.job.ActorJob.{ActorJob}
+use Rattle.pb_world.specs.declared.note.Note.{Note}
+use Rattle.pb_world.specs.declared.note.Note.TheVariants.{Launched, Called, Refused, Instruction, Crashed, Idle}
+use Rattle.pb_world.specs.Jobs.{next_of, Takes, is_local, Computes, kept}
+
+-- the number is that of the reason for which the step is refused
+abbrev pub IsRefusedBy : SharedOf → ℕ → Step → NotCalled → Type 0
+IsRefusedBy s seat step (causes.Refused code) = (why : Reason) × (call_reason s seat step ≡ Some why) × (code ≡ reason_code why)
+IsRefusedBy s seat step causes.NoMemory = Unit {0}
+
+-- what holds with a note, and what where memory was refused
+abbrev pub OnNote : {E : Type 0} → Result Note E → (Note → Type 0) → Type 0 → Type 0
+OnNote r P Q = MatchResult r P (λ _. Q)
+
+-- nothing but the job has changed
+pub record IsLeft (s : SharedOf) (seat : SeatOf) (t : SharedOf) (told : SeatOf) : Type 0 where
+  pub table : t ≡ s
+  pub list : told ≡ seat
+
+-- the job asks nothing
+pub record AsksNothing (s : SharedOf) (seat : SeatOf) (j : ActorJob) (t : SharedOf) (told : SeatOf) : Type 0 where
+  pub none : next_of j ≡ None
+  pub same : IsLeft s seat t told
+
+-- the job's next step was answered
+pub record Answers (s : SharedOf) (seat : SeatOf) (j : ActorJob) (t : SharedOf) (told : SeatOf) (answer : Answer) : Type 0 where
+  pub step : Step
+  pub next : next_of j ≡ Some step
+  pub allowed : call_reason s seat.number step ≡ None
+  pub can : CanAnswer step answer
+  pub calls : Calls s seat step answer t told
+
+-- it was refused
+pub record IsNotAnswered (s : SharedOf) (seat : SeatOf) (j : ActorJob) (t : SharedOf) (told : SeatOf) (why : NotCalled) : Type 0 where
+  pub step : Step
+  pub next : next_of j ≡ Some step
+  pub refused : IsRefusedBy s seat.number step why
+  pub same : IsLeft s seat t told
+
+-- the table answers the step, and the job takes it
+pub record AnswersJob (s : SharedOf) (seat : SeatOf) (j : ActorJob) (step : Step) (n : Note) (t : SharedOf) (told : SeatOf) (rest : Option ActorJob) : Type 0 where
+  pub answer : Answer
+  pub after : ActorJob
+  pub note : n ≡ Called answer
+  pub can : CanAnswer step answer
+  pub calls : Calls s seat step answer t told
+  pub takes : Takes j answer after
+  pub left : rest ≡ kept after
+
+-- the table refuses the step, which ends the job
+pub record RefusesJob (s : SharedOf) (seat : SeatOf) (why : Reason) (n : Note) (t : SharedOf) (told : SeatOf) (rest : Option ActorJob) : Type 0 where
+  pub note : n ≡ Refused (reason_code why)
+  pub same : IsLeft s seat t told
+  pub left : rest ≡ None
+
+abbrev pub CallSteps : SharedOf → SeatOf → ActorJob → Step → Note → SharedOf → SeatOf → Option ActorJob → Type 0
+CallSteps s seat j step n t told left = MatchOption (call_reason s seat.number step) (AnswersJob s seat j step n t told left) (λ why. RefusesJob s seat why n t told left)
+
+-- one instruction of its machine
+pub record Instructs (s : SharedOf) (seat : SeatOf) (j : ActorJob) (n : Note) (t : SharedOf) (told : SeatOf) (rest : Option ActorJob) : Type 0 where
+  pub after : ActorJob
+  pub note : n ≡ Instruction
+  pub same : IsLeft s seat t told
+  pub computes : Computes j after
+  pub left : rest ≡ Some after
+
+-- there was nothing to do
+pub record IsIdle (s : SharedOf) (seat : SeatOf) (n : Note) (t : SharedOf) (told : SeatOf) (rest : Option ActorJob) : Type 0 where
+  pub note : n ≡ Idle
+  pub same : IsLeft s seat t told
+  pub left : rest ≡ None
+
+-- one instruction or one call, as the job needs
+abbrev pub JobSteps : SharedOf → SeatOf → ActorJob → Note → SharedOf → SeatOf → Option ActorJob → Type 0
+JobSteps s seat j n t told left = MatchBool (is_local j) (Instructs s seat j n t told left) (MatchOption (next_of j) (IsIdle s seat n t told left) (λ step. CallSteps s seat j step n t told left))
+
+-- an actor without job is idle
+pub record ActorSteps (s : SharedOf) (seat : SeatOf) (a : Actor) (n : Note) (t : SharedOf) (told : SeatOf) (b : Actor) : Type 0 where
+  pub launched : b.launched ≡ a.launched
+  pub steps : MatchOption a.job (IsIdle s seat n t told b.job) (λ j. JobSteps s seat j n t told b.job)
+
+-- an actor with a job made now, whose seat's list has this length
+abbrev pub launched : ℕ → ActorJob → Actor
+launched said j = record { launched = said; job = Some j }
+
+abbrev pub crashed : Actor → Actor
+crashed a = record { launched = a.launched; job = None }
+
+abbrev pub crash_note : Option ActorJob → Note
+crash_note None = Idle
+crash_note (Some j) = Crashed

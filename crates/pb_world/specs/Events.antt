@@ -1,0 +1,157 @@
+-- Worlds, and runs of a list of events.
+use Rattle.std.specs.Prelude.{◌≡◌, ℕ, ◌-◌, ◌≤◌, ◌==◌, if◌then◌else◌, List, [], ◌∷◌, ◌++◌, length, take, replicate, Option, Some, None, MatchOption, slice_get, slice_set, ◌⊎◌}
+use Rattle.std.specs.Option.{option_map}
+use Rattle.pb_base.specs.Batch.{Writes}
+use Rattle.pb_base.specs.Reasons.{reason_code}
+use Rattle.pb_base.specs.declared.names.Row.{Row}
+use Rattle.pb_steps.specs.declared.step.Step.{Step}
+use Rattle.pb_steps.specs.declared.step.Step.TheVariants as steps
+use Rattle.pb_steps.specs.declared.step.Answer.{Answer}
+use Rattle.pb_steps.specs.Observers.{ObserverOf}
+use Rattle.pb_core.specs.Calls.{SharedOf, SeatOf, Calls, call_reason}
+use Rattle.pb_txn.specs.Changes.{new_change}
+use Rattle.pb_notify.specs.Runs.{fresh}
+use Rattle.pb_script.specs.declared.event.Event.{Event}
+use Rattle.pb_script.specs.declared.event.Event.TheVariants as events
+use Rattle.pb_script.specs.declared.event.Job.{Job}
+use Rattle.pb_script.specs.declared.event.Job.TheVariants as jobs
+use Rattle.pb_world.specs.declared.actor.Actor.{Actor}
+use Rattle.pb_world.specs.declared.fault.EventFault.{EventFault}
+use Rattle.pb_world.specs.declared.fault.EventFault.TheVariants as faults
+use Rattle.pb_world.specs.declared.job.ActorJob.{ActorJob}
+use Rattle.pb_world.specs.declared.job.ActorJob.TheVariants as actors
+use Rattle.pb_world.specs.declared.note.Note.{Note}
+use Rattle.pb_world.specs.declared.note.Note.TheVariants.{Launched, Called, Refused}
+use Rattle.pb_world.specs.Faults.{fault_code}
+use Rattle.pb_world.specs.Jobs.{IsReady}
+use Rattle.pb_world.specs.Actors.{ActorSteps, launched, crashed, crash_note}
+
+-- A world, as its owner sees it. An actor has the seat of its number; the world's own steps are taken by seat 0, whose actor
+-- has no job.
+pub record WorldOf : Type 0 where
+  pub shared : SharedOf
+  pub seats : List SeatOf
+  pub actors : List Actor
+  pub batches : List Writes
+
+-- an actor for each seat, and a seat of the world's own
+pub record IsWorld (w : WorldOf) : Type 0 where
+  pub seated : length w.actors ≡ length w.seats
+  pub some : 1 ≤ length w.seats
+
+-- as many actors without job
+abbrev pub idle_actors : ℕ → List Actor
+idle_actors n = replicate n (record { launched = 0; job = None })
+
+-- ---- what can be launched
+
+-- the change of this number, from 1
+abbrev pub change_of : List Writes → ℕ → Option Writes
+change_of batches k = if k == 0 then None else slice_get batches (k - 1)
+
+abbrev pub run_of : List ObserverOf → ℕ → Row → Option ActorJob
+run_of observers o row = option_map (λ (x : ObserverOf). actors.Run (fresh o x.program row x.column)) (slice_get observers o)
+
+abbrev pub job_for : WorldOf → Job → Option ActorJob
+job_for w (jobs.Change k) = option_map (λ batch. actors.Change (new_change batch)) (change_of w.batches k)
+job_for w (jobs.Run o row) = run_of w.shared.state.observers o row
+
+-- ---- faults
+
+-- the actor of this number, from 1
+abbrev pub actor_of : WorldOf → ℕ → Option Actor
+actor_of w k = if k == 0 then None else slice_get w.actors k
+
+abbrev pub no_job : Option ActorJob → Option EventFault
+no_job None = Some faults.NoSuchJob
+no_job (Some j) = None
+
+abbrev pub no_launch_by : Option ActorJob → Option ActorJob → Option EventFault
+no_launch_by (Some j) made = Some faults.Busy
+no_launch_by None made = no_job made
+
+abbrev pub no_launch : Option Actor → Option ActorJob → Option EventFault
+no_launch None made = Some faults.NoSuchActor
+no_launch (Some a) made = no_launch_by a.job made
+
+abbrev pub no_actor : Option Actor → Option EventFault
+no_actor None = Some faults.NoSuchActor
+no_actor (Some a) = None
+
+-- why an event can't happen, if it can't
+abbrev pub fault_of : WorldOf → Event → Option EventFault
+fault_of w (events.Launch k job) = no_launch (actor_of w k) (job_for w job)
+fault_of w (events.Step k) = no_actor (actor_of w k)
+fault_of w (events.Crash k) = no_actor (actor_of w k)
+fault_of w _ = None
+
+-- ---- what events do
+
+abbrev pub with_actor : WorldOf → ℕ → Actor → WorldOf
+with_actor w k a = record w { actors = slice_set w.actors k a }
+
+pub record Launches (w : WorldOf) (k : ℕ) (job : Job) (n : Note) (v : WorldOf) : Type 0 where
+  pub seat : SeatOf
+  pub made : ActorJob
+  pub its_seat : slice_get w.seats k ≡ Some seat
+  pub made_is : job_for w job ≡ Some made
+  pub ready : IsReady made
+  pub note : n ≡ Launched
+  pub after : v ≡ with_actor w k (launched (length seat.received) made)
+
+pub record StepsActor (w : WorldOf) (k : ℕ) (n : Note) (v : WorldOf) : Type 0 where
+  pub seat : SeatOf
+  pub actor : Actor
+  pub told : SeatOf
+  pub stepped : Actor
+  pub its_seat : slice_get w.seats k ≡ Some seat
+  pub its_actor : slice_get w.actors k ≡ Some actor
+  pub steps : ActorSteps w.shared seat actor n v.shared told stepped
+  pub after : v ≡ record w { shared = v.shared; seats = slice_set w.seats k told; actors = slice_set w.actors k stepped }
+
+pub record CrashesActor (w : WorldOf) (k : ℕ) (n : Note) (v : WorldOf) : Type 0 where
+  pub actor : Actor
+  pub its_actor : slice_get w.actors k ≡ Some actor
+  pub note : n ≡ crash_note actor.job
+  pub after : v ≡ with_actor w k (crashed actor)
+
+-- the world's own step was answered
+pub record OwnAnswers (w : WorldOf) (seat : SeatOf) (step : Step) (n : Note) (v : WorldOf) : Type 0 where
+  pub answer : Answer
+  pub told : SeatOf
+  pub note : n ≡ Called answer
+  pub calls : Calls w.shared seat step answer v.shared told
+  pub after : v ≡ record w { shared = v.shared; seats = slice_set w.seats 0 told }
+
+pub record OwnCalls (w : WorldOf) (step : Step) (n : Note) (v : WorldOf) : Type 0 where
+  pub seat : SeatOf
+  pub its_seat : slice_get w.seats 0 ≡ Some seat
+  pub calls : MatchOption (call_reason w.shared seat.number step) (OwnAnswers w seat step n v) (λ why. (n ≡ Refused (reason_code why)) × (v ≡ w))
+
+abbrev pub Does : WorldOf → Event → Note → WorldOf → Type 0
+Does w (events.Launch k job) n v = Launches w k job n v
+Does w (events.Step k) n v = StepsActor w k n v
+Does w (events.Crash k) n v = CrashesActor w k n v
+Does w (events.Settle x) n v = OwnCalls w (steps.Settle x) n v
+Does w (events.Clear x) n v = OwnCalls w (steps.Clear x) n v
+Does w (events.Sweep x) n v = OwnCalls w (steps.Sweep x) n v
+
+-- one event that is not at fault
+pub record Happens (w : WorldOf) (e : Event) (n : Note) (v : WorldOf) : Type 0 where
+  pub can : fault_of w e ≡ None
+  pub does : Does w e n v
+
+-- ---- lists of events
+
+-- each event happens in turn, with its note
+abbrev pub RunsTo : WorldOf → List Event → List Note → WorldOf → Type 0
+RunsTo w [] [] v = v ≡ w
+RunsTo w (e ∷ es) (n ∷ ns) v = (m : WorldOf) × Happens w e n m × RunsTo m es ns v
+RunsTo w _ _ v = ⊥
+
+-- The events before this one happened, and it did nothing: memory was refused, or it is at fault by itself.
+pub record StopsAt (w : WorldOf) (es : List Event) (at code : ℕ) (v : WorldOf) : Type 0 where
+  pub notes : List Note
+  pub within : at ≤ length es
+  pub before : RunsTo w (take at es) notes v
+  pub why : (code ≡ fault_code faults.NoMemory) ⊎ ((event : Event) × (fault : EventFault) × (slice_get es at ≡ Some event) × (fault_of v event ≡ Some fault) × (code ≡ fault_code fault))

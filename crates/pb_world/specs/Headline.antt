@@ -1,0 +1,106 @@
+-- What holds in every world, whatever the order of its events (OSDI 2010, sections 2.2 to 2.4).
+use Rattle.std.specs.Prelude.{◌≡◌, ◌≢◌, ℕ, ◌≤◌, List, ◌++◌, length, Option, Some, slice_get}
+use Rattle.pb_base.specs.Batch.{Writes}
+use Rattle.pb_base.specs.declared.names.Row.{Row}
+use Rattle.pb_base.specs.declared.names.Ts.{Ts}
+use Rattle.pb_isa.specs.Slots.{slots}
+use Rattle.pb_isa.specs.Machine.{Placement, IsPlacement, State, Stuck, act}
+use Rattle.pb_vm.specs.Position.{Position}
+use Rattle.pb_vm.specs.Moves.{IsAtState, environment_at}
+use Rattle.pb_vm.specs.Finished.{Meant}
+use Rattle.pb_steps.specs.Observers.{ObserverOf}
+use Rattle.pb_history.specs.declared.entry.Received.{Received}
+use Rattle.pb_history.specs.Places.{entries_of}
+use Rattle.pb_history.specs.RecordsTold.{TellsRecords}
+use Rattle.pb_core.specs.Calls.{SeatOf, AreSeats}
+use Rattle.pb_core.specs.Histories.{IsLegalTable, IsSnapshotHistory, HandlesOnce}
+use Rattle.pb_txn.specs.declared.place.Outcome.{Outcome}
+use Rattle.pb_txn.specs.Changes.{IsWholeChange}
+use Rattle.pb_notify.specs.declared.need.JobEnd.{JobEnd}
+use Rattle.pb_notify.specs.Runs.{RunOf}
+use Rattle.pb_notify.specs.Forms.{IsRunTalk}
+use Rattle.pb_notify.specs.Led.{StandsAt, IsMachineOf}
+use Rattle.pb_script.specs.declared.event.Event.{Event}
+use Rattle.pb_world.specs.declared.actor.Actor.{Actor}
+use Rattle.pb_world.specs.declared.job.ActorJob.{ActorJob}
+use Rattle.pb_world.specs.declared.job.ActorJob.TheVariants.{Change, Run}
+use Rattle.pb_world.specs.declared.note.Note.{Note}
+use Rattle.pb_world.specs.Events.{WorldOf, change_of, idle_actors, RunsTo}
+
+-- ---- actors
+
+-- at every placement the machine stands in a state that isn't stuck, after at most as many instructions as its program has slots
+pub record IsNeverStuck (v : Position) : Type 0 where
+  pub at : (a : Placement) → IsPlacement (length v.bytes) a → (here : State) × IsAtState v a here × (act (environment_at v a) here ≢ Stuck)
+  pub few : v.taken ≤ slots v.judged.program.insns
+
+-- what was said is a beginning of a change of the script
+pub record HoldsOfChange (w : WorldOf) (said : List Received) : Type 0 where
+  pub number : ℕ
+  pub batch : Writes
+  pub there : change_of w.batches number ≡ Some batch
+  pub start : Ts
+  pub rest : List Received
+  pub outcome : Outcome
+  pub talk : IsWholeChange batch start (said ++ rest) outcome
+
+-- What was said is a beginning of a run of an observer. Its machine, while there is one, runs the observer's program on the
+-- record of what was read, was told what was read, and is never stuck; while it asks, it stands before the asking instruction.
+pub record HoldsOfRun (w : WorldOf) (r : RunOf) (said : List Received) : Type 0 where
+  pub number : ℕ
+  pub observer : ObserverOf
+  pub row : Row
+  pub there : slice_get w.shared.state.observers number ≡ Some observer
+  pub rest : List Received
+  pub end : JobEnd
+  pub run : Option Meant
+  pub talk : IsRunTalk number observer.program row observer.column (said ++ rest) end run
+  pub machine : (s : Ts) (v : Position) → StandsAt r.place s v → IsMachineOf number observer.program row observer.column s v said × IsNeverStuck v
+
+abbrev pub HoldsOfJob : WorldOf → ActorJob → List Received → Type 0
+HoldsOfJob w (Change c) said = HoldsOfChange w said
+HoldsOfJob w (Run r) said = HoldsOfRun w r said
+
+-- its conversation is what its seat was told since the launch, and the seat's list is the journal's entries of that seat
+pub record HoldsOfActor (w : WorldOf) (k launched : ℕ) (seat : SeatOf) (j : ActorJob) : Type 0 where
+  pub number : seat.number ≡ k
+  pub entries : seat.received ≡ entries_of k w.shared.journal
+  pub before : List Received
+  pub said : List Received
+  pub counted : length before ≡ launched
+  pub received : seat.received ≡ before ++ said
+  pub job : HoldsOfJob w j said
+
+-- ---- worlds
+
+pub record Holds (w : WorldOf) : Type 0 where
+  pub actors : (k : ℕ) (a : Actor) (seat : SeatOf) (j : ActorJob) → slice_get w.actors k ≡ Some a → slice_get w.seats k ≡ Some seat → a.job ≡ Some j → HoldsOfActor w k a.launched seat j
+  pub history : IsSnapshotHistory w.shared
+  pub records : TellsRecords w.shared.journal w.shared.state
+  pub once : HandlesOnce w.shared
+
+-- a world as it is opened over a table with all its seats, its journal empty or not
+pub record IsOpened (w : WorldOf) : Type 0 where
+  pub legal : IsLegalTable w.shared
+  pub seats : AreSeats w.shared w.seats
+  pub actors : w.actors ≡ idle_actors (length w.seats)
+
+-- one list of events after another is a run of both
+abbrev pub RunsJoin : Type 0
+RunsJoin = (w : WorldOf) (es : List Event) (ns : List Note) (m : WorldOf) (fs : List Event) (ks : List Note) (v : WorldOf) → RunsTo w es ns m → RunsTo m fs ks v → RunsTo w (es ++ fs) (ns ++ ks) v
+
+-- after a beginning of a list of events there is a world, from which the rest runs on
+pub record StopsBetween (w : WorldOf) (es fs : List Event) (ns : List Note) (v : WorldOf) : Type 0 where
+  pub between : WorldOf
+  pub before : List Note
+  pub after : List Note
+  pub first : RunsTo w es before between
+  pub rest : RunsTo between fs after v
+  pub notes : ns ≡ before ++ after
+
+abbrev pub RunsPart : Type 0
+RunsPart = (w : WorldOf) (es fs : List Event) (ns : List Note) (v : WorldOf) → RunsTo w (es ++ fs) ns v → StopsBetween w es fs ns v
+
+-- whatever events happen in an opened world
+abbrev pub WorldsHold : Type 0
+WorldsHold = (w : WorldOf) (es : List Event) (ns : List Note) (v : WorldOf) → IsOpened w → RunsTo w es ns v → Holds v

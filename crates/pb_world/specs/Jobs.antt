@@ -1,0 +1,68 @@
+-- The job of an actor, as the table meets it.
+use Rattle.std.specs.Prelude.{◌≡◌, Bool, true, false, if◌then◌else◌, Option, Some, None}
+use Rattle.std.specs.Option.{is_some}
+use Rattle.pb_base.specs.Batch.{is_batch}
+use Rattle.pb_isa.specs.declared.limits.TheConstants.{RECORD_BYTES}
+use Rattle.pb_isa.specs.Programs.{JudgedOf, IsProgram}
+use Rattle.pb_verify.specs.Arriving.{Accepts}
+use Rattle.pb_steps.specs.declared.step.Step.{Step}
+use Rattle.pb_steps.specs.declared.step.Answer.{Answer}
+use Rattle.pb_txn.specs.Plans as plans
+use Rattle.pb_txn.specs.Changes as changes
+use Rattle.pb_notify.specs.declared.need.Need.{Need}
+use Rattle.pb_notify.specs.declared.need.Need.TheVariants.{Local, Call, Over}
+use Rattle.pb_notify.specs.Runs.{RunOf}
+use Rattle.pb_notify.specs.Runs as runs
+use Rattle.pb_world.specs.declared.job.ActorJob.{ActorJob}
+use Rattle.pb_world.specs.declared.job.ActorJob.TheVariants.{Change, Run}
+
+abbrev pub next_of : ActorJob → Option Step
+next_of (Change c) = changes.next_of c
+next_of (Run r) = runs.next_of r
+
+abbrev pub CanTake : ActorJob → Answer → Type 0
+CanTake j a = plans.CanTake (next_of j) a
+
+-- after its next step was answered
+abbrev pub Takes : ActorJob → Answer → ActorJob → Type 0
+Takes (Change c) a k = k ≡ Change (changes.answered c a)
+Takes (Run r) a k = (l : RunOf) × (k ≡ Run l) × (l ≡ runs.answered r a) × runs.IsTold r a l
+
+abbrev pub is_local_need : Need → Bool
+is_local_need Local = true
+is_local_need _ = false
+
+abbrev pub is_over_need : Need → Bool
+is_over_need (Over end) = true
+is_over_need _ = false
+
+-- its machine's next instruction is next
+abbrev pub is_local : ActorJob → Bool
+is_local (Change c) = false
+is_local (Run r) = is_local_need (runs.need_of r)
+
+-- after one instruction of its machine
+abbrev pub Computes : ActorJob → ActorJob → Type 0
+Computes (Change c) k = ⊥
+Computes (Run r) k = (l : RunOf) × (k ≡ Run l) × runs.Computes r l
+
+abbrev pub is_over : ActorJob → Bool
+is_over (Change c) = is_some (changes.outcome_of c)
+is_over (Run r) = is_over_need (runs.need_of r)
+
+-- a job that is over is gone
+abbrev pub kept : ActorJob → Option ActorJob
+kept j = if is_over j then None else Some j
+
+-- ---- what a launch gives
+
+-- the rules accept it for the change record
+pub record IsAccepted (j : JudgedOf) : Type 0 where
+  pub program : IsProgram j.program
+  pub accepts : Accepts j
+  pub size : j.record_size ≡ RECORD_BYTES
+
+-- a change of some cells, each named once, or a run of an accepted program
+abbrev pub IsReady : ActorJob → Type 0
+IsReady (Change c) = is_batch c.batch ≡ true
+IsReady (Run r) = IsAccepted r.judged

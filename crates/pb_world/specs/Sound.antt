@@ -1,0 +1,63 @@
+-- What every world keeps: its journal is legal, each seat has its entries, and each actor's job is tied to what its seat was
+-- told since the launch.
+use Rattle.std.specs.Prelude.{◌≡◌, ℕ, true, List, ◌++◌, length, Some, None, slice_get}
+use Rattle.pb_base.specs.Batch.{Writes, is_batch}
+use Rattle.pb_base.specs.declared.names.Row.{Row}
+use Rattle.pb_isa.specs.declared.limits.TheConstants.{RECORD_BYTES}
+use Rattle.pb_isa.specs.Programs.{JudgedOf, IsProgram}
+use Rattle.pb_verify.specs.Arriving.{Accepts}
+use Rattle.pb_steps.specs.Observers.{ObserverOf}
+use Rattle.pb_history.specs.declared.entry.Received.{Received}
+use Rattle.pb_core.specs.Calls.{SeatOf, AreSeats}
+use Rattle.pb_core.specs.Histories.{IsLegalTable}
+use Rattle.pb_txn.specs.Changes.{ChangeOf, new_change, Talks}
+use Rattle.pb_notify.specs.Runs.{RunOf, fresh}
+use Rattle.pb_notify.specs.Talks.{Reaches}
+use Rattle.pb_world.specs.declared.actor.Actor.{Actor}
+use Rattle.pb_world.specs.declared.job.ActorJob.{ActorJob}
+use Rattle.pb_world.specs.declared.job.ActorJob.TheVariants.{Change, Run}
+use Rattle.pb_world.specs.declared.note.Note.{Note}
+use Rattle.pb_world.specs.Jobs.{IsAccepted}
+use Rattle.pb_script.specs.declared.event.Event.{Event}
+use Rattle.pb_world.specs.Events.{WorldOf, change_of, RunsTo}
+
+-- a change of the script, led by its answers to where it stands
+pub record ChangeCame (w : WorldOf) (c : ChangeOf) (said : List Received) : Type 0 where
+  pub number : ℕ
+  pub batch : Writes
+  pub there : change_of w.batches number ≡ Some batch
+  pub is : is_batch batch ≡ true
+  pub talks : Talks (new_change batch) said c
+
+-- a run of an observer, led by its answers and its machine's instructions to where it stands
+pub record RunCame (w : WorldOf) (r : RunOf) (said : List Received) : Type 0 where
+  pub number : ℕ
+  pub observer : ObserverOf
+  pub row : Row
+  pub there : slice_get w.shared.state.observers number ≡ Some observer
+  pub accepted : IsAccepted observer.program
+  pub reaches : Reaches (fresh number observer.program row observer.column) said r
+
+abbrev pub Came : WorldOf → ActorJob → List Received → Type 0
+Came w (Change c) said = ChangeCame w c said
+Came w (Run r) said = RunCame w r said
+
+-- what a seat was told since the launch led the job to where it stands
+pub record IsTied (w : WorldOf) (seat : SeatOf) (launched : ℕ) (j : ActorJob) : Type 0 where
+  pub before : List Received
+  pub said : List Received
+  pub counted : length before ≡ launched
+  pub received : seat.received ≡ before ++ said
+  pub came : Came w j said
+
+pub record IsSound (w : WorldOf) : Type 0 where
+  pub legal : IsLegalTable w.shared
+  pub seats : AreSeats w.shared w.seats
+  pub own : (a : Actor) → slice_get w.actors 0 ≡ Some a → a.job ≡ None
+  pub tied : (k : ℕ) (a : Actor) (seat : SeatOf) (j : ActorJob) → slice_get w.actors k ≡ Some a → slice_get w.seats k ≡ Some seat → a.job ≡ Some j → IsTied w seat a.launched j
+
+-- ---- laws
+
+-- whatever events happen, it stays so
+abbrev pub EventsKeepSound : Type 0
+EventsKeepSound = (w : WorldOf) (es : List Event) (ns : List Note) (v : WorldOf) → IsSound w → RunsTo w es ns v → IsSound v

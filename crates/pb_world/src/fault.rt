@@ -1,0 +1,37 @@
+//! Faults of events.
+ghost use Rattle.std.specs.Prelude.{◌≡◌};
+ghost use Rattle.pb_world.specs.Faults.{fault_code};
+
+/// Why an event can't happen.
+#[derive(Clone, Copy)]
+pub enum EventFault {
+    /// A growth was refused.
+    NoMemory,
+    /// There is no such actor.
+    NoSuchActor,
+    /// The actor has a job.
+    Busy,
+    /// There is no such change or observer.
+    NoSuchJob,
+}
+
+impl EventFault {
+    /// The number that it is told by.
+    pub fn code(self) -> u8
+        ensures { result ≡ fault_code self }
+    {
+        match self {
+            EventFault::NoMemory => 1,
+            EventFault::NoSuchActor => 60,
+            EventFault::Busy => 61,
+            EventFault::NoSuchJob => 63,
+        }
+    }
+}
+
+/// Which event of a list was at fault, from 0, and the number of its fault.
+#[derive(Clone, Copy)]
+pub struct WorldFault {
+    pub event: usize,
+    pub code: u8,
+}

@@ -1,0 +1,45 @@
+//! What holds in every world, whatever the order of its events.
+ghost use Rattle.pb_world.specs.Headline.{WorldsHold, RunsJoin, RunsPart};
+ghost use Rattle.pb_world.specs.Sound.{EventsKeepSound};
+
+use pb_history::{
+    behind_is_marked, commits_are_ordered, handled_at_most_once, handled_when_quiet,
+    reads_tell_snapshots, records_are_told, runs_are_told, scripts_write_batches, timestamps_rise,
+    writers_are_apart,
+};
+use pb_notify::{jobs_talk, machines_are_led};
+use pb_sound::accepted_are_never_stuck;
+use pb_txn::changes_talk;
+
+/// Whatever events happen, a sound world stays sound: its journal is legal, each seat has its entries of it, and each
+/// actor's job stands where its seat's answers led it since the launch.
+pub fn worlds_stay_sound()
+    ensures { EventsKeepSound }
+{}
+
+/// Whatever events happen in an opened world, after each of them: the machine of each actor's run is a state of the
+/// definitions, reached from entry at every placement with replies that are the reads of its transaction, isn't stuck, and has
+/// done at most as many instructions as its program has slots; an actor's conversation is a beginning of one of the forms, and
+/// the journal's entries of its seat since the launch; the committed transactions are a legal snapshot history; and each
+/// committed change of an observed column is handled by at most one committed run of each observer of that column, and by
+/// one when no mark and no lock is left.
+pub fn worlds_hold()
+    ensures holds { WorldsHold }
+    ensures join { RunsJoin }
+    ensures part { RunsPart }
+{
+    accepted_are_never_stuck();
+    jobs_talk();
+    machines_are_led();
+    changes_talk();
+    timestamps_rise();
+    commits_are_ordered();
+    reads_tell_snapshots();
+    writers_are_apart();
+    runs_are_told();
+    scripts_write_batches();
+    records_are_told();
+    behind_is_marked();
+    handled_at_most_once();
+    handled_when_quiet();
+}

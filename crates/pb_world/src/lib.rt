@@ -1,0 +1,15 @@
+//! Worlds: one shared table, and actors that are launched, stepped and crashed as a list of events says.
+#![tactic(auto)]
+
+mod actor;
+mod fault;
+mod job;
+mod laws;
+mod note;
+mod world;
+
+pub use fault::{EventFault, WorldFault};
+pub use laws::{worlds_hold, worlds_stay_sound};
+pub use note::Note;
+pub use pb_script::{Event, Job};
+pub use world::World;

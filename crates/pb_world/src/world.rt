@@ -1,0 +1,327 @@
+//! Worlds, and the events that happen in them.
+ghost use Rattle.std.specs.Prelude.{◌≡◌, ◌<◌, ◌≤◌, ◌++◌, ◌∷◌, [], length, IfOk, OnOk, vec_len, vec_capacity};
+ghost use Rattle.pb_world.specs.Events.{idle_actors};
+ghost use Rattle.pb_world.specs.Faults.{fault_code};
+
+use crate::actor::{Actor, NotCalled, call, crash, launch, step_actor};
+use crate::fault::{EventFault, WorldFault};
+use crate::job::ActorJob;
+use crate::note::Note;
+use pb_base::{Batch, NoMemory};
+use pb_core::{Seat, Shared, Step};
+use pb_notify::ObserverJob;
+use pb_script::{Event, Job};
+use pb_store::Tablet;
+use pb_txn::ChangeJob;
+use std::alloc::Global;
+use std::marker::Model;
+use std::sync::Arc;
+
+/// A shared table with its seats, the changes that may be launched, and an actor for each seat but the first, by whose number
+/// it goes. Seat 0 takes the steps of no actor.
+///
+/// A world ends by `close` alone.
+pub struct World<T: Tablet> {
+    shared: Shared<T>,
+    seats: Vec<Seat>,
+    actors: Vec<Actor>,
+    batches: Vec<Batch>,
+}
+
+impl<T: Tablet> Model for World<T> {
+    ghost use Rattle.pb_world.specs.Events.{WorldOf, IsWorld};
+
+    ghost Value = { WorldOf };
+
+    ghost use Rattle.pb_world.specs.Codes.{world_code};
+
+    ghost coded = { world_code };
+
+    ghost view = { λ w. record { shared = w.shared; seats = w.seats.items; actors = w.actors.items; batches = w.batches.items } };
+
+    ghost invariant = { λ w. IsWorld (record { shared = w.shared; seats = w.seats.items; actors = w.actors.items; batches = w.batches.items }) };
+}
+
+// So many actors without job.
+fn idle_actors(alloc: Global, count: usize) -> Result<Vec<Actor>, NoMemory>
+    ensures { IfOk result (λ v. v.items ≡ idle_actors count) }
+{
+    let mut actors = Vec::new(alloc);
+    for _ in 0..count {
+        actors.push(Actor {
+            launched: 0,
+            job: None,
+        })?;
+    }
+    Ok(actors)
+}
+
+// Room for so many notes.
+fn room_for(alloc: Global, count: usize) -> Result<Vec<Note>, NoMemory>
+    ensures items { IfOk result (λ v. v.items ≡ []) }
+    ensures room { IfOk result (λ v. count ≤ vec_capacity v) }
+{
+    let mut notes = Vec::new(alloc);
+    notes.reserve(count)?;
+    Ok(notes)
+}
+
+fn append<X: Drop>(list: &mut Vec<X>, item: X)
+    requires { vec_len list.old < vec_capacity list.old }
+    ensures items { list.new.items ≡ list.old.items ++ item ∷ [] }
+    ensures room { vec_capacity list.old ≤ vec_capacity list.new }
+{
+    list.push(item).unwrap();
+}
+
+impl<T: Tablet> World<T> {
+    ghost use Rattle.std.specs.Prelude.{◌≡◌, ◌≢◌, ◌⊎◌, None, Some, true, MatchOption, MatchResult, IfOk, IfErr, OnOk, OnErr, length};
+    ghost use Rattle.std.specs.Option.{is_some};
+    ghost use Rattle.pb_core.specs.Calls.{AreSeats};
+    ghost use Rattle.pb_world.specs.Headline.{IsOpened};
+    ghost use Rattle.pb_world.specs.declared.fault.EventFault.TheVariants as faults;
+    ghost use Rattle.pb_world.specs.Actors.{OnNote};
+    ghost use Rattle.pb_world.specs.Jobs.{IsReady};
+    ghost use Rattle.pb_world.specs.Events.{idle_actors, actor_of, change_of, job_for, no_actor, no_launch, fault_of, Launches, StepsActor, CrashesActor, OwnCalls, Does, Happens, RunsTo, StopsAt};
+
+    /// A world over a table with all its seats, in order, where these changes may be launched. Its actors have no job.
+    ///
+    /// Refused for memory, it hands all back.
+    pub fn open(
+        alloc: Global,
+        shared: Shared<T>,
+        seats: Vec<Seat>,
+        batches: Vec<Batch>,
+    ) -> Result<World<T>, (Shared<T>, Vec<Seat>, Vec<Batch>)>
+        requires { AreSeats shared seats.items }
+        ensures ok { IfOk result (λ w. w ≡ record { shared = shared; seats = seats.items; actors = idle_actors (length seats.items); batches = batches.items }) }
+        ensures opened { IfOk result IsOpened }
+        ensures handed_back { IfErr result (λ p. p ≡ (shared, seats, batches)) }
+    {
+        prove!(shared.seats() > 0);
+        // For the proof: the journal is legal.
+        let _ = shared.journal();
+        match idle_actors(alloc, seats.len()) {
+            Ok(actors) => Ok(World {
+                shared,
+                seats,
+                actors,
+                batches,
+            }),
+            Err(_) => Err((shared, seats, batches)),
+        }
+    }
+
+    /// The table.
+    pub fn shared(&self) -> &Shared<T>
+        ensures { result.now ≡ self.now.shared }
+    {
+        &self.shared
+    }
+
+    /// Ends the world. It takes no memory.
+    pub fn close(self) -> (Shared<T>, Vec<Seat>)
+        ensures shared { result.0 ≡ self.shared }
+        ensures seats { result.1.items ≡ self.seats }
+    {
+        let World {
+            shared,
+            seats,
+            actors: _,
+            batches: _,
+        } = self;
+        (shared, seats)
+    }
+
+    // The actor of this number, from 1.
+    fn actor(&self, number: u32) -> Option<&Actor>
+        ensures { MatchOption result (actor_of self.now number ≡ None) (λ a. actor_of self.now number ≡ Some a.now) }
+    {
+        if number == 0 {
+            None
+        } else {
+            self.actors.get(number as usize)
+        }
+    }
+
+    // The change of this number, from 1.
+    fn change(&self, number: u32) -> Option<&Batch>
+        ensures { MatchOption result (change_of self.now.batches number ≡ None) (λ b. change_of self.now.batches number ≡ Some b.now) }
+    {
+        if number == 0 {
+            None
+        } else {
+            self.batches.get(number as usize - 1)
+        }
+    }
+
+    // Whether there is such a change or observer.
+    fn is_known(&self, job: &Job) -> bool
+        ensures { result ≡ is_some (job_for self.now job.now) }
+    {
+        match job {
+            Job::Change(number) => self.change(*number).is_some(),
+            Job::Run(observer, _) => {
+                (observer.number() as usize) < self.shared.observers().len()
+            }
+        }
+    }
+
+    // Why a launch can't happen, if it can't.
+    fn no_launch(&self, number: u32, job: &Job) -> Option<EventFault>
+        ensures { result ≡ no_launch (actor_of self.now number) (job_for self.now job.now) }
+    {
+        let Some(actor) = self.actor(number) else {
+            return Some(EventFault::NoSuchActor);
+        };
+        if actor.job.is_some() {
+            Some(EventFault::Busy)
+        } else if self.is_known(job) {
+            None
+        } else {
+            Some(EventFault::NoSuchJob)
+        }
+    }
+
+    // Why an event can't happen, if it can't.
+    fn fault(&self, event: &Event) -> Option<EventFault>
+        ensures { result ≡ fault_of self.now event.now }
+    {
+        match event {
+            Event::Launch(number, job) => self.no_launch(*number, job),
+            Event::Step(number) | Event::Crash(number) => {
+                if self.actor(*number).is_none() {
+                    Some(EventFault::NoSuchActor)
+                } else {
+                    None
+                }
+            }
+            _ => None,
+        }
+    }
+
+    // The job of a launch, before its first step.
+    fn make(&self, alloc: Global, job: &Job) -> Result<ActorJob, NoMemory>
+        requires { is_some (job_for self.now job.now) ≡ true }
+        ensures job { IfOk result (λ j. job_for self.now job.now ≡ Some j) }
+        ensures ready { IfOk result IsReady }
+    {
+        match job {
+            Job::Change(number) => {
+                let Some(batch) = self.change(*number) else {
+                    unreachable!()
+                };
+                let batch = batch.copy()?;
+                // For the proof: a batch has some cells, each named once.
+                let _ = batch.len();
+                match ChangeJob::new(alloc, batch) {
+                    Ok(job) => Ok(ActorJob::Change(job)),
+                    Err(_) => Err(NoMemory),
+                }
+            }
+            Job::Run(number, row) => {
+                let observer = &self.shared.observers()[number.number() as usize];
+                let program = Arc::try_clone(&observer.program)?;
+                // For the proof: the rules accept it.
+                let _ = program.slots();
+                let _ = program.program().slots();
+                let job = ObserverJob::new(*number, program, *row, observer.column);
+                Ok(ActorJob::Run(job))
+            }
+        }
+    }
+
+    fn launch(&mut self, alloc: Global, number: u32, job: &Job) -> Result<Note, NoMemory>
+        requires { no_launch (actor_of self.old number) (job_for self.old job.now) ≡ None }
+        ensures { OnNote result (λ n. Launches self.old number job.now n self.new) (self.new ≡ self.old) }
+    {
+        let made = self.make(alloc, job)?;
+        let said = self.seats[number as usize].received().len();
+        launch(&mut self.actors[number as usize], said, made);
+        Ok(Note::Launched)
+    }
+
+    fn step(&mut self, alloc: Global, number: u32) -> Result<Note, NoMemory>
+        requires { no_actor (actor_of self.old number) ≡ None }
+        ensures { OnNote result (λ n. StepsActor self.old number n self.new) (self.new ≡ self.old) }
+    {
+        let seat = &mut self.seats[number as usize];
+        let actor = &mut self.actors[number as usize];
+        let note = step_actor(alloc, &mut self.shared, seat, actor)?;
+        Ok(note)
+    }
+
+    fn crash(&mut self, number: u32) -> Note
+        requires { no_actor (actor_of self.old number) ≡ None }
+        ensures { CrashesActor self.old number result self.new }
+    {
+        crash(&mut self.actors[number as usize])
+    }
+
+    // A step of no actor, by seat 0.
+    fn own_call(&mut self, step: &Step) -> Result<Note, NoMemory>
+        ensures { OnNote result (λ n. OwnCalls self.old step.now n self.new) (self.new ≡ self.old) }
+    {
+        match call(&mut self.shared, &mut self.seats[0], step) {
+            Ok(answer) => Ok(Note::Called(answer)),
+            Err(NotCalled::Refused(code)) => Ok(Note::Refused(code)),
+            Err(NotCalled::NoMemory) => Err(NoMemory),
+        }
+    }
+
+    fn does(&mut self, alloc: Global, event: &Event) -> Result<Note, NoMemory>
+        requires { fault_of self.old event.now ≡ None }
+        ensures { OnNote result (λ n. Does self.old event.now n self.new) (self.new ≡ self.old) }
+    {
+        match event {
+            Event::Launch(number, job) => self.launch(alloc, *number, job),
+            Event::Step(number) => self.step(alloc, *number),
+            Event::Crash(number) => Ok(self.crash(*number)),
+            Event::Settle(cell) => self.own_call(&Step::Settle(*cell)),
+            Event::Clear(cell) => self.own_call(&Step::Clear(*cell)),
+            Event::Sweep(cell) => self.own_call(&Step::Sweep(*cell)),
+        }
+    }
+
+    // One event. At fault, it did nothing.
+    fn event(&mut self, alloc: Global, event: &Event) -> Result<Note, EventFault>
+        ensures { MatchResult result (λ n. Happens self.old event.now n self.new) (λ f. (self.new ≡ self.old) × ((f ≡ faults.NoMemory) ⊎ (fault_of self.old event.now ≡ Some f))) }
+    {
+        if let Some(fault) = self.fault(event) {
+            return Err(fault);
+        }
+        match self.does(alloc, event) {
+            Ok(note) => Ok(note),
+            Err(_) => Err(EventFault::NoMemory),
+        }
+    }
+
+    /// Lets the events happen in order, and answers a note for each.
+    ///
+    /// The fault tells the first event that can't happen: 60 there is no such actor, 61 the actor of a launch has a job, 63
+    /// there is no such change or observer, 1 memory was refused. The events before it stand, and it did nothing.
+    pub fn run(&mut self, alloc: Global, events: &[Event]) -> Result<Vec<Note>, WorldFault>
+        ensures ok { IfOk result (λ ns. RunsTo self.old events.now ns.items self.new) }
+        ensures err { IfErr result (λ f. StopsAt self.old events.now f.event f.code self.new) }
+    {
+        let Ok(mut notes) = room_for(alloc, events.len()) else {
+            return Err(stopped(0, EventFault::NoMemory));
+        };
+        for event in events {
+            match self.event(alloc, event) {
+                Ok(note) => append(&mut notes, note),
+                Err(fault) => return Err(stopped(notes.len(), fault)),
+            }
+        }
+        Ok(notes)
+    }
+}
+
+fn stopped(event: usize, fault: EventFault) -> WorldFault
+    ensures { result ≡ record { event = event; code = fault_code fault } }
+{
+    WorldFault {
+        event,
+        code: fault.code(),
+    }
+}
