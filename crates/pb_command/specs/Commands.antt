@@ -1,46 +1,70 @@
 -- What a command leaves: its status, its output, the line of its fault, and what the paths hold.
-use Rattle.std.specs.Prelude.{◌≡◌, ℕ, ◌⊎◌, Bool, false, List, Option, Result, Ok, Err}
+use Rattle.std.specs.Prelude.{◌≡◌, ℕ, Bool, false, List, [], ◌∷◌, Option, Result, Ok, Err}
 use Rattle.pb_texts.specs.declared.words.choice.Options.{Options}
 use Rattle.pb_texts.specs.declared.words.choice.Options.TheVariants as options
 use Rattle.pb_alone.specs.declared.fault.RunFault.{RunFault}
 use Rattle.pb_alone.specs.TextRuns.{RunsTexts}
+use Rattle.pb_replay.specs.declared.fault.ReplayFault.{ReplayFault}
+use Rattle.pb_replay.specs.Replays.{ReplaysTexts}
 use Rattle.pb_command.specs.declared.answer.Verdict.{Verdict}
 use Rattle.pb_command.specs.declared.answer.Verdict.TheVariants.{Accepted, Refused}
 use Rattle.pb_command.specs.declared.fault.Fault.{Fault}
 use Rattle.pb_command.specs.declared.fault.Fault.TheVariants as faults
 use Rattle.pb_command.specs.FaultLines.{Tells, IsQuiet}
 use Rattle.pb_command.specs.Files.{Text, Held, IsKnownAs}
-use Rattle.pb_command.specs.PathFaults.{IsUnreadAt}
-use Rattle.pb_command.specs.Programs.{AsmLeaves, AnswerLeaves, Lists, Checks, IsNoText}
+use Rattle.pb_command.specs.PathFaults.{IsFileFault}
+use Rattle.pb_command.specs.Programs.{AsmLeaves, AnswerLeaves, Lists, Checks}
+
+-- ---- `run`
 
 -- texts that the two paths hold ran so, from the clock 0
-pub record RanFrom (manifest script : Option (List ℕ)) (old now : Option (List ℕ)) (failed : Bool) (result : Result (Unit {0}) RunFault) : Type 0 where
+pub record RanFrom (before : Held) (manifest script : Text) (old now : Option (List ℕ)) (failed : Bool) (result : Result (Unit {0}) RunFault) : Type 0 where
   pub manifest_text : List ℕ
   pub script_text : List ℕ
-  pub manifest_held : IsKnownAs manifest manifest_text
-  pub script_held : IsKnownAs script script_text
+  pub manifest_held : IsKnownAs (before manifest) manifest_text
+  pub script_held : IsKnownAs (before script) script_text
   pub ran : RunsTexts manifest_text script_text 0 old now failed result
 
--- the file at one of the two paths wasn't read, or isn't text
-abbrev pub IsFileFault : Option (List ℕ) → Option (List ℕ) → Text → Text → Fault → Type 0
-IsFileFault manifest script first second (faults.NotText p) =
-    IsNoText manifest first (faults.NotText p) ⊎ IsNoText script second (faults.NotText p)
-IsFileFault manifest script first second f = IsUnreadAt first f ⊎ IsUnreadAt second f
-
 -- the texts ran to this fault; or there was none to run, and nothing was written
-abbrev pub RunFails : Option (List ℕ) → Option (List ℕ) → Text → Text → Option (List ℕ) → Option (List ℕ) → Bool → Fault → Type 0
-RunFails manifest script first second old now failed (faults.Run f) = RanFrom manifest script old now failed (Err f)
-RunFails manifest script first second old now failed f = (now ≡ old) × (failed ≡ false) × IsFileFault manifest script first second f
+abbrev pub RunFails : Held → Text → Text → Option (List ℕ) → Option (List ℕ) → Bool → Fault → Type 0
+RunFails before manifest script old now failed (faults.Run f) = RanFrom before manifest script old now failed (Err f)
+RunFails before manifest script old now failed f = (now ≡ old) × (failed ≡ false) × IsFileFault before (manifest ∷ script ∷ []) f
 
-abbrev pub RunLeaves : Option (List ℕ) → Option (List ℕ) → Text → Text → Option (List ℕ) → Option (List ℕ) → Bool → Result Verdict Fault → Type 0
-RunLeaves manifest script first second old now failed (Ok Accepted) = RanFrom manifest script old now failed (Ok tt)
-RunLeaves manifest script first second old now failed (Ok Refused) = ⊥
-RunLeaves manifest script first second old now failed (Err f) = RunFails manifest script first second old now failed f
+abbrev pub RunLeaves : Held → Text → Text → Option (List ℕ) → Option (List ℕ) → Bool → Result Verdict Fault → Type 0
+RunLeaves before manifest script old now failed (Ok Accepted) = RanFrom before manifest script old now failed (Ok tt)
+RunLeaves before manifest script old now failed (Ok Refused) = ⊥
+RunLeaves before manifest script old now failed (Err f) = RunFails before manifest script old now failed f
+
+-- ---- `replay`
+
+-- texts that the three paths hold were replayed so, from this clock
+pub record ReplayedFrom (before : Held) (manifest script schedule : Text) (clock : ℕ) (old now : Option (List ℕ)) (failed : Bool) (result : Result (Unit {0}) ReplayFault) : Type 0 where
+  pub manifest_text : List ℕ
+  pub script_text : List ℕ
+  pub schedule_text : List ℕ
+  pub manifest_held : IsKnownAs (before manifest) manifest_text
+  pub script_held : IsKnownAs (before script) script_text
+  pub schedule_held : IsKnownAs (before schedule) schedule_text
+  pub replayed : ReplaysTexts manifest_text script_text schedule_text clock old now failed result
+
+-- the texts were replayed to this fault; or there was none to replay, and nothing was written
+abbrev pub ReplayFails : Held → Text → Text → Text → ℕ → Option (List ℕ) → Option (List ℕ) → Bool → Fault → Type 0
+ReplayFails before manifest script schedule clock old now failed (faults.Replay f) = ReplayedFrom before manifest script schedule clock old now failed (Err f)
+ReplayFails before manifest script schedule clock old now failed f = (now ≡ old) × (failed ≡ false) × IsFileFault before (manifest ∷ script ∷ schedule ∷ []) f
+
+abbrev pub ReplayLeaves : Held → Text → Text → Text → ℕ → Option (List ℕ) → Option (List ℕ) → Bool → Result Verdict Fault → Type 0
+ReplayLeaves before manifest script schedule clock old now failed (Ok Accepted) = ReplayedFrom before manifest script schedule clock old now failed (Ok tt)
+ReplayLeaves before manifest script schedule clock old now failed (Ok Refused) = ⊥
+ReplayLeaves before manifest script schedule clock old now failed (Err f) = ReplayFails before manifest script schedule clock old now failed f
+
+-- ---- any command
 
 -- What is left where a command ended so: only `asm` writes to a path, and it writes no output.
 abbrev pub Leaves : Options → Held → Held → Bool → Bool → Option (List ℕ) → Option (List ℕ) → Bool → Result Verdict Fault → Type 0
 Leaves (options.Run manifest script) before after was unwritten old now failed outcome =
-    (after ≡ before) × (unwritten ≡ was) × RunLeaves (before manifest.now) (before script.now) manifest.now script.now old now failed outcome
+    (after ≡ before) × (unwritten ≡ was) × RunLeaves before manifest.now script.now old now failed outcome
+Leaves (options.Replay manifest script schedule clock) before after was unwritten old now failed outcome =
+    (after ≡ before) × (unwritten ≡ was) × ReplayLeaves before manifest.now script.now schedule.now clock.0 old now failed outcome
 Leaves (options.Asm input output) before after was unwritten old now failed outcome =
     (now ≡ old) × (failed ≡ false) × AsmLeaves before after was unwritten input.now output.now outcome
 Leaves (options.Dis file) before after was unwritten old now failed outcome =

@@ -17,7 +17,7 @@ use Rattle.pb_command.specs.declared.answer.Verdict.TheVariants.{Accepted, Refus
 use Rattle.pb_command.specs.declared.fault.Fault.{Fault}
 use Rattle.pb_command.specs.declared.fault.Fault.TheVariants as faults
 use Rattle.pb_command.specs.Files.{Text, Held, IsKnownAs, KeepsOthers}
-use Rattle.pb_command.specs.PathFaults.{IsUnreadAt, IsNoTextAt}
+use Rattle.pb_command.specs.PathFaults.{IsUnreadAt, IsNoText}
 
 -- ---- assembling
 
@@ -47,12 +47,6 @@ pub record IsFaultyText (held : Option (List ℕ)) (line code : ℕ) : Type 0 wh
   pub text : List ℕ
   pub text_held : IsKnownAs held text
   pub fault : program_of_text text ≡ Err (line, code)
-
--- the bytes that the path holds are no text
-pub record IsNoText (held : Option (List ℕ)) (path : Text) (f : Fault) : Type 0 where
-  pub bytes : List ℕ
-  pub bytes_held : IsKnownAs held bytes
-  pub no_text : IsNoTextAt path bytes f
 
 -- the file at the path is no program's text, or wasn't read, and this tells it
 abbrev pub IsNoProgramText : Option (List ℕ) → Text → Fault → Type 0

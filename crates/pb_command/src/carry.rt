@@ -1,38 +1,19 @@
 //! A command carried out.
-ghost use Rattle.std.specs.Prelude.{◌≡◌, false, IfOk, IfErr, string_bytes};
+ghost use Rattle.std.specs.Prelude.{◌≡◌, false};
 ghost use Rattle.pb_store.specs.Contents.{nothing};
-ghost use Rattle.pb_command.specs.Files.{IsKnownAs};
-ghost use Rattle.pb_command.specs.Commands.{RunLeaves, IsFileFault, IsToldAs, Commands};
+ghost use Rattle.pb_command.specs.Commands.{RunLeaves, ReplayLeaves, IsToldAs, Commands};
 
 use crate::answer::Verdict;
 use crate::fault::{Fault, tell};
 use crate::paths::Paths;
 use crate::programs::{assemble_file, check_file, list_file};
-use crate::reading::{bytes_at, text_of};
+use crate::reading::{texts_at, three_texts_at};
 use pb_alone::run_texts;
 use pb_base::{Sink, Ts};
+use pb_replay::replay_texts;
 use pb_store::{Table, Tablet};
 use pb_texts::Options;
 use std::alloc::Global;
-
-// The two texts. Both files are read before the first is taken as text.
-fn texts_at<'a, P: Paths>(
-    paths: &mut P,
-    manifest: &'a str,
-    script: &'a str,
-) -> Result<(String, String), Fault<'a>>
-    ensures manifest { IfOk result (λ t. IsKnownAs (P.held paths.old manifest.now) (string_bytes t.0)) }
-    ensures script { IfOk result (λ t. IsKnownAs (P.held paths.old script.now) (string_bytes t.1)) }
-    ensures same { P.held paths.new ≡ P.held paths.old }
-    ensures quiet { P.failed paths.new ≡ P.failed paths.old }
-    ensures fault { IfErr result (IsFileFault (P.held paths.old manifest.now) (P.held paths.old script.now) manifest.now script.now) }
-{
-    let first = bytes_at(paths, manifest)?;
-    let second = bytes_at(paths, script)?;
-    let first = text_of(first, manifest)?;
-    let second = text_of(second, script)?;
-    Ok((first, second))
-}
 
 // Runs two files on the table, and ends it.
 fn run_files<'a, T: Tablet, P: Paths, O: Sink>(
@@ -45,7 +26,7 @@ fn run_files<'a, T: Tablet, P: Paths, O: Sink>(
 ) -> Result<Verdict, Fault<'a>>
     requires empty { table.contents ≡ nothing }
     requires unfailed { O.failed out.old ≡ false }
-    ensures ran { RunLeaves (P.held paths.old manifest.now) (P.held paths.old script.now) manifest.now script.now (O.taken out.old) (O.taken out.new) (O.failed out.new) result }
+    ensures ran { RunLeaves (P.held paths.old) manifest.now script.now (O.taken out.old) (O.taken out.new) (O.failed out.new) result }
     ensures same { P.held paths.new ≡ P.held paths.old }
     ensures quiet { P.failed paths.new ≡ P.failed paths.old }
 {
@@ -54,6 +35,46 @@ fn run_files<'a, T: Tablet, P: Paths, O: Sink>(
             match run_texts(alloc, manifest.as_str(), script.as_str(), table, Ts(0), out) {
                 Ok(()) => Ok(Verdict::Accepted),
                 Err(fault) => Err(Fault::Run(fault)),
+            }
+        }
+        Err(fault) => {
+            table.close();
+            Err(fault)
+        }
+    }
+}
+
+// Replays three files on the table, from this clock, and ends it.
+fn replay_files<'a, T: Tablet, P: Paths, O: Sink>(
+    alloc: Global,
+    manifest: &'a str,
+    script: &'a str,
+    schedule: &'a str,
+    clock: Ts,
+    paths: &mut P,
+    table: Table<T>,
+    out: &mut O,
+) -> Result<Verdict, Fault<'a>>
+    requires empty { table.contents ≡ nothing }
+    requires unfailed { O.failed out.old ≡ false }
+    ensures ran { ReplayLeaves (P.held paths.old) manifest.now script.now schedule.now clock.0 (O.taken out.old) (O.taken out.new) (O.failed out.new) result }
+    ensures same { P.held paths.new ≡ P.held paths.old }
+    ensures quiet { P.failed paths.new ≡ P.failed paths.old }
+{
+    match three_texts_at(paths, manifest, script, schedule) {
+        Ok((manifest, script, schedule)) => {
+            let outcome = replay_texts(
+                alloc,
+                manifest.as_str(),
+                script.as_str(),
+                schedule.as_str(),
+                table,
+                clock,
+                out,
+            );
+            match outcome {
+                Ok(()) => Ok(Verdict::Accepted),
+                Err(fault) => Err(Fault::Replay(fault)),
             }
         }
         Err(fault) => {
@@ -100,6 +121,12 @@ pub fn command<T: Tablet, P: Paths, O: Sink, E: Sink>(
         Options::Run { manifest, script } => {
             run_files(alloc, manifest, script, paths, table, out)
         }
+        Options::Replay {
+            manifest,
+            script,
+            schedule,
+            clock,
+        } => replay_files(alloc, manifest, script, schedule, *clock, paths, table, out),
         Options::Asm { input, output } => {
             table.close();
             assemble_file(alloc, input, output, paths)

@@ -1,7 +1,7 @@
 //! Files as bytes and as text.
-ghost use Rattle.std.specs.Prelude.{◌≡◌, IfOk, IfErr, string_bytes};
+ghost use Rattle.std.specs.Prelude.{◌≡◌, ◌∷◌, [], IfOk, IfErr, string_bytes};
 ghost use Rattle.pb_command.specs.Files.{IsKnownAs};
-ghost use Rattle.pb_command.specs.PathFaults.{IsUnreadAt, IsNoTextAt};
+ghost use Rattle.pb_command.specs.PathFaults.{IsUnreadAt, IsNoTextAt, IsFileFault};
 
 use crate::fault::Fault;
 use crate::paths::{PathFault, Paths};
@@ -30,4 +30,46 @@ pub fn text_of<'a>(bytes: Vec<u8>, path: &'a str) -> Result<String, Fault<'a>>
         Ok(text) => Ok(text),
         Err(_) => Err(Fault::NotText(path)),
     }
+}
+
+/// Two files as text. Both are read before the first is taken as text.
+pub fn texts_at<'a, P: Paths>(
+    paths: &mut P,
+    manifest: &'a str,
+    script: &'a str,
+) -> Result<(String, String), Fault<'a>>
+    ensures manifest { IfOk result (λ t. IsKnownAs (P.held paths.old manifest.now) (string_bytes t.0)) }
+    ensures script { IfOk result (λ t. IsKnownAs (P.held paths.old script.now) (string_bytes t.1)) }
+    ensures same { P.held paths.new ≡ P.held paths.old }
+    ensures quiet { P.failed paths.new ≡ P.failed paths.old }
+    ensures fault { IfErr result (IsFileFault (P.held paths.old) (manifest.now ∷ script.now ∷ [])) }
+{
+    let first = bytes_at(paths, manifest)?;
+    let second = bytes_at(paths, script)?;
+    let first = text_of(first, manifest)?;
+    let second = text_of(second, script)?;
+    Ok((first, second))
+}
+
+/// Three files as text. All are read before the first is taken as text.
+pub fn three_texts_at<'a, P: Paths>(
+    paths: &mut P,
+    manifest: &'a str,
+    script: &'a str,
+    schedule: &'a str,
+) -> Result<(String, String, String), Fault<'a>>
+    ensures manifest { IfOk result (λ t. IsKnownAs (P.held paths.old manifest.now) (string_bytes t.0)) }
+    ensures script { IfOk result (λ t. IsKnownAs (P.held paths.old script.now) (string_bytes t.1)) }
+    ensures schedule { IfOk result (λ t. IsKnownAs (P.held paths.old schedule.now) (string_bytes t.2)) }
+    ensures same { P.held paths.new ≡ P.held paths.old }
+    ensures quiet { P.failed paths.new ≡ P.failed paths.old }
+    ensures fault { IfErr result (IsFileFault (P.held paths.old) (manifest.now ∷ script.now ∷ schedule.now ∷ [])) }
+{
+    let manifest_bytes = bytes_at(paths, manifest)?;
+    let script_bytes = bytes_at(paths, script)?;
+    let schedule_bytes = bytes_at(paths, schedule)?;
+    let manifest_text = text_of(manifest_bytes, manifest)?;
+    let script_text = text_of(script_bytes, script)?;
+    let schedule_text = text_of(schedule_bytes, schedule)?;
+    Ok((manifest_text, script_text, schedule_text))
 }

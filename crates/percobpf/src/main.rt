@@ -1,6 +1,6 @@
 //! The program: `run MANIFEST SCRIPT` runs a script's changes, and prints the committed cells and the work that is left;
-//! `asm IN OUT` writes the bytes of a program's text, `dis FILE` lists a program's bytes, and `check FILE` tells whether
-//! they are accepted.
+//! `replay MANIFEST SCRIPT SCHEDULE` does the same for a schedule's events; `asm IN OUT` writes the bytes of a program's
+//! text, `dis FILE` lists a program's bytes, and `check FILE` tells whether they are accepted.
 #![tactic(auto)]
 
 mod files;

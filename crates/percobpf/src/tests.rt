@@ -11,8 +11,10 @@ use std::process::Abort;
 use std::rt::HostRuntime;
 
 mod checks;
+mod crashes;
 mod passes;
 mod programs;
+mod replays;
 mod whole_changes;
 
 type Boxed = Box<dyn Tablet + Send + Drop>;
