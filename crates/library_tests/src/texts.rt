@@ -243,30 +243,72 @@ fn status(rt: &HostRuntime, words: &[&str]) -> i32 {
     }
 }
 
-// The subcommand that a command line asks for, and its operands.
+// The subcommand that a command line asks for, its operands and its clock.
 fn asked<'a>(
     rt: &impl Abort,
     alloc: Global,
     words: &'a [&'a str],
-) -> (&'static str, &'a str, &'a str) {
+) -> (&'static str, [&'a str; 3], u64) {
     match options(alloc, words).expect(rt, "options") {
-        Options::Run { manifest, script } => ("run", manifest, script),
-        Options::Asm { input, output } => ("asm", input, output),
-        Options::Dis { file } => ("dis", file, ""),
-        Options::Check { file } => ("check", file, ""),
+        Options::Run { manifest, script } => ("run", [manifest, script, ""], 0),
+        Options::Replay {
+            manifest,
+            script,
+            schedule,
+            clock,
+        } => ("replay", [manifest, script, schedule], clock.0),
+        Options::Asm { input, output } => ("asm", [input, output, ""], 0),
+        Options::Dis { file } => ("dis", [file, "", ""], 0),
+        Options::Check { file } => ("check", [file, "", ""], 0),
     }
 }
 
 #[test]
 fn subcommands(rt: HostRuntime) {
     let run = ["percobpf", "run", "m.json", "s.txt"];
-    assert!(rt; asked(&rt, rt.alloc(), &run) == ("run", "m.json", "s.txt"));
+    assert!(rt; asked(&rt, rt.alloc(), &run) == ("run", ["m.json", "s.txt", ""], 0));
     let asm = ["percobpf", "asm", "p.s", "p.bin"];
-    assert!(rt; asked(&rt, rt.alloc(), &asm) == ("asm", "p.s", "p.bin"));
+    assert!(rt; asked(&rt, rt.alloc(), &asm) == ("asm", ["p.s", "p.bin", ""], 0));
     let dis = ["percobpf", "dis", "p.bin"];
-    assert!(rt; asked(&rt, rt.alloc(), &dis) == ("dis", "p.bin", ""));
+    assert!(rt; asked(&rt, rt.alloc(), &dis) == ("dis", ["p.bin", "", ""], 0));
     let check = ["percobpf", "check", "p.bin"];
-    assert!(rt; asked(&rt, rt.alloc(), &check) == ("check", "p.bin", ""));
+    assert!(rt; asked(&rt, rt.alloc(), &check) == ("check", ["p.bin", "", ""], 0));
+}
+
+// The option may stand before, between and behind the operands.
+#[test]
+fn clocks(rt: HostRuntime) {
+    let table: [([&str; 7], u64); 4] = [
+        (
+            ["p", "replay", "m", "s", "e", "--clock", "18446744073709551614"],
+            18446744073709551614,
+        ),
+        (
+            ["p", "replay", "--clock", "18446744073709551615", "m", "s", "e"],
+            18446744073709551615,
+        ),
+        (["p", "replay", "m", "s", "--clock", "+7", "e"], 7),
+        (["p", "replay", "m", "--clock", "0", "s", "e"], 0),
+    ];
+    for (words, clock) in table {
+        assert!(rt; asked(&rt, rt.alloc(), &words) == ("replay", ["m", "s", "e"], clock));
+    }
+    let bare = ["p", "replay", "m", "s", "e"];
+    assert!(rt; asked(&rt, rt.alloc(), &bare) == ("replay", ["m", "s", "e"], 0));
+    let joined = ["p", "replay", "--clock=5", "m", "s", "e"];
+    assert!(rt; asked(&rt, rt.alloc(), &joined) == ("replay", ["m", "s", "e"], 5));
+}
+
+#[test]
+fn other_clocks(rt: HostRuntime) {
+    for clock in ["18446744073709551616", "x", "", "-1", "1.0", " 1"] {
+        let words = ["p", "replay", "m", "s", "e", "--clock", clock];
+        assert!(rt; status(&rt, &words) == 2, "{clock}");
+    }
+    assert!(rt; status(&rt, &["p", "replay", "m", "s", "e", "--clock"]) == 2);
+    assert!(rt; status(&rt, &["p", "run", "m", "s", "--clock", "1"]) == 2);
+    let twice = ["p", "replay", "m", "s", "e", "--clock", "1", "--clock", "1"];
+    assert!(rt; status(&rt, &twice) == 2);
 }
 
 #[test]
@@ -277,6 +319,9 @@ fn command_lines(rt: HostRuntime) {
     assert!(rt; status(&rt, &["percobpf", "run", "m.json", "s.txt", "x"]) == 2);
     assert!(rt; status(&rt, &["percobpf", "--help"]) == 0);
     assert!(rt; status(&rt, &["percobpf", "run", "--help"]) == 0);
+    assert!(rt; status(&rt, &["percobpf", "replay", "m", "s"]) == 2);
+    assert!(rt; status(&rt, &["percobpf", "replay", "m", "s", "e", "x"]) == 2);
+    assert!(rt; status(&rt, &["percobpf", "replay", "--help"]) == 0);
     assert!(rt; status(&rt, &["percobpf", "asm", "in"]) == 2);
     assert!(rt; status(&rt, &["percobpf", "asm", "in", "out", "x"]) == 2);
     assert!(rt; status(&rt, &["percobpf", "asm", "--help"]) == 0);

@@ -117,7 +117,8 @@ fn runs(
     held && job.needs() == Need::Over(JobEnd::Ran(0))
 }
 
-fn program(alloc: Global) -> Result<Arc<Accepted>, NoMemory> {
+/// A program that asks for a cell of its row, and deletes one.
+pub fn program(alloc: Global) -> Result<Arc<Accepted>, NoMemory> {
     match accept(alloc, ASK_AND_DELETE, HelperTable::all()) {
         Ok(program) => Ok(Arc::new(alloc, program)?),
         Err(_) => Err(NoMemory),

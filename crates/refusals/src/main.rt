@@ -13,6 +13,7 @@ mod page;
 mod programs;
 mod runs;
 mod tablets;
+mod worlds;
 
 use pb_base::NoMemory;
 use std::env;
@@ -35,7 +36,8 @@ fn all(rt: &HostRuntime) -> Result<bool, NoMemory> {
         && observers::manifests_are_read(alloc)?
         && observers::schedules_are_read(alloc)?
         && observers::machines_start(alloc)?
-        && observers::runs_are_declared(alloc)?;
+        && observers::runs_are_declared(alloc)?
+        && worlds::worlds_run(alloc)?;
     let programs = programs::programs_are_made(alloc)?
         && programs::bytes_are_decoded(alloc)?
         && programs::programs_are_encoded(alloc)?
