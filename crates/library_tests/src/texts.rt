@@ -1,7 +1,8 @@
 ghost use Rattle.std.specs.Prelude.{◌≤◌, length};
 
 use pb_base::{Cell, Column, Content, ObserverNo, Out, Row, Sink, Ts};
-use pb_texts::{Options, Put, Tally, options, parse_script, report_of, write_all};
+use pb_script::{Put, Tally, parse_script, report_of};
+use pb_texts::{Options, options, write_all};
 use std::alloc::Global;
 use std::process::Abort;
 use std::rt::HostRuntime;
@@ -280,11 +281,27 @@ fn subcommands(rt: HostRuntime) {
 fn clocks(rt: HostRuntime) {
     let table: [([&str; 7], u64); 4] = [
         (
-            ["p", "replay", "m", "s", "e", "--clock", "18446744073709551614"],
+            [
+                "p",
+                "replay",
+                "m",
+                "s",
+                "e",
+                "--clock",
+                "18446744073709551614",
+            ],
             18446744073709551614,
         ),
         (
-            ["p", "replay", "--clock", "18446744073709551615", "m", "s", "e"],
+            [
+                "p",
+                "replay",
+                "--clock",
+                "18446744073709551615",
+                "m",
+                "s",
+                "e",
+            ],
             18446744073709551615,
         ),
         (["p", "replay", "m", "s", "--clock", "+7", "e"], 7),

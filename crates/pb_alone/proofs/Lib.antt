@@ -12,8 +12,6 @@ pub mod RunAlong
 pub mod PassAlong
 pub mod Scriptless
 pub mod Blocks
-pub mod Gathering
-pub mod Told
 pub mod Seated
 pub mod Whole
 pub mod OnTexts

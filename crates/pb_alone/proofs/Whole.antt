@@ -19,9 +19,9 @@ use Rattle.pb_history.specs.declared.entry.Received.{Received}
 use Rattle.pb_history.specs.Journals.{IsLegal}
 use Rattle.pb_history.specs.History.{Has, IsEntry, Member, InHistory, IsCommitted, TellsHistory}
 use Rattle.pb_core.specs.Calls.{SharedOf}
-use Rattle.pb_texts.specs.ScriptLines.{script_of}
-use Rattle.pb_alone.specs.declared.fault.ReportFault.{ReportFault}
-use Rattle.pb_alone.specs.declared.fault.ReportFault.TheVariants as ends
+use Rattle.pb_script.specs.ScriptLines.{script_of}
+use Rattle.pb_script.specs.declared.fault.ReportFault.{ReportFault}
+use Rattle.pb_script.specs.declared.fault.ReportFault.TheVariants as ends
 use Rattle.pb_alone.specs.declared.fault.RunFault.{RunFault}
 use Rattle.pb_alone.specs.declared.fault.RunFault.TheVariants as faults
 use Rattle.pb_base.specs.declared.names.Ts.{Ts}
@@ -29,7 +29,8 @@ use Rattle.pb_notify.specs.Allowed.{entries_by}
 use Rattle.pb_alone.specs.Alone.{IsClean, ts, entry, change_entries, changes_from}
 use Rattle.pb_alone.specs.Faults.{of_report}
 use Rattle.pb_alone.specs.Stops.{IfRefused, WorkStopped}
-use Rattle.pb_alone.specs.Runs.{Works, Made, Reports, Runs}
+use Rattle.pb_script.specs.TableReports.{Reports}
+use Rattle.pb_alone.specs.Runs.{Works, Made, Runs}
 use Rattle.pb_alone.proofs.Blocks.{has_left, has_which, which_block, begin_is, history}
 use Rattle.pb_alone.proofs.Scriptless.{of_drain}
 

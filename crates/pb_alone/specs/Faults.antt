@@ -7,8 +7,8 @@ use Rattle.pb_base.specs.Reasons.{reason_code}
 use Rattle.pb_core.specs.Calls.{SharedOf, call_reason}
 use Rattle.pb_alone.specs.declared.fault.RunFault.{RunFault}
 use Rattle.pb_alone.specs.declared.fault.RunFault.TheVariants as faults
-use Rattle.pb_alone.specs.declared.fault.ReportFault.{ReportFault}
-use Rattle.pb_alone.specs.declared.fault.ReportFault.TheVariants as ends
+use Rattle.pb_script.specs.declared.fault.ReportFault.{ReportFault}
+use Rattle.pb_script.specs.declared.fault.ReportFault.TheVariants as ends
 
 -- a step was refused by this number; or by memory, and then no other reason applies
 abbrev pub IsRefusedBy : SharedOf → ℕ → Step → RunFault → Type 0

@@ -2,8 +2,5 @@ pub mod Alone
 pub mod Faults
 pub mod Passes
 pub mod Stops
-pub mod Committed
-pub mod Puts
-pub mod Tallies
 pub mod Runs
 pub mod TextRuns

@@ -1,12 +1,11 @@
 //! Why a run ended early.
 ghost use Rattle.std.specs.Prelude.{◌≡◌};
 ghost use Rattle.pb_alone.specs.declared.fault.RunFault.TheVariants as faults;
-ghost use Rattle.pb_alone.specs.declared.fault.ReportFault.TheVariants as ends;
 ghost use Rattle.pb_alone.specs.Faults.{of_report};
 
 use pb_base::NoMemory;
 use pb_registry::RegistryFault;
-use pb_texts::ScriptFault;
+use pb_script::{ReportFault, ScriptFault};
 use std::alloc::AllocFailed;
 use thiserror::Error;
 
@@ -28,25 +27,6 @@ pub enum RunFault {
     /// A growth was refused.
     #[error("no memory")]
     NoMemory,
-}
-
-/// Why a report ended before it was whole.
-#[derive(Clone, Copy, Debug, PartialEq, Eq, Drop, Error)]
-pub enum ReportFault {
-    /// A write failed, or took no byte.
-    #[error("cannot write the output")]
-    Output,
-    /// A growth was refused. Nothing was written.
-    #[error("no memory")]
-    NoMemory,
-}
-
-impl From<NoMemory> for ReportFault {
-    ghost from_gives = { λ _ e. e ≡ ends.NoMemory };
-
-    fn from(_e: NoMemory) -> ReportFault {
-        ReportFault::NoMemory
-    }
 }
 
 impl From<ReportFault> for RunFault {

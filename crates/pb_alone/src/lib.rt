@@ -4,15 +4,12 @@
 mod change;
 mod fault;
 mod job;
-mod output;
 mod passes;
 mod run;
-mod tallies;
 mod texts;
 
 pub use change::change_all;
-pub use fault::{ReportFault, RunFault};
-pub use output::report;
+pub use fault::RunFault;
 pub use passes::MAX_PASSES;
 pub use run::run_alone;
 pub use texts::run_texts;

@@ -1,19 +1,18 @@
 //! A whole script, from its text to the report.
 ghost use Rattle.std.specs.Prelude.{◌≡◌, ◌<◌, [], false, Ok, IfOk, IfErr, OnOk};
 ghost use Rattle.pb_core.specs.Calls.{AreSeats};
-ghost use Rattle.pb_texts.specs.ScriptLines.{script_of};
+ghost use Rattle.pb_script.specs.ScriptLines.{script_of};
 ghost use Rattle.pb_alone.specs.Runs.{IsUnread, Works, Runs, KeepsSeats};
 ghost use Rattle.pb_alone.specs.Alone.{IsClean, Goes};
 ghost use Rattle.pb_alone.specs.Stops.{IfRefused, WorkStopped};
 
 use crate::change::change_all;
 use crate::fault::RunFault;
-use crate::output::report;
 use crate::passes::drain;
 use pb_base::{Batch, Reason, Sink};
 use pb_core::{Seat, Shared};
+use pb_script::{parse_script, report};
 use pb_store::Tablet;
-use pb_texts::parse_script;
 use std::alloc::Global;
 
 // The script's batches, its fault as one of the run.

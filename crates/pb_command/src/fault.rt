@@ -8,7 +8,8 @@ use pb_asm::AsmFault;
 use pb_base::{NoMemory, Sink};
 use pb_replay::ReplayFault;
 use pb_script::ScheduleFault;
-use pb_texts::{ScriptFault, write_all};
+use pb_script::ScriptFault;
+use pb_texts::write_all;
 use pb_world::WorldFault;
 use std::alloc::{AllocError, Global};
 

@@ -8,9 +8,9 @@ use Rattle.pb_script.specs.declared.event.Event.{Event}
 use Rattle.pb_world.specs.declared.fault.WorldFault.{WorldFault}
 use Rattle.pb_world.specs.declared.note.Note.{Note}
 use Rattle.pb_world.specs.Events.{WorldOf, RunsTo, StopsAt}
-use Rattle.pb_alone.specs.declared.fault.ReportFault.{ReportFault}
-use Rattle.pb_alone.specs.declared.fault.ReportFault.TheVariants as ends
-use Rattle.pb_alone.specs.Runs.{Reports}
+use Rattle.pb_script.specs.declared.fault.ReportFault.{ReportFault}
+use Rattle.pb_script.specs.declared.fault.ReportFault.TheVariants as ends
+use Rattle.pb_script.specs.TableReports.{Reports}
 use Rattle.pb_replay.specs.declared.fault.ReplayFault.TheVariants as faults
 use Rattle.pb_replay.specs.Replays.{of_report, of_event, Ends}
 

@@ -2,10 +2,8 @@
 ghost use Rattle.std.specs.Prelude.{◌≡◌};
 ghost use Rattle.pb_replay.specs.Replays.{of_report};
 
-use pb_alone::ReportFault;
 use pb_registry::RegistryFault;
-use pb_script::ScheduleFault;
-use pb_texts::ScriptFault;
+use pb_script::{ReportFault, ScheduleFault, ScriptFault};
 use pb_world::WorldFault;
 
 /// Why a replay ended before its report was written.

@@ -8,10 +8,9 @@ ghost use Rattle.pb_replay.specs.Replays.{Replays, Ends, IsReadAs, IsUnread, Rep
 
 use crate::fault::ReplayFault;
 use crate::texts::{changes_in, events_in, observers_in};
-use pb_alone::report;
 use pb_base::{Batch, MAX_ENTRIES, MAX_SEATS, Reason, Sink, Ts};
 use pb_core::{Observer, OpenRefused, Seat, Shared};
-use pb_script::Event;
+use pb_script::{Event, report};
 use pb_store::{Table, Tablet};
 use pb_world::{World, WorldFault};
 use std::alloc::Global;

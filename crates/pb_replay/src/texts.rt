@@ -2,7 +2,7 @@
 ghost use Rattle.std.specs.Prelude.{◌≡◌, ◌≤◌, length, Ok, IfOk, IfErr};
 ghost use Rattle.pb_base.specs.declared.limits.TheConstants.{MAX_OBSERVERS};
 ghost use Rattle.pb_registry.specs.Judging.{ReadsManifest};
-ghost use Rattle.pb_texts.specs.ScriptLines.{script_of};
+ghost use Rattle.pb_script.specs.ScriptLines.{script_of};
 ghost use Rattle.pb_script.specs.Schedules.{schedule_of};
 ghost use Rattle.pb_replay.specs.Replays.{IsBadManifest, IsBadScript, IsBadSchedule};
 
@@ -10,8 +10,7 @@ use crate::fault::ReplayFault;
 use pb_base::{Batch, Reason};
 use pb_core::Observer;
 use pb_registry::Registry;
-use pb_script::{Event, parse_schedule};
-use pb_texts::parse_script;
+use pb_script::{Event, parse_schedule, parse_script};
 use std::alloc::Global;
 
 /// The manifest's observers.

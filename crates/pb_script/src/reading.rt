@@ -35,8 +35,8 @@ fn all_digits(digits: &[u8]) -> bool
     digits.iter().all(|b| b.is_ascii_digit())
 }
 
-// Digits without a leading zero.
-fn is_numeral(word: &str) -> bool
+/// Whether a word is decimal digits without a leading zero.
+pub fn is_numeral(word: &str) -> bool
     ensures { result ≡ is_numeral word.now }
 {
     let digits = word.as_bytes();

@@ -1,10 +1,2 @@
-pub mod Codes
-pub mod FirstFault
-pub mod ScriptWords
-pub mod ScriptLines
-pub mod Operations
-pub mod Scripts
 pub mod Sinks
-pub mod ReportLines
-pub mod Reports
 pub mod CommandLines

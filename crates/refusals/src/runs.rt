@@ -6,7 +6,7 @@ use crate::page::Page;
 use pb_alone::{RunFault, run_alone};
 use pb_base::{NoMemory, Ts};
 use pb_core::{OpenRefused, Shared};
-use pb_texts::parse_script;
+use pb_script::parse_script;
 use std::alloc::Global;
 
 const SCRIPT: &str = "put 7 0 2a\ndel 7 1\n";

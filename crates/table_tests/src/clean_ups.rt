@@ -3,9 +3,9 @@ ghost use Rattle.std.specs.Prelude.{◌≡◌, ◌≤◌, length};
 
 use crate::sheet::Sheet;
 use crate::tables::{cell, deletes, opened};
-use pb_alone::report;
 use pb_base::{Content, NoMemory, Ts};
 use pb_core::{Answer, Observer, Seat, Shared, Step, Work};
+use pb_script::report;
 use pb_store::Tablet;
 use std::alloc::Global;
 use std::process::Abort;

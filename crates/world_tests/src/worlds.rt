@@ -8,9 +8,8 @@ use pb_base::{Batch, NoMemory, Row, Ts};
 use pb_core::{Observer, OpenRefused, Seat, Shared};
 use pb_memtablet::ListTablet;
 use pb_registry::Registry;
-use pb_script::{Event, parse_schedule};
+use pb_script::{Event, parse_schedule, parse_script};
 use pb_store::Table;
-use pb_texts::parse_script;
 use pb_world::{Note, World};
 use std::alloc::Global;
 

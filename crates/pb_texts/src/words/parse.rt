@@ -1,7 +1,7 @@
 //! A command line, read with `clap`.
 ghost use Rattle.std.specs.Prelude.{◌≡◌, ℕ, List, true, IfOk, Some, [], false, option_map, codes};
 ghost use Rattle.clap.specs.Words.{FailsBy, app_of, fault_of, first_of, found_of, one_of, rows_of, rule_of, subcommand_of, subcommand_rows_of};
-ghost use Rattle.pb_texts.specs.ScriptWords.{plain};
+ghost use Rattle.pb_base.specs.Reading.{texts_of};
 ghost use Rattle.pb_texts.specs.CommandLines.{required_rule, run_app, clock_rule, replay_app, asm_app, dis_app, check_app, texts_app, program_app, run_in, clock_of, replay_in, asm_in, dis_in, check_in, command_in, command_of, request_of, is_plain_word, is_clock, clock_number, run_words, replay_words, clock_words, asm_words, dis_words, check_words, Run, Replay, Asm, Dis, Check, AskFor, HaveBadValue};
 ghost use Rattle.clap.specs.declared.builder.command.Command.TheViews.{out-Command as fields_of};
 
@@ -126,8 +126,8 @@ fn program<'a>(alloc: Global) -> Result<Command<'a>, AllocError>
 }
 
 fn matches_of<'a>(alloc: Global, words: &'a [&'a str]) -> Result<ArgMatches<'a>, Error>
-    ensures kinds { FailsBy (fault_of program_app (plain words.now)) result }
-    ensures subcommand { IfOk result (λ m. subcommand_rows_of m ≡ subcommand_of program_app (plain words.now)) }
+    ensures kinds { FailsBy (fault_of program_app (texts_of words.now)) result }
+    ensures subcommand { IfOk result (λ m. subcommand_rows_of m ≡ subcommand_of program_app (texts_of words.now)) }
 {
     let command = program(alloc)?;
     command.try_get_matches_from(words)
@@ -218,8 +218,8 @@ fn command_in<'a>(matches: &ArgMatches<'a>) -> Option<Options<'a>>
 /// What the words of a command line ask for, the program's own first. The error of another command line has the text
 /// and the status to end with; where help is asked for, the help with status 0.
 pub fn options<'a>(alloc: Global, words: &'a [&'a str]) -> Result<Options<'a>, Error>
-    ensures kinds { FailsBy (fault_of program_app (plain words.now)) result }
-    ensures read { IfOk result (λ o. command_of (plain words.now) ≡ Some (request_of o)) }
+    ensures kinds { FailsBy (fault_of program_app (texts_of words.now)) result }
+    ensures read { IfOk result (λ o. command_of (texts_of words.now) ≡ Some (request_of o)) }
 {
     let matches = matches_of(alloc, words)?;
     match command_in(&matches) {

@@ -1,5 +1,5 @@
 use Rattle.std.proofs.Common.{Ok, Err, subst}
-use Rattle.pb_alone.specs.Runs.{Reports}
+use Rattle.pb_script.specs.TableReports.{Reports}
 use Rattle.pb_replay.proofs.Endings.{reported, cut, stopped}
 use Rattle.pb_replay.proofs.replay.run.Goals as goal
 

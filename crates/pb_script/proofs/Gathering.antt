@@ -1,0 +1,213 @@
+-- Committed writes, gathered along the journal.
+use Rattle.std.proofs.Common.{◌≡◌, ℕ, ◌+◌, ◌<◌, ◌⊎◌, inl, inr, Bool, true, false, cond, ◌&&◌, zero, suc, List, [], ◌∷◌, ◌++◌, length, get_or, take, map, Option, Some, None, slice_get, refl, sym, ap, subst, ◌∙◌, append_assoc, arith, add-one}
+use Rattle.std.specs.Prelude.{Contains, is_none, option_map}
+use Rattle.std.specs.List.{flat_map}
+use Rattle.std.specs.Ordering.{eq_by_cmp, is_eq}
+use Rattle.std.specs.Cmp.{Equal-is, tied_itself}
+use Rattle.std.specs.FinMap as finmap
+use Rattle.std.proofs.lemmas.List.{append-nil, map-append}
+use Rattle.pb_base.specs.declared.names.Ts.{Ts}
+use Rattle.pb_base.specs.declared.cell.Cell.{Cell}
+use Rattle.pb_base.specs.declared.content.Content.{Content}
+use Rattle.pb_base.specs.Cell.{cell_cmp, cell_cmp_total, cell_cmp-IsAntisymmetric}
+use Rattle.pb_base.specs.Batch.{Writes, content_in, are_distinct}
+use Rattle.pb_steps.specs.declared.step.Declared.{Declared}
+use Rattle.pb_steps.specs.declared.step.Step.{Step}
+use Rattle.pb_steps.specs.declared.step.Step.TheVariants as steps
+use Rattle.pb_steps.specs.declared.step.Answer.{Answer}
+use Rattle.pb_steps.specs.declared.step.Answer.TheVariants as answers
+use Rattle.pb_steps.specs.declared.phase.Phase.{Phase}
+use Rattle.pb_steps.specs.declared.phase.Phase.TheVariants as phases
+use Rattle.pb_steps.specs.State.{StateOf, TransactionOf, phase_in, cells_of}
+use Rattle.pb_steps.specs.Observers.{ObserverOf, acknowledgment}
+use Rattle.pb_base.specs.declared.names.Row.{Row}
+use Rattle.pb_base.specs.declared.cell.Cell.TheVariants.{Data, Ack}
+use Rattle.pb_steps.specs.declared.step.Work.{Work}
+use Rattle.pb_steps.specs.declared.step.Work.TheVariants as works
+use Rattle.pb_steps.specs.declared.step.Declared.TheVariants as declared
+use Rattle.pb_history.specs.declared.entry.Entry.{Entry}
+use Rattle.pb_history.specs.History.{Has, Member, TellsHistory}
+use Rattle.pb_script.specs.declared.reports.newest.Put.{Put}
+use Rattle.pb_script.specs.Committed.{IsWrite, Gathers}
+use Rattle.pb_script.specs.Puts.{put_by, if_committed, written_in, writes_by, puts_by, all_puts}
+
+one_more : {A : Type 0} (xs : List A) (i : ℕ) (x : A) → slice_get xs i ≡ Some x → take (suc i) xs ≡ take i xs ++ x ∷ []
+one_more [] zero x e = cc
+one_more [] (suc i) x e = cc
+one_more (y ∷ xs) zero x e = let h : y ≡ x = cc in ap (λ z. z ∷ []) h
+one_more (y ∷ xs) (suc i) x e = ap (λ l. y ∷ l) (one_more xs i x e)
+
+pub goes_on : {A B : Type 0} (f : A → B) (xs : List A) (i : ℕ) (x : A) (old now : List B) → slice_get xs i ≡ Some x → now ≡ old ++ map f (take i xs) → now ++ f x ∷ [] ≡ old ++ map f (take (i + 1) xs)
+goes_on f xs i x old now e h =
+    ap (λ l. l ++ f x ∷ []) h
+    ∙ append_assoc old (map f (take i xs)) (f x ∷ [])
+    ∙ ap (λ l. old ++ l) (sym (map-append f (take i xs) (x ∷ [])) ∙ ap (map f) (sym (rw add-one (one_more xs i x e))))
+
+-- ---- one entry more
+
+all_one_more : {A B : Type 0} (f : A → List B) (xs : List A) (y : A) → flat_map f (xs ++ y ∷ []) ≡ flat_map f xs ++ f y
+all_one_more f [] y = append-nil (f y)
+all_one_more f (x ∷ xs) y = ap (λ l. f x ++ l) (all_one_more f xs y) ∙ sym (append_assoc (f x) (flat_map f xs) (f y))
+
+pub gathers_on : {A B : Type 0} (f : A → List B) (xs : List A) (y : A) (now new : List B) → now ≡ flat_map f xs → new ≡ now ++ f y → new ≡ flat_map f (xs ++ y ∷ [])
+gathers_on f xs y now new h e = e ∙ ap (λ l. l ++ f y) h ∙ sym (all_one_more f xs y)
+
+-- ---- membership
+
+has_left : {A : Type 0} (xs ys : List A) (z : A) → Has xs z → Has (xs ++ ys) z
+has_left [] ys z h = absurd h
+has_left (x ∷ xs) ys z (inl e) = inl e
+has_left (x ∷ xs) ys z (inr h) = inr (has_left xs ys z h)
+
+has_right : {A : Type 0} (xs ys : List A) (z : A) → Has ys z → Has (xs ++ ys) z
+has_right [] ys z h = h
+has_right (x ∷ xs) ys z h = inr (has_right xs ys z h)
+
+has_which : {A : Type 0} (xs ys : List A) (z : A) → Has (xs ++ ys) z → Has xs z ⊎ Has ys z
+has_which [] ys z h = inr h
+has_which (x ∷ xs) ys z (inl e) = inl (inl e)
+has_which (x ∷ xs) ys z (inr h) = elim (has_which xs ys z h) [ inl k ↦ inl (inr k) | inr k ↦ inr k ]
+
+in_block : {A B : Type 0} (f : A → List B) (xs : List A) (x : A) (y : B) → Has xs x → Has (f x) y → Has (flat_map f xs) y
+in_block f [] x y h k = absurd h
+in_block f (z ∷ xs) x y (inl e) k = has_left (f z) (flat_map f xs) y (subst (λ w. Has (f w) y) (sym e) k)
+in_block f (z ∷ xs) x y (inr h) k = has_right (f z) (flat_map f xs) y (in_block f xs x y h k)
+
+has_contains : {A : Type 0} (xs : List A) (x : A) → Has xs x → Contains xs x
+has_contains [] x h = absurd h
+has_contains (y ∷ xs) x (inl e) = (zero, omega arith, e)
+has_contains (y ∷ xs) x (inr h) = let c = has_contains xs x h in (suc c.0, (let lt = c.1 in omega arith), c.2)
+
+has_at : {A : Type 0} (xs : List A) (k : ℕ) (x : A) → k < length xs → get_or xs k x ≡ x → Has xs x
+has_at [] k x lt e = absurd (omega arith)
+has_at (y ∷ xs) zero x lt e = inl e
+has_at (y ∷ xs) (suc k) x lt e = inr (has_at xs k x (omega arith) e)
+
+contains_has : {A : Type 0} (xs : List A) (x : A) → Contains xs x → Has xs x
+contains_has xs x c = has_at xs c.0 x c.1 c.2
+
+has_map : {A B : Type 0} (f : A → B) (xs : List A) (x : A) → Has xs x → Has (map f xs) (f x)
+has_map f [] x h = absurd h
+has_map f (y ∷ xs) x (inl e) = inl (ap f e)
+has_map f (y ∷ xs) x (inr h) = inr (has_map f xs x h)
+
+map_has : {A B : Type 0} (f : A → B) (xs : List A) (y : B) → Has (map f xs) y → (x : A) × Has xs x × (f x ≡ y)
+map_has f [] y h = absurd h
+map_has f (x ∷ xs) y (inl e) = (x, inl refl, e)
+map_has f (x ∷ xs) y (inr h) = let p = map_has f xs y h in (p.0, inr p.1, p.2)
+
+-- ---- what a list of writes has
+
+both : (a b : Bool) → (a && b) ≡ true → (a ≡ true) × (b ≡ true)
+both true b e = (refl, e)
+both false b e = cc
+
+cell_is : (x y : Cell) → eq_by_cmp cell_cmp x y ≡ true → x ≡ y
+cell_is x y e = cell_cmp-IsAntisymmetric x y ((Equal-is (cell_cmp x y)).0 e)
+
+found_or : (b : Bool) (k : Content) (rest : Option Content) (c : Content) → cond b (Some k) rest ≡ Some c → ((b ≡ true) × (k ≡ c)) ⊎ (rest ≡ Some c)
+found_or true k rest c e = inl (refl, cc)
+found_or false k rest c e = inr e
+
+pub content_has : (ws : Writes) (x : Cell) (c : Content) → content_in ws x ≡ Some c → Has ws (x, c)
+content_has [] x c e = cc
+content_has (w ∷ ws) x c e = elim (found_or (eq_by_cmp cell_cmp x w.0) w.1 (content_in ws x) c e) [
+  | inl p ↦ inl (let q = cell_is x w.0 p.0 in λ i. (sym q i, p.1 i))
+  | inr h ↦ inr (content_has ws x c h)
+]
+
+none_is : (o : Option Content) → is_none o ≡ true → o ≡ None
+none_is None e = refl
+none_is (Some x) e = cc
+
+-- where no cell is named twice, each write is what its cell gets
+pub distinct_content : (ws : Writes) → are_distinct ws ≡ true → (w : Cell × Content) → Has ws w → content_in ws w.0 ≡ Some w.1
+distinct_content [] d w h = absurd h
+distinct_content (v ∷ ws) d w (inl e) =
+    ap (λ (p : Cell × Content). cond (eq_by_cmp cell_cmp p.0 v.0) (Some v.1) (content_in ws p.0)) (sym e)
+    ∙ ap (λ b. cond b (Some v.1) (content_in ws v.0)) (ap is_eq (tied_itself cell_cmp_total v.0))
+    ∙ ap (λ (p : Cell × Content). Some p.1) e
+distinct_content (v ∷ ws) d w (inr h) =
+    let p = both (is_none (content_in ws v.0)) (are_distinct ws) d in
+    let rest = distinct_content ws p.1 w h in
+    let first = none_is (content_in ws v.0) p.0 in
+    elim (eq_by_cmp cell_cmp w.0 v.0) as (λ b. eq_by_cmp cell_cmp w.0 v.0 ≡ b → cond b (Some v.1) (content_in ws w.0) ≡ Some w.1) [
+      | true ↦ λ e. let q : content_in ws w.0 ≡ None = ap (content_in ws) (cell_is w.0 v.0 e) ∙ first in absurd cc
+      | false ↦ λ e. rest
+    ] refl
+
+-- ---- committed writes
+
+phase_there : (state : StateOf) (start : ℕ) (t : TransactionOf) (c : Ts) → finmap.get state.transactions start ≡ Some t → phase_in state start ≡ Some (phases.Committed c) → t.phase ≡ phases.Committed c
+phase_there state start t c there p = let q : Some t.phase ≡ Some (phases.Committed c) = ap (option_map (λ (u : TransactionOf). u.phase)) (sym there) ∙ p in cc
+
+-- a write to a data cell is no acknowledgment
+in_written : (observers : List ObserverOf) (work : Work) (s : ℕ) (what : Declared) (row : Row) (column : ℕ) (k : Content) → Has (cells_of observers work s what) (Data row column, k) → Has (written_in what) (Data row column, k)
+in_written observers work s (declared.Script batch) row column k h = h
+in_written observers works.Script s (declared.Run o f) row column k h = h
+in_written observers (works.Run p r) s (declared.Run o f) row column k (inl e) =
+    let cells : acknowledgment observers p r ≡ Data row column = ap (λ (w : Cell × Content). w.0) e in
+    absurd (apart p r _ row column cells)
+  where
+    apart : (p : ℕ) (r : Row) (n : ℕ) (row : Row) (column : ℕ) → Ack p r n ≡ Data row column → ⊥
+    apart p r n row column e = cc
+in_written observers (works.Run p r) s (declared.Run o f) row column k (inr h) = h
+
+-- and each is what its cell gets
+in_cells : (observers : List ObserverOf) (work : Work) (s : ℕ) (what : Declared) → are_distinct (cells_of observers work s what) ≡ true → (w : Cell × Content) → Has (written_in what) w → content_in (cells_of observers work s what) w.0 ≡ Some w.1
+in_cells observers work s (declared.Script batch) d w h = distinct_content batch d w h
+in_cells observers works.Script s (declared.Run o f) d w h = distinct_content f.writes d w h
+in_cells observers (works.Run p r) s (declared.Run o f) d w h = distinct_content (cells_of observers (works.Run p r) s (declared.Run o f)) d w (inr h)
+
+module _ (journal : List Entry) (state : StateOf) (tells : TellsHistory journal state) where
+  write_of : (seat : ℕ) (start : Ts) (what : Declared) (c : Ts) (w : Cell × Content) → Has journal (record { seat = seat; step = steps.Declare start what; answer = answers.Done }) → phase_in state start.0 ≡ Some (phases.Committed c)
+      → Has (written_in what) w → IsWrite state.observers journal w.0 c.0 w.1
+  write_of seat start what c w entry phase has =
+      let d = tells.declared seat start.0 what entry in
+      let m : Member = record { start = start.0; commit = c.0; seat = d.t.seat; work = d.t.work; writes = d.t.declared } in
+      let apart : are_distinct (cells_of state.observers d.t.work start.0 what) ≡ true = ap are_distinct (sym d.declared) ∙ d.distinct in
+      record {
+        m = m;
+        in_history = tells.member m (record { t = d.t; there = d.there; phase = phase_there state start.0 d.t c d.there phase; seat = refl; work = refl; writes = refl });
+        commit_is = refl;
+        writes = ap (λ ws. content_in ws w.0) d.declared ∙ in_cells state.observers d.t.work start.0 what apart w has;
+      }
+
+  committed_write : (seat : ℕ) (start : Ts) (what : Declared) (p : Put) (h : Option Phase) → phase_in state start.0 ≡ h → Has journal (record { seat = seat; step = steps.Declare start what; answer = answers.Done })
+      → Has (if_committed h (written_in what)) p → IsWrite state.observers journal p.cell p.commit.0 p.content
+  committed_write seat start what p None is entry has = absurd has
+  committed_write seat start what p (Some phases.Reading) is entry has = absurd has
+  committed_write seat start what p (Some phases.Declared) is entry has = absurd has
+  committed_write seat start what p (Some (phases.Stamped c)) is entry has = absurd has
+  committed_write seat start what p (Some (phases.Committed c)) is entry has =
+      let q = map_has (put_by c) (written_in what) p has in
+      subst (λ (r : Put). IsWrite state.observers journal r.cell r.commit.0 r.content) q.2 (write_of seat start what c q.0 entry is q.1)
+  committed_write seat start what p (Some phases.Failed) is entry has = absurd has
+
+  by_step : (seat : ℕ) (step : Step) (answer : Answer) (p : Put) → Has journal (record { seat = seat; step = step; answer = answer }) → Has (writes_by state step answer) p → IsWrite state.observers journal p.cell p.commit.0 p.content
+  by_step seat (steps.Declare start what) answers.Done p entry has = committed_write seat start what p (phase_in state start.0) refl entry has
+  by_step seat _ _ p entry has = absurd has
+
+  sound_from : (es : List Entry) (p : Put) → ((e : Entry) → Has es e → Has journal e) → Has (all_puts state es) p → IsWrite state.observers journal p.cell p.commit.0 p.content
+  sound_from [] p within has = absurd has
+  sound_from (e ∷ es) p within has = elim (has_which (puts_by state e) (all_puts state es) p has) [
+    | inl here ↦ by_step e.seat e.step e.answer p (within e (inl refl)) here
+    | inr later ↦ sound_from es p (λ d h. within d (inr h)) later
+  ]
+
+  whole_for : (row : Row) (column commit : ℕ) (content : Content) → IsWrite state.observers journal (Data row column) commit content → Has (all_puts state journal) (record { cell = Data row column; commit = record { 0 = commit }; content = content })
+  whole_for row column commit content h =
+      let x = Data row column in
+      let c = tells.committed h.m h.in_history in
+      let i = h.in_history in
+      let phase : phase_in state h.m.start ≡ Some (phases.Committed (record { 0 = commit })) = ap (option_map (λ (u : TransactionOf). u.phase)) c.there ∙ ap Some c.phase ∙ ap (λ n. Some (phases.Committed (record { 0 = n }))) h.commit_is in
+      let all : Has (cells_of state.observers h.m.work h.m.start i.what) (x, content) = subst (λ ws. Has ws (x, content)) i.writes_are (content_has h.m.writes x content h.writes) in
+      let has : Has (written_in i.what) (x, content) = in_written state.observers h.m.work h.m.start i.what row column content all in
+      in_block (puts_by state) journal (record { seat = h.m.seat; step = steps.Declare (record { 0 = h.m.start }) i.what; answer = answers.Done }) _ i.declared
+      (subst (λ o. Has (if_committed o (written_in i.what)) (record { cell = x; commit = record { 0 = commit }; content = content })) (sym phase) (has_map (put_by (record { 0 = commit })) (written_in i.what) (x, content) has))
+
+  pub gathers : Gathers state.observers journal (all_puts state journal)
+  gathers = record {
+    sound = λ p h. sound_from journal p (λ e k. k) (contains_has (all_puts state journal) p h);
+    whole = λ row column commit content h. has_contains (all_puts state journal) _ (whole_for row column commit content h);
+  }

@@ -1,0 +1,124 @@
+use Rattle.std.specs.BTreeMap as tree
+use Rattle.std.proofs.Common.{◌≡◌, ◌≢◌, ℕ, ◌+◌, ◌≤◌, ◌<◌, ◌⊎◌, inl, inr, Bool, true, false, cond, List, [], ◌∷◌, ◌++◌, length, take, get_or, Option, Some, None, BTreeMap, refl, sym, ap, subst, ◌∙◌, arith}
+use Rattle.std.specs.Prelude.{◌&&◌, Contains}
+use Rattle.std.specs.Cmp.{eq_by_cmp_equiv}
+use Rattle.std.specs.declared.cmp.Ordering.{Ordering}
+use Rattle.std.specs.declared.cmp.Ordering.TheVariants.{Less, Equal, Greater}
+use Rattle.std.proofs.lemmas.Bool.{cases_Bool, ltb-true, ltb-false}
+use Rattle.std.proofs.lemmas.List.{take_more, take_all}
+use Rattle.std.proofs.lemmas.List.Elements.{Contains-append_left, Contains-push, Contains-push_cases}
+use Rattle.pb_base.specs.declared.cell.Cell.{Cell}
+use Rattle.pb_base.specs.declared.cell.Cell.TheVariants.{Data, Ack}
+use Rattle.pb_base.specs.Cell.{cell_cmp, cell_cmp_total, cell_cmp-IsAntisymmetric, is_data}
+use Rattle.pb_script.specs.declared.reports.lines.Newest.{Newest}
+use Rattle.pb_script.specs.declared.reports.newest.Put.{Put}
+use Rattle.pb_script.specs.Reports.{IsNewestPut, IsTold, is_later}
+
+is_equal : (o : Ordering) → tree.is_at {K = ℕ} (λ _. o) 0 ≡ true → o ≡ Equal
+is_equal Less h = absurd cc
+is_equal Equal h = refl
+is_equal Greater h = absurd cc
+
+same_cell : (a b : Cell) → tree.is_at (cell_cmp a) b ≡ true → a ≡ b
+same_cell a b h = cell_cmp-IsAntisymmetric a b (is_equal (cell_cmp a b) h)
+
+other_cell : (a b : Cell) → tree.is_at (cell_cmp a) b ≡ false → a ≢ b
+other_cell a b h e = let r = (eq_by_cmp_equiv cell_cmp_total).refl a in let k = subst (λ (x : Cell). tree.is_at (cell_cmp a) x ≡ false) (sym e) h in absurd cc
+
+abbrev pub newest_in : Put → Newest
+newest_in p = record { commit = p.commit; content = p.content }
+
+-- another cell stays
+other : (puts : List Put) (p : Put) (x : Cell) (r : Option Newest) → p.cell ≢ x → IsNewestPut puts x r → IsNewestPut (puts ++ p ∷ []) x r
+other puts p x None apart h = λ q k e. elim (Contains-push_cases puts p q k) [ inl m ↦ h q m e | inr s ↦ apart (ap (λ (y : Put). y.cell) s ∙ e) ]
+other puts p x (Some n) apart h =
+    (Contains-append_left puts (p ∷ []) _ h.0, λ q k e. elim (Contains-push_cases puts p q k) [ inl m ↦ h.1 q m e | inr s ↦ absurd (apart (ap (λ (y : Put). y.cell) s ∙ e)) ])
+
+-- the greatest so far
+top : (puts : List Put) (p : Put) (r : Option Newest) → is_later r p.commit ≡ true → IsNewestPut puts p.cell r → IsNewestPut (puts ++ p ∷ []) p.cell (Some (newest_in p))
+top puts p None later h =
+    (Contains-push puts p, λ q k e. elim (Contains-push_cases puts p q k) [ inl m ↦ absurd (h q m e) | inr s ↦ let c : p.commit.0 ≡ q.commit.0 = ap (λ (y : Put). y.commit.0) s in omega arith ])
+top puts p (Some n) later h =
+    let lt : n.commit.0 < p.commit.0 = ltb-true _ _ later in
+    (Contains-push puts p, λ q k e. elim (Contains-push_cases puts p q k) [ inl m ↦ let b = h.1 q m e in omega arith | inr s ↦ let c : p.commit.0 ≡ q.commit.0 = ap (λ (y : Put). y.commit.0) s in omega arith ])
+
+-- not the greatest
+lower : (puts : List Put) (p : Put) (r : Option Newest) → is_later r p.commit ≡ false → IsNewestPut puts p.cell r → IsNewestPut (puts ++ p ∷ []) p.cell r
+lower puts p None later h = absurd cc
+lower puts p (Some n) later h =
+    let le : p.commit.0 ≤ n.commit.0 = ltb-false _ _ later in
+    (Contains-append_left puts (p ∷ []) _ h.0, λ q k e. elim (Contains-push_cases puts p q k) [ inl m ↦ h.1 q m e | inr s ↦ let c : p.commit.0 ≡ q.commit.0 = ap (λ (y : Put). y.commit.0) s in omega arith ])
+
+-- what is newest is a matter of which writes there are
+pub newest_by : (ps qs : List Put) → ((p : Put) → Contains ps p → Contains qs p) → ((p : Put) → Contains qs p → Contains ps p) → (x : Cell) (r : Option Newest) → IsNewestPut ps x r → IsNewestPut qs x r
+newest_by ps qs f g x None h = λ p c. h p (g p c)
+newest_by ps qs f g x (Some n) h = (f _ h.0, λ p c e. h.1 p (g p c) e)
+
+-- what is told goes by what is newest, and of old data cell nothing is told
+pub told_by : (M N : Cell → Option Newest → Type 0) (x : Cell) (r : Option Newest) → (M x r → N x r) → IsTold M x r → IsTold N x r
+told_by M N (Data row column) r f h = f h
+told_by M N (Ack observer row column) r f h = h
+
+told_data : (M N : Cell → Option Newest → Type 0) (x : Cell) (r s : Option Newest) → is_data x ≡ true → (M x r → N x s) → IsTold M x r → IsTold N x s
+told_data M N (Data row column) r s d f h = f h
+told_data M N (Ack observer row column) r s d f h = absurd cc
+
+told_none : (M N : Cell → Option Newest → Type 0) (x : Cell) (r : Option Newest) → is_data x ≡ false → IsTold M x r → IsTold N x r
+told_none M N (Data row column) r d h = absurd cc
+told_none M N (Ack observer row column) r d h = h
+
+both_true : (a b : Bool) → (a && b) ≡ true → (a ≡ true) × (b ≡ true)
+both_true true b h = (refl, h)
+both_true false b h = absurd cc
+
+one_false : (a b : Bool) → (a && b) ≡ false → (a ≡ false) ⊎ (b ≡ false)
+one_false true b h = inr h
+one_false false b h = inl refl
+
+abbrev AreTold : List Put → (Cell → Option Newest) → Type 0
+AreTold puts f = (x : Cell) → IsTold (IsNewestPut puts) x (f x)
+
+newest_more : (puts : List Put) (p : Put) (f g : Cell → Option Newest) → AreTold puts f → (is_data p.cell && is_later (f p.cell) p.commit) ≡ true
+    → ((x : Cell) → g x ≡ cond (tree.is_at (cell_cmp p.cell) x) (Some (newest_in p)) (f x)) → AreTold (puts ++ p ∷ []) g
+newest_more puts p f g h news is x =
+    let b = both_true _ _ news in
+    elim (cases_Bool (tree.is_at (cell_cmp p.cell) x)) [
+      | inl here ↦ let e : p.cell ≡ x = same_cell p.cell x here in
+          let k : g x ≡ Some (newest_in p) = is x ∙ ap (λ t. cond t (Some (newest_in p)) (f x)) here in
+          subst (IsTold (IsNewestPut (puts ++ p ∷ [])) x) (sym k)
+          (subst (λ (y : Cell). IsTold (IsNewestPut (puts ++ p ∷ [])) y (Some (newest_in p))) e
+          (told_data (IsNewestPut puts) (IsNewestPut (puts ++ p ∷ [])) p.cell (f p.cell) (Some (newest_in p)) b.0 (top puts p (f p.cell) b.1) (h p.cell)))
+      | inr there ↦ let k : g x ≡ f x = is x ∙ ap (λ t. cond t (Some (newest_in p)) (f x)) there in
+          subst (IsTold (IsNewestPut (puts ++ p ∷ [])) x) (sym k)
+          (told_by (IsNewestPut puts) (IsNewestPut (puts ++ p ∷ [])) x (f x) (other puts p x (f x) (other_cell p.cell x there)) (h x))
+    ]
+
+stays_here : (puts : List Put) (p : Put) (r : Option Newest) → (is_data p.cell && is_later r p.commit) ≡ false → IsTold (IsNewestPut puts) p.cell r → IsTold (IsNewestPut (puts ++ p ∷ [])) p.cell r
+stays_here puts p r old h = elim (one_false _ _ old) [
+  | inl ack ↦ told_none (IsNewestPut puts) (IsNewestPut (puts ++ p ∷ [])) p.cell r ack h
+  | inr low ↦ told_by (IsNewestPut puts) (IsNewestPut (puts ++ p ∷ [])) p.cell r (lower puts p r low) h
+]
+
+newest_same : (puts : List Put) (p : Put) (f : Cell → Option Newest) → AreTold puts f → (is_data p.cell && is_later (f p.cell) p.commit) ≡ false → AreTold (puts ++ p ∷ []) f
+newest_same puts p f h old x =
+    elim (cases_Bool (tree.is_at (cell_cmp p.cell) x)) [
+      | inl here ↦ subst (λ (y : Cell). IsTold (IsNewestPut (puts ++ p ∷ [])) y (f y)) (same_cell p.cell x here) (stays_here puts p (f p.cell) old (h p.cell))
+      | inr there ↦ told_by (IsNewestPut puts) (IsNewestPut (puts ++ p ∷ [])) x (f x) (other puts p x (f x) (other_cell p.cell x there)) (h x)
+    ]
+
+-- the loop's step
+next_is : (puts : List Put) (i : ℕ) (p : Put) → i < length puts → p ≡ get_or puts i p → take (i + 1) puts ≡ take i puts ++ p ∷ []
+next_is puts i p lt e = take_more puts i p lt ∙ ap (λ (q : Put). take i puts ++ q ∷ []) (sym e)
+
+pub turn_more : (puts : List Put) (i : ℕ) (p : Put) (f g : Cell → Option Newest) → i < length puts → p ≡ get_or puts i p → AreTold (take i puts) f → (is_data p.cell && is_later (f p.cell) p.commit) ≡ true
+    → ((x : Cell) → g x ≡ cond (tree.is_at (cell_cmp p.cell) x) (Some (newest_in p)) (f x)) → AreTold (take (i + 1) puts) g
+turn_more puts i p f g lt e h news is x = subst (λ (ps : List Put). IsTold (IsNewestPut ps) x (g x)) (sym (next_is puts i p lt e)) (newest_more (take i puts) p f g h news is x)
+
+pub turn_same : (puts : List Put) (i : ℕ) (p : Put) (f : Cell → Option Newest) → i < length puts → p ≡ get_or puts i p → AreTold (take i puts) f → (is_data p.cell && is_later (f p.cell) p.commit) ≡ false → AreTold (take (i + 1) puts) f
+turn_same puts i p f lt e h old x = subst (λ (ps : List Put). IsTold (IsNewestPut ps) x (f x)) (sym (next_is puts i p lt e)) (newest_same (take i puts) p f h old x)
+
+pub turn_end : (puts : List Put) (i : ℕ) (f : Cell → Option Newest) → length puts ≤ i → AreTold (take i puts) f → AreTold puts f
+turn_end puts i f le h x = subst (λ (ps : List Put). IsTold (IsNewestPut ps) x (f x)) (take_all i puts le) (h x)
+
+abbrev pub goal_at : List Put → ℕ → BTreeMap Cell Newest → Cell → Type 0
+goal_at puts i m x = IsTold (IsNewestPut (take (i + 1) puts)) x (tree.get cell_cmp m x)

@@ -1,0 +1,79 @@
+use Rattle.std.specs.BTreeMap as tree
+use Rattle.std.proofs.Common.{◌≡◌, ℕ, ◌≤◌, Bool, true, false, cond, T, List, [], ◌∷◌, ◌++◌, map, Option, Some, None, refl, sym, ap, subst, ◌∙◌, arith}
+use Rattle.std.specs.Prelude.{◌&&◌}
+use Rattle.std.specs.List.{AllByRecursion}
+use Rattle.std.specs.List.Sorted.{IsStrictlySortedBy}
+use Rattle.std.specs.Map.{lookup}
+use Rattle.std.specs.declared.cmp.Ordering.{Ordering}
+use Rattle.std.specs.declared.cmp.Ordering.TheVariants.{Less}
+use Rattle.std.specs.Ordering.{is_lt}
+use Rattle.std.specs.FinMap.Entries.{find, is_sorted, below_all, same_entries}
+use Rattle.pb_base.specs.declared.cell.Cell.{Cell}
+use Rattle.pb_base.specs.declared.cell.Cell.TheVariants.{Data, Ack}
+use Rattle.pb_base.specs.Cell.{cell_cmp, cell_cmp_total, cell_cmp-IsAntisymmetric}
+use Rattle.pb_script.specs.declared.reports.lines.Newest.{Newest}
+use Rattle.pb_script.specs.declared.reports.newest.Put.{Put}
+use Rattle.pb_script.specs.ReportLines.{Tallies, cell_lines, run_lines, last_line}
+use Rattle.pb_script.proofs.Newests.{told_by}
+use Rattle.pb_script.specs.Reports.{IsNewestPut, IsTold, IsReportOf, IsReport, AreApart}
+
+abbrev Entries : Type 0
+Entries = List (Cell × Newest)
+
+both : (a b : Bool) → T a → T b → T (a && b)
+both true b p q = q
+both false b p q = p
+
+less : (o : Ordering) → o ≡ Less → T (is_lt o)
+less o e = subst (λ r. T (is_lt r)) (sym e) tt
+
+below : (x : Cell) (es : Entries) → AllByRecursion (λ y. cell_cmp x y ≡ Less) (map (λ e. e.0) es) → T (below_all cell_cmp x es)
+below x [] h = tt
+below x (e ∷ es) h = both _ _ (less (cell_cmp x e.0) h.0) (below x es h.1)
+
+sorted : (es : Entries) → IsStrictlySortedBy cell_cmp (map (λ e. e.0) es) → T (is_sorted cell_cmp es)
+unfolding IsStrictlySortedBy
+sorted [] h = tt
+sorted (e ∷ es) h = both _ _ (below e.0 es h.0) (sorted es h.1)
+
+found : (x : Cell) (es : Entries) → find cell_cmp x es ≡ lookup (tree.is_at (cell_cmp x)) es
+found x [] = refl
+found x (e ∷ es) = ap (λ (r : Option Newest). cond (tree.is_at (cell_cmp x) e.0) (Some e.1) r) (found x es)
+
+-- what stands at each cell says which entries there are
+pub same_by_lookup : (es fs : Entries) → IsStrictlySortedBy cell_cmp (map (λ e. e.0) es) → IsStrictlySortedBy cell_cmp (map (λ e. e.0) fs)
+    → ((x : Cell) → lookup (tree.is_at (cell_cmp x)) es ≡ lookup (tree.is_at (cell_cmp x)) fs) → es ≡ fs
+same_by_lookup es fs g h is = same_entries cell_cmp cell_cmp_total cell_cmp-IsAntisymmetric es fs (sorted es g) (sorted fs h) (λ x. found x es ∙ is x ∙ sym (found x fs))
+
+abbrev IsOne : (Cell → Option Newest → Type 0) → Type 0
+IsOne newest = (x : Cell) (r s : Option Newest) → newest x r → newest x s → r ≡ s
+
+told_one : (newest : Cell → Option Newest → Type 0) → IsOne newest → IsOne (IsTold newest)
+told_one newest one (Data row column) r s g h = one (Data row column) r s g h
+told_one newest one (Ack observer row column) r s g h = g ∙ sym h
+
+-- where one thing is newest at each cell, there is one report
+pub same_report : (newest : Cell → Option Newest → Type 0) (runs : Tallies) (marks locks : ℕ) (s t : List ℕ) → IsOne newest → IsReportOf newest runs marks locks s → IsReportOf newest runs marks locks t → s ≡ t
+same_report newest runs marks locks s t one g h =
+    let e : g.entries ≡ h.entries = same_by_lookup g.entries h.entries g.rising h.rising (λ x. told_one newest one x _ _ (g.told x) (h.told x)) in
+    g.lines ∙ ap (λ (es : Entries). cell_lines es ++ (run_lines runs ++ last_line marks locks)) e ∙ sym h.lines
+
+-- what is newest may be said in other words
+pub said_by : (M N : Cell → Option Newest → Type 0) (runs : Tallies) (marks locks : ℕ) (text : List ℕ) → ((x : Cell) (r : Option Newest) → M x r → N x r) → IsReportOf M runs marks locks text → IsReportOf N runs marks locks text
+said_by M N runs marks locks text f h = record { entries = h.entries; rising = h.rising; told = λ x. told_by M N x _ (f x _) (h.told x); lines = h.lines }
+
+same_number : (a b : ℕ) → a ≤ b → b ≤ a → a ≡ b
+same_number a b g h = omega arith
+
+one_newest : (puts : List Put) → AreApart puts → IsOne (IsNewestPut puts)
+one_newest puts apart x None None g h = refl
+one_newest puts apart x None (Some n) g h = absurd (g _ h.0 refl)
+one_newest puts apart x (Some m) None g h = absurd (h _ g.0 refl)
+one_newest puts apart x (Some m) (Some n) g h =
+    let c : m.commit.0 ≡ n.commit.0 = same_number _ _ (h.1 _ g.0 refl) (g.1 _ h.0 refl) in
+    let commits : m.commit ≡ n.commit = ap (λ k. record { 0 = k }) c in
+    let e = apart (record { cell = x; commit = m.commit; content = m.content }) (record { cell = x; commit = n.commit; content = n.content }) g.0 h.0 refl commits in
+    ap (λ (p : Put). Some (record { commit = p.commit; content = p.content })) e
+
+pub one : (puts : List Put) (runs : Tallies) (marks locks : ℕ) (s t : List ℕ) → AreApart puts → IsReport puts runs marks locks s → IsReport puts runs marks locks t → s ≡ t
+one puts runs marks locks s t apart g h = same_report (IsNewestPut puts) runs marks locks s t (one_newest puts apart) g h

@@ -1,0 +1,30 @@
+use Rattle.std.proofs.Common.{◌≡◌, ℕ, List, IfOk, Result, Ok, Err, String, Global, string_bytes, subst, sym}
+use Rattle.std.specs.FinMap as map
+use Rattle.pb_base.specs.declared.refusal.NoMemory.{NoMemory}
+use Rattle.pb_steps.specs.Readings.{lock_count}
+use Rattle.pb_core.specs.Calls.{SharedOf}
+use Rattle.pb_script.specs.declared.reports.newest.Put.{Put}
+use Rattle.pb_script.specs.Reports.{IsReport}
+use Rattle.pb_script.specs.ReportLines.{Tallies}
+use Rattle.pb_script.specs.Tallies.{AreTallies}
+use Rattle.pb_script.specs.Committed.{AreSeen, Gathers}
+use Rattle.pb_script.specs.TableReports.{IsReportIn}
+use Rattle.pb_script.proofs.Told.{report_in}
+use Rattle.pb_script.proofs.output.text_of.Goals as goal
+
+if_report : (s : SharedOf) (puts : List Put) (marks locks : ℕ) (runs : Tallies) (r : Result (String Global) NoMemory) → Gathers s.state.observers s.journal puts → AreSeen s.state.observers s.journal s.state.clock
+    → AreTallies s.state.observers s.journal 0 s.state.observers runs → marks ≡ map.len s.state.marks → locks ≡ lock_count s.state.entries
+    → IfOk r (λ t. IsReport puts runs marks locks (string_bytes t)) → IfOk r (λ t. IsReportIn s (string_bytes t))
+if_report s puts marks locks runs (Ok t) g low rs ms ls h = record {
+  runs = runs;
+  tallied = rs;
+  reported = report_in s.state.observers s.journal s.state.clock puts g low runs _ _ (string_bytes t) (subst (λ m. IsReport puts runs m (lock_count s.state.entries) (string_bytes t)) ms (subst (λ l. IsReport puts runs marks l (string_bytes t)) ls h));
+}
+if_report s puts marks locks runs (Err e) g low rs ms ls h = tt
+
+pub returns : goal.returns
+returns g c =
+    let s = c.args.shared.now in
+    if_report s c.deref.result.now c.marks.result c.locks.result _ c.report_of.result
+    (subst (Gathers s.state.observers s.journal) (sym c.deref.ensures.value) c.in_ok-puts.ensures.gathered) c.puts_of.ensures.seen
+    (subst (AreTallies s.state.observers s.journal 0 s.state.observers) (sym c.deref-2.ensures.value) c.in_ok-tallies.ensures) c.marks.ensures c.locks.ensures c.report_of.ensures

@@ -1,0 +1,32 @@
+-- What is reported of a table.
+use Rattle.std.specs.Prelude.{◌≡◌, ℕ, ◌≤◌, List, Contains, Option, Some, None}
+use Rattle.pb_base.specs.declared.names.Row.{Row}
+use Rattle.pb_base.specs.declared.cell.Cell.{Cell}
+use Rattle.pb_base.specs.declared.cell.Cell.TheVariants.{Data}
+use Rattle.pb_base.specs.declared.content.Content.{Content}
+use Rattle.pb_steps.specs.Observers.{ObserverOf}
+use Rattle.pb_history.specs.declared.entry.Entry.{Entry}
+use Rattle.pb_history.specs.History.{Member, InHistory, WritesTo, IsSnapshot, NoSnapshot}
+use Rattle.pb_script.specs.declared.reports.lines.Newest.{Newest}
+use Rattle.pb_script.specs.declared.reports.newest.Put.{Put}
+
+-- a committed transaction of the journal wrote this content to x, with this commit
+pub record IsWrite (observers : List ObserverOf) (journal : List Entry) (x : Cell) (commit : ℕ) (content : Content) : Type 0 where
+  pub m : Member
+  pub in_history : InHistory observers journal m
+  pub commit_is : m.commit ≡ commit
+  pub writes : WritesTo m x content
+
+-- what the snapshot at a timestamp has of x
+abbrev pub IsSeenAt : List ObserverOf → List Entry → ℕ → Cell → Option Newest → Type 0
+IsSeenAt observers journal s x None = NoSnapshot observers journal s x
+IsSeenAt observers journal s x (Some n) = (start : ℕ) × IsSnapshot observers journal s x start n.commit.0 n.content
+
+-- these are the committed writes of the journal to data cells
+pub record Gathers (observers : List ObserverOf) (journal : List Entry) (puts : List Put) : Type 0 where
+  pub sound : (p : Put) → Contains puts p → IsWrite observers journal p.cell p.commit.0 p.content
+  pub whole : (row : Row) (column commit : ℕ) (content : Content) → IsWrite observers journal (Data row column) commit content → Contains puts (record { cell = Data row column; commit = record { 0 = commit }; content = content })
+
+-- no transaction is committed above this timestamp
+abbrev pub AreSeen : List ObserverOf → List Entry → ℕ → Type 0
+AreSeen observers journal s = (m : Member) → InHistory observers journal m → m.commit ≤ s

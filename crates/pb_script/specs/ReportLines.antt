@@ -1,0 +1,40 @@
+-- The lines of a report.
+use Rattle.std.specs.Prelude.{ℕ, ◌&&◌, ◌==◌, if◌then◌else◌, List, [], ◌∷◌, ◌++◌, codes}
+use Rattle.std.specs.List.{list_all, flat_map}
+use Rattle.std.specs.Fmt.{decimal}
+use Rattle.hex.specs.Hex.{encode_lower}
+use Rattle.pb_base.specs.declared.cell.Cell.{Cell}
+use Rattle.pb_base.specs.declared.content.Content.{Content}
+use Rattle.pb_base.specs.declared.content.Content.TheVariants.{Value, Deleted, Stamp}
+use Rattle.pb_base.specs.Cell.{row_of, column_of}
+use Rattle.pb_script.specs.declared.reports.lines.Newest.{Newest}
+
+-- without the zeros at the end, but at least one byte
+abbrev pub trimmed : List ℕ → List ℕ
+trimmed [] = []
+trimmed (b ∷ bs) = if list_all (λ c. c == 0) bs then b ∷ [] else b ∷ trimmed bs
+
+-- how the line of a cell ends; no data cell has a stamp, which says no more than a deletion
+abbrev pub ending : Content → List ℕ
+ending (Value bytes) = codes " value " ++ (encode_lower (trimmed bytes) ++ codes "\n")
+ending Deleted = codes " deleted\n"
+ending (Stamp t) = codes " deleted\n"
+
+abbrev pub cell_line : Cell → Newest → List ℕ
+cell_line x newest = codes "cell " ++ (decimal (row_of x).0 ++ (codes " " ++ (decimal (column_of x) ++ (codes " commit " ++ (decimal newest.commit.0 ++ ending newest.content)))))
+
+abbrev pub cell_lines : List (Cell × Newest) → List ℕ
+cell_lines es = flat_map (λ e. cell_line e.0 e.1) es
+
+-- names of observers, each with the number of its committed runs
+abbrev pub Tallies : Type 0
+Tallies = List (List ℕ × ℕ)
+
+abbrev pub run_line : List ℕ × ℕ → List ℕ
+run_line r = codes "runs " ++ (r.0 ++ (codes " " ++ (decimal r.1 ++ codes "\n")))
+
+abbrev pub run_lines : Tallies → List ℕ
+run_lines runs = flat_map run_line runs
+
+abbrev pub last_line : ℕ → ℕ → List ℕ
+last_line marks locks = if (marks == 0) && (locks == 0) then codes "quiet\n" else codes "marks " ++ (decimal marks ++ (codes " locks " ++ (decimal locks ++ codes "\n")))

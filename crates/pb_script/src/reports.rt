@@ -1,0 +1,42 @@
+//! The report of a history: what is newest at each data cell, and what is left to do.
+mod lines;
+mod newest;
+mod tally;
+
+ghost use Rattle.std.specs.Prelude.{◌≡◌, ℕ, List, IfOk, string_bytes};
+ghost use Rattle.pb_script.specs.Reports.{IsReport, AreApart};
+ghost use Rattle.pb_script.specs.ReportLines.{Tallies};
+ghost use Rattle.pb_script.specs.declared.reports.newest.Put.{Put};
+
+use crate::reports::lines::last_line;
+use crate::reports::newest::{cell_lines, newest_of};
+use crate::reports::tally::run_lines;
+pub use lines::Newest;
+pub use newest::Put;
+use pb_base::NoMemory;
+use std::alloc::Global;
+pub use tally::Tally;
+
+/// The report of these committed writes and runs, with so many marks and locks left.
+pub fn report_of(
+    alloc: Global,
+    puts: &[Put],
+    tallies: &[Tally],
+    marks: usize,
+    locks: usize,
+) -> Result<String, NoMemory>
+    ensures { IfOk result (λ s. IsReport puts.now tallies.now marks locks (string_bytes s)) }
+{
+    let table = newest_of(alloc, puts)?;
+    let mut text = cell_lines(alloc, &table)?;
+    let runs = run_lines(alloc, tallies)?;
+    text.push_str(runs.as_str())?;
+    let last = last_line(alloc, marks, locks)?;
+    text.push_str(last.as_str())?;
+    Ok(text)
+}
+
+/// Where no cell has two writes of one commit, there is only one report.
+pub fn one_report()
+    ensures { (puts : List Put) (runs : Tallies) (marks locks : ℕ) (s t : List ℕ) → AreApart puts → IsReport puts runs marks locks s → IsReport puts runs marks locks t → s ≡ t }
+{}
