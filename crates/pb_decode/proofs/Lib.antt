@@ -1,5 +1,6 @@
 mod SlotBytes
 mod OpcodeTable
+pub mod Places
 mod FrontRead
 mod LowestCode
 mod OneProgramOrFault
