@@ -87,7 +87,8 @@ fn meet_bytes(a: &[bool; STACK_BYTES], b: &[bool; STACK_BYTES]) -> [bool; STACK_
 {
     let mut written = *a;
     for i in 0..STACK_BYTES {
-        written[i] = a[i] && b[i];
+        // Without a branch, which lets the compiler join many at once.
+        written[i] = a[i] & b[i];
     }
     written
 }

@@ -2,6 +2,8 @@ pub mod LowestCode
 pub mod CodesRise
 pub mod PointersWithin
 pub mod FramesAfter
+pub mod Pairs
+pub mod Pending
 pub mod FramesAreMeets
 pub mod OneVerdict
 pub mod JumpsForward

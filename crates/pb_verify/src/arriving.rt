@@ -1,53 +1,117 @@
 //! The frame with which a slot is reached.
-ghost use Rattle.std.specs.Prelude.{◌≡◌, ◌<◌, length};
-ghost use Rattle.pb_isa.specs.Slots.{slots};
-ghost use Rattle.pb_verify.specs.Arriving.{merge, if_leads, frame_before};
+ghost use Rattle.std.specs.Prelude.{◌≡◌, ◌<◌, ◌≤◌, ◌+◌, ℕ, Some, None, [], ◌∷◌, if◌then◌else◌, nat_eq, length, slice_index_or, option_map, IfOk, OnOk};
+ghost use Rattle.std.specs.Box.{box_value};
+ghost use Rattle.pb_isa.specs.Slots.{places_of};
+ghost use Rattle.pb_verify.specs.Following.{ahead};
+ghost use Rattle.pb_verify.specs.Arriving.{has_slot, if_leads, merge};
 ghost use Rattle.pb_verify.specs.Forward.{LeadsAreLater, AcceptedJumpsGoForward};
 ghost use Rattle.pb_verify.specs.Ways.{FramesAreMeets};
 
-use crate::following::leads_to;
-use pb_isa::{Insn, MAX_SLOTS, Program};
-use pb_kinds::{Frame, entry, join, joins_are_meets};
+use pb_base::NoMemory;
+use pb_isa::{Insn, MAX_SLOTS};
+use pb_kinds::{Frame, join, joins_are_meets};
+use std::alloc::Global;
+use std::boxed::Box;
 
-fn merge(known: Option<Frame>, more: Option<Frame>) -> Option<Frame>
-    ensures { result ≡ merge known more }
+/// The frame before a slot, in place: the frame after the last instruction, where it falls through to here, joined with
+/// what jumps brought. False where nothing leads here.
+pub fn arrive(jumps: &mut [Option<Box<Frame>>], slot: usize, frame: &mut Frame, falls: bool) -> bool
+    requires { slot < length jumps.old }
+    ensures known { (if result then Some frame.new else None) ≡ merge (option_map box_value (slice_index_or jumps.old slot None)) (if falls then Some frame.old else None) }
+    ensures len { length jumps.new ≡ length jumps.old }
+    ensures rest { (k : ℕ) → slot < k → slice_index_or jumps.new k None ≡ slice_index_or jumps.old k None }
 {
-    match (known, more) {
-        (None, more) => more,
-        (Some(first), None) => Some(first),
-        (Some(first), Some(second)) => Some(join(&first, &second)),
+    match jumps[slot].take() {
+        None => falls,
+        Some(jumped) => {
+            *frame = if falls { join(&jumped, frame) } else { *jumped };
+            true
+        }
     }
 }
 
-fn if_leads(insn: Option<Insn>, from: usize, to: usize, out: Option<Frame>) -> Option<Frame>
-    requires { from < MAX_SLOTS }
-    ensures { result ≡ if_leads insn from to out }
+// The frame that is known at a slot ahead, where this one jumps there too.
+fn send(
+    alloc: Global,
+    jumps: &mut [Option<Box<Frame>>],
+    to: usize,
+    frame: &Frame,
+) -> Result<(), NoMemory>
+    ensures len { length jumps.new ≡ length jumps.old }
+    ensures each { OnOk result ((k : ℕ) → k < length jumps.old → option_map box_value (slice_index_or jumps.new k None) ≡ merge (option_map box_value (slice_index_or jumps.old k None)) (if nat_eq k to then Some frame.now else None)) }
+{
+    if to < jumps.len() {
+        let known = match jumps[to].take() {
+            None => Box::new(alloc, *frame)?,
+            Some(mut known) => {
+                *known = join(&known, frame);
+                known
+            }
+        };
+        jumps[to] = Some(known);
+    }
+    Ok(())
+}
+
+fn jump(
+    alloc: Global,
+    jumps: &mut [Option<Box<Frame>>],
+    slot: usize,
+    offset: i16,
+    frame: &Frame,
+) -> Result<(), NoMemory>
+    requires { slot < MAX_SLOTS }
+    ensures len { length jumps.new ≡ length jumps.old }
+    ensures each { OnOk result ((k : ℕ) → k < length jumps.old → option_map box_value (slice_index_or jumps.new k None) ≡ merge (option_map box_value (slice_index_or jumps.old k None)) (if has_slot (ahead slot offset) k then Some frame.now else None)) }
+{
+    if offset >= 0 {
+        send(alloc, jumps, slot + 1 + offset as usize, frame)?;
+    }
+    Ok(())
+}
+
+/// Joins the frame after a slot into those of the slots that it leads to; but for the next instruction's, which it tells of,
+/// and 0 where it doesn't lead there.
+pub fn spread(
+    alloc: Global,
+    jumps: &mut [Option<Box<Frame>>],
+    slot: usize,
+    insn: Insn,
+    frame: &Frame,
+) -> Result<usize, NoMemory>
+    requires { slot < MAX_SLOTS }
+    ensures len { length jumps.new ≡ length jumps.old }
+    ensures each { IfOk result (λ next. (k : ℕ) → slot < k → k < length jumps.old → merge (option_map box_value (slice_index_or jumps.new k None)) (if nat_eq k next then Some frame.now else None) ≡ merge (option_map box_value (slice_index_or jumps.old k None)) (if_leads (Some insn) slot k (Some frame.now))) }
+    ensures most { IfOk result (λ next. next ≤ slot + 2) }
+    ensures pair { IfOk result (λ next. slot + 1 < next → places_of insn ≡ Some insn ∷ None ∷ []) }
 {
     match insn {
-        None => None,
-        Some(insn) => if leads_to(from, insn, to) { out } else { None },
+        Insn::Exit => Ok(0),
+        Insn::LoadImm { .. } => Ok(slot + 2),
+        Insn::Jump { offset } => {
+            jump(alloc, jumps, slot, offset, frame)?;
+            Ok(0)
+        }
+        Insn::JumpIf { offset, .. } => {
+            if offset != 0 {
+                jump(alloc, jumps, slot, offset, frame)?;
+            }
+            Ok(slot + 1)
+        }
+        _ => Ok(slot + 1),
     }
 }
 
-/// The frame before a slot, where these are the frames after the slots before it.
-pub fn frame_before(program: &Program, slot: usize, outs: &[Option<Frame>]) -> Option<Frame>
-    requires inside { slot < slots program.now.insns }
-    requires before { length outs.now ≡ slot }
-    ensures { result ≡ frame_before program.now.insns slot outs.now }
+/// No frames: nothing has jumped anywhere.
+pub fn no_jumps(alloc: Global, slots: usize) -> Result<Vec<Option<Box<Frame>>>, NoMemory>
+    ensures len { IfOk result (λ v. length v.items ≡ slots) }
+    ensures each { IfOk result (λ v. (k : ℕ) → slice_index_or v.items k None ≡ None) }
 {
-    if slot == 0 {
-        return Some(entry());
+    let mut jumps = Vec::new(alloc);
+    for _ in 0..slots {
+        jumps.push(None)?;
     }
-    // For the proof: a program has at most `MAX_SLOTS` slots.
-    let _slots = program.slots();
-    let mut known = None;
-    for earlier in 0..slot {
-        known = merge(
-            known,
-            if_leads(program.at(earlier), earlier, slot, outs[earlier]),
-        );
-    }
-    known
+    Ok(jumps)
 }
 
 /// The frame before a slot says exactly what is known on every way to it: a kind is known, and a byte is written, where it

@@ -1,21 +1,18 @@
 //! What is known after an instruction, and where it leads.
 ghost use Rattle.std.specs.Prelude.{◌≡◌, ◌≤◌, ◌<◌, ◌+◌, ◌^◌, ℕ, nat_abs};
-ghost use Rattle.pb_verify.specs.Following.{with_kind, move_pointer, kind_after, with_store, clobber, after_call, after, ahead, leads};
-ghost use Rattle.pb_verify.specs.Arriving.{has_slot};
+ghost use Rattle.pb_verify.specs.Following.{with_kind, move_pointer, kind_after, with_store, clobber, after_call, after};
 ghost use Rattle.pb_isa.specs.Helpers.{helper_of};
 ghost use Rattle.pb_verify.specs.Within.{IsNear, IsWithin};
 
 use crate::rules::{bytes_of, kind};
-use pb_isa::{AluOp, Insn, MAX_SLOTS, Operand, Reg, Width};
+use pb_isa::{AluOp, Insn, Operand, Reg, Width};
 use pb_kinds::{Frame, Kind, in_stack};
 
-fn with_kind(frame: &Frame, reg: Reg, kind: Kind) -> Frame
-    ensures value { result ≡ with_kind frame.now reg kind }
-    ensures near { (b : ℕ) → IsWithin b frame.now → IsNear b kind → IsWithin b result }
+fn set_kind(frame: &mut Frame, reg: Reg, kind: Kind)
+    ensures value { frame.new ≡ with_kind frame.old reg kind }
+    ensures near { (b : ℕ) → IsWithin b frame.old → IsNear b kind → IsWithin b frame.new }
 {
-    let mut next = *frame;
-    next.kinds[reg.number()] = kind;
-    next
+    frame.kinds[reg.number()] = kind;
 }
 
 fn move_pointer(kind: Kind, by: i64) -> Kind
@@ -52,63 +49,58 @@ fn kind_after(frame: &Frame, op: AluOp, width: Width, dst: Reg, src: Operand) ->
 }
 
 // The bytes of a store are written.
-fn with_store(frame: &Frame, base: Kind, offset: i16, bytes: u8) -> Frame
+fn store(frame: &mut Frame, base: Kind, offset: i16, bytes: u8)
     requires { IsNear (2 ^ 62) base }
-    ensures value { result ≡ with_store frame.now base offset bytes }
-    ensures near { (b : ℕ) → IsWithin b frame.now → IsWithin b result }
+    ensures value { frame.new ≡ with_store frame.old base offset bytes }
+    ensures near { (b : ℕ) → IsWithin b frame.old → IsWithin b frame.new }
 {
-    let mut next = *frame;
     if let Kind::Stack(end) = base {
         let at = end + i64::from(offset);
         if in_stack(at, bytes) {
-            next.write(at, bytes);
+            frame.write(at, bytes);
         }
     }
-    next
 }
 
 // What a call leaves of the registers.
-fn clobber(frame: &Frame) -> Frame
-    ensures value { result ≡ clobber frame.now }
-    ensures near { (b : ℕ) → IsWithin b frame.now → IsWithin b result }
+fn clobber(frame: &mut Frame)
+    ensures value { frame.new ≡ clobber frame.old }
+    ensures near { (b : ℕ) → IsWithin b frame.old → IsWithin b frame.new }
 {
     let kinds = &frame.kinds;
-    Frame {
-        kinds: [
-            Kind::Number,
-            Kind::Unset,
-            Kind::Unset,
-            Kind::Unset,
-            Kind::Unset,
-            Kind::Unset,
-            kinds[6],
-            kinds[7],
-            kinds[8],
-            kinds[9],
-            kinds[10],
-        ],
-        written: frame.written,
-    }
+    frame.kinds = [
+        Kind::Number,
+        Kind::Unset,
+        Kind::Unset,
+        Kind::Unset,
+        Kind::Unset,
+        Kind::Unset,
+        kinds[6],
+        kinds[7],
+        kinds[8],
+        kinds[9],
+        kinds[10],
+    ];
 }
 
 // A read fills the 32 bytes at R3.
-fn after_call(frame: &Frame, number: i32) -> Frame
-    requires { IsWithin (2 ^ 62) frame.now }
-    ensures value { result ≡ after_call frame.now (helper_of number) }
-    ensures near { (b : ℕ) → IsWithin b frame.now → IsWithin b result }
+fn call(frame: &mut Frame, number: i32)
+    requires { IsWithin (2 ^ 62) frame.old }
+    ensures value { frame.new ≡ after_call frame.old (helper_of number) }
+    ensures near { (b : ℕ) → IsWithin b frame.old → IsWithin b frame.new }
 {
     if number == 1 {
-        clobber(&with_store(frame, kind(frame, Reg::R3), 0, 32))
-    } else {
-        clobber(frame)
+        let place = kind(frame, Reg::R3);
+        store(frame, place, 0, 32);
     }
+    clobber(frame);
 }
 
-/// The frame after an instruction whose rules hold.
-pub fn after(frame: &Frame, insn: Insn) -> Frame
-    requires { IsWithin (2 ^ 62) frame.now }
-    ensures value { result ≡ after frame.now insn }
-    ensures near { (b : ℕ) → IsWithin b frame.now → IsWithin (b + 2147483648) result }
+/// Makes the frame before an instruction whose rules hold the frame after it.
+pub fn step(frame: &mut Frame, insn: Insn)
+    requires { IsWithin (2 ^ 62) frame.old }
+    ensures value { frame.new ≡ after frame.old insn }
+    ensures near { (b : ℕ) → IsWithin b frame.old → IsWithin (b + 2147483648) frame.new }
 {
     match insn {
         Insn::Alu {
@@ -116,44 +108,32 @@ pub fn after(frame: &Frame, insn: Insn) -> Frame
             width,
             dst,
             src,
-        } => with_kind(frame, dst, kind_after(frame, op, width, dst, src)),
+        } => {
+            let kind = kind_after(frame, op, width, dst, src);
+            set_kind(frame, dst, kind);
+        }
         Insn::Neg { dst, .. } | Insn::LoadImm { dst, .. } | Insn::Load { dst, .. } => {
-            with_kind(frame, dst, Kind::Number)
+            set_kind(frame, dst, Kind::Number);
         }
         Insn::StoreImm {
             size,
             dst,
             offset,
             imm: _,
-        } => with_store(frame, kind(frame, dst), offset, bytes_of(size)),
+        } => {
+            let place = kind(frame, dst);
+            store(frame, place, offset, bytes_of(size));
+        }
         Insn::Store {
             size,
             dst,
             src: _,
             offset,
-        } => with_store(frame, kind(frame, dst), offset, bytes_of(size)),
-        Insn::Call { imm } => after_call(frame, imm),
-        Insn::Jump { .. } | Insn::JumpIf { .. } | Insn::Exit => *frame,
-    }
-}
-
-fn jumps_to(slot: usize, offset: i16, to: usize) -> bool
-    requires { slot < MAX_SLOTS }
-    ensures { result ≡ has_slot (ahead slot offset) to }
-{
-    offset >= 0 && slot + 1 + offset as usize == to
-}
-
-/// Whether the instruction at a slot leads to the later slot `to`.
-pub fn leads_to(slot: usize, insn: Insn, to: usize) -> bool
-    requires { slot < MAX_SLOTS }
-    ensures { result ≡ has_slot (leads slot insn) to }
-{
-    match insn {
-        Insn::LoadImm { .. } => to == slot + 2,
-        Insn::Jump { offset } => jumps_to(slot, offset, to),
-        Insn::JumpIf { offset, .. } => to == slot + 1 || jumps_to(slot, offset, to),
-        Insn::Exit => false,
-        _ => to == slot + 1,
+        } => {
+            let place = kind(frame, dst);
+            store(frame, place, offset, bytes_of(size));
+        }
+        Insn::Call { imm } => call(frame, imm),
+        Insn::Jump { .. } | Insn::JumpIf { .. } | Insn::Exit => {}
     }
 }

@@ -1,20 +1,20 @@
 //! Whether the rules hold at every slot.
-ghost use Rattle.std.specs.Prelude.{◌≡◌, ◌<◌, ◌+◌, ◌^◌, ℕ, [], Some, IfOk, IfErr, MatchResult};
-ghost use Rattle.pb_isa.specs.Slots.{slots, insn_at};
+ghost use Rattle.std.specs.Prelude.{◌≡◌, ◌<◌, ◌^◌, Some, None, true, if◌then◌else◌, IfOk, IfErr, IfNone};
+ghost use Rattle.pb_isa.specs.Slots.{slots};
 ghost use Rattle.pb_isa.specs.Programs.{judged_of};
 ghost use Rattle.pb_helpers.specs.Codes.{lowest_code};
-ghost use Rattle.pb_verify.specs.Arriving.{codes_at, frame_after};
+ghost use Rattle.pb_verify.specs.Arriving.{codes_at};
 ghost use Rattle.pb_verify.specs.Verdict.{IsAccepted, IsVerifyFault, EachHasOneVerdict};
 ghost use Rattle.pb_verify.specs.Within.{IsWithinIf};
 
 use crate::accepted::{Accepted, by_slot};
-use crate::arriving::frame_before;
-use crate::following::after;
+use crate::arriving::{arrive, no_jumps, spread};
+use crate::following::step;
 use crate::rules::lowest_broken;
 use pb_base::{NoMemory, Refused};
 use pb_helpers::{Code, HelperTable};
-use pb_isa::Program;
-use pb_kinds::Frame;
+use pb_isa::{Insn, Program};
+use pb_kinds::{Frame, entry};
 use std::alloc::Global;
 use thiserror::Error;
 
@@ -27,28 +27,24 @@ pub enum VerifyFault {
     Refused(Refused),
 }
 
-// The frame after a slot, or the lowest code of the rules that are broken there.
-fn frame_after(
+// The lowest code of the rules that are broken at a slot with this instruction and this frame before it, if it is reached.
+fn code_at(
     program: &Program,
     helpers: HelperTable,
     slot: usize,
-    before: Option<Frame>,
-) -> Result<Option<Frame>, Code>
+    insn: Insn,
+    frame: &Frame,
+    is_reached: bool,
+) -> Option<Code>
     requires inside { slot < slots program.now.insns }
-    requires near { IsWithinIf (2 ^ 62) before }
-    ensures value { MatchResult
-        result
-        (λ out. (codes_at (judged_of program.now helpers) slot (insn_at program.now.insns slot) before ≡ []) × (out ≡ frame_after (insn_at program.now.insns slot) before))
-        (λ code. lowest_code (codes_at (judged_of program.now helpers) slot (insn_at program.now.insns slot) before) ≡ Some code) }
-    ensures near { IfOk result (λ out. (b : ℕ) → IsWithinIf b before → IsWithinIf (b + 2147483648) out) }
+    requires near { IsWithinIf (2 ^ 62) (if is_reached then Some frame.now else None) }
+    ensures value { result ≡ lowest_code (codes_at (judged_of program.now helpers) slot (Some insn) (if is_reached then Some frame.now else None)) }
+    ensures reached { IfNone result (is_reached ≡ true) }
 {
-    match (program.at(slot), before) {
-        (None, _) => Ok(None),
-        (Some(_), None) => Err(Code::Unreachable),
-        (Some(insn), Some(frame)) => match lowest_broken(program, helpers, slot, &frame, insn) {
-            Some(code) => Err(code),
-            None => Ok(Some(after(&frame, insn))),
-        },
+    if is_reached {
+        lowest_broken(program, helpers, slot, frame, insn)
+    } else {
+        Some(Code::Unreachable)
     }
 }
 
@@ -62,22 +58,28 @@ pub fn verify(
     ensures accepted { IfOk result (IsAccepted program helpers) }
     ensures refused { IfErr result (IsVerifyFault (judged_of program helpers)) }
 {
-    let mut outs: Vec<Option<Frame>> = Vec::new(alloc);
+    let Ok(mut jumps) = no_jumps(alloc, program.slots()) else {
+        return Err(VerifyFault::NoMemory);
+    };
+    let mut frame = entry();
+    // The slot that the frame leads to in order.
+    let mut next = 0;
     for slot in 0..program.slots() {
-        let known = frame_before(&program, slot, &outs);
-        match frame_after(&program, helpers, slot, known) {
-            Err(code) => {
-                return Err(VerifyFault::Refused(Refused {
-                    slot: slot as u16,
-                    code: code.code(),
-                }));
-            }
-            Ok(out) => {
-                if outs.push(out).is_err() {
-                    return Err(VerifyFault::NoMemory);
-                }
-            }
+        let Some(insn) = program.at(slot) else {
+            continue;
+        };
+        let is_reached = arrive(&mut jumps, slot, &mut frame, slot == next);
+        if let Some(code) = code_at(&program, helpers, slot, insn, &frame, is_reached) {
+            return Err(VerifyFault::Refused(Refused {
+                slot: slot as u16,
+                code: code.code(),
+            }));
         }
+        step(&mut frame, insn);
+        next = match spread(alloc, &mut jumps, slot, insn, &frame) {
+            Ok(next) => next,
+            Err(_) => return Err(VerifyFault::NoMemory),
+        };
     }
     let insns = match by_slot(alloc, &program) {
         Ok(insns) => insns,

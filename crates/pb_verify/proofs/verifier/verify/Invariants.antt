@@ -1,12 +1,18 @@
-use Rattle.std.proofs.Common.{◌≡◌, ℕ, ◌<◌, ◌*◌, []}
+use Rattle.std.proofs.Common.{◌≡◌, ℕ, ◌<◌, ◌≤◌, ◌+◌, ◌*◌, [], Some, None, length}
+use Rattle.std.specs.Prelude.{slice_index_or, option_map, if◌then◌else◌, nat_eq}
+use Rattle.std.specs.Box.{box_value}
+use Rattle.pb_isa.specs.Slots.{slots, insn_at}
 use Rattle.pb_isa.specs.Programs.{judged_of}
-use Rattle.pb_verify.specs.Arriving.{outs, faults}
+use Rattle.pb_verify.specs.Arriving.{merge, outs, frame_before, faults}
 use Rattle.pb_verify.specs.Within.{AllWithin}
 use Rattle.pb_verify.proofs.verifier.verify.Given as goal
 
 abbrev pub invariant-loop-slot : goal.invariant-loop-slot
 invariant-loop-slot l = record {
-  outs : l.outs.items ≡ outs l.fn.program.insns l.slot;
+  len : length l.jumps.items ≡ slots l.fn.program.insns;
+  known : (k : ℕ) → l.slot ≤ k → k < slots l.fn.program.insns → merge (option_map box_value (slice_index_or l.jumps.items k None)) (if nat_eq k l.next then Some l.frame else None) ≡ frame_before l.fn.program.insns k (outs l.fn.program.insns l.slot);
+  most : l.next ≤ l.slot + 1;
+  pair : l.slot < l.next → insn_at l.fn.program.insns l.slot ≡ None;
   fine : (m : ℕ) → m < l.slot → faults (judged_of l.fn.program l.fn.helpers) m ≡ [];
-  near : AllWithin (l.slot * 2147483648) l.outs.items;
+  near : AllWithin (l.slot * 2147483648) (outs l.fn.program.insns l.slot);
 }

@@ -1,0 +1,43 @@
+use Rattle.std.proofs.Common.{◌≡◌, ℕ, suc, ◌+◌, ◌<◌, false, List, [], ◌∷◌, ◌++◌, Option, Some, None, length, refl, ◌∙◌, arith, nat_eq}
+use Rattle.std.proofs.lemmas.Bool.Decides.{nat_tests}
+use Rattle.pb_isa.specs.declared.insn.Insn.{Insn}
+use Rattle.pb_isa.specs.Slots.{insn_at}
+use Rattle.pb_kinds.specs.declared.frame.Frame.{Frame}
+use Rattle.pb_helpers.specs.declared.code.Code.{Code}
+use Rattle.pb_helpers.specs.Codes.{lowest_code}
+use Rattle.pb_verify.specs.Arriving.{merge, if_leads, gather, frame_before, outs}
+use Rattle.pb_verify.proofs.FramesAfter.{length-outs, outs_more}
+
+-- what is gather of one more frame is merged with what is if_leads of it
+gather_more : (p : List Insn) (n m : ℕ) (known : Option Frame) (fs : List (Option Frame)) (f : Option Frame) → gather p n m known (fs ++ f ∷ []) ≡ merge (gather p n m known fs) (if_leads (insn_at p (m + length fs)) (m + length fs) n f)
+gather_more p n m known [] f = let e : m + 0 ≡ m = omega arith in rw e refl
+gather_more p n m known (g ∷ gs) f =
+    let e : m + suc (length gs) ≡ m + 1 + length gs = omega arith in
+    rw e (gather_more p n (m + 1) (merge known (if_leads (insn_at p m) m n g)) gs f)
+
+before_more : (p : List Insn) (n : ℕ) (fs : List (Option Frame)) (f : Option Frame) → 0 < n → frame_before p n (fs ++ f ∷ []) ≡ merge (frame_before p n fs) (if_leads (insn_at p (length fs)) (length fs) n f)
+before_more p n fs f h =
+    let e : nat_eq n 0 ≡ false = grind (arith, nat_tests) in
+    let z : 0 + length fs ≡ length fs = omega arith in
+    rw e (rw z at (gather_more p n 0 None fs f))
+
+-- one slot more joins the frame after it to what is known at each later slot
+pub before_next : (p : List Insn) (n m : ℕ) (f : Option Frame) → m < n → frame_before p n (outs p m ++ f ∷ []) ≡ merge (frame_before p n (outs p m)) (if_leads (insn_at p m) m n f)
+before_next p n m f h = rw (length-outs p m) at (before_more p n (outs p m) f (omega arith))
+
+pub merge_none : (f : Option Frame) → merge f None ≡ f
+merge_none None = refl
+merge_none (Some f) = refl
+
+-- a second slot brings nothing
+pub before_past : (p : List Insn) (n m : ℕ) → m < n → insn_at p m ≡ None → frame_before p n (outs p (m + 1)) ≡ frame_before p n (outs p m)
+before_past p n m h e =
+    let next = rw e at (before_next p n m None h) in
+    rw (outs_more p m, e) (next ∙ merge_none _)
+
+pub not_here : (n m : ℕ) → n < m → nat_eq m n ≡ false
+not_here n m h = grind (arith, nat_tests)
+
+pub none_broken : (cs : List Code) → lowest_code cs ≡ None → cs ≡ []
+none_broken [] e = refl
+none_broken (c ∷ cs) e = absurd (grind (arith, e))
