@@ -7,4 +7,4 @@ mod frame;
 mod ranges;
 
 pub use frame::{Frame, Kind, entry, join, joins_are_meets};
-pub use ranges::{in_record, in_stack};
+pub use ranges::{from_low, in_record, in_stack};

@@ -20,8 +20,8 @@ pub fn in_record(at: i64, bytes: u8) -> bool
     0 <= at && at <= RECORD_BYTES as i64 - i64::from(bytes)
 }
 
-// The place of a stack byte, counted from the lowest.
-fn from_low(at: i64, bytes: u8) -> usize
+/// The place of a stack byte, counted from the lowest.
+pub fn from_low(at: i64, bytes: u8) -> usize
     requires { IsTrue (in_stack at bytes) }
     ensures place { result ≡ from_low at }
     ensures fits { result + bytes ≤ STACK_BYTES }

@@ -51,7 +51,7 @@ unless_copy e p false o x h = h
 
 -- ---- registers
 
-number_lt : (r : Reg) → number r < 11
+pub number_lt : (r : Reg) → number r < 11
 number_lt registers.R0 = omega arith
 number_lt registers.R1 = omega arith
 number_lt registers.R2 = omega arith

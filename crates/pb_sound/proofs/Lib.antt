@@ -20,3 +20,4 @@ pub mod OneMeaning
 pub mod Silent
 pub mod RunWrites
 pub mod Placements
+pub mod Accesses

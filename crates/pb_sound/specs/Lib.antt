@@ -10,3 +10,4 @@ pub mod OneMeaning
 pub mod Placements
 pub mod Silent
 pub mod RunWrites
+pub mod Accesses

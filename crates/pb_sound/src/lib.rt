@@ -10,6 +10,7 @@ ghost use Rattle.pb_sound.specs.RunWrites.{RunsWriteBatches};
 ghost use Rattle.pb_sound.specs.OneMeaning.{EachHasOneMeaning};
 ghost use Rattle.pb_sound.specs.Positions.{AcceptedCellsRun, EveryRunEnds};
 ghost use Rattle.pb_sound.specs.Steps.{AcceptedStepTogether};
+ghost use Rattle.pb_sound.specs.Accesses.{AcceptedAccessesFit};
 
 use pb_isa::next_slots_are_first;
 use pb_verify::{frames_are_meets, jumps_lead_on};
@@ -34,6 +35,11 @@ pub fn accepted_step_together()
     jumps_lead_on();
     next_slots_are_first();
 }
+
+/// What an instruction of an accepted program reads or writes is where the frame before its slot says.
+pub fn accepted_accesses_fit()
+    ensures { AcceptedAccessesFit }
+{}
 
 /// What an accepted program ends with at one placement, it ends with at every one, after the same asks and replies.
 pub fn end_is_meaning()

@@ -12,8 +12,8 @@ use Rattle.pb_helpers.specs.declared.code.Code.{Code}
 use Rattle.pb_helpers.specs.declared.code.Code.TheVariants.{PointerCompared}
 use Rattle.pb_helpers.specs.Codes.{when}
 use Rattle.pb_verify.specs.Rules.{reads, reads_operand, on_pointer, falls, jump_rules, insn_rules}
-use Rattle.pb_verify.specs.Following.{leads, ahead}
-use Rattle.pb_verify.specs.Arriving.{has_slot, in_at, codes_at, Accepts}
+use Rattle.pb_verify.specs.Following.{ahead}
+use Rattle.pb_verify.specs.Arriving.{has_slot, in_at, codes_at}
 use Rattle.pb_verify.specs.Forward.{IsAhead, IsForward, LeadsAreLater, AcceptedJumpsGoForward}
 
 -- ---- later slots

@@ -4,6 +4,7 @@ pub mod PointersWithin
 pub mod FramesAfter
 pub mod Pairs
 pub mod Pending
+pub mod Resolved
 pub mod FramesAreMeets
 pub mod OneVerdict
 pub mod JumpsForward

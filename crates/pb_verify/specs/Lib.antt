@@ -6,3 +6,4 @@ pub mod Within
 pub mod Ways
 pub mod Forward
 pub mod BySlot
+pub mod Accesses

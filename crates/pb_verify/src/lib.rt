@@ -4,12 +4,14 @@
 #![tactic(auto)]
 
 mod accepted;
+mod accesses;
 mod arriving;
 mod following;
 mod rules;
 mod verifier;
 
 pub use accepted::Accepted;
+pub use accesses::Access;
 pub use arriving::{frames_are_meets, jumps_lead_on};
 pub use rules::codes_rise;
 pub use verifier::{VerifyFault, either_accepted_or_refused, verify};

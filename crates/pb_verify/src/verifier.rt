@@ -8,6 +8,7 @@ ghost use Rattle.pb_verify.specs.Verdict.{IsAccepted, IsVerifyFault, EachHasOneV
 ghost use Rattle.pb_verify.specs.Within.{IsWithinIf};
 
 use crate::accepted::{Accepted, by_slot};
+use crate::accesses::{Access, access_of};
 use crate::arriving::{arrive, no_jumps, spread};
 use crate::following::step;
 use crate::rules::lowest_broken;
@@ -61,11 +62,15 @@ pub fn verify(
     let Ok(mut jumps) = no_jumps(alloc, program.slots()) else {
         return Err(VerifyFault::NoMemory);
     };
+    let mut accesses: Vec<Access> = Vec::new(alloc);
     let mut frame = entry();
     // The slot that the frame leads to in order.
     let mut next = 0;
     for slot in 0..program.slots() {
         let Some(insn) = program.at(slot) else {
+            if accesses.push(Access::Nowhere).is_err() {
+                return Err(VerifyFault::NoMemory);
+            }
             continue;
         };
         let is_reached = arrive(&mut jumps, slot, &mut frame, slot == next);
@@ -74,6 +79,9 @@ pub fn verify(
                 slot: slot as u16,
                 code: code.code(),
             }));
+        }
+        if accesses.push(access_of(&frame, insn)).is_err() {
+            return Err(VerifyFault::NoMemory);
         }
         step(&mut frame, insn);
         next = match spread(alloc, &mut jumps, slot, insn, &frame) {
@@ -85,7 +93,7 @@ pub fn verify(
         Ok(insns) => insns,
         Err(NoMemory) => return Err(VerifyFault::NoMemory),
     };
-    Ok(Accepted::new(program, helpers, insns))
+    Ok(Accepted::new(program, helpers, insns, accesses))
 }
 
 /// The rules accept a program, or they refuse it at one slot with one code, and not both.
