@@ -1,24 +1,24 @@
 -- The writes of a run are distinct data cells without stamps, 16 at most, at each point of it.
-use Rattle.std.proofs.Common.{◌≡◌, ℕ, ◌+◌, ◌<◌, ◌≤◌, zero, suc, Bool, true, false, cond, nat_eq, nat_lt, List, [], ◌∷◌, ◌++◌, length, Option, Some, None, refl, sym, ap, subst, ◌∙◌, inl, inr, arith, length-append}
-use Rattle.std.specs.Prelude.{◌&&◌, replicate, is_some, is_none, nat_le, slice_get}
+use Rattle.std.proofs.Common.{◌≡◌, ℕ, ◌+◌, ◌≤◌, zero, suc, Bool, true, false, cond, nat_eq, nat_lt, List, [], ◌∷◌, ◌++◌, length, Option, Some, None, refl, sym, ap, subst, ◌∙◌, inl, inr, arith, length-append}
+use Rattle.std.specs.Prelude.{◌&&◌, replicate, is_some, is_none, slice_get}
 use Rattle.std.specs.Cmp.{eq_by_cmp_equiv, Equal-is}
 use Rattle.std.specs.List.{list_all}
 use Rattle.std.specs.Ordering.{eq_by_cmp}
 use Rattle.std.proofs.lemmas.Bool.{and_parts, ltb-true, le-leb, lt-ltb}
-use Rattle.pb_base.specs.Cell.{cell_cmp, cell_cmp_total, cell_cmp-IsAntisymmetric, is_data}
+use Rattle.pb_base.specs.Cell.{cell_cmp, cell_cmp_total, cell_cmp-IsAntisymmetric}
 use Rattle.pb_base.specs.declared.cell.Cell.{Cell}
 use Rattle.pb_base.specs.declared.content.Content.{Content}
 use Rattle.pb_base.specs.declared.content.Content.TheVariants.{Value, Deleted}
 use Rattle.pb_base.specs.declared.limits.TheConstants.{MAX_CELLS}
-use Rattle.pb_base.specs.Batch.{Writes, content_in, is_unstamped, is_data_write, are_distinct, is_batch}
+use Rattle.pb_base.specs.Batch.{Writes, content_in, is_unstamped, is_data_write, are_distinct}
 use Rattle.pb_isa.specs.declared.insn.Insn.{Insn}
 use Rattle.pb_isa.specs.declared.insn.Insn.TheVariants.{Call}
 use Rattle.pb_isa.specs.Slots.{insn_at}
 use Rattle.pb_isa.specs.Helpers.{Helper, Read, Write, Delete, Start, declared_helper}
 use Rattle.pb_isa.specs.Machine.{Environment, State, Ask, Reply, is_reply, Outcome, Goes, Asks, Ends, Stuck, with_value, with_values, stack_has, entries, replace_write, add_write, write_result, cell_of, state_after_call, state_after_read, reply_bytes, reply_result, reads_cell, writes_cell, helps, calls, does, does_at, act, start}
-use Rattle.pb_isa.specs.Meaning.{Talk, Point, point, is_same_ask, on_reply, on, onward, point_after, kept_writes}
+use Rattle.pb_isa.specs.Meaning.{Talk, Point, point, is_same_ask, on_reply, on, onward, point_after}
 use Rattle.pb_sound.specs.RunWrites.{AreRunWrites, RunsWriteBatches}
-use Rattle.pb_sound.proofs.Silent.{IsSilentStep, IsPlain, plain_is_silent}
+use Rattle.pb_sound.proofs.Silent.{IsSilentStep, plain_is_silent}
 
 -- what a run may have written so far
 record AreMade (ws : Writes) : Type 0 where

@@ -1,3 +1,4 @@
+pub mod Regions
 pub mod Replacing
 pub mod Calling
 pub mod Running

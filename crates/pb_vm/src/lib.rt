@@ -5,6 +5,7 @@
 mod cells;
 mod finished;
 mod instructions;
+mod memory;
 mod moved;
 mod vm;
 mod writes;

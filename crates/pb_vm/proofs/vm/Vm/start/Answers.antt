@@ -18,4 +18,4 @@ invariant_of-result c =
     let fits = talk.capacity in
     let none_written = ap length writes.items in
     let written_fit = writes.capacity in
-    (ok, record { asks = omega (arith, none_asked); asks_fit = omega (arith, counted, fits); writes = omega (arith, none_written); writes_fit = omega (arith, written_fit) }, starts c.accepted_cells_run.ensures j c.args.change c.args.run.0 ok c.in_ok-talk.talk.items c.new-core.result c.in_ok-writes.writes.items c.bytes.result.now talk.items writes.items c.bytes.ensures.bytes c.new-core.ensures)
+    (ok, record { asks = omega (arith, none_asked); asks_fit = omega (arith, counted, fits); writes = omega (arith, none_written); writes_fit = omega (arith, written_fit) }, starts c.accepted_cells_run.ensures j c.args.change c.args.run.0 ok c.in_ok-talk.talk.items c.new.result c.in_ok-writes.writes.items talk.items writes.items (c.new.ensures c.args.change))
