@@ -1,6 +1,7 @@
 //! Programs that run. All values are worked out from RFC 9669, or from the sources in C.
 mod ends;
 mod helping;
+mod many;
 mod observers;
 mod opcodes;
 mod rows;

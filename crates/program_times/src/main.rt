@@ -1,7 +1,8 @@
 //! Times what is done with programs, for the scripts of bench/: `list SLOTS` decodes and lists a program of so many slots
 //! 10,000 times, and `verify SLOTS` decodes and verifies one 1,000 times. It prints how many bytes the listings, or how
-//! many slots the accepted programs have together. `run FILE RUNS` runs the program in a file so often, and prints what the
-//! last run left and how many instructions it did, or why the program is refused.
+//! many slots the accepted programs have together. `run FILE RUNS` runs the program in a file so often, by as many steps a
+//! call as go, and prints what the last run left and how many instructions it did, or why the program is refused; `step
+//! FILE RUNS` does so step by step.
 #![tactic(auto)]
 
 mod running;
@@ -101,9 +102,9 @@ fn total_of(rt: &HostRuntime, word: &str, slots: &str) -> Option<u64> {
 }
 
 // Prints what the last of so many runs left.
-fn tell_run(rt: &HostRuntime, path: &str, runs: &str) -> Option<bool> {
+fn tell_run(rt: &HostRuntime, path: &str, runs: &str, is_by_steps: bool) -> Option<bool> {
     let runs = runs.parse::<u32>().ok()?;
-    match last_of(rt, path, runs) {
+    match last_of(rt, path, runs, is_by_steps) {
         Ok(ran) => {
             let end = ran.finished.result();
             let writes = ran.finished.writes().len();
@@ -123,8 +124,13 @@ fn obey(rt: &HostRuntime) -> Option<bool> {
     let args = env::args(rt).ok()?;
     let words: Vec<String> = args.collect(rt.alloc()).ok()?;
     let word = words.get(1)?.as_str();
-    if word == "run" {
-        return tell_run(rt, words.get(2)?.as_str(), words.get(3)?.as_str());
+    if word == "run" || word == "step" {
+        return tell_run(
+            rt,
+            words.get(2)?.as_str(),
+            words.get(3)?.as_str(),
+            word == "step",
+        );
     }
     let total = total_of(rt, word, words.get(2)?.as_str())?;
     let _ = println!(rt; "{total}");

@@ -10,7 +10,7 @@ use std::io::Read;
 use std::sync::Arc;
 
 // More than a step and a reply for each instruction of the longest program.
-const CALLS: u32 = 2_048;
+const CALLS: u16 = 2_048;
 
 /// How many instructions a run did, and what it left.
 #[derive(Drop)]
@@ -45,13 +45,17 @@ fn change() -> Option<Record> {
     Some(Record::new(Cell::Data(Row(7), Column::new(0)?), &version, Ts(0)))
 }
 
-// A run at 3 to its end, where each cell that it asks for is absent.
-fn run(alloc: Global, program: &Arc<Accepted>) -> Option<Ran> {
+// A run at 3 to its end, by so many instructions a call, where each cell that it asks for is absent.
+fn run(alloc: Global, program: &Arc<Accepted>, most: u16) -> Option<Ran> {
     let mut vm = Vm::start(alloc, program, change()?, Ts(3)).ok()?;
     for _ in 0..CALLS {
         match vm.phase() {
             Phase::Going => {
-                vm.step();
+                if most > 1 {
+                    vm.advance(most);
+                } else {
+                    vm.step();
+                }
             }
             Phase::Asking(_) => vm.reply(Reply::Absent),
             Phase::Over(_) => break,
@@ -67,8 +71,8 @@ fn run(alloc: Global, program: &Arc<Accepted>) -> Option<Ran> {
     }
 }
 
-/// The last of so many runs of the program in a file, with all helpers.
-pub fn last_of(rt: &HostRuntime, path: &str, runs: u32) -> Result<Ran, NoRun> {
+/// The last of so many runs of the program in a file, with all helpers: step by step, or by as many as go.
+pub fn last_of(rt: &HostRuntime, path: &str, runs: u32, is_by_steps: bool) -> Result<Ran, NoRun> {
     let Some(bytes) = bytes_of(rt, path) else {
         return Err(NoRun::Failed);
     };
@@ -80,9 +84,10 @@ pub fn last_of(rt: &HostRuntime, path: &str, runs: u32) -> Result<Ran, NoRun> {
     let Ok(program) = Arc::new(rt.alloc(), accepted) else {
         return Err(NoRun::Failed);
     };
+    let most = if is_by_steps { 1 } else { CALLS };
     let mut last = None;
     for _ in 0..runs {
-        last = run(rt.alloc(), &program);
+        last = run(rt.alloc(), &program, most);
     }
     match last {
         Some(ran) => Ok(ran),
