@@ -43,7 +43,8 @@ fn all(rt: &HostRuntime) -> Result<bool, NoMemory> {
         && programs::programs_are_encoded(alloc)?
         && programs::texts_are_assembled(alloc)?
         && programs::programs_are_listed(alloc)?
-        && programs::programs_are_verified(alloc)?;
+        && programs::programs_are_verified(alloc)?
+        && programs::jumps_are_verified(alloc)?;
     Ok(copies && table && shared && runs && observers && programs)
 }
 

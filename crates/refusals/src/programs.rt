@@ -11,6 +11,10 @@ const TEXT: &str = "# five\nlddw r0, 5\nexit\n";
 
 const LISTING: &str = "lddw r0, 5\nexit\n";
 
+// Jumps to two slots, to each of which the slot before leads too.
+const BRANCHING: &str =
+    "mov64 r2, 1\nstdw [r10-8], 2\njeq64 r2, 1, +2\nmov64 r3, 4\njne64 r2, 5, +1\nmov64 r3, 6\nldxdw r0, [r10-8]\nexit\n";
+
 const BYTES: &[u8] = b"\x18\0\0\0\x05\0\0\0\0\0\0\0\0\0\0\0\x95\0\0\0\0\0\0\0";
 
 fn insns(alloc: Global) -> Result<Vec<Insn>, NoMemory> {
@@ -103,6 +107,25 @@ pub fn programs_are_verified(alloc: Global) -> Result<bool, NoMemory> {
         Err(VerifyFault::Refused(_)) => Ok(false),
         Err(VerifyFault::NoMemory) => match verify(alloc, program(alloc)?, HelperTable::none()) {
             Ok(accepted) => Ok(is_it(accepted.program())),
+            Err(_) => Ok(false),
+        },
+    }
+}
+
+fn branching(alloc: Global) -> Result<Program, NoMemory> {
+    match assemble(alloc, BRANCHING) {
+        Ok(program) => Ok(program),
+        Err(_) => Err(NoMemory),
+    }
+}
+
+/// `verify` of a program with jumps.
+pub fn jumps_are_verified(alloc: Global) -> Result<bool, NoMemory> {
+    match verify(alloc, branching(alloc)?, HelperTable::none()) {
+        Ok(accepted) => Ok(accepted.slots() == 8),
+        Err(VerifyFault::Refused(_)) => Ok(false),
+        Err(VerifyFault::NoMemory) => match verify(alloc, branching(alloc)?, HelperTable::none()) {
+            Ok(accepted) => Ok(accepted.slots() == 8),
             Err(_) => Ok(false),
         },
     }
