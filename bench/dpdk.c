@@ -1,9 +1,11 @@
-// Runs the BPF program in a file so often by DPDK's interpreter, on 80 bytes that are those of the record of a deleted
-// cell 7 0 of start 1 and commit 2, and prints what the last run ended with.
+// `run FILE TIMES` runs the BPF program in a file so often by DPDK's interpreter, on 80 bytes that are those of the record
+// of a deleted cell 7 0 of start 1 and commit 2, and prints what the last run ended with. `load FILE TIMES` only loads it
+// so often, which verifies and compiles it.
 #include <rte_bpf.h>
 #include <stdint.h>
 #include <stdio.h>
 #include <stdlib.h>
+#include <string.h>
 
 #define MOST_SLOTS 512
 #define RECORD_BYTES 80
@@ -12,10 +14,10 @@ int main(int argc, char **argv) {
     static struct ebpf_insn slots[MOST_SLOTS];
     uint64_t record[RECORD_BYTES / 8] = {7, 0, 1, 2};
     uint64_t end = 0;
-    if (argc != 3) {
+    if (argc != 4) {
         return 2;
     }
-    FILE *file = fopen(argv[1], "rb");
+    FILE *file = fopen(argv[2], "rb");
     if (file == NULL) {
         return 2;
     }
@@ -26,11 +28,22 @@ int main(int argc, char **argv) {
         .nb_ins = (uint32_t)count,
         .prog_arg = {.type = RTE_BPF_ARG_PTR, .size = sizeof record},
     };
+    long left = atol(argv[3]);
+    if (strcmp(argv[1], "load") == 0) {
+        for (; left > 0; left--) {
+            struct rte_bpf *loaded = rte_bpf_load(&how);
+            if (loaded == NULL) {
+                return 1;
+            }
+            rte_bpf_destroy(loaded);
+        }
+        return 0;
+    }
     struct rte_bpf *program = rte_bpf_load(&how);
     if (program == NULL) {
         return 1;
     }
-    for (long left = atol(argv[2]); left > 0; left--) {
+    for (; left > 0; left--) {
         end = rte_bpf_exec(program, record);
     }
     rte_bpf_destroy(program);

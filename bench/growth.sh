@@ -1,14 +1,15 @@
 # Sourced by the scripts that time `program_times`: how long it takes for programs of 64 and of 512 slots. Each time is the
 # median of RUNS runs (5, if not set), taken in turns, and is of the whole process.
 top=$(cd "$(dirname "${BASH_SOURCE[0]}")/.." && pwd)
+program=$top/crates/program_times/out/program_times
 runs=${RUNS:-5}
 room=$(mktemp -d)
 trap 'rm -rf "$room"' EXIT
 
-# Prints how many microseconds it takes to do this with a program of so many slots.
+# Prints how many microseconds a command takes.
 microseconds() {
     local from=${EPOCHREALTIME/[.,]/} to
-    "$top/crates/program_times/out/program_times" "$1" "$2" >"$room/out"
+    "$@" >"$room/out"
     to=${EPOCHREALTIME/[.,]/}
     echo $((to - from))
 }
@@ -19,8 +20,8 @@ median() { sort -n "$room/$1" | sed -n "$(((runs + 1) / 2))p"; }
 time_both() {
     "$top/checks/build" program_times "$1" 64
     for ((run = 0; run < runs; run++)); do
-        microseconds "$1" 64 >>"$room/64"
-        microseconds "$1" 512 >>"$room/512"
+        microseconds "$program" "$1" 64 >>"$room/64"
+        microseconds "$program" "$1" 512 >>"$room/512"
     done
     small=$(median 64)
     large=$(median 512)
