@@ -4,3 +4,4 @@ pub mod Calling
 pub mod Running
 pub mod Stepping
 pub mod Starting
+pub mod Advancing
