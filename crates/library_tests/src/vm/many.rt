@@ -38,7 +38,11 @@ fn as_many_as_are_asked_for(rt: HostRuntime) {
 
 #[test]
 fn no_further_than_the_end(rt: HostRuntime) {
-    let mut vm = started(&rt, rt.alloc(), "mov64 r0, 0\njeq64 r0, 0, +1\nmov64 r0, 1\nexit\n");
+    let mut vm = started(
+        &rt,
+        rt.alloc(),
+        "mov64 r0, 0\njeq64 r0, 0, +1\nmov64 r0, 1\nexit\n",
+    );
     assert!(rt; advance(&rt, &mut vm, 65535) == Moved::Ended(0) && vm.taken() == 3);
     let mut vm = started(&rt, rt.alloc(), "mov64 r0, 7\nexit\n");
     assert!(rt; advance(&rt, &mut vm, 2) == Moved::Ended(7) && vm.taken() == 2);
