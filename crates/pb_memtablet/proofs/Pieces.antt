@@ -176,6 +176,20 @@ module _ {K X : Type 0} (R : K → K → Ordering) (o : IsTotalOrder R) where
           above = above_point all k (suc p) s h f;
         }
 
+    -- the chunk at i starts by k, and the next one doesn't
+    pub home_between : (cs : List (Vec (K × X) A)) (k : K) (i : ℕ) → i < length cs → T (is_sorted R (chunk_entries cs)) → All IsChunk cs
+        → ((d : Vec (K × X) A) → starts_by R k (get_or cs i d).items ≡ true) → ((d : Vec (K × X) A) → i + 1 < length cs → starts_by R k (get_or cs (i + 1) d).items ≡ false) → IsHome R cs k i
+    home_between cs k i lt s h here next =
+        let parted : IsPartitionedBy (λ c. starts_by R k c.items) cs = partitioned cs k s h in
+        home_at_point cs k (i + 1) (omega arith) (omega arith) s h
+        (λ j d a b. parted j i d (omega arith) lt (here d))
+        (λ j d a b.
+        elim (starts_by R k (get_or cs j d).items) as (λ t. starts_by R k (get_or cs j d).items ≡ t → t ≡ false) [
+          | true ↦ λ e. absurd (cc (parted (i + 1) j d (omega arith) b e, next d (omega arith)))
+          | false ↦ λ e. refl
+        ] refl)
+        i (omega arith)
+
     -- ---- the list around the home of k
     pub around : (cs : List (Vec (K × X) A)) (k : K) (i : ℕ) (m : Vec (K × X) A) → IsHome R cs k i → m ≡ get_or cs i m → chunk_entries cs ≡ chunk_entries (take i cs) ++ (m.items ++ chunk_entries (drop (suc i) cs))
     around cs k i m h e = chunk_entries-split cs i m h.within ∙ ap (λ (c : Vec (K × X) A). chunk_entries (take i cs) ++ (c.items ++ chunk_entries (drop (suc i) cs))) (sym e)

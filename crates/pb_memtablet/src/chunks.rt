@@ -28,38 +28,60 @@ fn does_start_by<K: Ord, V>(entries: &[(K, V)], key: &K) -> bool
     !entries.is_empty() && entries[0].0.cmp(key).is_le()
 }
 
-// The place of the chunk where the key stands, or would stand.
-fn home_of<K: Ord, V>(chunks: &[Chunk<K, V>], key: &K) -> usize
+// Whether the key stands in the chunk at a place, or would stand there: the chunk starts by it, and the next one doesn't.
+fn is_home<K: Ord, V>(chunks: &[Chunk<K, V>], key: &K, place: usize) -> bool
+    requires { AreChunks K.cmp chunks.now }
+    ensures home { result ≡ true → IsHome K.cmp chunks.now key.now place }
+    ensures started { result ≡ true → HoldsAt (λ c. starts_by K.cmp key.now c.items ≡ true) chunks.now place }
+{
+    if place >= chunks.len() || !does_start_by(&chunks[place], key) {
+        return false;
+    }
+    if place + 1 == chunks.len() {
+        return true;
+    }
+    !does_start_by(&chunks[place + 1], key)
+}
+
+// The place of the chunk where the key stands, or would stand. A place that is likely is tried first.
+fn home_of<K: Ord, V>(chunks: &[Chunk<K, V>], key: &K, likely: usize) -> usize
     requires chunks { AreChunks K.cmp chunks.now }
     requires some { 0 < length chunks.now }
     ensures home { IsHome K.cmp chunks.now key.now result }
     ensures started { 0 < result → HoldsAt (λ c. starts_by K.cmp key.now c.items ≡ true) chunks.now result }
 {
+    if is_home(chunks, key, likely) {
+        return likely;
+    }
     chunks
         .partition_point(|chunk| does_start_by(chunk, key))
         .saturating_sub(1)
 }
 
 // The value at the key.
-pub(crate) fn value_at<K: Ord, V: Copy>(chunks: &[Chunk<K, V>], key: &K) -> Option<V>
+pub(crate) fn value_at<K: Ord, V: Copy>(chunks: &[Chunk<K, V>], key: &K, likely: usize) -> Option<V>
     requires { AreChunks K.cmp chunks.now }
     ensures { result ≡ find K.cmp key.now (chunk_entries chunks.now) }
 {
     if chunks.is_empty() {
         return None;
     }
-    look_up(&chunks[home_of(chunks, key)], key)
+    look_up(&chunks[home_of(chunks, key, likely)], key)
 }
 
 // The last entry whose key is at most the given one.
-pub(crate) fn last_up_to<K: Ord + Copy, V: Copy>(chunks: &[Chunk<K, V>], key: &K) -> Option<(K, V)>
+pub(crate) fn last_up_to<K: Ord + Copy, V: Copy>(
+    chunks: &[Chunk<K, V>],
+    key: &K,
+    likely: usize,
+) -> Option<(K, V)>
     requires { AreChunks K.cmp chunks.now }
     ensures { result ≡ last_or None (entries_up_to K.cmp key.now (chunk_entries chunks.now)) }
 {
     if chunks.is_empty() {
         return None;
     }
-    let chunk = &chunks[home_of(chunks, key)];
+    let chunk = &chunks[home_of(chunks, key, likely)];
     let above = place_above(chunk, key);
     if above == 0 {
         None
@@ -69,14 +91,18 @@ pub(crate) fn last_up_to<K: Ord + Copy, V: Copy>(chunks: &[Chunk<K, V>], key: &K
 }
 
 // The first entry whose key is above the given one.
-pub(crate) fn first_above<K: Ord + Copy, V: Copy>(chunks: &[Chunk<K, V>], key: &K) -> Option<(K, V)>
+pub(crate) fn first_above<K: Ord + Copy, V: Copy>(
+    chunks: &[Chunk<K, V>],
+    key: &K,
+    likely: usize,
+) -> Option<(K, V)>
     requires { AreChunks K.cmp chunks.now }
     ensures { result ≡ slice_get (entries_above K.cmp key.now (chunk_entries chunks.now)) 0 }
 {
     if chunks.is_empty() {
         return None;
     }
-    let home = home_of(chunks, key);
+    let home = home_of(chunks, key, likely);
     let chunk = &chunks[home];
     let place = place_above(chunk, key);
     if place < chunk.len() {
@@ -153,6 +179,7 @@ fn roomy_home<K: Ord + Drop, V: Drop>(
     spares: &mut Vec<Chunk<K, V>>,
     counts: &mut Vec<usize>,
     key: &K,
+    likely: usize,
 ) -> usize
     requires chunks { AreChunks K.cmp chunks.old.items }
     requires some { 0 < vec_len chunks.old }
@@ -172,7 +199,7 @@ fn roomy_home<K: Ord + Drop, V: Drop>(
     ensures counts { AreCounts counts.new.items chunks.new.items }
     ensures counts_capacity { vec_capacity counts.old ≤ vec_capacity counts.new }
 {
-    let home = home_of(chunks, key);
+    let home = home_of(chunks, key, likely);
     if chunks[home].len() < CHUNK {
         return home;
     }
@@ -208,11 +235,12 @@ fn put_alone<K: Ord + Drop, V: Drop>(
     chunks.push(chunk).unwrap();
 }
 
-// Puts the value at the key, and answers whether the key is new.
+// Puts the value at the key, and answers whether the key is new. It notes the place of the chunk as the next likely one.
 pub(crate) fn put_among<K: Ord + Drop, V: Drop>(
     chunks: &mut Vec<Chunk<K, V>>,
     spares: &mut Vec<Chunk<K, V>>,
     counts: &mut Vec<usize>,
+    likely: &mut usize,
     key: K,
     value: V,
 ) -> bool
@@ -237,7 +265,8 @@ pub(crate) fn put_among<K: Ord + Drop, V: Drop>(
         count_blocks(chunks, counts);
         return true;
     }
-    let home = roomy_home(chunks, spares, counts, &key);
+    let home = roomy_home(chunks, spares, counts, &key, *likely);
+    *likely = home;
     let is_new = put_in(&mut chunks[home], key, value);
     counts[block_of(home)] += usize::from(is_new);
     is_new
@@ -264,11 +293,12 @@ fn retire_chunk<K: Drop, V: Drop>(
     }
 }
 
-// Takes the key out, and answers whether it was there.
+// Takes the key out, and answers whether it was there. It notes the place of the chunk as the next likely one.
 pub(crate) fn take_among<K: Ord + Drop, V: Drop>(
     chunks: &mut Vec<Chunk<K, V>>,
     spares: &mut Vec<Chunk<K, V>>,
     counts: &mut Vec<usize>,
+    likely: &mut usize,
     key: &K,
 ) -> bool
     requires chunks { AreChunks K.cmp chunks.old.items }
@@ -288,7 +318,8 @@ pub(crate) fn take_among<K: Ord + Drop, V: Drop>(
     if chunks.is_empty() {
         return false;
     }
-    let home = home_of(chunks, key);
+    let home = home_of(chunks, key, *likely);
+    *likely = home;
     let taken = take_from(&mut chunks[home], key);
     if chunks[home].is_empty() {
         retire_chunk(chunks, spares, home);

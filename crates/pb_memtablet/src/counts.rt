@@ -7,7 +7,7 @@ ghost use Rattle.pb_memtablet.specs.BlockCounts.{AreCounts, IsInBlock};
 use crate::chunks::{Chunk, entry_among};
 
 // How many chunks are counted together.
-const BLOCK: usize = 128;
+const BLOCK: usize = 64;
 
 // The place of the block that has the chunk at this place.
 pub(crate) fn block_of(place: usize) -> usize

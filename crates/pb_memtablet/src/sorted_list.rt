@@ -26,6 +26,8 @@ pub struct SortedList<K: Ord, V> {
     // How many entries each block of chunks has.
     counts: Vec<usize>,
     len: usize,
+    // The place of the chunk of the last put or removal, where the next key may belong too. It can be any number.
+    likely: usize,
 }
 
 impl<K: Ord, V> Model for SortedList<K, V> {
@@ -56,6 +58,7 @@ impl<K: Ord, V> SortedList<K, V> {
             spares: Vec::new(alloc),
             counts: Vec::new(alloc),
             len: 0,
+            likely: 0,
         }
     }
 
@@ -79,7 +82,7 @@ impl<K: Ord, V: Copy> SortedList<K, V> {
     pub fn get(&self, key: &K) -> Option<V>
         ensures { result ≡ find K.cmp key.now self.now.entries }
     {
-        value_at(&self.chunks, key)
+        value_at(&self.chunks, key, self.likely)
     }
 }
 
@@ -88,14 +91,14 @@ impl<K: Ord + Copy, V: Copy> SortedList<K, V> {
     pub fn last_up_to(&self, key: &K) -> Option<(K, V)>
         ensures { result ≡ last_or None (entries_up_to K.cmp key.now self.now.entries) }
     {
-        last_up_to(&self.chunks, key)
+        last_up_to(&self.chunks, key, self.likely)
     }
 
     /// The first entry whose key is above the given one.
     pub fn first_above(&self, key: &K) -> Option<(K, V)>
         ensures { result ≡ slice_get (entries_above K.cmp key.now self.now.entries) 0 }
     {
-        first_above(&self.chunks, key)
+        first_above(&self.chunks, key, self.likely)
     }
 
     /// The entry at a place. It walks over the blocks of chunks before it, and then in one block.
@@ -154,6 +157,7 @@ impl<K: Ord + Drop, V: Drop> SortedList<K, V> {
             &mut self.chunks,
             &mut self.spares,
             &mut self.counts,
+            &mut self.likely,
             key,
             value,
         ) {
@@ -166,7 +170,13 @@ impl<K: Ord + Drop, V: Drop> SortedList<K, V> {
         ensures entries { self.new.entries ≡ where_key K.cmp (λ k. not (eq_by_cmp K.cmp key.now k)) self.old.entries }
         ensures room { self.old.room ≤ self.new.room }
     {
-        if take_among(&mut self.chunks, &mut self.spares, &mut self.counts, key) {
+        if take_among(
+            &mut self.chunks,
+            &mut self.spares,
+            &mut self.counts,
+            &mut self.likely,
+            key,
+        ) {
             self.len -= 1;
         }
     }
