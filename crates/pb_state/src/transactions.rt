@@ -37,6 +37,10 @@ fn place_of(list: &[(u64, Transaction)], start: u64) -> Option<usize>
 {
     let mut low = 0;
     let mut high = list.len();
+    // Mostly it is the newest.
+    if high > 0 && list[high - 1].0 == start {
+        return Some(high - 1);
+    }
     while low < high {
         let middle = low + (high - low) / 2;
         let here = list[middle].0;
