@@ -5,5 +5,5 @@ pub mod Verdict
 pub mod Within
 pub mod Ways
 pub mod Forward
-pub mod BySlot
 pub mod Accesses
+pub mod Effects

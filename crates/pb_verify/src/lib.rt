@@ -7,11 +7,14 @@ mod accepted;
 mod accesses;
 mod arriving;
 mod following;
+mod op;
+mod resolving;
 mod rules;
 mod verifier;
 
 pub use accepted::Accepted;
 pub use accesses::Access;
 pub use arriving::{frames_are_meets, jumps_lead_on};
+pub use op::Op;
 pub use rules::codes_rise;
 pub use verifier::{VerifyFault, either_accepted_or_refused, verify};

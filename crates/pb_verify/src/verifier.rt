@@ -7,12 +7,14 @@ ghost use Rattle.pb_verify.specs.Arriving.{codes_at};
 ghost use Rattle.pb_verify.specs.Verdict.{IsAccepted, IsVerifyFault, EachHasOneVerdict};
 ghost use Rattle.pb_verify.specs.Within.{IsWithinIf};
 
-use crate::accepted::{Accepted, by_slot};
-use crate::accesses::{Access, access_of};
+use crate::accepted::Accepted;
+use crate::accesses::access_of;
 use crate::arriving::{arrive, no_jumps, spread};
 use crate::following::step;
+use crate::op::Op;
+use crate::resolving::resolve;
 use crate::rules::lowest_broken;
-use pb_base::{NoMemory, Refused};
+use pb_base::Refused;
 use pb_helpers::{Code, HelperTable};
 use pb_isa::{Insn, Program};
 use pb_kinds::{Frame, entry};
@@ -62,13 +64,13 @@ pub fn verify(
     let Ok(mut jumps) = no_jumps(alloc, program.slots()) else {
         return Err(VerifyFault::NoMemory);
     };
-    let mut accesses: Vec<Access> = Vec::new(alloc);
+    let mut ops: Vec<Op> = Vec::new(alloc);
     let mut frame = entry();
     // The slot that the frame leads to in order.
     let mut next = 0;
     for slot in 0..program.slots() {
         let Some(insn) = program.at(slot) else {
-            if accesses.push(Access::Nowhere).is_err() {
+            if ops.push(Op::Exit).is_err() {
                 return Err(VerifyFault::NoMemory);
             }
             continue;
@@ -80,7 +82,8 @@ pub fn verify(
                 code: code.code(),
             }));
         }
-        if accesses.push(access_of(&frame, insn)).is_err() {
+        let access = access_of(&frame, insn);
+        if ops.push(resolve(slot, insn, access)).is_err() {
             return Err(VerifyFault::NoMemory);
         }
         step(&mut frame, insn);
@@ -89,11 +92,7 @@ pub fn verify(
             Err(_) => return Err(VerifyFault::NoMemory),
         };
     }
-    let insns = match by_slot(alloc, &program) {
-        Ok(insns) => insns,
-        Err(NoMemory) => return Err(VerifyFault::NoMemory),
-    };
-    Ok(Accepted::new(program, helpers, insns, accesses))
+    Ok(Accepted::new(program, helpers, ops))
 }
 
 /// The rules accept a program, or they refuse it at one slot with one code, and not both.

@@ -5,3 +5,6 @@ pub mod Running
 pub mod Stepping
 pub mod Starting
 pub mod Advancing
+pub mod Doing
+pub mod LeadingOn
+pub mod Rounds

@@ -1,7 +1,9 @@
 pub mod Places
 pub mod Core
+pub mod Acting
 pub mod Finished
 pub mod Position
 pub mod Moves
 pub mod Keeping
+pub mod OnWay
 pub mod Phases

@@ -2,9 +2,11 @@
 //! passed.
 #![tactic(auto)]
 
+mod acting;
 mod cells;
 mod finished;
 mod instructions;
+mod local;
 mod memory;
 mod moved;
 mod vm;

@@ -8,9 +8,11 @@ use Rattle.pb_verify.specs.Arriving.{merge, if_leads, outs, in_at, frame_before,
 use Rattle.pb_verify.specs.Within.{IsWithinIf}
 use Rattle.pb_verify.proofs.PointersWithin.{within_arriving, within_if_more, within_push, none_within}
 use Rattle.pb_verify.proofs.FramesAfter.{outs_more, in_is, outs_none}
-use Rattle.pb_verify.specs.declared.accesses.Access.TheVariants.{Nowhere}
+use Rattle.pb_verify.specs.declared.op.Op.TheVariants.{Exit}
+use Rattle.pb_verify.specs.Accesses.{access_at}
+use Rattle.pb_verify.specs.Effects.{effect_of, effect_at}
 use Rattle.pb_verify.proofs.Pairs.{behind_pair}
-use Rattle.pb_verify.proofs.Resolved.{upto_more}
+use Rattle.pb_verify.proofs.Resolved.{none_resolved, resolved_more}
 use Rattle.pb_verify.proofs.Pending.{before_next, before_past, merge_none, not_here, none_broken}
 use Rattle.pb_verify.proofs.verifier.verify.Goals as goal
 use Rattle.pb_verify.proofs.verifier.verify.Goals.{After-arrive-is_reached}
@@ -22,7 +24,7 @@ loop-slot-init c = record {
   most = omega arith;
   pair = λ h. absurd (omega (arith, h));
   fine = λ m h. absurd (omega arith);
-  resolved = c.new-accesses.ensures.items;
+  resolved = none_resolved c.args.program.insns _ c.new-ops.ensures.items;
   near = none_within _ (outs_none c.args.program.insns);
 }
 
@@ -31,7 +33,7 @@ loop-slot-preserved-in_default-at c =
     let n = c.loop-slot.slot in
     let p = c.args.program.insns in
     let none : insn_at p n ≡ None = sym c.at.ensures ∙ c.in_default-at.is in
-    let pushed : c.push.new.self.items ≡ c.loop-slot.accesses.items ++ Nowhere ∷ [] = search rules in
+    let pushed : c.push.new.self.items ≡ c.loop-slot.ops.items ++ Exit ∷ [] = search rules in
     record {
       len = c.loop-slot.invariant.len;
       known = λ k l h.
@@ -40,7 +42,7 @@ loop-slot-preserved-in_default-at c =
       most = let most = c.loop-slot.invariant.most in omega (arith, most);
       pair = λ h. let most = c.loop-slot.invariant.most in absurd (omega (arith, most, h));
       fine = below_more (λ m. faults (judged_of c.args.program c.args.helpers) m ≡ []) n c.loop-slot.invariant.fine (rw none refl);
-      resolved = rw (upto_more p n, none) (pushed ∙ ap (λ xs. xs ++ Nowhere ∷ []) c.loop-slot.invariant.resolved);
+      resolved = resolved_more p n c.loop-slot.ops.items _ Exit c.loop-slot.invariant.resolved pushed (λ i at. let wrong : None ≡ Some i = sym none ∙ at in absurd (cc));
       near = rw (outs_more p n, none) (within_push (n * 2147483648) ((n + 1) * 2147483648) _ None (omega arith) c.loop-slot.invariant.near tt);
     }
 
@@ -75,9 +77,9 @@ returns-in-Some-code_at-clause-refused c =
       record { inside = omega arith; code = rw (insn_is at) (sym found ∙ c.in-Some-code_at.is); before = c.loop-slot.invariant.fine },
     )
 
-pub access_of-requires : goal.access_of-requires
-access_of-requires c =
-    let near = all_near (goal.at.access_of-requires c).After-arrive-is_reached in
+pub access_of-access-requires : goal.access_of-access-requires
+access_of-access-requires c =
+    let near = all_near (goal.at.access_of-access-requires c).After-arrive-is_reached in
     rw c.in_default-code_at.ensures.reached at near
 
 pub step-requires : goal.step-requires
@@ -92,7 +94,7 @@ loop-slot-preserved c =
     let at = (goal.at.loop-slot-preserved c).After-arrive-is_reached in
     let reached = c.in_default-code_at.ensures.reached in
     let insn = insn_is at in
-    let pushed : c.push-in-loop-slot.new.self.items ≡ c.loop-slot.accesses.items ++ c.access_of.result ∷ [] = search rules in
+    let pushed : c.push-in-loop-slot.new.self.items ≡ c.loop-slot.ops.items ++ c.resolve.result ∷ [] = search rules in
     let low : c.loop-slot.next ≤ n = search rules in
     let known = rw reached at (known_is at) in
     let near = rw reached at (known_near at) in
@@ -113,6 +115,10 @@ loop-slot-preserved c =
       most = let most = c.in-Ok-spread.ensures.most in omega (arith, most);
       pair = λ h. rw add-one (behind_pair p n c.in-Some.insn insn (c.in-Ok-spread.ensures.pair h));
       fine = below_more (λ m. faults (judged_of c.args.program c.args.helpers) m ≡ []) n c.loop-slot.invariant.fine (rw insn (none_broken _ (sym found ∙ c.in_default-code_at.is)));
-      resolved = rw (upto_more p n, insn, ← known) (pushed ∙ (λ i. c.loop-slot.invariant.resolved i ++ c.access_of.ensures i ∷ []));
+      resolved = resolved_more p n c.loop-slot.ops.items _ c.resolve.result c.loop-slot.invariant.resolved pushed
+          (λ i at.
+          let same : c.in-Some.insn ≡ i = (let both : Some c.in-Some.insn ≡ Some i = sym insn ∙ at in cc) in
+          let access : c.access_of-access.result ≡ access_at p n = rw (insn, ← known) c.access_of-access.ensures in
+          c.resolve.ensures ∙ (λ k. effect_at n (same k) (access k)));
       near = rw more (within_push (n * 2147483648) ((n + 1) * 2147483648) _ _ (omega arith) c.loop-slot.invariant.near (within_if_more (n * 2147483648 + 2147483648) _ (Some c.step.new.frame) (omega arith) (c.step.ensures.near _ near)));
     }

@@ -5,7 +5,7 @@ use Rattle.pb_isa.specs.Slots.{slots, insn_at}
 use Rattle.pb_isa.specs.Programs.{judged_of}
 use Rattle.pb_verify.specs.Arriving.{merge, outs, frame_before, faults}
 use Rattle.pb_verify.specs.Within.{AllWithin}
-use Rattle.pb_verify.specs.Accesses.{accesses_upto}
+use Rattle.pb_verify.specs.Effects.{AreResolved}
 use Rattle.pb_verify.proofs.verifier.verify.Given as goal
 
 abbrev pub invariant-loop-slot : goal.invariant-loop-slot
@@ -15,6 +15,6 @@ invariant-loop-slot l = record {
   most : l.next ≤ l.slot + 1;
   pair : l.slot < l.next → insn_at l.fn.program.insns l.slot ≡ None;
   fine : (m : ℕ) → m < l.slot → faults (judged_of l.fn.program l.fn.helpers) m ≡ [];
-  resolved : l.accesses.items ≡ accesses_upto l.fn.program.insns l.slot;
+  resolved : AreResolved l.fn.program.insns l.slot l.ops.items;
   near : AllWithin (l.slot * 2147483648) (outs l.fn.program.insns l.slot);
 }
