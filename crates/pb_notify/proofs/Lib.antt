@@ -4,6 +4,7 @@ pub mod Kept
 pub mod LookTalk
 pub mod RunTalk
 pub mod Led
+pub mod MovedInPlace
 pub mod RecordedReads
 pub mod ItsRun
 pub mod PlanSteps

@@ -34,7 +34,10 @@ use Rattle.pb_notify.specs.declared.place.Place.{Place}
 use Rattle.pb_notify.specs.declared.place.Place.TheVariants.{Beginning, Observing, Acknowledging, Starting, Computing, Asking, Planning, Sweeping, Over}
 use Rattle.pb_notify.specs.Looks.{look_step, look_after, locked_after}
 use Rattle.pb_notify.specs.Machines.{entry, after_reply, IsTold}
-use Rattle.pb_notify.specs.Steps.{Steps}
+use Rattle.pb_notify.specs.Steps.{Steps, WentOn, MovesOn}
+use Rattle.pb_vm.specs.declared.moved.Moved.{Moved}
+use Rattle.pb_vm.specs.declared.moved.Moved.TheVariants as moved
+use Rattle.pb_vm.specs.Moves.{AskedFor}
 
 -- ---- the step at a place
 
@@ -143,6 +146,22 @@ abbrev pub ComesFrom : ℕ → JudgedOf → Cell → Place → Place → Type 0
 ComesFrom o judged x (Starting s seen) place = Starts o judged x s seen place
 ComesFrom o judged x (Computing s v) place = Comes o s v place
 ComesFrom o judged x _ place = ⊥
+
+-- one instruction was done where the machine stands
+abbrev pub MovesAt : Place → Moved → Place → Type 0
+MovesAt (Computing s v) m (Computing t w) = (t ≡ s) × MovesOn v m w
+MovesAt before m after = ⊥
+
+-- one that isn't the exit
+abbrev pub GoesAt : Place → Moved → Place → Type 0
+GoesAt (Computing s v) moved.Went (Computing t w) = (t ≡ s) × WentOn v w
+GoesAt (Computing s v) (moved.Asks q) (Computing t w) = (t ≡ s) × AskedFor v q w
+GoesAt before m after = ⊥
+
+-- the machine waits for what it asked
+abbrev pub waiting : Place → Ask → Place
+waiting (Computing s v) q = Asking s v q Reading
+waiting place q = place
 
 -- ---- what a place says of its parts
 

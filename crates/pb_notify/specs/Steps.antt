@@ -2,7 +2,9 @@
 use Rattle.std.specs.Prelude.{◌≡◌, ℕ, ◌≤◌}
 use Rattle.pb_isa.specs.Slots.{slots}
 use Rattle.pb_vm.specs.Position.{Position}
-use Rattle.pb_vm.specs.Moves.{Went, AskedFor}
+use Rattle.pb_vm.specs.declared.moved.Moved.{Moved}
+use Rattle.pb_vm.specs.declared.moved.Phase.TheVariants.{Going}
+use Rattle.pb_vm.specs.Moves.{Went, AskedFor, Moves}
 use Rattle.pb_vm.specs.Finished.{Meant}
 use Rattle.pb_steps.specs.declared.step.Declared.{Declared}
 use Rattle.pb_steps.specs.declared.step.Declared.TheVariants as declared
@@ -27,3 +29,9 @@ abbrev pub Steps : ℕ → Position → Stepped → Type 0
 Steps o v (did.Went w) = WentOn v w
 Steps o v (did.Asks w q) = AskedFor v q w
 Steps o v (did.Ended r what) = Ends o v r what
+
+-- what one instruction does where the machine stands, also at the exit
+pub record MovesOn (v : Position) (m : Moved) (w : Position) : Type 0 where
+  pub going : v.phase ≡ Going
+  pub moves : Moves v m w
+  pub most : w.taken ≤ slots w.judged.program.insns

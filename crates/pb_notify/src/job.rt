@@ -1,9 +1,10 @@
 //! Jobs of observers.
 use crate::need::Need;
-use crate::place::{Place, compute, locked_at, place_after, step_at};
+use crate::place::{Place, compute, locked_at, move_on, place_after, step_at, waiting};
 use pb_base::{Cell, Column, NoMemory, ObserverNo, Row};
 use pb_steps::{Answer, Step, Work};
 use pb_verify::Accepted;
+use pb_vm::Moved;
 use std::alloc::Global;
 use std::marker::Model;
 use std::mem;
@@ -101,6 +102,27 @@ impl ObserverJob {
     /// Does one instruction of its machine, which it starts before the first. The exit also makes what it declares and its
     /// plan. Refused for memory it is as before, and goes on when it is called again.
     pub fn local(&mut self, alloc: Global) -> Result<(), NoMemory>
+        requires { need_of self.old ≡ Local }
+        ensures ok { OnOk result (Computes self.old self.new) }
+        ensures same { OnErr result (self.new ≡ self.old) }
+    {
+        match move_on(&mut self.place) {
+            Some(Moved::Went) => Ok(()),
+            Some(Moved::Asks(ask)) => {
+                let place = mem::replace(&mut self.place, Place::Beginning);
+                let place = waiting(place, ask);
+                let asked = step_at(self.observer, self.row, self.column, &place);
+                self.next = asked;
+                self.place = place;
+                Ok(())
+            }
+            Some(Moved::Ended(_)) => unreachable!(),
+            None => self.compute(alloc),
+        }
+    }
+
+    // Does the first instruction, or the exit.
+    fn compute(&mut self, alloc: Global) -> Result<(), NoMemory>
         requires { need_of self.old ≡ Local }
         ensures ok { OnOk result (Computes self.old self.new) }
         ensures same { OnErr result (self.new ≡ self.old) }

@@ -1,8 +1,10 @@
 //! Where a job stands, and where an answer or an instruction leads.
-ghost use Rattle.std.specs.Prelude.{◌≡◌, ◌<◌, IfOk, IfErr};
+ghost use Rattle.std.specs.Prelude.{◌≡◌, ◌<◌, ℕ, IfOk, IfErr, MatchOption};
 ghost use Rattle.pb_txn.specs.Plans as plans;
 ghost use Rattle.pb_notify.specs.declared.place.Place.TheVariants as places;
-ghost use Rattle.pb_notify.specs.Places.{stored_step, place_after, locked_at, place_of, CanTakeAt, AtPlace, IsLocal, IsToldBy, IsToldAt, Starts, Comes, ComesFrom};
+ghost use Rattle.pb_notify.specs.Places.{stored_step, place_after, locked_at, place_of, CanTakeAt, AtPlace, IsLocal, IsToldBy, IsToldAt, Starts, Comes, ComesFrom, MovesAt, GoesAt, waiting};
+ghost use Rattle.pb_notify.specs.declared.place.Place.{Place};
+ghost use Rattle.pb_vm.specs.declared.moved.Moved.TheVariants.{Ended};
 ghost use Rattle.pb_vm.specs.declared.moved.Phase.TheVariants.{Going, Asking};
 
 use crate::look::{Look, Looked, locked_after, look_after, look_step};
@@ -13,7 +15,9 @@ use pb_helpers::{Ask, Record};
 use pb_steps::{Answer, Seen, Step, Work, acknowledged_in, version_in};
 use pb_txn::{Outcome, Plan};
 use pb_verify::Accepted;
+use pb_vm::Moved;
 use std::alloc::Global;
+use std::mem;
 use std::sync::Arc;
 
 /// What of a job is next, with the start of its transaction.
@@ -207,6 +211,53 @@ fn begin(
     match machine.step(alloc, observer) {
         Ok(stepped) => Ok(place_of(start, stepped)),
         Err(_) => Err(Place::Starting(start, seen)),
+    }
+}
+
+// Does the next instruction of a machine where it stands, and tells what it did, if anything.
+fn move_at(place: &mut Place) -> Option<Moved>
+    requires { IsLocal place.old }
+    ensures { MatchOption result (place.new ≡ place.old) (λ m. MovesAt place.old m place.new) }
+{
+    match place {
+        Place::Computing(_, machine) => machine.move_on(),
+        _ => None,
+    }
+}
+
+// A machine that did its exit where it stands is before it again, with what it left.
+fn before_exit(place: Place) -> Place
+    requires { (old : Place) × (r : ℕ) × MovesAt old (Ended r) place }
+    ensures { (old : Place) (r : ℕ) → MovesAt old (Ended r) place → result ≡ old }
+{
+    match place {
+        Place::Computing(start, machine) => Place::Computing(start, machine.before_exit()),
+        _ => unreachable!(),
+    }
+}
+
+/// Does the next instruction of a machine where it stands, if it is neither the first nor the exit, and tells what it did:
+/// a job is moved to another place at these two and at asks alone.
+pub fn move_on(place: &mut Place) -> Option<Moved>
+    requires { IsLocal place.old }
+    ensures { MatchOption result (place.new ≡ place.old) (λ m. GoesAt place.old m place.new) }
+{
+    let moved = move_at(place);
+    if let Some(Moved::Ended(_)) = moved {
+        let ended = mem::replace(place, Place::Beginning);
+        *place = before_exit(ended);
+        return None;
+    }
+    moved
+}
+
+/// The place of a machine that asked where it stands.
+pub fn waiting(place: Place, ask: Ask) -> Place
+    ensures { result ≡ waiting place ask }
+{
+    match place {
+        Place::Computing(start, machine) => Place::Asking(start, machine, ask, Look::Reading),
+        place => place,
     }
 }
 

@@ -1,7 +1,9 @@
 //! One instruction of a run's machine.
-ghost use Rattle.std.specs.Prelude.{◌≡◌, IfOk, IfErr};
+ghost use Rattle.std.specs.Prelude.{◌≡◌, ℕ, IfOk, IfErr, MatchOption};
 ghost use Rattle.pb_notify.specs.Machines.{exit_at, Leaves};
-ghost use Rattle.pb_notify.specs.Steps.{Steps};
+ghost use Rattle.pb_notify.specs.Steps.{Steps, MovesOn};
+ghost use Rattle.pb_vm.specs.Position.{Position};
+ghost use Rattle.pb_vm.specs.declared.moved.Moved.TheVariants.{Ended};
 ghost use Rattle.pb_vm.specs.declared.moved.Phase.TheVariants.{Going};
 
 use crate::machine::{Machine, Standing};
@@ -45,6 +47,36 @@ fn declare(
 }
 
 impl Machine {
+    /// Does one instruction where it stands, and tells what it did; nothing at an exit that was refused.
+    pub fn move_on(&mut self) -> Option<Moved>
+        requires { self.old.phase ≡ Going }
+        ensures { MatchOption result (self.new ≡ self.old) (λ m. MovesOn self.old m self.new) }
+    {
+        match &mut self.standing {
+            Standing::Running(vm) => Some(vm.step()),
+            Standing::Exited(..) => None,
+        }
+    }
+
+    /// Before its exit again, with what it left, where that was done where it stands.
+    pub fn before_exit(self) -> Machine
+        requires { (v : Position) × (r : ℕ) × MovesOn v (Ended r) self }
+        ensures { (v : Position) (r : ℕ) → MovesOn v (Ended r) self → result ≡ v }
+    {
+        match self.standing {
+            Standing::Running(vm) => {
+                let taken = vm.taken() - 1;
+                let finished = Box::into_inner(vm).finish();
+                // For the proof: result and writes are what the program means.
+                finished.known();
+                Machine {
+                    standing: Standing::Exited(finished, taken),
+                }
+            }
+            Standing::Exited(..) => unreachable!(),
+        }
+    }
+
     /// Does one instruction; the exit also declares what the run of this observer leaves. Refused for memory, which the
     /// exit alone can be, it is as before.
     pub fn step(self, alloc: Global, observer: ObserverNo) -> Result<Stepped, Machine>

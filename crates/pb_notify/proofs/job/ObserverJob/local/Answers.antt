@@ -1,14 +1,26 @@
-use Rattle.std.proofs.Common.{subst}
+use Rattle.std.proofs.Common.{◌≡◌, subst, sym, refl, rules}
 use Rattle.pb_base.specs.declared.cell.Cell.TheVariants.{Data}
-use Rattle.pb_notify.specs.Places.{ComesFrom}
-use Rattle.pb_notify.proofs.Kept.{at_computed}
+use Rattle.pb_notify.specs.Places.{ComesFrom, GoesAt, waiting}
+use Rattle.pb_notify.specs.Runs.{RunOf, Computes}
+use Rattle.pb_notify.proofs.MovedInPlace.{went_comes, asks_comes}
 use Rattle.pb_notify.proofs.job.ObserverJob.local.Goals as goal
 
-pub invariant_of-self : goal.invariant_of-self
-invariant_of-self c =
+pub returns-in-Some-Went-clause-ok : goal.returns-in-Some-Went-clause-ok
+returns-in-Some-Went-clause-ok c =
     let i = c.self.inside in
-    record {
-      stored = c.step_at.ensures;
-      at = at_computed i.locked i.observer i.accepted.value (Data i.row i.column) i.place c.in-Ok.place
-          (subst (λ p. ComesFrom i.observer i.accepted.value (Data i.row i.column) p c.in-Ok.place) c.replace-place.ensures.value c.in-Ok.ensures.ok) c.self.invariant.at;
-    }
+    let goes = subst (λ m. GoesAt i.place m c.move_on.new.place) c.in-Some-Went.field-0-is c.in-Some-Went.ensures in
+    let k : RunOf = record { observer = i.observer; judged = i.accepted.value; row = i.row; column = i.column; locked = i.locked; place = c.move_on.new.place } in
+    subst (λ (j : RunOf). Computes j k) c.self.view_is
+    (record { comes = went_comes i.observer i.accepted.value (Data i.row i.column) i.place c.move_on.new.place goes; same = refl })
+
+pub returns-in-Some-Asks-clause-ok : goal.returns-in-Some-Asks-clause-ok
+returns-in-Some-Asks-clause-ok c =
+    let i = c.self.inside in
+    let goes = subst (λ m. GoesAt i.place m c.move_on.new.place) c.in-Some-Asks.field-0-is c.in-Some-Asks.ensures in
+    let waits : c.waiting-place.result ≡ waiting c.move_on.new.place c.in-Some-Asks.ask = search rules in
+    let k : RunOf = record { observer = i.observer; judged = i.accepted.value; row = i.row; column = i.column; locked = i.locked; place = c.waiting-place.result } in
+    subst (λ (j : RunOf). Computes j k) c.self.view_is
+    (record {
+      comes = subst (ComesFrom i.observer i.accepted.value (Data i.row i.column) i.place) (sym waits) (asks_comes i.observer i.accepted.value (Data i.row i.column) i.place c.move_on.new.place c.in-Some-Asks.ask goes);
+      same = refl;
+    })

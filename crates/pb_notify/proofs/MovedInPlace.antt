@@ -1,0 +1,27 @@
+-- What an instruction that is done where the machine stands does to a job's place.
+use Rattle.std.proofs.Common.{◌≡◌, ℕ, ap, ◌∙◌}
+use Rattle.pb_base.specs.declared.cell.Cell.{Cell}
+use Rattle.pb_base.specs.declared.names.Ts.{Ts}
+use Rattle.pb_isa.specs.Programs.{JudgedOf}
+use Rattle.pb_helpers.specs.declared.ask.Ask.{Ask}
+use Rattle.pb_vm.specs.Position.{Position}
+use Rattle.pb_vm.specs.declared.moved.Moved.TheVariants as moved
+use Rattle.pb_notify.specs.declared.look.Look.TheVariants.{Reading}
+use Rattle.pb_notify.specs.declared.machine.stepped.Stepped.TheVariants as did
+use Rattle.pb_notify.specs.declared.place.Place.{Place}
+use Rattle.pb_notify.specs.declared.place.Place.TheVariants.{Computing, Asking}
+use Rattle.pb_notify.specs.Steps.{MovesOn}
+use Rattle.pb_notify.specs.Places.{ComesFrom, MovesAt, GoesAt, waiting}
+
+-- a machine that is before its exit again stands where it stood
+pub back_at : (old : Place) (r : ℕ) (s : Ts) (w z : Position) → MovesAt old (moved.Ended r) (Computing s w) → ((v : Position) → MovesOn v (moved.Ended r) w → z ≡ v) → Computing s z ≡ old
+back_at (Computing t v) r s w z m b = ap (λ x. Computing x z) m.0 ∙ ap (λ y. Computing t y) (b v m.1)
+back_at _ r s w z m b = absurd m
+
+pub went_comes : (o : ℕ) (judged : JudgedOf) (x : Cell) (old new : Place) → GoesAt old moved.Went new → ComesFrom o judged x old new
+went_comes o judged x (Computing s v) (Computing t w) g = record { stepped = did.Went w; steps = g.1; place_is = ap (λ u. Computing u w) g.0 }
+went_comes o judged x _ _ g = absurd g
+
+pub asks_comes : (o : ℕ) (judged : JudgedOf) (x : Cell) (old new : Place) (q : Ask) → GoesAt old (moved.Asks q) new → ComesFrom o judged x old (waiting new q)
+asks_comes o judged x (Computing s v) (Computing t w) q g = record { stepped = did.Asks w q; steps = g.1; place_is = ap (λ u. Asking u w q Reading) g.0 }
+asks_comes o judged x _ _ q g = absurd g

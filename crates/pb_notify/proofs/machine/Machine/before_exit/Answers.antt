@@ -1,0 +1,15 @@
+use Rattle.std.proofs.Common.{◌≡◌, ◌-◌, rules, subst, arith}
+use Rattle.pb_vm.specs.Moves.{Finishes}
+use Rattle.pb_vm.specs.Position.{Position}
+use Rattle.pb_notify.proofs.Exits.{left}
+use Rattle.pb_notify.proofs.machine.Machine.before_exit.Goals as goal
+
+pub invariant_of-result : goal.invariant_of-result
+invariant_of-result c =
+    let v : Position = c.requires.0 in
+    let new : Position = c.args.self in
+    let did = c.requires.2 in
+    let inner : c.into_inner.result ≡ new = search rules in
+    let finishes : Finishes new c.finish-finished.result = subst (λ w. Finishes w c.finish-finished.result) inner c.finish-finished.ensures in
+    let taken : c.taken-taken.result ≡ new.taken = search rules in
+    left v new c.requires.1 c.finish-finished.result (c.taken-taken.result - 1) did.moves finishes did.going (omega (arith, did.moves.taken, taken)) did.most c.known.ensures.meant
