@@ -1,5 +1,5 @@
 //! The lines of a report.
-ghost use Rattle.std.specs.Prelude.{◌≡◌, IfOk, string_bytes};
+ghost use Rattle.std.specs.Prelude.{◌≡◌, ◌++◌, IfOk, OnOk, string_bytes};
 ghost use Rattle.hex.specs.Hex.{encode_lower};
 ghost use Rattle.pb_script.specs.ReportLines.{trimmed, cell_line, last_line};
 
@@ -35,9 +35,14 @@ fn hex_of(alloc: Global, bytes: &[u8]) -> Result<String, AllocError>
     hex::encode(alloc, trimmed(bytes))
 }
 
-/// The line of a cell.
-pub fn cell_line(alloc: Global, cell: &Cell, newest: &Newest) -> Result<String, AllocError>
-    ensures { IfOk result (λ s. string_bytes s ≡ cell_line cell.now newest.now) }
+/// Adds the line of a cell.
+pub fn add_cell_line(
+    alloc: Global,
+    text: &mut String,
+    cell: &Cell,
+    newest: &Newest,
+) -> Result<(), AllocError>
+    ensures { OnOk result (string_bytes text.new ≡ string_bytes text.old ++ cell_line cell.now newest.now) }
 {
     let row = cell.row().0;
     let column = cell.column().number();
@@ -45,9 +50,9 @@ pub fn cell_line(alloc: Global, cell: &Cell, newest: &Newest) -> Result<String, 
     match &newest.content {
         Content::Value(bytes) => {
             let hex = hex_of(alloc, bytes)?;
-            format!(in alloc; "cell {row} {column} commit {commit} value {hex}\n")
+            write!(text, "cell {row} {column} commit {commit} value {hex}\n")
         }
-        _ => format!(in alloc; "cell {row} {column} commit {commit} deleted\n"),
+        _ => write!(text, "cell {row} {column} commit {commit} deleted\n"),
     }
 }
 

@@ -6,7 +6,7 @@ ghost use Rattle.pb_script.specs.ReportLines.{cell_lines};
 ghost use Rattle.pb_script.specs.Reports.{IsNewestPut, IsTold, is_later};
 ghost use Rattle.pb_script.specs.declared.reports.lines.Newest.{Newest};
 
-use crate::reports::lines::{Newest, cell_line};
+use crate::reports::lines::{Newest, add_cell_line};
 use pb_base::{Cell, Content, Ts};
 use std::alloc::{AllocError, Global};
 use std::collections::BTreeMap;
@@ -68,8 +68,7 @@ pub fn cell_lines(alloc: Global, table: &BTreeMap<Cell, Newest>) -> Result<Strin
 {
     let mut text = String::new(alloc);
     for (cell, newest) in table {
-        let line = cell_line(alloc, cell, newest)?;
-        text.push_str(line.as_str())?;
+        add_cell_line(alloc, &mut text, cell, newest)?;
     }
     Ok(text)
 }

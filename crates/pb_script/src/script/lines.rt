@@ -64,7 +64,7 @@ fn writes_in(alloc: Global, line: &str) -> Result<Vec<Change>, Code>
     ensures { Gives is_memory (λ v. writes_of v.items) result (batch_of line.now) }
 {
     let parts = cut(alloc, line)?;
-    let mut writes = Vec::new(alloc);
+    let mut writes = Vec::with_capacity(alloc, parts.len().min(MAX_CELLS))?;
     for part in &parts {
         add(alloc, &mut writes, part)?;
     }
