@@ -1,9 +1,9 @@
 -- What the numbers of entries of blocks say, and how they follow a change.
-use Rattle.std.proofs.Common.{◌≡◌, ℕ, ◌<◌, ◌≤◌, ◌+◌, ◌-◌, ◌*◌, Bool, true, false, cond, List, [], ◌∷◌, ◌++◌, None, refl, sym, ap, ◌∙◌, subst, arith, zero, suc, length, take, drop, get_or, set, slice_get, min, append_assoc}
+use Rattle.std.proofs.Common.{◌≡◌, ℕ, ◌<◌, ◌≤◌, ◌+◌, ◌-◌, ◌*◌, ◌/◌, Bool, true, false, cond, List, [], ◌∷◌, ◌++◌, None, refl, sym, ap, ◌∙◌, subst, arith, zero, suc, length, take, drop, get_or, set, slice_get, min, append_assoc}
 use mir.Val.{bool_byte}
 use Rattle.std.specs.List.{All}
 use Rattle.std.specs.declared.vec.Vec.{Vec}
-use Rattle.std.proofs.lemmas.List.{take-append-drop, take-set-le, drop-set-lt, drop-set-add, get_or-take, get_or-drop, length-take, length-drop, take_min, drop_min}
+use Rattle.std.proofs.lemmas.List.{take-append-drop, take-set-le, drop-set-lt, drop-set-add, get_or-take, get_or-drop, set-get_or, length-take, length-drop, take_min, drop_min}
 use Rattle.std.proofs.Math.Seq.{take-set-lt, drop-cons}
 use Rattle.std.proofs.lemmas.List.Elements.{All-take, All-drop}
 use Rattle.std.proofs.lemmas.Grind.{flat_map-append}
@@ -17,6 +17,17 @@ use Rattle.pb_memtablet.proofs.Pieces.{length-chunk_entries, length-set_in}
 pub byte_of : (b : Bool) → bool_byte b ≡ cond b 1 0
 byte_of true = refl
 byte_of false = refl
+
+pub two_of : (b : Bool) → 2 * bool_byte b ≡ cond b 2 0
+two_of true = refl
+two_of false = refl
+
+pub at_most_two : (b : Bool) → cond b 2 0 ≤ 2
+at_most_two true = omega arith
+at_most_two false = omega arith
+
+block_with : (i : ℕ) → IsInBlock i (i / BLOCK)
+block_with i = record { from = omega arith; before = omega arith }
 
 module _ {E A : Type 0} where
   -- the first block, and the rest
@@ -110,3 +121,9 @@ module _ {E A : Type 0} where
       let inside : i - BLOCK < length (drop BLOCK cs) = omega (arith, length-drop BLOCK cs, lt, past) in
       let here : m ≡ get_or (drop BLOCK cs) (i - BLOCK) m = e ∙ ap (λ j. get_or cs j m) (sym parted) ∙ sym (get_or-drop BLOCK cs (i - BLOCK) m) in
       taken_was_counted ns (drop BLOCK cs) (i - BLOCK) b m n y d a.1 inside (record { from = omega (arith, from); before = omega (arith, before, from) }) here l
+
+  -- a chunk that has as many as before
+  pub counts_same : (ns : List ℕ) (cs : List (Vec E A)) (i : ℕ) (m n : Vec E A) → i < length cs → m ≡ get_or cs i m → length n.items ≡ length m.items → AreCounts ns cs → AreCounts ns (set cs i n)
+  counts_same ns cs i m n lt e l a =
+      let b = i / BLOCK in
+      subst (λ q. AreCounts q (set cs i n)) (set-get_or ns b 0) (counts_after ns cs i b m n 0 0 (get_or ns b 0) 0 a lt (block_with i) e (omega (arith, l)) refl)

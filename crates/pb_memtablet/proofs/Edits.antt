@@ -1,5 +1,5 @@
 -- What edits make of sorted lists.
-use Rattle.std.proofs.Common.{◌≡◌, Bool, true, false, cond, not, [], ◌∷◌, refl, sym, ap, ◌∙◌, subst, T, length}
+use Rattle.std.proofs.Common.{◌≡◌, Bool, true, false, cond, not, List, [], ◌∷◌, refl, sym, ap, ◌∙◌, subst, T, length, drop, get_or, ◌≤◌, arith}
 use Rattle.std.specs.declared.cmp.Ordering.{Ordering}
 use Rattle.std.specs.declared.cmp.Ordering.TheVariants.{Less, Equal, Greater}
 use Rattle.std.specs.Ordering.{eq_by_cmp}
@@ -13,7 +13,7 @@ use Rattle.pb_store.specs.declared.slot.Item.{Item}
 use Rattle.pb_store.specs.Slot.{slot_cmp, slot_cmp_total, slot_cmp-IsAntisymmetric}
 use Rattle.pb_store.specs.declared.slot.Edit.{Edit}
 use Rattle.pb_store.specs.declared.slot.Edit.TheVariants.{Put, Erase, Mark, Unmark}
-use Rattle.pb_store.specs.Contents.{Contents, IsOfSort, nothing, after_edit}
+use Rattle.pb_store.specs.Contents.{Contents, IsOfSort, nothing, after_edit, after_edits}
 use Rattle.pb_memtablet.specs.Listed.{EntryList, MarkList, contents_of, AllOfSort, AreLists}
 use Rattle.pb_memtablet.proofs.Spots.{holds, inserted, removed}
 
@@ -97,3 +97,15 @@ module _ (es : EntryList) (ms : MarkList) (l : AreLists es ms) where
     lists = subst (AreLists es) (sym e) (lists_unmarked _);
     contents = both_same _ _ _ _ refl (ap (λ xs. map.from_sorted {R = cell_cmp} xs) e ∙ removed cell_cmp_total cell_cmp-IsAntisymmetric ms k (holds _ l.marks));
   }
+
+-- ---- two edits of entries
+pub first_two : (xs : List Edit) (a b : Edit) → 2 ≤ length xs → a ≡ get_or xs 0 a → b ≡ get_or xs 1 b → xs ≡ a ∷ b ∷ drop 2 xs
+first_two [] a b le p q = absurd (omega (arith, le))
+first_two (x ∷ []) a b le p q = absurd (omega (arith, le))
+first_two (x ∷ y ∷ xs) a b le p q = λ i. sym p i ∷ sym q i ∷ xs
+
+module _ (fs gs es : EntryList) (ms : MarkList) (xs : List Edit) (a b : Edit) (e : xs ≡ a ∷ b ∷ drop 2 xs) where
+  pub both_done : IsDone gs ms a es ms → IsDone fs ms b gs ms → after_edits (drop 2 xs) (contents_of fs ms) ≡ after_edits xs (contents_of es ms)
+  both_done once twice =
+      ap (after_edits (drop 2 xs)) (twice.contents ∙ ap (after_edit b) once.contents)
+      ∙ sym (ap (λ (l : List Edit). after_edits l (contents_of es ms)) e)

@@ -5,6 +5,7 @@ use Rattle.std.specs.declared.cmp.Ordering.{Ordering}
 use Rattle.std.specs.Cmp.{IsTotalOrder}
 use Rattle.std.specs.List.{All, AllWithin, insert, remove, last_or}
 use Rattle.std.proofs.lemmas.Bool.{cases_order}
+use Rattle.std.proofs.lemmas.List.{get_or_read}
 use Rattle.pb_memtablet.specs.Places.{IsCut}
 use Rattle.std.specs.List.Sorted.{IsPartitionedBy}
 use Rattle.std.proofs.lemmas.List.Elements.{All-cons, All-append, All-take, All-drop, All-head, All-tail}
@@ -39,6 +40,10 @@ not_zero n e = grind (arith, nat_tests)
 pub at_most_one : (b : Bool) → cond b 1 0 ≤ 1
 at_most_one true = omega arith
 at_most_one false = omega arith
+
+pub sorted_if : {K X : Type 0} (R : K → K → Ordering) (b : Bool) (es fs : List (K × X)) → T (is_sorted R es) → T (is_sorted R fs) → T (is_sorted R (cond b es fs))
+sorted_if R true es fs s t = s
+sorted_if R false es fs s t = t
 
 pub remove-set : {X : Type 0} (xs : List X) (i : ℕ) (x : X) → remove (set xs i x) i ≡ remove xs i
 remove-set [] i x = refl
@@ -111,6 +116,10 @@ module _ {E A : Type 0} where
       let none : vec_len n ≡ 0 = is_zero (vec_len n) (empty ∙ ap (λ (v : Vec E A). vec_len v == 0) same) in
       let within : i < length (set cs i n) = rw length-set lt in
       ap chunk_entries ds_is ∙ chunk_entries-removed (set cs i n) i n within (ap (λ (v : Vec E A). v.items) (at_set cs i n n lt) ∙ nothing_in n none)
+
+  -- a chunk that is read twice
+  pub read_again : (cs : List (Vec E A)) (i : ℕ) (m x : Vec E A) → i < length cs → m ≡ get_or cs i m → x ≡ get_or cs i x → vec_len x ≡ vec_len m
+  read_again cs i m x lt m_is x_is = ap (λ (c : Vec E A). vec_len c) (get_or_read cs i x lt x_is m ∙ sym m_is)
 
   pub still_filled : (cs : List (Vec E A)) (i : ℕ) (n x : Vec E A) → i < length cs → x ≡ get_or (set cs i n) i x → false ≡ (vec_len x == 0) → 0 < vec_len n
   still_filled cs i n x lt x_is some = not_zero (vec_len n) (some ∙ ap (λ (v : Vec E A). vec_len v == 0) (x_is ∙ at_set cs i n x lt))
@@ -214,6 +223,37 @@ module _ {K X : Type 0} (R : K → K → Ordering) (o : IsTotalOrder R) where
         ∙ ap (λ l. chunk_entries (take i cs) ++ (l ++ chunk_entries (drop (suc i) cs))) is
         ∙ sym (without-home R (chunk_entries (take i cs)) m.items (chunk_entries (drop (suc i) cs)) k h.below h.above)
         ∙ ap (without R k) (sym (around cs k i m h e))
+
+    -- ---- a change of one chunk alone
+    changed_in : (cs : List (Vec (K × X) A)) (k : K) (i : ℕ) (m n : Vec (K × X) A) (f : List (K × X) → List (K × X)) → IsHome R cs k i → m ≡ get_or cs i m → n.items ≡ f m.items
+        → f (chunk_entries (take i cs) ++ (m.items ++ chunk_entries (drop (suc i) cs))) ≡ chunk_entries (take i cs) ++ (f m.items ++ chunk_entries (drop (suc i) cs)) → chunk_entries (set cs i n) ≡ f (chunk_entries cs)
+    changed_in cs k i m n f h e is local =
+        chunk_entries-set cs i n h.within
+        ∙ ap (λ l. chunk_entries (take i cs) ++ (l ++ chunk_entries (drop (suc i) cs))) is
+        ∙ sym local
+        ∙ ap f (sym (around cs k i m h e))
+
+    pub both-in_home : (cs : List (Vec (K × X) A)) (k q : K) (v w : X) (b : Bool) (i : ℕ) (m n : Vec (K × X) A) → IsHome R cs k i → IsHome R cs q i → m ≡ get_or cs i m
+        → n.items ≡ cond b (put R q w (put R k v m.items)) m.items → chunk_entries (set cs i n) ≡ cond b (put R q w (put R k v (chunk_entries cs))) (chunk_entries cs)
+    both-in_home cs k q v w b i m n h j e is =
+        let xs = chunk_entries (take i cs) in
+        let ys = chunk_entries (drop (suc i) cs) in
+        changed_in cs k i m n (λ l. cond b (put R q w (put R k v l)) l) h e is
+        (elim b as (λ b. cond b (put R q w (put R k v (xs ++ (m.items ++ ys)))) (xs ++ (m.items ++ ys)) ≡ xs ++ (cond b (put R q w (put R k v m.items)) m.items ++ ys)) [
+          | true ↦ ap (put R q w) (put-home R xs m.items ys k v h.below h.above) ∙ put-home R xs (put R k v m.items) ys q w j.below j.above
+          | false ↦ refl
+        ])
+
+    pub replaced-in_home : (cs : List (Vec (K × X) A)) (g k : K) (v : X) (b : Bool) (i : ℕ) (m n : Vec (K × X) A) → IsHome R cs g i → IsHome R cs k i → m ≡ get_or cs i m
+        → n.items ≡ cond b (put R k v (without R g m.items)) m.items → chunk_entries (set cs i n) ≡ cond b (put R k v (without R g (chunk_entries cs))) (chunk_entries cs)
+    replaced-in_home cs g k v b i m n h j e is =
+        let xs = chunk_entries (take i cs) in
+        let ys = chunk_entries (drop (suc i) cs) in
+        changed_in cs g i m n (λ l. cond b (put R k v (without R g l)) l) h e is
+        (elim b as (λ b. cond b (put R k v (without R g (xs ++ (m.items ++ ys)))) (xs ++ (m.items ++ ys)) ≡ xs ++ (cond b (put R k v (without R g m.items)) m.items ++ ys)) [
+          | true ↦ ap (put R k v) (without-home R xs m.items ys g h.below h.above) ∙ put-home R xs (without R g m.items) ys k v j.below j.above
+          | false ↦ refl
+        ])
 
     -- ---- a key's home among chunks of which one was parted
     module _ (cs ds : List (Vec (K × X) A)) (k : K) (i : ℕ) (b : Vec (K × X) A) (h : IsHome R cs k i) (s : T (is_sorted R (chunk_entries ds))) (lt : suc i < length ds) (e : b ≡ get_or ds (suc i) b) where

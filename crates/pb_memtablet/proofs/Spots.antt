@@ -1,8 +1,9 @@
 -- Where keys stand in sorted lists, and what a change there does.
-use Rattle.std.proofs.Common.{◌≡◌, ◌≢◌, ℕ, ◌<◌, ◌≤◌, Bool, true, false, cond, not, List, [], ◌∷◌, None, Some, Result, Ok, Err, IfOk, IfErr, refl, sym, ap, ◌∙◌, subst, arith, zero, suc, length, get_or, set, T, ◌&&◌, add-one}
+use Rattle.std.proofs.Common.{◌≡◌, ◌≢◌, ℕ, ◌<◌, ◌≤◌, ◌-◌, Bool, true, false, cond, not, List, [], ◌∷◌, None, Some, Result, Ok, Err, IfOk, IfErr, refl, sym, ap, ◌∙◌, subst, arith, zero, suc, length, get_or, set, T, ◌&&◌, add-one}
 use Rattle.std.specs.declared.cmp.Ordering.{Ordering}
 use Rattle.std.specs.declared.cmp.Ordering.TheVariants.{Less, Equal, Greater}
-use Rattle.std.specs.Ordering.{is_eq, is_lt, ordering_reverse, eq_by_cmp, ordering_index}
+use Rattle.std.specs.Ordering.{is_eq, is_lt, is_gt, ordering_reverse, eq_by_cmp, ordering_index}
+use Rattle.std.proofs.lemmas.List.{get_or_read}
 use Rattle.std.specs.Cmp.{IsTotalOrder, tied_itself, alike_right, eq_by_cmp_equiv}
 use Rattle.std.specs.List.{insert, remove, AllWithin, HoldsAt}
 use Rattle.std.specs.List.Sorted.{IsNonDecreasingBy, IsBinarySearchResult, IsSearchInRange}
@@ -31,6 +32,21 @@ pub less : (o : Ordering) → T (is_lt o) → o ≡ Less
 less Less p = refl
 less Equal p = absurd p
 less Greater p = absurd p
+
+pub is_less : (o : Ordering) (b : Bool) → b ≡ is_lt o → b ≡ true → o ≡ Less
+is_less Less b e t = refl
+is_less Equal b e t = cc
+is_less Greater b e t = cc
+
+pub is_equal : (o : Ordering) (b : Bool) → b ≡ is_eq o → b ≡ true → o ≡ Equal
+is_equal Less b e t = cc
+is_equal Equal b e t = refl
+is_equal Greater b e t = cc
+
+pub is_greater : (o : Ordering) (b : Bool) → b ≡ is_gt o → b ≡ true → o ≡ Greater
+is_greater Less b e t = cc
+is_greater Equal b e t = cc
+is_greater Greater b e t = refl
 
 turned_choice : {A : Type 0} (b : Bool) (x y : A) → cond (not b) x y ≡ cond b y x
 turned_choice true x y = refl
@@ -68,7 +84,7 @@ module _ {K X : Type 0} {R : K → K → Ordering} (o : IsTotalOrder R) where
   searchable : (es : List (K × X)) (k : K) → T (is_sorted R es) → IsNonDecreasingBy (λ e. ordering_index (R e.0 k)) es
   searchable es k s = searchable_from_sorted o (λ e. e.0) es k (λ i d _ lt. rw add-one (rises es s i d (omega arith)))
 
-  found_at : (es : List (K × X)) (k : K) (i : ℕ) → T (is_sorted R es) → i < length es → HoldsAt (λ e. R e.0 k ≡ Equal) es i → IsFound R es k i
+  pub found_at : (es : List (K × X)) (k : K) (i : ℕ) → T (is_sorted R es) → i < length es → HoldsAt (λ e. R e.0 k ≡ Equal) es i → IsFound R es k i
   found_at [] k i s lt h = absurd (omega (arith, lt))
   found_at (e ∷ es) k zero s lt h = turned o _ _ Equal (h e)
   found_at (e ∷ es) k (suc i) s lt h =
@@ -186,6 +202,62 @@ module _ {K X : Type 0} {R : K → K → Ordering} (o : IsTotalOrder R) where
         turned o e.0 q Less (o.trans e.0 x q (below_at e.0 es i d (first _ _ s) (omega arith)) (turned o q x Greater g)),
         gap_after es q i d (second _ _ s) (omega arith) g (λ y more. above y (omega arith)),
       )
+
+  -- ---- two changes side by side
+  pub as_read : (es : List (K × X)) (f : K → Ordering) (i : ℕ) (x : K × X) (r p : Ordering) → i < length es → x ≡ get_or es i x → r ≡ f (get_or es i x).0 → r ≡ p → (d : K × X) → f (get_or es i d).0 ≡ p
+  as_read es f i x r p lt x_is r_is r_p d = ap (λ (y : K × X). f y.0) (sym (get_or_read es i x lt x_is d) ∙ x_is) ∙ sym r_is ∙ r_p
+
+  pub gap_between : (es : List (K × X)) (q : K) (i : ℕ) → T (is_sorted R es) → i ≤ length es → (0 < i → HoldsAt (λ e. R q e.0 ≡ Greater) es (i - 1)) → ((d : K × X) → i < length es → R q (get_or es i d).0 ≡ Less) → IsGap R es q i
+  gap_between es q zero s le low high = gap_first es q high
+  gap_between [] q (suc j) s le low high = absurd (omega (arith, le))
+  gap_between (e ∷ es) q (suc j) s le low high =
+      let previous : suc j - 1 ≡ j = omega arith in
+      gap_after (e ∷ es) q j e s (omega arith) (subst (λ n. R q (get_or (e ∷ es) n e).0 ≡ Greater) previous (low (omega arith) e)) high
+
+  pub gap_in_place : (es : List (K × X)) (q : K) (i : ℕ) → T (is_sorted R es) → i < length es → (0 < i → HoldsAt (λ e. R q e.0 ≡ Greater) es (i - 1))
+      → ((d : K × X) → suc i < length es → R q (get_or es (suc i) d).0 ≡ Less) → IsGap R (remove es i) q i
+  gap_in_place [] q i s lt low high = absurd (omega (arith, lt))
+  gap_in_place (e ∷ es) q zero s lt low high = gap_first es q (λ d some. high d (omega arith))
+  gap_in_place (e ∷ es) q (suc zero) s lt low high =
+      (low (omega arith) e, gap_in_place es q 0 (second _ _ s) (omega arith) (λ some. absurd (omega (arith, some))) (λ d more. high d (omega arith)))
+  gap_in_place (e ∷ es) q (suc (suc i)) s lt low high =
+      let previous : suc (suc i) - 1 ≡ suc i = omega arith in
+      let above : HoldsAt (λ x. R q x.0 ≡ Greater) es i = λ d. subst (λ n. R q (get_or (e ∷ es) n d).0 ≡ Greater) previous (low (omega arith) d) in
+      let same : suc i - 1 ≡ i = omega arith in
+      let x = (get_or es i e).0 in (
+        turned o e.0 q Less (o.trans e.0 x q (below_at e.0 es i e (first _ _ s) (omega arith)) (turned o q x Greater (above e))),
+        gap_in_place es q (suc i) (second _ _ s) (omega arith) (λ some. subst (HoldsAt (λ x. R q x.0 ≡ Greater) es) (sym same) above) (λ d more. high d (omega arith)),
+      )
+
+  remove-insert : (es : List (K × X)) (i : ℕ) (x : K × X) → i < length es → insert (remove es i) i x ≡ set es i x
+  remove-insert [] i x lt = absurd (omega (arith, lt))
+  remove-insert (e ∷ es) zero x lt = refl
+  remove-insert (e ∷ es) (suc i) x lt = ap (λ l. e ∷ l) (remove-insert es i x (omega arith))
+
+  -- one key goes where it stands, and another comes
+  pub replaced : (es fs : List (K × X)) (g k : K) (v : X) (i : ℕ) → T (is_sorted R es) → i < length es → IsFound R es g i → IsGap R (remove es i) k i → fs ≡ set es i (k, v) → fs ≡ put R k v (without g es)
+  replaced es fs g k v i s lt found gap made =
+      made ∙ sym (remove-insert es i (k, v) lt) ∙ sym (put-gap (remove es i) k v i gap) ∙ ap (put R k v) (sym (without-found es g i s found))
+
+  pub gap_behind : (es : List (K × X)) (k q : K) (v : X) (i : ℕ) → IsGap R es k i → R q k ≡ Greater → ((d : K × X) → i < length es → R q (get_or es i d).0 ≡ Less) → IsGap R (insert es i (k, v)) q (suc i)
+  gap_behind [] k q v zero gap above high = (above, tt)
+  gap_behind [] k q v (suc i) gap above high = absurd gap
+  gap_behind (e ∷ es) k q v zero gap above high = (above, high e (omega arith))
+  gap_behind (e ∷ es) k q v (suc i) gap above high = (
+    turned o e.0 q Less (o.trans e.0 k q (turned o k e.0 Greater gap.0) (turned o q k Greater above)),
+    gap_behind es k q v i gap.1 above (λ d lt. high d (omega arith)),
+  )
+
+  -- two keys come side by side
+  pub put-both : (es fs hs : List (K × X)) (k q : K) (v w : X) (i j : ℕ) (a b : Bool) → IsGap R es k i → IsGap R (insert es i (k, v)) q j
+      → fs ≡ cond a (insert es i (k, v)) es → a ≡ true → hs ≡ cond b (insert fs j (q, w)) fs → b ≡ true → hs ≡ put R q w (put R k v es)
+  put-both es fs hs k q v w i j a b gap behind fs_is a_is hs_is b_is =
+      let first_in : fs ≡ insert es i (k, v) = fs_is ∙ ap (λ c. cond c (insert es i (k, v)) es) a_is in
+      hs_is
+      ∙ ap (λ c. cond c (insert fs j (q, w)) fs) b_is
+      ∙ ap (λ l. insert l j (q, w)) first_in
+      ∙ sym (put-gap (insert es i (k, v)) q w j behind)
+      ∙ ap (put R q w) (sym (put-gap es k v i gap))
 
   -- each entry is found at its place by its own key
   pub found_self : (es : List (K × X)) (i : ℕ) (d : K × X) → T (is_sorted R es) → i < length es → IsFound R es (get_or es i d).0 i

@@ -1,5 +1,5 @@
 //! Chunks of entries, sorted together by key.
-ghost use Rattle.std.specs.Prelude.{◌≡◌, true, ℕ, ◌<◌, ◌≤◌, ◌+◌, ◌-◌, IsTrue, [], ◌∷◌, cond, not, length, take, drop, slice_get, vec_len, vec_capacity};
+ghost use Rattle.std.specs.Prelude.{◌≡◌, true, ℕ, List, ◌<◌, ◌≤◌, ◌+◌, ◌-◌, IsTrue, [], ◌∷◌, cond, not, length, take, drop, slice_get, vec_len, vec_capacity};
 ghost use Rattle.std.specs.List.{All, HoldsAt, last_or, remove};
 ghost use Rattle.std.specs.Ordering.{eq_by_cmp};
 ghost use Rattle.std.specs.FinMap.{find, put, is_sorted};
@@ -8,7 +8,8 @@ ghost use Rattle.pb_memtablet.specs.BlockCounts.{AreCounts};
 ghost use Rattle.pb_memtablet.specs.Chunks.{chunk_entries, IsChunk, IsHalf, IsSpare, AreChunks, IsHome, entries_up_to, entries_above, starts_by};
 
 use crate::counts::{block_of, count_blocks};
-use crate::sorted::{look_up, place_above, put_in, take_from};
+use crate::sorted::{look_up, place_above, put_both_in, put_in, replace_in, take_from};
+use std::cell::Cell;
 
 // How many entries a chunk holds at most.
 pub(crate) const CHUNK: usize = 64;
@@ -20,6 +21,13 @@ const HALF: usize = CHUNK / 2;
 const SPARES: usize = 64;
 
 pub(crate) type Chunk<K, V> = Vec<(K, V)>;
+
+// Where the last key stood: its chunk, and its place there. The next one may stand there too. They can be any numbers.
+#[derive(Drop)]
+pub(crate) struct Likely {
+    pub(crate) chunk: Cell<usize>,
+    pub(crate) place: Cell<usize>,
+}
 
 // Whether the first key is at most the given one.
 fn does_start_by<K: Ord, V>(entries: &[(K, V)], key: &K) -> bool
@@ -58,22 +66,42 @@ fn home_of<K: Ord, V>(chunks: &[Chunk<K, V>], key: &K, likely: usize) -> usize
         .saturating_sub(1)
 }
 
+// The same, noted as the next likely place.
+fn noted_home<K: Ord, V>(chunks: &[Chunk<K, V>], key: &K, likely: &Cell<usize>) -> usize
+    requires chunks { AreChunks K.cmp chunks.now }
+    requires some { 0 < length chunks.now }
+    ensures home { IsHome K.cmp chunks.now key.now result }
+    ensures started { 0 < result → HoldsAt (λ c. starts_by K.cmp key.now c.items ≡ true) chunks.now result }
+{
+    let home = home_of(chunks, key, likely.get());
+    likely.set(home);
+    home
+}
+
 // The value at the key.
-pub(crate) fn value_at<K: Ord, V: Copy>(chunks: &[Chunk<K, V>], key: &K, likely: usize) -> Option<V>
+pub(crate) fn value_at<K: Ord, V: Copy>(
+    chunks: &[Chunk<K, V>],
+    key: &K,
+    likely: &Likely,
+) -> Option<V>
     requires { AreChunks K.cmp chunks.now }
     ensures { result ≡ find K.cmp key.now (chunk_entries chunks.now) }
 {
     if chunks.is_empty() {
         return None;
     }
-    look_up(&chunks[home_of(chunks, key, likely)], key)
+    look_up(
+        &chunks[noted_home(chunks, key, &likely.chunk)],
+        key,
+        &likely.place,
+    )
 }
 
 // The last entry whose key is at most the given one.
 pub(crate) fn last_up_to<K: Ord + Copy, V: Copy>(
     chunks: &[Chunk<K, V>],
     key: &K,
-    likely: usize,
+    likely: &Likely,
 ) -> Option<(K, V)>
     requires { AreChunks K.cmp chunks.now }
     ensures { result ≡ last_or None (entries_up_to K.cmp key.now (chunk_entries chunks.now)) }
@@ -81,8 +109,8 @@ pub(crate) fn last_up_to<K: Ord + Copy, V: Copy>(
     if chunks.is_empty() {
         return None;
     }
-    let chunk = &chunks[home_of(chunks, key, likely)];
-    let above = place_above(chunk, key);
+    let chunk = &chunks[noted_home(chunks, key, &likely.chunk)];
+    let above = place_above(chunk, key, &likely.place);
     if above == 0 {
         None
     } else {
@@ -94,7 +122,7 @@ pub(crate) fn last_up_to<K: Ord + Copy, V: Copy>(
 pub(crate) fn first_above<K: Ord + Copy, V: Copy>(
     chunks: &[Chunk<K, V>],
     key: &K,
-    likely: usize,
+    likely: &Likely,
 ) -> Option<(K, V)>
     requires { AreChunks K.cmp chunks.now }
     ensures { result ≡ slice_get (entries_above K.cmp key.now (chunk_entries chunks.now)) 0 }
@@ -102,9 +130,9 @@ pub(crate) fn first_above<K: Ord + Copy, V: Copy>(
     if chunks.is_empty() {
         return None;
     }
-    let home = home_of(chunks, key, likely);
+    let home = noted_home(chunks, key, &likely.chunk);
     let chunk = &chunks[home];
-    let place = place_above(chunk, key);
+    let place = place_above(chunk, key, &likely.place);
     if place < chunk.len() {
         Some(chunk[place])
     } else if home + 1 < chunks.len() {
@@ -240,7 +268,7 @@ pub(crate) fn put_among<K: Ord + Drop, V: Drop>(
     chunks: &mut Vec<Chunk<K, V>>,
     spares: &mut Vec<Chunk<K, V>>,
     counts: &mut Vec<usize>,
-    likely: &mut usize,
+    likely: &Likely,
     key: K,
     value: V,
 ) -> bool
@@ -265,11 +293,75 @@ pub(crate) fn put_among<K: Ord + Drop, V: Drop>(
         count_blocks(chunks, counts);
         return true;
     }
-    let home = roomy_home(chunks, spares, counts, &key, *likely);
-    *likely = home;
-    let is_new = put_in(&mut chunks[home], key, value);
+    let home = roomy_home(chunks, spares, counts, &key, likely.chunk.get());
+    likely.chunk.set(home);
+    let is_new = put_in(&mut chunks[home], key, value, &likely.place);
     counts[block_of(home)] += usize::from(is_new);
     is_new
+}
+
+// Puts two values at two keys side by side, and notes the place of their chunk as the next likely one. It answers whether
+// that could be done: both belong into one chunk, which has room for them, and no key stands between. Else nothing is changed.
+pub(crate) fn put_both_among<K: Ord + Drop, V: Drop>(
+    chunks: &mut Vec<Chunk<K, V>>,
+    counts: &mut Vec<usize>,
+    likely: &Likely,
+    key: K,
+    value: V,
+    next: K,
+    next_value: V,
+) -> bool
+    requires chunks { AreChunks K.cmp chunks.old.items }
+    requires counts { AreCounts counts.old.items chunks.old.items }
+    ensures entries { chunk_entries chunks.new.items ≡ cond result (put K.cmp next next_value (put K.cmp key value (chunk_entries chunks.old.items))) (chunk_entries chunks.old.items) }
+    ensures grown { length (chunk_entries chunks.new.items) ≡ length (chunk_entries chunks.old.items) + cond result 2 0 }
+    ensures chunks { AreChunks K.cmp chunks.new.items }
+    ensures len { vec_len chunks.new ≡ vec_len chunks.old }
+    ensures capacity { vec_capacity chunks.old ≤ vec_capacity chunks.new }
+    ensures counts { AreCounts counts.new.items chunks.new.items }
+    ensures counts_capacity { vec_capacity counts.old ≤ vec_capacity counts.new }
+{
+    if chunks.is_empty() {
+        return false;
+    }
+    let home = noted_home(chunks, &key, &likely.chunk);
+    if chunks[home].len() > CHUNK - 2 || !is_home(chunks, &next, home) {
+        return false;
+    }
+    let are_put = put_both_in(
+        &mut chunks[home],
+        key,
+        value,
+        next,
+        next_value,
+        &likely.place,
+    );
+    counts[block_of(home)] += 2 * usize::from(are_put);
+    are_put
+}
+
+// Puts the value at the key where another one stands, which goes. It answers whether that could be done: both belong into the
+// likely chunk, and no key stands between the two. Else nothing is changed.
+pub(crate) fn replace_among<K: Ord + Drop, V: Drop>(
+    chunks: &mut Vec<Chunk<K, V>>,
+    likely: usize,
+    place: &Cell<usize>,
+    gone: &K,
+    key: K,
+    value: V,
+) -> bool
+    requires { AreChunks K.cmp chunks.old.items }
+    ensures entries { chunk_entries chunks.new.items ≡ cond result (put K.cmp key value (where_key K.cmp (λ k. not (eq_by_cmp K.cmp gone.now k)) (chunk_entries chunks.old.items))) (chunk_entries chunks.old.items) }
+    ensures as_many { length (chunk_entries chunks.new.items) ≡ length (chunk_entries chunks.old.items) }
+    ensures chunks { AreChunks K.cmp chunks.new.items }
+    ensures len { vec_len chunks.new ≡ vec_len chunks.old }
+    ensures capacity { vec_capacity chunks.old ≤ vec_capacity chunks.new }
+    ensures counts { (ns : List ℕ) → AreCounts ns chunks.old.items → AreCounts ns chunks.new.items }
+{
+    if !is_home(chunks, gone, likely) || !is_home(chunks, &key, likely) {
+        return false;
+    }
+    replace_in(&mut chunks[likely], gone, key, value, place)
 }
 
 // Takes an empty chunk out, and keeps it where there is room for it and few are kept.
@@ -298,7 +390,7 @@ pub(crate) fn take_among<K: Ord + Drop, V: Drop>(
     chunks: &mut Vec<Chunk<K, V>>,
     spares: &mut Vec<Chunk<K, V>>,
     counts: &mut Vec<usize>,
-    likely: &mut usize,
+    likely: &Likely,
     key: &K,
 ) -> bool
     requires chunks { AreChunks K.cmp chunks.old.items }
@@ -318,9 +410,8 @@ pub(crate) fn take_among<K: Ord + Drop, V: Drop>(
     if chunks.is_empty() {
         return false;
     }
-    let home = home_of(chunks, key, *likely);
-    *likely = home;
-    let taken = take_from(&mut chunks[home], key);
+    let home = noted_home(chunks, key, &likely.chunk);
+    let taken = take_from(&mut chunks[home], key, &likely.place);
     if chunks[home].is_empty() {
         retire_chunk(chunks, spares, home);
         count_blocks(chunks, counts);

@@ -1,5 +1,5 @@
 //! A tablet of two sorted lists.
-ghost use Rattle.std.specs.Prelude.{◌≡◌, ◌+◌, ◌≤◌, ◌↔◌, IsTrue, count_by, cond};
+ghost use Rattle.std.specs.Prelude.{◌≡◌, ◌+◌, ◌≤◌, ◌↔◌, IsTrue, count_by, cond, drop, length};
 ghost use Rattle.std.specs.Option.{option_map};
 ghost use Rattle.std.specs.FinMap as map;
 ghost use Rattle.pb_store.specs.Contents.{nothing, after_edit, after_edits, IsNewest, IsNextMark, PutsOfSort, AllPutOfSort};
@@ -134,8 +134,40 @@ fn change(entries: &mut SortedList<Slot, Item>, marks: &mut SortedList<Cell, ()>
     }
 }
 
-// Does all edits, for which there is room.
-fn change_all(
+// Does the first two edits at once where both are of entries that may stand side by side, and answers how many are done.
+fn change_pair(
+    entries: &mut SortedList<Slot, Item>,
+    marks: &SortedList<Cell, ()>,
+    edits: &[Edit],
+) -> usize
+    requires lists { AreLists entries.old.entries marks.now.entries }
+    requires of_sort { AllPutOfSort edits.now }
+    requires room { count_by is_put edits.now ≤ entries.old.room }
+    ensures some { result ≤ length edits.now }
+    ensures lists { AreLists entries.new.entries marks.now.entries }
+    ensures of_sort { AllPutOfSort (drop result edits.now) }
+    ensures contents { after_edits (drop result edits.now) (contents_of entries.new.entries marks.now.entries) ≡ after_edits edits.now (contents_of entries.old.entries marks.now.entries) }
+    ensures room { count_by is_put (drop result edits.now) ≤ entries.new.room }
+    ensures marked { count_by is_mark (drop result edits.now) ≡ count_by is_mark edits.now }
+{
+    let [first, second, ..] = edits else {
+        return 0;
+    };
+    match (*first, *second) {
+        (Edit::Put(slot, item), Edit::Put(next, next_item)) => {
+            entries.put_both(slot, item, next, next_item);
+            2
+        }
+        (Edit::Erase(gone), Edit::Put(slot, item)) => {
+            entries.replace(&gone, slot, item);
+            2
+        }
+        _ => 0,
+    }
+}
+
+// Does the edits one after the other. There is room for them.
+fn change_each(
     entries: &mut SortedList<Slot, Item>,
     marks: &mut SortedList<Cell, ()>,
     edits: &[Edit],
@@ -150,6 +182,23 @@ fn change_all(
     for edit in edits {
         change(entries, marks, edit);
     }
+}
+
+// Does all edits, for which there is room.
+fn change_all(
+    entries: &mut SortedList<Slot, Item>,
+    marks: &mut SortedList<Cell, ()>,
+    edits: &[Edit],
+)
+    requires lists { AreLists entries.old.entries marks.old.entries }
+    requires of_sort { AllPutOfSort edits.now }
+    requires room { count_by is_put edits.now ≤ entries.old.room }
+    requires mark_room { count_by is_mark edits.now ≤ marks.old.room }
+    ensures lists { AreLists entries.new.entries marks.new.entries }
+    ensures contents { contents_of entries.new.entries marks.new.entries ≡ after_edits edits.now (contents_of entries.old.entries marks.old.entries) }
+{
+    let done = change_pair(entries, marks, edits);
+    change_each(entries, marks, &edits[done..]);
 }
 
 impl Tablet for ListTablet {

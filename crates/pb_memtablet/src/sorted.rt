@@ -1,12 +1,16 @@
 //! Lists of keys and values, sorted by key.
-ghost use Rattle.std.specs.Prelude.{◌≡◌, ◌<◌, ◌≤◌, ◌+◌, IfOk, IfErr, length, IsTrue, cond, vec_len, vec_capacity, not};
+ghost use Rattle.std.specs.Prelude.{◌≡◌, ◌<◌, ◌≤◌, ◌+◌, ◌-◌, true, IfOk, IfErr, length, IsTrue, cond, vec_len, vec_capacity, not};
+ghost use Rattle.std.specs.List.{HoldsAt, insert, remove};
+ghost use Rattle.std.specs.declared.cmp.Ordering.TheVariants.{Greater};
 ghost use Rattle.std.specs.Ordering.{eq_by_cmp};
 ghost use Rattle.std.specs.FinMap.{find, put, is_sorted};
 ghost use Rattle.std.specs.FinMap.Entries.{where_key};
 ghost use Rattle.pb_memtablet.specs.Places.{IsFound, IsGap, IsCut};
 
-// Where the key stands, or where it would stand.
-fn spot<K: Ord, V>(entries: &[(K, V)], key: &K) -> Result<usize, usize>
+use std::cell::Cell;
+
+// Where the key stands, or where it would stand, by a binary search.
+fn find_spot<K: Ord, V>(entries: &[(K, V)], key: &K) -> Result<usize, usize>
     requires { IsTrue (is_sorted K.cmp entries.now) }
     ensures found { IfOk result (IsFound K.cmp entries.now key.now) }
     ensures gap { IfErr result (IsGap K.cmp entries.now key.now) }
@@ -16,37 +20,105 @@ fn spot<K: Ord, V>(entries: &[(K, V)], key: &K) -> Result<usize, usize>
     entries.binary_search_by(|entry| entry.0.cmp(key))
 }
 
-pub(crate) fn look_up<K: Ord, V: Copy>(entries: &[(K, V)], key: &K) -> Option<V>
+// Whether the key stands at a place.
+fn stands_at<K: Ord, V>(entries: &[(K, V)], place: usize, key: &K) -> bool
+    requires { IsTrue (is_sorted K.cmp entries.now) }
+    ensures found { result ≡ true → IsFound K.cmp entries.now key.now place }
+    ensures inside { result ≡ true → place < length entries.now }
+{
+    place < entries.len() && entries[place].0.cmp(key).is_eq()
+}
+
+// Whether the key is above the one before a place.
+fn is_above_previous<K: Ord, V>(entries: &[(K, V)], place: usize, key: &K) -> bool
+    requires { place ≤ length entries.now }
+    ensures { result ≡ true → 0 < place → HoldsAt (λ e. K.cmp key.now e.0 ≡ Greater) entries.now (place - 1) }
+{
+    if place == 0 {
+        return true;
+    }
+    key.cmp(&entries[place - 1].0).is_gt()
+}
+
+// Whether the key isn't there, and would stand at a place.
+fn would_stand_at<K: Ord, V>(entries: &[(K, V)], place: usize, key: &K) -> bool
+    requires { IsTrue (is_sorted K.cmp entries.now) }
+    ensures gap { result ≡ true → IsGap K.cmp entries.now key.now place }
+    ensures within { result ≡ true → place ≤ length entries.now }
+{
+    if place > entries.len() || !is_above_previous(entries, place, key) {
+        return false;
+    }
+    if place == entries.len() {
+        return true;
+    }
+    key.cmp(&entries[place].0).is_lt()
+}
+
+// Where the key stands, or where it would stand. The place of the last key is tried first, and this one is noted; it can be
+// any number.
+fn spot<K: Ord, V>(entries: &[(K, V)], key: &K, likely: &Cell<usize>) -> Result<usize, usize>
+    requires { IsTrue (is_sorted K.cmp entries.now) }
+    ensures found { IfOk result (IsFound K.cmp entries.now key.now) }
+    ensures gap { IfErr result (IsGap K.cmp entries.now key.now) }
+    ensures inside { IfOk result (λ i. i < length entries.now) }
+    ensures within { IfErr result (λ i. i ≤ length entries.now) }
+{
+    let place = likely.get();
+    if stands_at(entries, place, key) {
+        return Ok(place);
+    }
+    if would_stand_at(entries, place, key) {
+        return Err(place);
+    }
+    let spot = find_spot(entries, key);
+    likely.set(match spot {
+        Ok(i) => i,
+        Err(i) => i,
+    });
+    spot
+}
+
+pub(crate) fn look_up<K: Ord, V: Copy>(
+    entries: &[(K, V)],
+    key: &K,
+    likely: &Cell<usize>,
+) -> Option<V>
     requires { IsTrue (is_sorted K.cmp entries.now) }
     ensures { result ≡ find K.cmp key.now entries.now }
 {
-    match spot(entries, key) {
+    match spot(entries, key, likely) {
         Ok(i) => Some(entries[i].1),
         Err(_) => None,
     }
 }
 
 // The place of the first key above the given one.
-pub(crate) fn place_above<K: Ord, V>(entries: &[(K, V)], key: &K) -> usize
+pub(crate) fn place_above<K: Ord, V>(entries: &[(K, V)], key: &K, likely: &Cell<usize>) -> usize
     requires { IsTrue (is_sorted K.cmp entries.now) }
     ensures cut { IsCut K.cmp entries.now key.now result }
     ensures within { result ≤ length entries.now }
 {
-    match spot(entries, key) {
+    match spot(entries, key, likely) {
         Ok(i) => i + 1,
         Err(i) => i,
     }
 }
 
 // Puts the value at the key, and answers whether the key is new. There is room for one entry more.
-pub(crate) fn put_in<K: Ord + Drop, V: Drop>(entries: &mut Vec<(K, V)>, key: K, value: V) -> bool
+pub(crate) fn put_in<K: Ord + Drop, V: Drop>(
+    entries: &mut Vec<(K, V)>,
+    key: K,
+    value: V,
+    likely: &Cell<usize>,
+) -> bool
     requires sorted { IsTrue (is_sorted K.cmp entries.old.items) }
     requires room { vec_len entries.old < vec_capacity entries.old }
     ensures items { entries.new.items ≡ put K.cmp key value entries.old.items }
     ensures capacity { vec_capacity entries.old ≤ vec_capacity entries.new }
     ensures len { vec_len entries.new ≡ vec_len entries.old + cond result 1 0 }
 {
-    match spot(entries, &key) {
+    match spot(entries, &key, likely) {
         Ok(i) => {
             entries[i].1 = value;
             false
@@ -59,17 +131,102 @@ pub(crate) fn put_in<K: Ord + Drop, V: Drop>(entries: &mut Vec<(K, V)>, key: K, 
 }
 
 // Takes the key out, and answers whether it was there.
-pub(crate) fn take_from<K: Ord + Drop, V: Drop>(entries: &mut Vec<(K, V)>, key: &K) -> bool
+pub(crate) fn take_from<K: Ord + Drop, V: Drop>(
+    entries: &mut Vec<(K, V)>,
+    key: &K,
+    likely: &Cell<usize>,
+) -> bool
     requires { IsTrue (is_sorted K.cmp entries.old.items) }
     ensures items { entries.new.items ≡ where_key K.cmp (λ k. not (eq_by_cmp K.cmp key.now k)) entries.old.items }
     ensures capacity { vec_capacity entries.old ≤ vec_capacity entries.new }
     ensures len { vec_len entries.new + cond result 1 0 ≡ vec_len entries.old }
 {
-    match spot(entries, key) {
+    match spot(entries, key, likely) {
         Ok(i) => {
             entries.remove(i);
             true
         }
         Err(_) => false,
     }
+}
+
+// Whether the key belongs where another one stands: above the key before it, and below the one after it.
+fn fits_at<K: Ord, V>(entries: &[(K, V)], place: usize, key: &K) -> bool
+    requires sorted { IsTrue (is_sorted K.cmp entries.now) }
+    requires within { place < length entries.now }
+    ensures { result ≡ true → IsGap K.cmp (remove entries.now place) key.now place }
+{
+    if !is_above_previous(entries, place, key) {
+        return false;
+    }
+    if place == entries.len() - 1 {
+        return true;
+    }
+    key.cmp(&entries[place + 1].0).is_lt()
+}
+
+// Puts the value at the key where another one stands, which goes. It answers whether that could be done: the other one is
+// there, and no key stands between the two. Else nothing is changed.
+pub(crate) fn replace_in<K: Ord + Drop, V: Drop>(
+    entries: &mut Vec<(K, V)>,
+    gone: &K,
+    key: K,
+    value: V,
+    likely: &Cell<usize>,
+) -> bool
+    requires { IsTrue (is_sorted K.cmp entries.old.items) }
+    ensures items { entries.new.items ≡ cond result (put K.cmp key value (where_key K.cmp (λ k. not (eq_by_cmp K.cmp gone.now k)) entries.old.items)) entries.old.items }
+    ensures capacity { vec_capacity entries.old ≤ vec_capacity entries.new }
+    ensures len { vec_len entries.new ≡ vec_len entries.old }
+{
+    let Ok(i) = spot(entries, gone, likely) else {
+        return false;
+    };
+    if !fits_at(entries, i, &key) {
+        return false;
+    }
+    entries[i] = (key, value);
+    true
+}
+
+// Whether the next key belongs right behind the key, which would stand at a place.
+fn fits_behind<K: Ord, V>(entries: &[(K, V)], place: usize, key: &K, next: &K, value: &V) -> bool
+    requires { IsGap K.cmp entries.now key.now place }
+    ensures { result ≡ true → IsGap K.cmp (insert entries.now place (key.now, value.now)) next.now (place + 1) }
+{
+    if !next.cmp(key).is_gt() {
+        return false;
+    }
+    if place >= entries.len() {
+        return true;
+    }
+    next.cmp(&entries[place].0).is_lt()
+}
+
+// Puts two values at two keys side by side. It answers whether that could be done: neither is there, and no key stands
+// between the two. Else nothing is changed. There is room for two entries more.
+pub(crate) fn put_both_in<K: Ord + Drop, V: Drop>(
+    entries: &mut Vec<(K, V)>,
+    key: K,
+    value: V,
+    next: K,
+    next_value: V,
+    likely: &Cell<usize>,
+) -> bool
+    requires sorted { IsTrue (is_sorted K.cmp entries.old.items) }
+    requires room { vec_len entries.old + 2 ≤ vec_capacity entries.old }
+    ensures items { entries.new.items ≡ cond result (put K.cmp next next_value (put K.cmp key value entries.old.items)) entries.old.items }
+    ensures capacity { vec_capacity entries.old ≤ vec_capacity entries.new }
+    ensures len { vec_len entries.new ≡ vec_len entries.old + cond result 2 0 }
+{
+    let Err(i) = spot(entries, &key, likely) else {
+        return false;
+    };
+    if !fits_behind(entries, i, &key, &next, &value) {
+        return false;
+    }
+    entries.insert(i, (key, value)).unwrap();
+    entries.insert(i + 1, (next, next_value)).unwrap();
+    likely.set(i + 1);
+    true
 }

@@ -6,9 +6,13 @@ ghost use Rattle.std.specs.FinMap.{find, put, is_sorted};
 ghost use Rattle.std.specs.FinMap.Entries.{where_key};
 ghost use Rattle.pb_memtablet.specs.Chunks.{IsSpare, entries_up_to, entries_above};
 
-use crate::chunks::{CHUNK, Chunk, first_above, last_up_to, put_among, take_among, value_at};
+use crate::chunks::{
+    CHUNK, Chunk, Likely, first_above, last_up_to, put_among, put_both_among, replace_among,
+    take_among, value_at,
+};
 use crate::counts::entry_at;
 use std::alloc::{AllocError, Global};
+use std::cell::Cell;
 use std::marker::Model;
 
 // How many chunks there are at most, so that the entries can be counted.
@@ -26,8 +30,7 @@ pub struct SortedList<K: Ord, V> {
     // How many entries each block of chunks has.
     counts: Vec<usize>,
     len: usize,
-    // The place of the chunk of the last put or removal, where the next key may belong too. It can be any number.
-    likely: usize,
+    likely: Likely,
 }
 
 impl<K: Ord, V> Model for SortedList<K, V> {
@@ -58,7 +61,10 @@ impl<K: Ord, V> SortedList<K, V> {
             spares: Vec::new(alloc),
             counts: Vec::new(alloc),
             len: 0,
-            likely: 0,
+            likely: Likely {
+                chunk: Cell::new(0),
+                place: Cell::new(0),
+            },
         }
     }
 
@@ -82,7 +88,7 @@ impl<K: Ord, V: Copy> SortedList<K, V> {
     pub fn get(&self, key: &K) -> Option<V>
         ensures { result ≡ find K.cmp key.now self.now.entries }
     {
-        value_at(&self.chunks, key, self.likely)
+        value_at(&self.chunks, key, &self.likely)
     }
 }
 
@@ -91,14 +97,14 @@ impl<K: Ord + Copy, V: Copy> SortedList<K, V> {
     pub fn last_up_to(&self, key: &K) -> Option<(K, V)>
         ensures { result ≡ last_or None (entries_up_to K.cmp key.now self.now.entries) }
     {
-        last_up_to(&self.chunks, key, self.likely)
+        last_up_to(&self.chunks, key, &self.likely)
     }
 
     /// The first entry whose key is above the given one.
     pub fn first_above(&self, key: &K) -> Option<(K, V)>
         ensures { result ≡ slice_get (entries_above K.cmp key.now self.now.entries) 0 }
     {
-        first_above(&self.chunks, key, self.likely)
+        first_above(&self.chunks, key, &self.likely)
     }
 
     /// The entry at a place. It walks over the blocks of chunks before it, and then in one block.
@@ -157,7 +163,7 @@ impl<K: Ord + Drop, V: Drop> SortedList<K, V> {
             &mut self.chunks,
             &mut self.spares,
             &mut self.counts,
-            &mut self.likely,
+            &self.likely,
             key,
             value,
         ) {
@@ -174,7 +180,7 @@ impl<K: Ord + Drop, V: Drop> SortedList<K, V> {
             &mut self.chunks,
             &mut self.spares,
             &mut self.counts,
-            &mut self.likely,
+            &self.likely,
             key,
         ) {
             self.len -= 1;
@@ -189,5 +195,51 @@ impl<K: Ord + Drop, V: Drop> SortedList<K, V> {
         self.chunks.clear();
         self.counts.clear();
         self.len = 0;
+    }
+}
+
+impl<K: Ord + Copy + Drop, V: Copy + Drop> SortedList<K, V> {
+    /// Puts one value and then another, each at its key. There is room for both. Where the second key belongs right behind
+    /// the first, they are put together.
+    pub fn put_both(&mut self, key: K, value: V, next: K, next_value: V)
+        requires { 2 ≤ self.old.room }
+        ensures entries { self.new.entries ≡ put K.cmp next next_value (put K.cmp key value self.old.entries) }
+        ensures room { self.old.room ≤ self.new.room + 2 }
+    {
+        if put_both_among(
+            &mut self.chunks,
+            &mut self.counts,
+            &self.likely,
+            key,
+            value,
+            next,
+            next_value,
+        ) {
+            self.len += 2;
+            return;
+        }
+        self.put(key, value);
+        self.put(next, next_value);
+    }
+
+    /// Takes one key out, and puts the value at the other. There is room for it. Where no key stands between the two, the
+    /// entry changes where it stands.
+    pub fn replace(&mut self, gone: &K, key: K, value: V)
+        requires { 0 < self.old.room }
+        ensures entries { self.new.entries ≡ put K.cmp key value (where_key K.cmp (λ k. not (eq_by_cmp K.cmp gone.now k)) self.old.entries) }
+        ensures room { self.old.room ≤ self.new.room + 1 }
+    {
+        if replace_among(
+            &mut self.chunks,
+            self.likely.chunk.get(),
+            &self.likely.place,
+            gone,
+            key,
+            value,
+        ) {
+            return;
+        }
+        self.take_out(gone);
+        self.put(key, value);
     }
 }

@@ -6,11 +6,11 @@ use Rattle.pb_memtablet.proofs.chunks.first_above.Goals as goal
 
 pub place_above-place-requires : goal.place_above-place-requires
 place_above-place-requires g c =
-    rw c.deref.ensures.value (truth _ (home_sorted g.K.Ord.cmp g.met.K.Ord.total c.args.chunks.now c.args.key.now c.home_of-home.result c.index-chunks-home.result c.home_of-home.ensures.home c.index-chunks-home.is (holds _ c.requires.sorted)))
+    rw c.deref.ensures.value (truth _ (home_sorted g.K.Ord.cmp g.met.K.Ord.total c.args.chunks.now c.args.key.now c.noted_home-home.result c.index-chunks-home.result c.noted_home-home.ensures.home c.index-chunks-home.is (holds _ c.requires.sorted)))
 
 pub returns-then-place-len : goal.returns-then-place-len
 returns-then-place-len g c =
-    first-in_home g.K.Ord.cmp g.met.K.Ord.total c.args.chunks.now c.args.key.now c.home_of-home.result c.index-chunks-home.result c.home_of-home.ensures.home c.index-chunks-home.is (holds _ c.requires.sorted)
+    first-in_home g.K.Ord.cmp g.met.K.Ord.total c.args.chunks.now c.args.key.now c.noted_home-home.result c.index-chunks-home.result c.noted_home-home.ensures.home c.index-chunks-home.is (holds _ c.requires.sorted)
     c.place_above-place.result c.index.result.now
     (subst (λ es. IsCut g.K.Ord.cmp es c.args.key.now c.place_above-place.result) c.deref.ensures.value c.place_above-place.ensures.cut)
     (omega (arith, c.index-chunks-home.result.ok.0)) c.index.ensures
@@ -19,16 +19,16 @@ pub returns-then-home-chunks : goal.returns-then-home-chunks
 returns-then-home-chunks g c =
     let m = c.index-chunks-home.result in
     let next = c.index-chunks-home-then-home-chunks.result in
-    let some : 0 < length next.items = rw c.index-chunks-home-then-home-chunks.is (filled g.K.Ord.cmp g.met.K.Ord.total _ (c.requires.each (c.home_of-home.result + 1) next c.if-home-chunks.true)) in
-    first-in_next g.K.Ord.cmp g.met.K.Ord.total c.args.chunks.now c.args.key.now c.home_of-home.result m c.home_of-home.ensures.home c.index-chunks-home.is (holds _ c.requires.sorted)
-    c.place_above-place.result (c.home_of-home.result + 1) next c.index-then-home-chunks.result.now
+    let some : 0 < length next.items = rw c.index-chunks-home-then-home-chunks.is (filled g.K.Ord.cmp g.met.K.Ord.total _ (c.requires.each (c.noted_home-home.result + 1) next c.if-home-chunks.true)) in
+    first-in_next g.K.Ord.cmp g.met.K.Ord.total c.args.chunks.now c.args.key.now c.noted_home-home.result m c.noted_home-home.ensures.home c.index-chunks-home.is (holds _ c.requires.sorted)
+    c.place_above-place.result (c.noted_home-home.result + 1) next c.index-then-home-chunks.result.now
     (subst (λ es. IsCut g.K.Ord.cmp es c.args.key.now c.place_above-place.result) c.deref.ensures.value c.place_above-place.ensures.cut)
     (omega (arith, m.ok.0)) (omega arith) c.if-home-chunks.true c.index-chunks-home-then-home-chunks.is some c.index-then-home-chunks.ensures
 
 pub returns-else-home-chunks : goal.returns-else-home-chunks
 returns-else-home-chunks g c =
     let m = c.index-chunks-home.result in
-    first-none g.K.Ord.cmp g.met.K.Ord.total c.args.chunks.now c.args.key.now c.home_of-home.result m c.home_of-home.ensures.home c.index-chunks-home.is (holds _ c.requires.sorted)
+    first-none g.K.Ord.cmp g.met.K.Ord.total c.args.chunks.now c.args.key.now c.noted_home-home.result m c.noted_home-home.ensures.home c.index-chunks-home.is (holds _ c.requires.sorted)
     c.place_above-place.result
     (subst (λ es. IsCut g.K.Ord.cmp es c.args.key.now c.place_above-place.result) c.deref.ensures.value c.place_above-place.ensures.cut)
     (omega (arith, m.ok.0)) (omega arith)

@@ -6,10 +6,10 @@ use Rattle.pb_memtablet.proofs.chunks.value_at.Goals as goal
 
 pub look_up-requires : goal.look_up-requires
 look_up-requires g c =
-    rw c.deref.ensures.value (truth _ (home_sorted g.K.Ord.cmp g.met.K.Ord.total c.args.chunks.now c.args.key.now c.home_of.result c.index-chunks-home_of.result c.home_of.ensures.home c.index-chunks-home_of.is (holds _ c.requires.sorted)))
+    rw c.deref.ensures.value (truth _ (home_sorted g.K.Ord.cmp g.met.K.Ord.total c.args.chunks.now c.args.key.now c.noted_home.result c.index-chunks-noted_home.result c.noted_home.ensures.home c.index-chunks-noted_home.is (holds _ c.requires.sorted)))
 
 pub returns : goal.returns
 returns g c =
     c.look_up.ensures
     ∙ ap (find g.K.Ord.cmp c.args.key.now) c.deref.ensures.value
-    ∙ find-in_home g.K.Ord.cmp g.met.K.Ord.total c.args.chunks.now c.args.key.now c.home_of.result c.index-chunks-home_of.result c.home_of.ensures.home c.index-chunks-home_of.is
+    ∙ find-in_home g.K.Ord.cmp g.met.K.Ord.total c.args.chunks.now c.args.key.now c.noted_home.result c.index-chunks-noted_home.result c.noted_home.ensures.home c.index-chunks-noted_home.is

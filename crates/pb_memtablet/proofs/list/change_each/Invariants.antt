@@ -2,7 +2,7 @@ use Rattle.std.proofs.Common.{◌≡◌, ◌≤◌, drop}
 use Rattle.std.specs.List.{count_by}
 use Rattle.pb_store.specs.Contents.{after_edits, AllPutOfSort}
 use Rattle.pb_memtablet.specs.Listed.{contents_of, AreLists, is_put, is_mark}
-use Rattle.pb_memtablet.proofs.list.change_all.Given as goal
+use Rattle.pb_memtablet.proofs.list.change_each.Given as goal
 
 abbrev pub invariant-loop-edit : goal.invariant-loop-edit
 invariant-loop-edit l = record {

@@ -1,7 +1,7 @@
 use Rattle.std.proofs.Common.{rules}
 use Rattle.std.proofs.lemmas.Fn.{always_returns_same}
 use Rattle.pb_memtablet.proofs.Spots.{holds, found_by_search, gap_by_search}
-use Rattle.pb_memtablet.proofs.sorted.spot.Goals as goal
+use Rattle.pb_memtablet.proofs.sorted.find_spot.Goals as goal
 
 pub returns-clause-found : goal.returns-clause-found
 returns-clause-found g c =
