@@ -206,11 +206,16 @@ impl Transaction {
     }
 }
 
+// Makes room for one item more: for the first alone at first, since mostly there is one.
 fn make_room<X>(list: &mut Vec<X>) -> Result<(), NoMemory>
     ensures items { list.new.items ≡ list.old.items }
     ensures room { OnOk result (vec_len list.new < vec_capacity list.new) }
 {
-    list.reserve(1)?;
+    if list.is_empty() {
+        list.reserve_exact(1)?;
+    } else {
+        list.reserve(1)?;
+    }
     Ok(())
 }
 

@@ -30,6 +30,22 @@ impl Model for Transactions {
     ghost invariant = { λ a. StartsRise a.list.items };
 }
 
+// Where a start would stand if starts rose evenly. It is a guess, and can be any number.
+fn even_place(list: &[(u64, Transaction)], start: u64) -> usize {
+    let (Some(first), Some(last)) = (list.first(), list.last()) else {
+        return 0;
+    };
+    let whole = last.0.saturating_sub(first.0);
+    let part = start.saturating_sub(first.0);
+    if whole == 0 {
+        return 0;
+    }
+    match part.checked_mul(list.len() as u64 - 1) {
+        Some(product) => (product / whole) as usize,
+        None => 0,
+    }
+}
+
 // Where the transaction of a start stands.
 fn place_of(list: &[(u64, Transaction)], start: u64) -> Option<usize>
     requires { StartsRise list.now }
@@ -40,6 +56,10 @@ fn place_of(list: &[(u64, Transaction)], start: u64) -> Option<usize>
     // Mostly it is the newest.
     if high > 0 && list[high - 1].0 == start {
         return Some(high - 1);
+    }
+    let likely = even_place(list, start);
+    if likely < high && list[likely].0 == start {
+        return Some(likely);
     }
     while low < high {
         let middle = low + (high - low) / 2;
