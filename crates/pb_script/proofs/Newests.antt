@@ -12,7 +12,7 @@ use Rattle.pb_base.specs.declared.cell.Cell.TheVariants.{Data, Ack}
 use Rattle.pb_base.specs.Cell.{cell_cmp, cell_cmp_total, cell_cmp-IsAntisymmetric, is_data}
 use Rattle.pb_script.specs.declared.reports.lines.Newest.{Newest}
 use Rattle.pb_script.specs.declared.reports.newest.Put.{Put}
-use Rattle.pb_script.specs.Reports.{IsNewestPut, IsTold, is_later}
+use Rattle.pb_script.specs.Reports.{IsNewestPut, IsTold, is_later, newest_in}
 
 is_equal : (o : Ordering) → tree.is_at {K = ℕ} (λ _. o) 0 ≡ true → o ≡ Equal
 is_equal Less h = absurd cc
@@ -24,9 +24,6 @@ same_cell a b h = cell_cmp-IsAntisymmetric a b (is_equal (cell_cmp a b) h)
 
 other_cell : (a b : Cell) → tree.is_at (cell_cmp a) b ≡ false → a ≢ b
 other_cell a b h e = let r = (eq_by_cmp_equiv cell_cmp_total).refl a in let k = subst (λ (x : Cell). tree.is_at (cell_cmp a) x ≡ false) (sym e) h in absurd cc
-
-abbrev pub newest_in : Put → Newest
-newest_in p = record { commit = p.commit; content = p.content }
 
 -- another cell stays
 other : (puts : List Put) (p : Put) (x : Cell) (r : Option Newest) → p.cell ≢ x → IsNewestPut puts x r → IsNewestPut (puts ++ p ∷ []) x r
@@ -110,12 +107,18 @@ newest_same puts p f h old x =
 next_is : (puts : List Put) (i : ℕ) (p : Put) → i < length puts → p ≡ get_or puts i p → take (i + 1) puts ≡ take i puts ++ p ∷ []
 next_is puts i p lt e = take_more puts i p lt ∙ ap (λ (q : Put). take i puts ++ q ∷ []) (sym e)
 
-pub turn_more : (puts : List Put) (i : ℕ) (p : Put) (f g : Cell → Option Newest) → i < length puts → p ≡ get_or puts i p → AreTold (take i puts) f → (is_data p.cell && is_later (f p.cell) p.commit) ≡ true
-    → ((x : Cell) → g x ≡ cond (tree.is_at (cell_cmp p.cell) x) (Some (newest_in p)) (f x)) → AreTold (take (i + 1) puts) g
-turn_more puts i p f g lt e h news is x = subst (λ (ps : List Put). IsTold (IsNewestPut ps) x (g x)) (sym (next_is puts i p lt e)) (newest_more (take i puts) p f g h news is x)
+pub turn_put : (puts : List Put) (i : ℕ) (p : Put) (f g : Cell → Option Newest) → i < length puts → p ≡ get_or puts i p → AreTold (take i puts) f → is_data p.cell ≡ true
+    → (is_later (f p.cell) p.commit ≡ true → (x : Cell) → g x ≡ cond (tree.is_at (cell_cmp p.cell) x) (Some (newest_in p)) (f x)) → (is_later (f p.cell) p.commit ≡ false → (x : Cell) → g x ≡ f x) → AreTold (take (i + 1) puts) g
+turn_put puts i p f g lt e h held newer older x =
+    subst (λ (ps : List Put). IsTold (IsNewestPut ps) x (g x)) (sym (next_is puts i p lt e))
+    (elim (cases_Bool (is_later (f p.cell) p.commit)) [
+      | inl later ↦ newest_more (take i puts) p f g h (ap (λ b. b && is_later (f p.cell) p.commit) held ∙ later) (newer later) x
+      | inr late ↦ subst (IsTold (IsNewestPut (take i puts ++ p ∷ [])) x) (sym (older late x)) (newest_same (take i puts) p f h (ap (λ b. b && is_later (f p.cell) p.commit) held ∙ late) x)
+    ])
 
-pub turn_same : (puts : List Put) (i : ℕ) (p : Put) (f : Cell → Option Newest) → i < length puts → p ≡ get_or puts i p → AreTold (take i puts) f → (is_data p.cell && is_later (f p.cell) p.commit) ≡ false → AreTold (take (i + 1) puts) f
-turn_same puts i p f lt e h old x = subst (λ (ps : List Put). IsTold (IsNewestPut ps) x (f x)) (sym (next_is puts i p lt e)) (newest_same (take i puts) p f h old x)
+pub turn_same : (puts : List Put) (i : ℕ) (p : Put) (f : Cell → Option Newest) → i < length puts → p ≡ get_or puts i p → AreTold (take i puts) f → is_data p.cell ≡ false → AreTold (take (i + 1) puts) f
+turn_same puts i p f lt e h no_data x =
+    subst (λ (ps : List Put). IsTold (IsNewestPut ps) x (f x)) (sym (next_is puts i p lt e)) (newest_same (take i puts) p f h (ap (λ b. b && is_later (f p.cell) p.commit) no_data) x)
 
 pub turn_end : (puts : List Put) (i : ℕ) (f : Cell → Option Newest) → length puts ≤ i → AreTold (take i puts) f → AreTold puts f
 turn_end puts i f le h x = subst (λ (ps : List Put). IsTold (IsNewestPut ps) x (f x)) (take_all i puts le) (h x)

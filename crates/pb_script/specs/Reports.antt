@@ -37,6 +37,10 @@ IsReport puts runs marks locks text = IsReportOf (IsNewestPut puts) runs marks l
 abbrev pub AreApart : List Put → Type 0
 AreApart puts = (p q : Put) → Contains puts p → Contains puts q → p.cell ≡ q.cell → p.commit ≡ q.commit → p ≡ q
 
+-- what a write leaves at its cell
+abbrev pub newest_in : Put → Newest
+newest_in p = record { commit = p.commit; content = p.content }
+
 abbrev pub is_later : Option Newest → Ts → Bool
 is_later None commit = true
 is_later (Some n) commit = nat_lt n.commit.0 commit.0

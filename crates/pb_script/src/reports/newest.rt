@@ -1,9 +1,9 @@
 //! What is newest at each data cell.
 ghost use Rattle.std.specs.BTreeMap as tree;
-ghost use Rattle.std.specs.Prelude.{◌≡◌, ◌&&◌, IfOk, string_bytes};
+ghost use Rattle.std.specs.Prelude.{◌≡◌, true, false, cond, Some, IfOk, OnOk, string_bytes};
 ghost use Rattle.pb_base.specs.Cell.{cell_cmp, is_data};
 ghost use Rattle.pb_script.specs.ReportLines.{cell_lines};
-ghost use Rattle.pb_script.specs.Reports.{IsNewestPut, IsTold, is_later};
+ghost use Rattle.pb_script.specs.Reports.{IsNewestPut, IsTold, is_later, newest_in};
 ghost use Rattle.pb_script.specs.declared.reports.lines.Newest.{Newest};
 
 use crate::reports::lines::{Newest, add_cell_line};
@@ -28,20 +28,24 @@ fn is_data(cell: &Cell) -> bool
     }
 }
 
-// Whether the write is newer than what the table has at its cell.
-fn is_later(table: &BTreeMap<Cell, Newest>, put: &Put) -> bool
-    ensures { result ≡ is_later (tree.get cell_cmp table.now put.now.cell) put.now.commit }
+// Puts a write at its cell, unless the table has a newer one there.
+fn put_newest(table: &mut BTreeMap<Cell, Newest>, put: &Put) -> Result<(), AllocError>
+    ensures newer { OnOk result (is_later (tree.get cell_cmp table.old put.now.cell) put.now.commit ≡ true → (x : Cell) → tree.get cell_cmp table.new x ≡ cond (tree.is_at (cell_cmp put.now.cell) x) (Some (newest_in put.now)) (tree.get cell_cmp table.old x)) }
+    ensures older { OnOk result (is_later (tree.get cell_cmp table.old put.now.cell) put.now.commit ≡ false → (x : Cell) → tree.get cell_cmp table.new x ≡ tree.get cell_cmp table.old x) }
+    ensures rising { tree.IsOrdered cell_cmp table.new }
 {
-    match table.get(&put.cell) {
-        Some(old) => old.commit.0 < put.commit.0,
-        None => true,
+    let newest = Newest {
+        commit: put.commit,
+        content: put.content,
+    };
+    // Mostly it is the first or a newer one, so it is put at once, and a newer one that it took the place of is put back.
+    let Some(old) = table.insert(put.cell, newest)? else {
+        return Ok(());
+    };
+    if put.commit.0 <= old.commit.0 {
+        table.insert(put.cell, old)?;
     }
-}
-
-fn is_told(table: &BTreeMap<Cell, Newest>, put: &Put) -> bool
-    ensures { result ≡ (is_data put.now.cell && is_later (tree.get cell_cmp table.now put.now.cell) put.now.commit) }
-{
-    is_data(&put.cell) && is_later(table, put)
+    Ok(())
 }
 
 /// The newest of each data cell.
@@ -51,12 +55,8 @@ pub fn newest_of(alloc: Global, puts: &[Put]) -> Result<BTreeMap<Cell, Newest>, 
 {
     let mut table = BTreeMap::new(alloc);
     for put in puts {
-        if is_told(&table, put) {
-            let newest = Newest {
-                commit: put.commit,
-                content: put.content,
-            };
-            table.insert(put.cell, newest)?;
+        if is_data(&put.cell) {
+            put_newest(&mut table, put)?;
         }
     }
     Ok(table)
