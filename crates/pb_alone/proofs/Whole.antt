@@ -19,7 +19,7 @@ use Rattle.pb_history.specs.declared.entry.Received.{Received}
 use Rattle.pb_history.specs.Journals.{IsLegal}
 use Rattle.pb_history.specs.History.{Has, IsEntry, Member, InHistory, IsCommitted, TellsHistory}
 use Rattle.pb_core.specs.Calls.{SharedOf}
-use Rattle.pb_script.specs.ScriptLines.{script_of}
+use Rattle.pb_parse.specs.ScriptLines.{script_of}
 use Rattle.pb_script.specs.declared.fault.ReportFault.{ReportFault}
 use Rattle.pb_script.specs.declared.fault.ReportFault.TheVariants as ends
 use Rattle.pb_alone.specs.declared.fault.RunFault.{RunFault}

@@ -1,7 +1,7 @@
 //! A whole script, from its text to the report.
 ghost use Rattle.std.specs.Prelude.{◌≡◌, ◌<◌, [], false, Ok, IfOk, IfErr, OnOk};
 ghost use Rattle.pb_core.specs.Calls.{AreSeats};
-ghost use Rattle.pb_script.specs.ScriptLines.{script_of};
+ghost use Rattle.pb_parse.specs.ScriptLines.{script_of};
 ghost use Rattle.pb_alone.specs.Runs.{IsUnread, Works, Runs, KeepsSeats};
 ghost use Rattle.pb_alone.specs.Alone.{IsClean, Goes};
 ghost use Rattle.pb_alone.specs.Stops.{IfRefused, WorkStopped};

@@ -8,9 +8,9 @@ use Rattle.pb_steps.specs.Observers.{ObserverOf}
 use Rattle.pb_steps.specs.State.{opening}
 use Rattle.pb_core.specs.Calls.{SharedOf, SeatOf, AreSeats}
 use Rattle.pb_registry.specs.Judging.{ReadsManifest}
-use Rattle.pb_script.specs.ScriptLines.{script_of}
-use Rattle.pb_script.specs.declared.event.Event.{Event}
-use Rattle.pb_script.specs.Schedules.{schedule_of}
+use Rattle.pb_parse.specs.ScriptLines.{script_of}
+use Rattle.pb_parse.specs.declared.event.Event.{Event}
+use Rattle.pb_parse.specs.Schedules.{schedule_of}
 use Rattle.pb_world.specs.declared.fault.WorldFault.{WorldFault}
 use Rattle.pb_world.specs.declared.note.Note.{Note}
 use Rattle.pb_world.specs.Events.{WorldOf, idle_actors, RunsTo, StopsAt}

@@ -2,8 +2,8 @@
 ghost use Rattle.std.specs.Prelude.{◌≡◌, ◌≤◌, length, Ok, IfOk, IfErr};
 ghost use Rattle.pb_base.specs.declared.limits.TheConstants.{MAX_OBSERVERS};
 ghost use Rattle.pb_registry.specs.Judging.{ReadsManifest};
-ghost use Rattle.pb_script.specs.ScriptLines.{script_of};
-ghost use Rattle.pb_script.specs.Schedules.{schedule_of};
+ghost use Rattle.pb_parse.specs.ScriptLines.{script_of};
+ghost use Rattle.pb_parse.specs.Schedules.{schedule_of};
 ghost use Rattle.pb_replay.specs.Replays.{IsBadManifest, IsBadScript, IsBadSchedule};
 
 use crate::fault::ReplayFault;

@@ -1,15 +1,3 @@
-pub mod FirstFault
-pub mod Codes
-pub mod ScriptWords
-pub mod ScriptLines
-pub mod Operations
-pub mod Scripts
-pub mod Numerals
-pub mod ScheduleCodes
-pub mod ScheduleWords
-pub mod Schedules
-pub mod EventLines
-pub mod ScheduleFaults
 pub mod ReportLines
 pub mod Reports
 pub mod Committed

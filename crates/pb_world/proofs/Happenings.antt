@@ -7,7 +7,7 @@ use Rattle.pb_base.specs.Reasons.{reason_code}
 use Rattle.pb_steps.specs.declared.step.Step.{Step}
 use Rattle.pb_steps.specs.declared.step.Answer.{Answer}
 use Rattle.pb_core.specs.Calls.{SharedOf, SeatOf, Calls, call_reason}
-use Rattle.pb_script.specs.declared.event.Job.{Job}
+use Rattle.pb_parse.specs.declared.event.Job.{Job}
 use Rattle.pb_world.specs.declared.actor.Actor.{Actor}
 use Rattle.pb_world.specs.declared.job.ActorJob.{ActorJob}
 use Rattle.pb_world.specs.declared.note.Note.{Note}

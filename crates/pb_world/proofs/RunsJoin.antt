@@ -1,6 +1,6 @@
 -- Runs of events, joined and parted.
 use Rattle.std.proofs.Common.{◌≡◌, List, [], ◌∷◌, ◌++◌, refl, sym, ap, subst}
-use Rattle.pb_script.specs.declared.event.Event.{Event}
+use Rattle.pb_parse.specs.declared.event.Event.{Event}
 use Rattle.pb_world.specs.declared.note.Note.{Note}
 use Rattle.pb_world.specs.Events.{WorldOf, RunsTo}
 use Rattle.pb_world.specs.Headline.{StopsBetween, RunsJoin, RunsPart}

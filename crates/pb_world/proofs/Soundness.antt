@@ -29,10 +29,10 @@ use Rattle.pb_notify.specs.Runs.{RunOf, fresh, need_of}
 use Rattle.pb_notify.specs.Runs as runs
 use Rattle.pb_notify.specs.Talks.{Reaches, took, computed}
 use Rattle.pb_notify.specs.Talks as talk
-use Rattle.pb_script.specs.declared.event.Event.{Event}
-use Rattle.pb_script.specs.declared.event.Event.TheVariants as events
-use Rattle.pb_script.specs.declared.event.Job.{Job}
-use Rattle.pb_script.specs.declared.event.Job.TheVariants as jobs
+use Rattle.pb_parse.specs.declared.event.Event.{Event}
+use Rattle.pb_parse.specs.declared.event.Event.TheVariants as events
+use Rattle.pb_parse.specs.declared.event.Job.{Job}
+use Rattle.pb_parse.specs.declared.event.Job.TheVariants as jobs
 use Rattle.pb_world.specs.declared.actor.Actor.{Actor}
 use Rattle.pb_world.specs.declared.job.ActorJob.{ActorJob}
 use Rattle.pb_world.specs.declared.job.ActorJob.TheVariants.{Change, Run}

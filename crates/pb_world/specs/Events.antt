@@ -11,10 +11,10 @@ use Rattle.pb_steps.specs.Observers.{ObserverOf}
 use Rattle.pb_core.specs.Calls.{SharedOf, SeatOf, Calls, call_reason}
 use Rattle.pb_txn.specs.Changes.{new_change}
 use Rattle.pb_notify.specs.Runs.{fresh}
-use Rattle.pb_script.specs.declared.event.Event.{Event}
-use Rattle.pb_script.specs.declared.event.Event.TheVariants as events
-use Rattle.pb_script.specs.declared.event.Job.{Job}
-use Rattle.pb_script.specs.declared.event.Job.TheVariants as jobs
+use Rattle.pb_parse.specs.declared.event.Event.{Event}
+use Rattle.pb_parse.specs.declared.event.Event.TheVariants as events
+use Rattle.pb_parse.specs.declared.event.Job.{Job}
+use Rattle.pb_parse.specs.declared.event.Job.TheVariants as jobs
 use Rattle.pb_world.specs.declared.actor.Actor.{Actor}
 use Rattle.pb_world.specs.declared.fault.EventFault.{EventFault}
 use Rattle.pb_world.specs.declared.fault.EventFault.TheVariants as faults

@@ -20,7 +20,7 @@ use Rattle.pb_notify.specs.declared.need.JobEnd.{JobEnd}
 use Rattle.pb_notify.specs.Runs.{RunOf}
 use Rattle.pb_notify.specs.Forms.{IsRunTalk}
 use Rattle.pb_notify.specs.Led.{StandsAt, IsMachineOf}
-use Rattle.pb_script.specs.declared.event.Event.{Event}
+use Rattle.pb_parse.specs.declared.event.Event.{Event}
 use Rattle.pb_world.specs.declared.actor.Actor.{Actor}
 use Rattle.pb_world.specs.declared.job.ActorJob.{ActorJob}
 use Rattle.pb_world.specs.declared.job.ActorJob.TheVariants.{Change, Run}

@@ -18,7 +18,7 @@ use Rattle.pb_world.specs.declared.job.ActorJob.{ActorJob}
 use Rattle.pb_world.specs.declared.job.ActorJob.TheVariants.{Change, Run}
 use Rattle.pb_world.specs.declared.note.Note.{Note}
 use Rattle.pb_world.specs.Jobs.{IsAccepted}
-use Rattle.pb_script.specs.declared.event.Event.{Event}
+use Rattle.pb_parse.specs.declared.event.Event.{Event}
 use Rattle.pb_world.specs.Events.{WorldOf, change_of, RunsTo}
 
 -- a change of the script, led by its answers to where it stands

@@ -11,5 +11,5 @@ mod world;
 pub use fault::{EventFault, WorldFault};
 pub use laws::{worlds_hold, worlds_stay_sound};
 pub use note::Note;
-pub use pb_script::{Event, Job};
+pub use pb_parse::{Event, Job};
 pub use world::World;

@@ -10,7 +10,7 @@ use crate::note::Note;
 use pb_base::{Batch, NoMemory};
 use pb_core::{Seat, Shared, Step};
 use pb_notify::ObserverJob;
-use pb_script::{Event, Job};
+use pb_parse::{Event, Job};
 use pb_store::Tablet;
 use pb_txn::ChangeJob;
 use std::alloc::Global;

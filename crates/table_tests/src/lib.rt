@@ -1,13 +1,11 @@
-//! The tests of the shared table, of runs by one seat alone, and of jobs of several seats: each step with its answer, and
-//! what stands in the table at the end.
+//! The tests of the shared table and of runs by one seat alone: each step with its answer, and what stands in the table at
+//! the end.
 //!
 //! They stand in a crate of their own, since a crate that has tests is proved twice.
 #![tactic(auto)]
 
 #[cfg(test)]
 mod clean_ups;
-#[cfg(test)]
-mod jobs;
 #[cfg(test)]
 mod marks;
 #[cfg(test)]

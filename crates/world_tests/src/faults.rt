@@ -4,7 +4,7 @@ ghost use Rattle.std.specs.Prelude.{◌≡◌, ◌≤◌};
 use crate::worlds::{Texts, Told, WATCH, each};
 use pb_base::{NoMemory, ObserverNo, Row, Ts};
 use pb_core::Answer;
-use pb_script::{Event, Job};
+use pb_parse::{Event, Job};
 use pb_world::Note;
 use std::alloc::Global;
 use std::rt::HostRuntime;

@@ -1,0 +1,193 @@
+-- What the operations of a line make is a batch, however many they are.
+use Rattle.std.proofs.Common.{◌≡◌, ℕ, ◌+◌, ◌<◌, ◌≤◌, ◌^◌, ◌-◌, Bool, true, false, cond, List, [], ◌∷◌, ◌++◌, length, Option, Some, None, Result, Ok, Err, refl, sym, ap, subst, ◌∙◌, arith, inl, inr, append_assoc, length-append}
+use Rattle.std.specs.Prelude.{◌==◌, ◌⊎◌, ◌&&◌, nat_le, is_some, is_none, codes}
+use Rattle.std.specs.Cmp.{eq_by_cmp_equiv}
+use Rattle.std.specs.List.{list_all, onto_first, slice_split}
+use Rattle.std.specs.Ordering.{eq_by_cmp}
+use Rattle.std.specs.Str.{bytes_eq}
+use Rattle.std.proofs.lemmas.Bool.{and_parts, leb-false, le-leb, lt-ltb}
+use Rattle.std.proofs.lemmas.List.{append-nil, length-map, map-append}
+use Rattle.pb_base.specs.Cell.{cell_cmp, cell_cmp_total, is_data}
+use Rattle.pb_base.specs.declared.cell.Cell.{Cell}
+use Rattle.pb_base.specs.declared.cell.Cell.TheVariants.{Data}
+use Rattle.pb_base.specs.declared.content.Content.{Content}
+use Rattle.pb_base.specs.declared.content.Content.TheVariants.{Value, Deleted}
+use Rattle.pb_base.specs.Batch.{Writes, content_in, is_unstamped, is_data_write, are_distinct, is_batch}
+use Rattle.pb_parse.specs.declared.script.code.Code.{Code}
+use Rattle.pb_parse.specs.declared.script.code.Code.TheVariants.{Twice, Seventeenth}
+use Rattle.pb_base.specs.Reading.{◌>>=◌, in_turn}
+use Rattle.pb_base.specs.declared.limits.TheConstants.{MAX_CELLS}
+use Rattle.pb_parse.specs.ScriptWords.{put_of, del_of, write_of, operation, cell_at, field, number_upto, content_of, ended}
+use Rattle.pb_parse.specs.ScriptLines.{cut, with_operation, batch_of}
+use Rattle.pb_parse.specs.Operations.{Say}
+
+pub bind_ok : {A B : Type 0} (r : Result A Code) (f : A → Result B Code) (y : B) → (r >>= f) ≡ Ok y → (x : A) × (r ≡ Ok x) × (f x ≡ Ok y)
+bind_ok (Ok x) f y h = (x, refl, h)
+bind_ok (Err e) f y h = absurd cc
+
+pub ok_same : {A E : Type 0} (x y : A) → ◌≡◌ {A = Result A E} (Ok x) (Ok y) → x ≡ y
+ok_same x y h = cc
+
+pub chosen : {A : Type 0} (b : Bool) (x y z : A) → cond b x y ≡ z → ((b ≡ true) × (x ≡ z)) ⊎ ((b ≡ false) × (y ≡ z))
+chosen true x y z h = inl (refl, h)
+chosen false x y z h = inr (refl, h)
+
+cell_is_data : (words : List (List ℕ)) (c : Cell × List (List ℕ)) → cell_at words ≡ Ok c → is_data c.0 ≡ true
+unfolding cell_at
+cell_is_data words c h =
+    let a = bind_ok (field words) _ c h in
+    let b = bind_ok (number_upto (2 ^ 64 - 1) a.0.0) _ c a.2 in
+    let d = bind_ok (field a.0.1) _ c b.2 in
+    let e = bind_ok (number_upto 15 d.0.0) _ c d.2 in
+    sym (ap (λ (p : Cell × List (List ℕ)). is_data p.0) (ok_same {E = Code} (Data (record { 0 = b.0 }) e.0, d.0.1) c e.2))
+
+is_written : (x : Cell) (k : Content) (w : Cell × Content) → is_data x ≡ true → is_unstamped k ≡ true → ◌≡◌ {A = Result (Cell × Content) Code} (Ok (x, k)) (Ok w) → is_data_write w ≡ true
+is_written x k w place plain h = sym (ap is_data_write (ok_same {E = Code} (x, k) w h)) ∙ (rw (place, plain) refl)
+
+plain_put : (words : List (List ℕ)) (w : Cell × Content) → put_of words ≡ Ok w → is_data_write w ≡ true
+unfolding put_of
+plain_put words w h =
+    let a = bind_ok (cell_at words) _ w h in
+    let b = bind_ok (field a.0.1) _ w a.2 in
+    let c = bind_ok (content_of b.0.0) _ w b.2 in
+    let d = bind_ok (ended b.0.1) _ w c.2 in
+    is_written a.0.0 (Value c.0) w (cell_is_data words a.0 a.1) refl d.2
+
+plain_del : (words : List (List ℕ)) (w : Cell × Content) → del_of words ≡ Ok w → is_data_write w ≡ true
+unfolding del_of
+plain_del words w h =
+    let a = bind_ok (cell_at words) _ w h in
+    let d = bind_ok (ended a.0.1) _ w a.2 in
+    is_written a.0.0 Deleted w (cell_is_data words a.0 a.1) refl d.2
+
+plain_write : (words : List (List ℕ)) (w : Cell × Content) → write_of words ≡ Ok w → is_data_write w ≡ true
+unfolding write_of
+plain_write words w h =
+    let a = bind_ok (field words) _ w h in
+    elim (chosen (bytes_eq a.0.0 (codes "put")) (put_of a.0.1) _ (Ok w) a.2) [
+      | inl p ↦ plain_put a.0.1 w p.1
+      | inr q ↦ elim (chosen (bytes_eq a.0.0 (codes "del")) (del_of a.0.1) _ (Ok w) q.1) [
+        | inl p ↦ plain_del a.0.1 w p.1
+        | inr r ↦ let e = r.1 in absurd cc
+      ]
+    ]
+
+-- ---- one write more
+
+pub none_of : {A : Type 0} (o : Option A) → is_none o ≡ true → o ≡ None
+none_of None h = refl
+none_of (Some x) h = absurd cc
+
+not_some : {A : Type 0} (o : Option A) → is_some o ≡ false → o ≡ None
+not_some None h = refl
+not_some (Some x) h = absurd cc
+
+lack_more : (ws : Writes) (w : Cell × Content) (x : Cell) → content_in ws x ≡ None → eq_by_cmp cell_cmp x w.0 ≡ false → content_in (ws ++ w ∷ []) x ≡ None
+lack_more [] w x n e = rw e refl
+lack_more (v ∷ vs) w x n e = elim (chosen (eq_by_cmp cell_cmp x v.0) (Some v.1) (content_in vs x) None n) [
+  | inl here ↦ let no = here.1 in absurd cc
+  | inr there ↦ rw there.0 (lack_more vs w x there.1 e)
+]
+
+distinct_more : (ws : Writes) (w : Cell × Content) → are_distinct ws ≡ true → content_in ws w.0 ≡ None → are_distinct (ws ++ w ∷ []) ≡ true
+distinct_more [] w d n = refl
+distinct_more (v ∷ vs) w d n =
+    let p = and_parts (is_none (content_in vs v.0)) (are_distinct vs) d in
+    elim (chosen (eq_by_cmp cell_cmp w.0 v.0) (Some v.1) (content_in vs w.0) None n) [
+      | inl here ↦ let no = here.1 in absurd cc
+      | inr there ↦ let apart : eq_by_cmp cell_cmp v.0 w.0 ≡ false = (eq_by_cmp_equiv cell_cmp_total).symm v.0 w.0 ∙ there.0 in
+          rw (lack_more vs w v.0 (none_of (content_in vs v.0) p.0) apart, distinct_more vs w p.1 there.1) refl
+    ]
+
+plain_more : (ws : Writes) (w : Cell × Content) → list_all is_data_write ws ≡ true → is_data_write w ≡ true → list_all is_data_write (ws ++ w ∷ []) ≡ true
+plain_more [] w h p = rw p refl
+plain_more (v ∷ vs) w h p = let q = and_parts (is_data_write v) (list_all is_data_write vs) h in rw (q.0, plain_more vs w q.1 p) refl
+
+-- the texts say these writes, which are a batch, or none yet
+pub record IsOpen (texts : List (List ℕ)) (ws : Writes) : Type 0 where
+  pub said : Say texts ws
+  pub few : length ws ≤ MAX_CELLS
+  pub plain : list_all is_data_write ws ≡ true
+  pub distinct : are_distinct ws ≡ true
+
+-- what one more operation added
+pub record IsAdded (before after : Writes) (text : List ℕ) : Type 0 where
+  pub write : Cell × Content
+  pub read : operation text ≡ Ok write
+  pub new : content_in before write.0 ≡ None
+  pub room : length before < MAX_CELLS
+  pub all : before ++ write ∷ [] ≡ after
+
+added : (before after : Writes) (text : List ℕ) → with_operation before text ≡ Ok after → IsAdded before after text
+unfolding with_operation
+added before after text h =
+    let a = bind_ok (operation text) _ after h in
+    elim (chosen (is_some (content_in before a.0.0)) (Err Twice) _ (Ok after) a.2) [
+      | inl twice ↦ let no = twice.1 in absurd cc
+      | inr new ↦ elim (chosen (nat_le MAX_CELLS (length before)) (Err Seventeenth) (Ok (before ++ a.0 ∷ [])) (Ok after) new.1) [
+        | inl full ↦ let no = full.1 in absurd cc
+        | inr room ↦ record {
+          write = a.0;
+          read = a.1;
+          new = not_some (content_in before a.0.0) new.0;
+          room = leb-false _ _ room.0;
+          all = ok_same {E = Code} (before ++ a.0 ∷ []) after room.1;
+        }
+      ]
+    ]
+
+say_more : (texts : List (List ℕ)) (ws : Writes) (text : List ℕ) (w : Cell × Content) → Say texts ws → operation text ≡ Ok w → Say (texts ++ text ∷ []) (ws ++ w ∷ [])
+say_more texts ws text w said read = simp map-append (rw (said, read) refl)
+
+grown : (texts : List (List ℕ)) (before after : Writes) (text : List ℕ) → IsOpen texts before → IsAdded before after text → IsOpen (texts ++ text ∷ []) after
+grown texts before after text o a =
+    subst (IsOpen (texts ++ text ∷ [])) a.all (record {
+      said = say_more texts before text a.write o.said a.read;
+      few = let room = a.room in simp length-append (omega arith);
+      plain = plain_more before a.write o.plain (plain_write (slice_split (λ b. b == 32) text) a.write a.read);
+      distinct = distinct_more before a.write o.distinct a.new;
+    })
+
+-- ---- operations in turn
+
+turn_open : (texts : List (List ℕ)) (after : Writes) (r : Result Writes Code) (more : Writes → Result Writes Code) → ((s : Writes) → r ≡ Ok s → more s ≡ Ok after → IsOpen texts after) → (r >>= more) ≡ Ok after → IsOpen texts after
+turn_open texts after (Ok s) more f h = f s refl h
+turn_open texts after (Err e) more f h = absurd cc
+
+-- operations in turn after others
+pub all_open : (n : ℕ) (front : List (List ℕ)) (before after : Writes) (texts : List (List ℕ)) → IsOpen front before → in_turn (λ _. with_operation) n before texts ≡ Ok after → IsOpen (front ++ texts) after
+all_open n front before after [] o h = rw append-nil (subst (IsOpen front) (ok_same {E = Code} before after h) o)
+all_open n front before after (t ∷ ts) o h =
+    turn_open (front ++ t ∷ ts) after (with_operation before t) (λ s. in_turn (λ _. with_operation) (n + 1) s ts)
+    (λ s is k. subst (λ (texts : List (List ℕ)). IsOpen texts after) (append_assoc front (t ∷ []) ts) (all_open (n + 1) (front ++ t ∷ []) s after ts (grown front before s t o (added before s t is)) k)) h
+
+pub nothing_open : IsOpen [] []
+nothing_open = record { said = refl; few = omega arith; plain = refl; distinct = refl }
+
+onto_some : (b : ℕ) (xs : List (List ℕ)) → (x : List ℕ) × (ys : List (List ℕ)) × (onto_first b xs ≡ x ∷ ys)
+onto_some b [] = (b ∷ [], [], refl)
+onto_some b (x ∷ xs) = (b ∷ x, xs, refl)
+
+cut_choice : (k : Bool) (x y : List (List ℕ)) → (a : List ℕ) × (ys : List (List ℕ)) × (y ≡ a ∷ ys) → (a : List ℕ) × (ys : List (List ℕ)) × (cond k ([] ∷ x) y ≡ a ∷ ys)
+cut_choice true x y h = ([], x, refl)
+cut_choice false x y h = h
+
+cut_some : (line : List ℕ) → (x : List ℕ) × (ys : List (List ℕ)) × (cut line ≡ x ∷ ys)
+cut_some [] = ([], [], refl)
+cut_some (b ∷ []) = (b ∷ [], [], refl)
+cut_some (b ∷ c ∷ bs) = cut_choice ((b == 59) && (c == 32)) (cut bs) (onto_first b (cut (c ∷ bs))) (onto_some b (cut (c ∷ bs)))
+
+closed : (texts : List (List ℕ)) (ws : Writes) → IsOpen texts ws → 0 < length texts → is_batch ws ≡ true
+closed texts ws o some =
+    let same : length ws ≡ length texts = sym (length-map {B = Result (Cell × Content) Code} ws (λ w. Ok w)) ∙ sym (ap length o.said) ∙ length-map texts operation in
+    rw (lt-ltb 0 (length ws) (omega (arith, same)), le-leb (length ws) MAX_CELLS o.few, o.plain, o.distinct) refl
+
+-- what a line is read as is what its operations say
+pub line_is_open : (line : List ℕ) (batch : Writes) → batch_of line ≡ Ok batch → IsOpen (cut line) batch
+line_is_open line batch h = all_open 0 [] [] batch (cut line) nothing_open h
+
+-- and it is a batch
+pub line_is_batch : (line : List ℕ) (batch : Writes) → batch_of line ≡ Ok batch → is_batch batch ≡ true
+line_is_batch line batch h =
+    let c = cut_some line in
+    closed (cut line) batch (line_is_open line batch h) (rw c.2 (omega arith))

@@ -1,0 +1,444 @@
+-- A line's fault, unless it is its form, is that of a field; and a field's fault is the line's.
+use Rattle.std.proofs.Common.{◌≡◌, ◌≢◌, ℕ, ◌-◌, ◌^◌, ◌<◌, ◌≤◌, Bool, true, false, cond, List, [], ◌∷◌, ◌++◌, length, Result, Ok, Err, refl, sym, ap, subst, ◌∙◌, arith, inl, inr}
+use Rattle.std.specs.Prelude.{◌==◌, ◌⊎◌, nat_le, nat_lt, codes}
+use Rattle.std.specs.Fmt.{decimal}
+use Rattle.std.specs.Str.{bytes_eq}
+use Rattle.std.specs.Str.Parse.{digits_value}
+use Rattle.std.proofs.lemmas.Bool.{leb-true, leb-false, ltb-false, ltb-true, le-leb, lt-leb, lt-ltb, le-ltb}
+use Rattle.pb_base.specs.declared.limits.TheConstants.{COLUMNS, MAX_CHANGES, MAX_EVENTS, MAX_SEATS}
+use Rattle.pb_base.specs.declared.cell.Cell.{Cell}
+use Rattle.pb_base.specs.declared.names.Row.{Row}
+use Rattle.pb_base.specs.Reading.{◌>>=◌, is_numeral, next_word, no_word, numeral_upto, words_of}
+use Rattle.pb_steps.specs.Observers.{ObserverOf, acknowledgment}
+use Rattle.pb_parse.specs.declared.event.Job.{Job}
+use Rattle.pb_parse.specs.declared.event.Job.TheVariants.{Change, Run}
+use Rattle.pb_parse.specs.declared.event.Event.{Event}
+use Rattle.pb_parse.specs.declared.event.Event.TheVariants.{Launch, Step, Crash, Settle, Clear, Sweep}
+use Rattle.pb_parse.specs.declared.schedule.words.Order.{Order}
+use Rattle.pb_parse.specs.declared.schedule.fault.Code.{Code}
+use Rattle.pb_parse.specs.declared.schedule.fault.Code.TheVariants.{Form, Range, NoObserver}
+use Rattle.pb_parse.specs.ScheduleWords.{number_between, next_number, next_actor, next_row, first_named, observer_named, next_observer, next_change, next_run, next_job, once, launch_of, times_of, step_of, crash_of, next_data_cell, next_acknowledgment, next_cell, once_on, order_by, order_of_words, order_of}
+use Rattle.pb_parse.specs.EventLines.{name_of, IsActor, IsRow, IsNamed}
+use Rattle.pb_parse.specs.ScheduleFaults.{Field, LaunchActor, ChangeNumber, RunName, RunRow, StepActor, StepTimes, CrashActor, SettleRow, SettleColumn, SettleName, SettleAckRow, ClearRow, ClearColumn, ClearName, ClearAckRow, SweepRow, SweepColumn, words_in_front, FitsInFront, IsOutside, IsNoActor, IsNoRow, IsNoColumn, IsNobody, IsRefusedAt, StopsAtField}
+use Rattle.pb_parse.proofs.Blanks.{AreWords, words_are}
+use Rattle.pb_parse.proofs.Steps.{chosen, same_text, next_is, next_number_is, next_row_is, next_observer_is, some_named}
+use Rattle.pb_parse.proofs.OrdersWritten.{actor_is}
+
+pub bind_err : {A B : Type 0} (r : Result A Code) (f : A → Result B Code) (e : Code) → (r >>= f) ≡ Err e → (r ≡ Err e) ⊎ ((x : A) × (r ≡ Ok x) × (f x ≡ Err e))
+bind_err (Ok x) f e h = inr (x, refl, h)
+bind_err {A} {B} (Err d) f e h = inl (ap Err (err_is {A = B} d e h))
+  where
+    err_is : {A : Type 0} (d e : Code) → ◌≡◌ {A = Result A Code} (Err d) (Err e) → d ≡ e
+    err_is d e h = cc
+
+err_same : {A : Type 0} (d e : Code) → ◌≡◌ {A = Result A Code} (Err d) (Err e) → e ≡ d
+err_same d e h = cc
+
+next_fault : (words : List (List ℕ)) (cause : Code) → next_word Form words ≡ Err cause → cause ≡ Form
+next_fault [] cause h = err_same {A = List ℕ × List (List ℕ)} Form cause h
+next_fault (w ∷ ws) cause h = absurd cc
+
+end_fault : (words : List (List ℕ)) (cause : Code) → no_word Form words ≡ Err cause → cause ≡ Form
+end_fault [] cause h = absurd cc
+end_fault (w ∷ ws) cause h = err_same {A = Unit {0}} Form cause h
+
+-- ---- numbers
+
+number_fault : (least greatest : ℕ) (word : List ℕ) (cause : Code) → number_between least greatest word ≡ Err cause → (cause ≡ Form) ⊎ IsOutside least greatest word cause
+number_fault least greatest word cause h =
+    elim (bind_err (numeral_upto Form Range greatest word) _ cause h) [
+      | inl own ↦ elim (chosen (is_numeral word) _ (Err Form) (Err cause) own) [
+        | inl digits ↦ elim (chosen (nat_le (digits_value 10 word) greatest) (Ok (digits_value 10 word)) (Err Range) (Err cause) digits.1) [
+          | inl small ↦ let e = small.1 in absurd cc
+          | inr big ↦ inr (record { numeral = digits.0; outside = inr (leb-false _ _ big.0); told = err_same {A = ℕ} Range cause big.1 })
+        ]
+        | inr form ↦ inl (err_same {A = ℕ} Form cause form.1)
+      ]
+      | inr low ↦ elim (chosen (is_numeral word) _ (Err Form) (Ok low.0) low.1) [
+        | inl digits ↦ elim (chosen (nat_le (digits_value 10 word) greatest) (Ok (digits_value 10 word)) (Err Range) (Ok low.0) digits.1) [
+          | inl small ↦ elim (chosen (nat_lt low.0 least) (Err Range) (Ok low.0) (Err cause) low.2) [
+            | inl less ↦ let value : digits_value 10 word ≡ low.0 = ok_same (digits_value 10 word) low.0 small.1 in
+                let lt : low.0 < least = ltb-true _ _ less.0 in
+                inr (record { numeral = digits.0; outside = inl (omega (arith, value, lt)); told = err_same {A = ℕ} Range cause less.1 })
+            | inr more ↦ let e = more.1 in absurd cc
+          ]
+          | inr big ↦ let e = big.1 in absurd cc
+        ]
+        | inr form ↦ let e = form.1 in absurd cc
+      ]
+    ]
+  where
+    ok_same : (x y : ℕ) → ◌≡◌ {A = Result ℕ Code} (Ok x) (Ok y) → x ≡ y
+    ok_same x y h = cc
+
+record BadNumber (least greatest : ℕ) (words : List (List ℕ)) (cause : Code) : Type 0 where
+  word : List ℕ
+  rest : List (List ℕ)
+  cut : words ≡ word ∷ rest
+  outside : IsOutside least greatest word cause
+
+next_number_fault : (least greatest : ℕ) (words : List (List ℕ)) (cause : Code) → next_number least greatest words ≡ Err cause → (cause ≡ Form) ⊎ BadNumber least greatest words cause
+unfolding next_number
+next_number_fault least greatest words cause h =
+    elim (bind_err (next_word Form words) _ cause h) [
+      | inl none ↦ inl (next_fault words cause none)
+      | inr a ↦ elim (bind_err (number_between least greatest a.0.0) _ cause a.2) [
+        | inl own ↦ elim (number_fault least greatest a.0.0 cause own) [
+          | inl form ↦ inl form
+          | inr out ↦ inr (record { word = a.0.0; rest = a.0.1; cut = next_is words a.0 a.1; outside = out })
+        ]
+        | inr b ↦ let e = b.2 in absurd cc
+      ]
+    ]
+
+next_row_fault : (words : List (List ℕ)) (cause : Code) → next_row words ≡ Err cause → (cause ≡ Form) ⊎ BadNumber 0 (2 ^ 64 - 1) words cause
+unfolding next_row
+next_row_fault words cause h =
+    elim (bind_err (next_number 0 (2 ^ 64 - 1) words) _ cause h) [
+      | inl own ↦ next_number_fault 0 (2 ^ 64 - 1) words cause own
+      | inr a ↦ let e = a.2 in absurd cc
+    ]
+
+-- ---- names
+
+record BadName (observers : List ObserverOf) (words : List (List ℕ)) (cause : Code) : Type 0 where
+  word : List ℕ
+  rest : List (List ℕ)
+  cut : words ≡ word ∷ rest
+  nobody : IsNobody observers word cause
+
+named_fault : (observers : List ObserverOf) (name : List ℕ) (cause : Code) → observer_named observers name ≡ Err cause → IsNobody observers name cause
+named_fault observers name cause h =
+    elim (chosen (nat_lt (first_named observers name) (length observers)) (Ok (first_named observers name)) (Err NoObserver) (Err cause) h) [
+      | inl some ↦ let e = some.1 in absurd cc
+      | inr none ↦ record {
+        nobody = λ o lt is. let most : length observers ≤ first_named observers name = ltb-false _ _ none.0 in let least = some_named observers name o lt is in absurd (omega (arith, most, least));
+        told = err_same {A = ℕ} NoObserver cause none.1;
+      }
+    ]
+
+next_observer_fault : (observers : List ObserverOf) (words : List (List ℕ)) (cause : Code) → next_observer observers words ≡ Err cause → (cause ≡ Form) ⊎ BadName observers words cause
+unfolding next_observer
+next_observer_fault observers words cause h =
+    elim (bind_err (next_word Form words) _ cause h) [
+      | inl none ↦ inl (next_fault words cause none)
+      | inr a ↦ elim (bind_err (observer_named observers a.0.0) _ cause a.2) [
+        | inl own ↦ inr (record { word = a.0.0; rest = a.0.1; cut = next_is words a.0 a.1; nobody = named_fault observers a.0.0 cause own })
+        | inr b ↦ let e = b.2 in absurd cc
+      ]
+    ]
+
+-- behind a name, a row
+record BadRowBehind (observers : List ObserverOf) (words : List (List ℕ)) (cause : Code) : Type 0 where
+  observer : ℕ
+  behind : List (List ℕ)
+  named : IsNamed observers observer
+  written : words ≡ name_of observers observer ∷ behind
+  row : BadNumber 0 (2 ^ 64 - 1) behind cause
+
+-- a name and a row, one of them at fault
+abbrev NameAndRow : List ObserverOf → List (List ℕ) → Code → Type 0
+NameAndRow observers words cause = (cause ≡ Form) ⊎ (BadName observers words cause ⊎ BadRowBehind observers words cause)
+
+abbrev named_row : {A : Type 0} → (ℕ → Row → A) → List ObserverOf → List (List ℕ) → Result (A × List (List ℕ)) Code
+named_row make observers words = do
+  observer ← next_observer observers words
+  row ← next_row observer.1
+  Ok (make observer.0 row.0, row.1)
+
+name_and_row : {A : Type 0} (observers : List ObserverOf) (words : List (List ℕ)) (cause : Code) (make : ℕ → Row → A) → AreWords words → named_row make observers words ≡ Err cause → NameAndRow observers words cause
+name_and_row observers words cause make some h =
+    elim (bind_err (next_observer observers words) _ cause h) [
+      | inl own ↦ elim (next_observer_fault observers words cause own) [
+        | inl form ↦ inl form
+        | inr name ↦ inr (inl name)
+      ]
+      | inr a ↦ let n = next_observer_is observers words a.0 some a.1 in
+          elim (bind_err (next_row a.0.1) _ cause a.2) [
+            | inl own ↦ elim (next_row_fault a.0.1 cause own) [
+              | inl form ↦ inl form
+              | inr row ↦ inr (inr (record { observer = a.0.0; behind = a.0.1; named = n.named; written = n.written; row = row }))
+            ]
+            | inr b ↦ let e = b.2 in absurd cc
+          ]
+    ]
+
+-- ---- jobs
+
+record BadChange (words : List (List ℕ)) (cause : Code) : Type 0 where
+  behind : List (List ℕ)
+  written : words ≡ codes "change" ∷ behind
+  number : BadNumber 1 MAX_CHANGES behind cause
+
+record BadRun (observers : List ObserverOf) (words : List (List ℕ)) (cause : Code) : Type 0 where
+  behind : List (List ℕ)
+  written : words ≡ codes "run" ∷ behind
+  field : BadName observers behind cause ⊎ BadRowBehind observers behind cause
+
+abbrev BadJob : List ObserverOf → List (List ℕ) → Code → Type 0
+BadJob observers words cause = (cause ≡ Form) ⊎ (BadChange words cause ⊎ BadRun observers words cause)
+
+change_fault : (words : List (List ℕ)) (cause : Code) → next_change words ≡ Err cause → (cause ≡ Form) ⊎ BadNumber 1 MAX_CHANGES words cause
+unfolding next_change
+change_fault words cause h =
+    elim (bind_err (next_number 1 MAX_CHANGES words) _ cause h) [
+      | inl own ↦ next_number_fault 1 MAX_CHANGES words cause own
+      | inr a ↦ let e = a.2 in absurd cc
+    ]
+
+run_fault : (observers : List ObserverOf) (words : List (List ℕ)) (cause : Code) → AreWords words → next_run observers words ≡ Err cause → NameAndRow observers words cause
+unfolding next_run
+run_fault observers words cause some h = name_and_row observers words cause Run some h
+
+in_front : (words : List (List ℕ)) (x : List ℕ × List (List ℕ)) (word : List ℕ) → words ≡ x.0 ∷ x.1 → bytes_eq x.0 word ≡ true → words ≡ word ∷ x.1
+in_front words x word cut is = cut ∙ ap (λ (w : List ℕ). w ∷ x.1) (same_text x.0 word is)
+
+job_fault : (observers : List ObserverOf) (words : List (List ℕ)) (cause : Code) → AreWords words → next_job observers words ≡ Err cause → BadJob observers words cause
+unfolding next_job
+job_fault observers words cause some h =
+    elim (bind_err (next_word Form words) _ cause h) [
+      | inl none ↦ inl (next_fault words cause none)
+      | inr a ↦ let cut = next_is words a.0 a.1 in
+          let parts = subst AreWords cut some in
+          elim (chosen (bytes_eq a.0.0 (codes "change")) (next_change a.0.1) _ (Err cause) a.2) [
+            | inl p ↦ elim (change_fault a.0.1 cause p.1) [
+              | inl form ↦ inl form
+              | inr number ↦ inr (inl (record { behind = a.0.1; written = in_front words a.0 (codes "change") cut p.0; number = number }))
+            ]
+            | inr q ↦ elim (chosen (bytes_eq a.0.0 (codes "run")) (next_run observers a.0.1) _ (Err cause) q.1) [
+              | inl p ↦ elim (run_fault observers a.0.1 cause parts.1 p.1) [
+                | inl form ↦ inl form
+                | inr field ↦ inr (inr (record { behind = a.0.1; written = in_front words a.0 (codes "run") cut p.0; field = field }))
+              ]
+              | inr r ↦ inl (err_same {A = Job × List (List ℕ)} Form cause r.1)
+            ]
+          ]
+    ]
+
+-- ---- cells
+
+record BadColumn (words : List (List ℕ)) (cause : Code) : Type 0 where
+  row : Row
+  behind : List (List ℕ)
+  fits : IsRow row
+  written : words ≡ decimal row.0 ∷ behind
+  column : BadNumber 0 (COLUMNS - 1) behind cause
+
+abbrev BadDataCell : List (List ℕ) → Code → Type 0
+BadDataCell words cause = (cause ≡ Form) ⊎ (BadNumber 0 (2 ^ 64 - 1) words cause ⊎ BadColumn words cause)
+
+data_fault : (words : List (List ℕ)) (cause : Code) → next_data_cell words ≡ Err cause → BadDataCell words cause
+unfolding next_data_cell
+data_fault words cause h =
+    elim (bind_err (next_row words) _ cause h) [
+      | inl own ↦ elim (next_row_fault words cause own) [
+        | inl form ↦ inl form
+        | inr row ↦ inr (inl row)
+      ]
+      | inr a ↦ let r = next_row_is words a.0 a.1 in
+          elim (bind_err (next_number 0 (COLUMNS - 1) a.0.1) _ cause a.2) [
+            | inl own ↦ elim (next_number_fault 0 (COLUMNS - 1) a.0.1 cause own) [
+              | inl form ↦ inl form
+              | inr column ↦ inr (inr (record { row = a.0.0; behind = a.0.1; fits = r.1; written = r.0; column = column }))
+            ]
+            | inr b ↦ let e = b.2 in absurd cc
+          ]
+    ]
+
+acknowledgment_fault : (observers : List ObserverOf) (words : List (List ℕ)) (cause : Code) → AreWords words → next_acknowledgment observers words ≡ Err cause → NameAndRow observers words cause
+unfolding next_acknowledgment
+acknowledgment_fault observers words cause some h = name_and_row observers words cause (acknowledgment observers) some h
+
+record BadAcknowledgment (observers : List ObserverOf) (words : List (List ℕ)) (cause : Code) : Type 0 where
+  behind : List (List ℕ)
+  written : words ≡ codes "ack" ∷ behind
+  field : BadName observers behind cause ⊎ BadRowBehind observers behind cause
+
+abbrev BadCell : List ObserverOf → List (List ℕ) → Code → Type 0
+BadCell observers words cause = BadDataCell words cause ⊎ BadAcknowledgment observers words cause
+
+cell_fault : (observers : List ObserverOf) (words : List (List ℕ)) (cause : Code) → AreWords words → next_cell observers words ≡ Err cause → BadCell observers words cause
+cell_fault observers [] cause some h = inl (inl (err_same {A = Cell × List (List ℕ)} Form cause h))
+cell_fault observers (word ∷ words) cause some h = elim (chosen (bytes_eq word (codes "ack")) (next_acknowledgment observers words) _ (Err cause) h) [
+  | inl p ↦ elim (acknowledgment_fault observers words cause some.1 p.1) [
+    | inl form ↦ inl (inl form)
+    | inr field ↦ inr (record { behind = words; written = ap (λ (w : List ℕ). w ∷ words) (same_text word (codes "ack") p.0); field = field })
+  ]
+  | inr q ↦ inl (data_fault (word ∷ words) cause q.1)
+]
+
+-- ---- orders
+
+abbrev Blames : List ObserverOf → List (List ℕ) → Code → Type 0
+Blames observers words cause = (cause ≡ Form) ⊎ StopsAtField observers words cause
+
+once_fault : (event : Event) (words : List (List ℕ)) (cause : Code) → once event words ≡ Err cause → cause ≡ Form
+unfolding once
+once_fault event words cause h =
+    elim (bind_err (no_word Form words) _ cause h) [
+      | inl own ↦ end_fault words cause own
+      | inr a ↦ let e = a.2 in absurd cc
+    ]
+
+launch_job : (observers : List ObserverOf) (actor : ℕ) (words rest : List (List ℕ)) (cause : Code) → IsActor actor → words ≡ decimal actor ∷ rest → BadJob observers rest cause → Blames observers (codes "launch" ∷ words) cause
+launch_job observers actor words rest cause may is (inl form) = inl form
+launch_job observers actor words rest cause may is (inr (inl change)) =
+    let n = change.number in
+    inr (record { field = ChangeNumber actor; word = n.word; rest = n.rest; cut = ap (λ (ws : List (List ℕ)). codes "launch" ∷ ws) (is ∙ ap (λ (ws : List (List ℕ)). decimal actor ∷ ws) (change.written ∙ ap (λ (ws : List (List ℕ)). codes "change" ∷ ws) n.cut)); fits = may; refused = n.outside })
+launch_job observers actor words rest cause may is (inr (inr run)) =
+    let front : codes "launch" ∷ words ≡ codes "launch" ∷ decimal actor ∷ codes "run" ∷ run.behind = ap (λ (ws : List (List ℕ)). codes "launch" ∷ ws) (is ∙ ap (λ (ws : List (List ℕ)). decimal actor ∷ ws) run.written) in
+    elim run.field [
+      | inl name ↦ inr (record { field = RunName actor; word = name.word; rest = name.rest; cut = front ∙ ap (λ (ws : List (List ℕ)). codes "launch" ∷ decimal actor ∷ codes "run" ∷ ws) name.cut; fits = may; refused = name.nobody })
+      | inr row ↦ let n = row.row in
+          inr (record { field = RunRow actor row.observer; word = n.word; rest = n.rest; cut = front ∙ ap (λ (ws : List (List ℕ)). codes "launch" ∷ decimal actor ∷ codes "run" ∷ ws) (row.written ∙ ap (λ (ws : List (List ℕ)). name_of observers row.observer ∷ ws) n.cut); fits = (may, row.named); refused = n.outside })
+    ]
+
+launch_fault : (observers : List ObserverOf) (words : List (List ℕ)) (cause : Code) → AreWords words → launch_of observers words ≡ Err cause → Blames observers (codes "launch" ∷ words) cause
+unfolding launch_of
+launch_fault observers words cause some h =
+    elim (bind_err (next_actor words) _ cause h) [
+      | inl own ↦ elim (next_number_fault 1 (MAX_SEATS - 1) words cause own) [
+        | inl form ↦ inl form
+        | inr n ↦ inr (record { field = LaunchActor; word = n.word; rest = n.rest; cut = ap (λ (ws : List (List ℕ)). codes "launch" ∷ ws) n.cut; fits = tt; refused = n.outside })
+      ]
+      | inr a ↦ let n = actor_is words a.0 a.1 in
+          let parts = subst AreWords n.written some in
+          elim (bind_err (next_job observers a.0.1) _ cause a.2) [
+            | inl own ↦ launch_job observers a.0.0 words a.0.1 cause n.fits n.written (job_fault observers a.0.1 cause parts.1 own)
+            | inr b ↦ inl (once_fault (Launch a.0.0 b.0.0) b.0.1 cause b.2)
+          ]
+    ]
+
+times_fault : (words : List (List ℕ)) (cause : Code) → times_of words ≡ Err cause → (cause ≡ Form) ⊎ BadNumber 1 MAX_EVENTS words cause
+unfolding times_of
+times_fault [] cause h = absurd cc
+times_fault (word ∷ words) cause h =
+    elim (bind_err (number_between 1 MAX_EVENTS word) _ cause h) [
+      | inl own ↦ elim (number_fault 1 MAX_EVENTS word cause own) [
+        | inl form ↦ inl form
+        | inr out ↦ inr (record { word = word; rest = words; cut = refl; outside = out })
+      ]
+      | inr a ↦ elim (bind_err (no_word Form words) _ cause a.2) [
+        | inl own ↦ inl (end_fault words cause own)
+        | inr b ↦ let e = b.2 in absurd cc
+      ]
+    ]
+
+step_fault : (observers : List ObserverOf) (words : List (List ℕ)) (cause : Code) → step_of words ≡ Err cause → Blames observers (codes "step" ∷ words) cause
+unfolding step_of
+step_fault observers words cause h =
+    elim (bind_err (next_actor words) _ cause h) [
+      | inl own ↦ elim (next_number_fault 1 (MAX_SEATS - 1) words cause own) [
+        | inl form ↦ inl form
+        | inr n ↦ inr (record { field = StepActor; word = n.word; rest = n.rest; cut = ap (λ (ws : List (List ℕ)). codes "step" ∷ ws) n.cut; fits = tt; refused = n.outside })
+      ]
+      | inr a ↦ let k = actor_is words a.0 a.1 in
+          elim (bind_err (times_of a.0.1) _ cause a.2) [
+            | inl own ↦ elim (times_fault a.0.1 cause own) [
+              | inl form ↦ inl form
+              | inr n ↦ inr (record { field = StepTimes a.0.0; word = n.word; rest = n.rest; cut = ap (λ (ws : List (List ℕ)). codes "step" ∷ ws) (k.written ∙ ap (λ (ws : List (List ℕ)). decimal a.0.0 ∷ ws) n.cut); fits = k.fits; refused = n.outside })
+            ]
+            | inr b ↦ let e = b.2 in absurd cc
+          ]
+    ]
+
+crash_fault : (observers : List ObserverOf) (words : List (List ℕ)) (cause : Code) → crash_of words ≡ Err cause → Blames observers (codes "crash" ∷ words) cause
+unfolding crash_of
+crash_fault observers words cause h =
+    elim (bind_err (next_actor words) _ cause h) [
+      | inl own ↦ elim (next_number_fault 1 (MAX_SEATS - 1) words cause own) [
+        | inl form ↦ inl form
+        | inr n ↦ inr (record { field = CrashActor; word = n.word; rest = n.rest; cut = ap (λ (ws : List (List ℕ)). codes "crash" ∷ ws) n.cut; fits = tt; refused = n.outside })
+      ]
+      | inr a ↦ inl (once_fault (Crash a.0.0) a.0.1 cause a.2)
+    ]
+
+on_fault : (make : Cell → Event) (r : Result (Cell × List (List ℕ)) Code) (cause : Code) → once_on make r ≡ Err cause → (cause ≡ Form) ⊎ (r ≡ Err cause)
+unfolding once_on
+on_fault make r cause h =
+    elim (bind_err r _ cause h) [
+      | inl own ↦ inr own
+      | inr a ↦ inl (once_fault (make a.0.0) a.0.1 cause a.2)
+    ]
+
+-- the same fields of both verbs that name any cell
+record CellFields (observers : List ObserverOf) (verb : List ℕ) : Type 0 where
+  blame_row : (words rest : List (List ℕ)) (word : List ℕ) (cause : Code) → words ≡ verb ∷ word ∷ rest → IsNoRow word cause → StopsAtField observers words cause
+  blame_column : (words rest : List (List ℕ)) (row : Row) (word : List ℕ) (cause : Code) → words ≡ verb ∷ decimal row.0 ∷ word ∷ rest → IsRow row → IsNoColumn word cause → StopsAtField observers words cause
+  blame_name : (words rest : List (List ℕ)) (word : List ℕ) (cause : Code) → words ≡ verb ∷ codes "ack" ∷ word ∷ rest → IsNobody observers word cause → StopsAtField observers words cause
+  blame_ack_row : (words rest : List (List ℕ)) (o : ℕ) (word : List ℕ) (cause : Code) → words ≡ verb ∷ codes "ack" ∷ name_of observers o ∷ word ∷ rest → IsNamed observers o → IsNoRow word cause → StopsAtField observers words cause
+
+settle_fields : (observers : List ObserverOf) → CellFields observers (codes "settle")
+settle_fields observers = record {
+  blame_row = λ words rest word cause cut out. record { field = SettleRow; word = word; rest = rest; cut = cut; fits = tt; refused = out };
+  blame_column = λ words rest row word cause cut fits out. record { field = SettleColumn row; word = word; rest = rest; cut = cut; fits = fits; refused = out };
+  blame_name = λ words rest word cause cut out. record { field = SettleName; word = word; rest = rest; cut = cut; fits = tt; refused = out };
+  blame_ack_row = λ words rest o word cause cut fits out. record { field = SettleAckRow o; word = word; rest = rest; cut = cut; fits = fits; refused = out };
+}
+
+clear_fields : (observers : List ObserverOf) → CellFields observers (codes "clear")
+clear_fields observers = record {
+  blame_row = λ words rest word cause cut out. record { field = ClearRow; word = word; rest = rest; cut = cut; fits = tt; refused = out };
+  blame_column = λ words rest row word cause cut fits out. record { field = ClearColumn row; word = word; rest = rest; cut = cut; fits = fits; refused = out };
+  blame_name = λ words rest word cause cut out. record { field = ClearName; word = word; rest = rest; cut = cut; fits = tt; refused = out };
+  blame_ack_row = λ words rest o word cause cut fits out. record { field = ClearAckRow o; word = word; rest = rest; cut = cut; fits = fits; refused = out };
+}
+
+bad_cell : (observers : List ObserverOf) (verb : List ℕ) (words : List (List ℕ)) (cause : Code) → CellFields observers verb → BadCell observers words cause → Blames observers (verb ∷ words) cause
+bad_cell observers verb words cause f (inl (inl form)) = inl form
+bad_cell observers verb words cause f (inl (inr (inl n))) = inr (f.blame_row (verb ∷ words) n.rest n.word cause (ap (λ (ws : List (List ℕ)). verb ∷ ws) n.cut) n.outside)
+bad_cell observers verb words cause f (inl (inr (inr c))) =
+    let n = c.column in
+    inr (f.blame_column (verb ∷ words) n.rest c.row n.word cause (ap (λ (ws : List (List ℕ)). verb ∷ ws) (c.written ∙ ap (λ (ws : List (List ℕ)). decimal c.row.0 ∷ ws) n.cut)) c.fits n.outside)
+bad_cell observers verb words cause f (inr a) =
+    elim a.field [
+      | inl name ↦ inr (f.blame_name (verb ∷ words) name.rest name.word cause (ap (λ (ws : List (List ℕ)). verb ∷ ws) (a.written ∙ ap (λ (ws : List (List ℕ)). codes "ack" ∷ ws) name.cut)) name.nobody)
+      | inr r ↦ let n = r.row in
+          inr (f.blame_ack_row (verb ∷ words) n.rest r.observer n.word cause (ap (λ (ws : List (List ℕ)). verb ∷ ws) (a.written ∙ ap (λ (ws : List (List ℕ)). codes "ack" ∷ ws) (r.written ∙ ap (λ (ws : List (List ℕ)). name_of observers r.observer ∷ ws) n.cut))) r.named n.outside)
+    ]
+
+any_cell_fault : (observers : List ObserverOf) (verb : List ℕ) (make : Cell → Event) (words : List (List ℕ)) (cause : Code) → AreWords words → CellFields observers verb → once_on make (next_cell observers words) ≡ Err cause → Blames observers (verb ∷ words) cause
+any_cell_fault observers verb make words cause some f h =
+    elim (on_fault make (next_cell observers words) cause h) [
+      | inl form ↦ inl form
+      | inr own ↦ bad_cell observers verb words cause f (cell_fault observers words cause some own)
+    ]
+
+bad_data : (observers : List ObserverOf) (words : List (List ℕ)) (cause : Code) → BadDataCell words cause → Blames observers (codes "sweep" ∷ words) cause
+bad_data observers words cause (inl form) = inl form
+bad_data observers words cause (inr (inl n)) = inr (record { field = SweepRow; word = n.word; rest = n.rest; cut = ap (λ (ws : List (List ℕ)). codes "sweep" ∷ ws) n.cut; fits = tt; refused = n.outside })
+bad_data observers words cause (inr (inr c)) =
+    let n = c.column in
+    inr (record { field = SweepColumn c.row; word = n.word; rest = n.rest; cut = ap (λ (ws : List (List ℕ)). codes "sweep" ∷ ws) (c.written ∙ ap (λ (ws : List (List ℕ)). decimal c.row.0 ∷ ws) n.cut); fits = c.fits; refused = n.outside })
+
+sweep_fault : (observers : List ObserverOf) (words : List (List ℕ)) (cause : Code) → once_on Sweep (next_data_cell words) ≡ Err cause → Blames observers (codes "sweep" ∷ words) cause
+sweep_fault observers words cause h =
+    elim (on_fault Sweep (next_data_cell words) cause h) [
+      | inl form ↦ inl form
+      | inr own ↦ bad_data observers words cause (data_fault words cause own)
+    ]
+
+-- one verb: where the word is it, what stands behind is blamed, and else the other verbs say what
+verb_fault : (verb this : List ℕ) (r others : Result Order Code) (cause : Code) (P : List ℕ → Type 0) → cond (bytes_eq verb this) r others ≡ Err cause → (r ≡ Err cause → P this) → (others ≡ Err cause → P verb) → P verb
+verb_fault verb this r others cause P h mine rest = elim (chosen (bytes_eq verb this) r others (Err cause) h) [
+  | inl p ↦ subst P (sym (same_text verb this p.0)) (mine p.1)
+  | inr q ↦ rest q.1
+]
+
+by_verb : (observers : List ObserverOf) (verb : List ℕ) (words : List (List ℕ)) (cause : Code) → AreWords words → order_by observers verb words ≡ Err cause → Blames observers (verb ∷ words) cause
+by_verb observers verb words cause some h =
+    let P = λ (v : List ℕ). Blames observers (v ∷ words) cause in
+    verb_fault verb (codes "launch") _ _ cause P h (launch_fault observers words cause some)
+    (λ h. verb_fault verb (codes "step") _ _ cause P h (step_fault observers words cause)
+    (λ h. verb_fault verb (codes "crash") _ _ cause P h (crash_fault observers words cause)
+    (λ h. verb_fault verb (codes "settle") _ _ cause P h (any_cell_fault observers (codes "settle") Settle words cause some (settle_fields observers))
+    (λ h. verb_fault verb (codes "clear") _ _ cause P h (any_cell_fault observers (codes "clear") Clear words cause some (clear_fields observers))
+    (λ h. verb_fault verb (codes "sweep") _ _ cause P h (sweep_fault observers words cause) (λ h. inl (err_same {A = Order} Form cause h)))))))
+
+words_blamed : (observers : List ObserverOf) (words : List (List ℕ)) (cause : Code) → AreWords words → order_of_words observers words ≡ Err cause → Blames observers words cause
+unfolding order_of_words
+words_blamed observers [] cause some h = inl (err_same {A = Order} Form cause h)
+words_blamed observers (verb ∷ words) cause some h = by_verb observers verb words cause some.1 h
+
+pub blamed : (observers : List ObserverOf) (line : List ℕ) (cause : Code) → order_of observers line ≡ Err cause → (cause ≡ Form) ⊎ StopsAtField observers (words_of line) cause
+blamed observers line cause h = words_blamed observers (words_of line) cause (words_are line) h

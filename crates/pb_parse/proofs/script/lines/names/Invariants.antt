@@ -1,0 +1,7 @@
+use Rattle.std.proofs.Common.{◌≡◌, drop}
+use Rattle.pb_base.specs.Batch.{writes_of, content_in}
+use Rattle.std.specs.Prelude.{is_some}
+use Rattle.pb_parse.proofs.script.lines.names.Given as goal
+
+abbrev pub invariant-loop-write : goal.invariant-loop-write
+invariant-loop-write l = is_some (content_in (writes_of (drop l.write-index l.writes)) l.cell) ≡ is_some (content_in (writes_of l.writes) l.cell)

@@ -1,0 +1,18 @@
+-- The numbers by which faults are told.
+use Rattle.std.specs.Prelude.{ℕ, Bool, true, false}
+use Rattle.pb_parse.specs.declared.script.code.Code as script
+use Rattle.pb_parse.specs.declared.script.code.Code.TheVariants as script_codes
+
+abbrev pub script_code : script.Code → ℕ
+script_code script_codes.Memory = 1
+script_code script_codes.Form = 70
+script_code script_codes.Range = 71
+script_code script_codes.Hex = 72
+script_code script_codes.Twice = 73
+script_code script_codes.Seventeenth = 74
+script_code script_codes.TooMany = 75
+
+-- the code of want of memory
+abbrev pub is_memory : script.Code → Bool
+is_memory script_codes.Memory = true
+is_memory _ = false

@@ -1,0 +1,117 @@
+-- The lines of a schedule, as they are written.
+use Rattle.std.specs.Prelude.{◌≡◌, ◌≢◌, ◌⊎◌, ℕ, ◌-◌, ◌^◌, ◌<◌, ◌≤◌, ◌==◌, not, true, List, [], ◌∷◌, ◌++◌, length, map, codes, Option, Some, None, slice_get, Ok, replicate}
+use Rattle.std.specs.Fmt.{decimal}
+use Rattle.std.specs.List.{filter, flat_map, join_with_byte, list_all}
+use Rattle.pb_base.specs.declared.limits.TheConstants.{COLUMNS, MAX_CHANGES, MAX_EVENTS, MAX_SEATS}
+use Rattle.pb_base.specs.declared.names.Row.{Row}
+use Rattle.pb_base.specs.declared.cell.Cell.{Cell}
+use Rattle.pb_base.specs.declared.cell.Cell.TheVariants.{Data, Ack}
+use Rattle.pb_base.specs.Reading.{is_skipped, lines_of}
+use Rattle.pb_steps.specs.Observers.{ObserverOf, observed_column}
+use Rattle.pb_parse.specs.declared.event.Job.{Job}
+use Rattle.pb_parse.specs.declared.event.Job.TheVariants.{Change, Run}
+use Rattle.pb_parse.specs.declared.event.Event.{Event}
+use Rattle.pb_parse.specs.declared.event.Event.TheVariants.{Launch, Step, Crash, Settle, Clear, Sweep}
+use Rattle.pb_parse.specs.declared.schedule.words.Order.{Order}
+use Rattle.pb_parse.specs.ScheduleWords.{order_of}
+
+abbrev pub name_or_none : Option ObserverOf → List ℕ
+name_or_none None = []
+name_or_none (Some o) = o.name
+
+-- the name of the observer of this number
+abbrev pub name_of : List ObserverOf → ℕ → List ℕ
+name_of observers o = name_or_none (slice_get observers o)
+
+-- ---- the words of a line
+
+abbrev pub cell_words : List ObserverOf → Cell → List (List ℕ)
+cell_words observers (Data row column) = decimal row.0 ∷ decimal column ∷ []
+cell_words observers (Ack o row column) = codes "ack" ∷ name_of observers o ∷ decimal row.0 ∷ []
+
+abbrev pub job_words : List ObserverOf → Job → List (List ℕ)
+job_words observers (Change number) = codes "change" ∷ decimal number ∷ []
+job_words observers (Run o row) = codes "run" ∷ name_of observers o ∷ decimal row.0 ∷ []
+
+abbrev pub event_words : List ObserverOf → Event → List (List ℕ)
+event_words observers (Launch actor job) = codes "launch" ∷ decimal actor ∷ job_words observers job
+event_words observers (Step actor) = codes "step" ∷ decimal actor ∷ []
+event_words observers (Crash actor) = codes "crash" ∷ decimal actor ∷ []
+event_words observers (Settle x) = codes "settle" ∷ cell_words observers x
+event_words observers (Clear x) = codes "clear" ∷ cell_words observers x
+event_words observers (Sweep x) = codes "sweep" ∷ cell_words observers x
+
+-- ---- what may stand there
+
+abbrev pub IsActor : ℕ → Type 0
+IsActor actor = (1 ≤ actor) × (actor < MAX_SEATS)
+
+abbrev pub IsRow : Row → Type 0
+IsRow row = row.0 < 2 ^ 64
+
+-- an observer whose name is one word, and which is the first of that name
+pub record IsNamed (observers : List ObserverOf) (o : ℕ) : Type 0 where
+  pub there : o < length observers
+  pub first : (before : ℕ) → before < o → name_of observers before ≢ name_of observers o
+  pub word : list_all (λ b. not (b == 32)) (name_of observers o) ≡ true
+
+abbrev pub FitsJob : List ObserverOf → Job → Type 0
+FitsJob observers (Change number) = (1 ≤ number) × (number ≤ MAX_CHANGES)
+FitsJob observers (Run o row) = IsNamed observers o × IsRow row
+
+abbrev pub FitsCell : List ObserverOf → Cell → Type 0
+FitsCell observers (Data row column) = IsRow row × (column < COLUMNS)
+FitsCell observers (Ack o row column) = IsNamed observers o × IsRow row × (column ≡ observed_column observers o)
+
+abbrev pub IsRowCell : Cell → Type 0
+IsRowCell (Data row column) = Unit {0}
+IsRowCell (Ack o row column) = ⊥
+
+abbrev pub FitsEvent : List ObserverOf → Event → Type 0
+FitsEvent observers (Launch actor job) = IsActor actor × FitsJob observers job
+FitsEvent observers (Step actor) = IsActor actor
+FitsEvent observers (Crash actor) = IsActor actor
+FitsEvent observers (Settle x) = FitsCell observers x
+FitsEvent observers (Clear x) = FitsCell observers x
+FitsEvent observers (Sweep x) = IsRowCell x × FitsCell observers x
+
+-- ---- lines
+
+abbrev pub IsStep : Event → Type 0
+IsStep (Step actor) = Unit {0}
+IsStep (Launch actor job) = ⊥
+IsStep (Crash actor) = ⊥
+IsStep (Settle x) = ⊥
+IsStep (Clear x) = ⊥
+IsStep (Sweep x) = ⊥
+
+-- The words ask for an event so many times: for once they are the event's, and for a step there may stand behind them how often.
+abbrev pub AreWordsOf : List ObserverOf → Order → List (List ℕ) → Type 0
+AreWordsOf observers order words =
+    ((order.times ≡ 1) × (words ≡ event_words observers order.event))
+    ⊎ (IsStep order.event × (1 ≤ order.times) × (order.times ≤ MAX_EVENTS) × (words ≡ event_words observers order.event ++ decimal order.times ∷ []))
+
+-- the line is such words with one blank between them, and what they name may stand there
+abbrev pub IsLineOf : List ObserverOf → Order → List ℕ → Type 0
+IsLineOf observers order line = (words : List (List ℕ)) × AreWordsOf observers order words × FitsEvent observers order.event × (line ≡ join_with_byte 32 words)
+
+-- ---- texts
+
+-- the lines that are not skipped
+abbrev pub event_lines : List ℕ → List (List ℕ)
+event_lines text = filter (λ line. not (is_skipped line)) (lines_of text)
+
+-- each of the lines is read, as the order in its place
+abbrev pub AreOrders : List ObserverOf → List (List ℕ) → List Order → Type 0
+AreOrders observers lines orders = map (order_of observers) lines ≡ map (λ order. Ok order) orders
+
+-- the events that orders ask for, one after the other
+abbrev pub events_of : List Order → List Event
+events_of orders = flat_map (λ order. replicate order.times order.event) orders
+
+-- the text's lines ask for these events, which are no more than a schedule may have
+pub record IsSchedule (observers : List ObserverOf) (text : List ℕ) (events : List Event) : Type 0 where
+  pub orders : List Order
+  pub lines : AreOrders observers (event_lines text) orders
+  pub whole : events ≡ events_of orders
+  pub few : length events ≤ MAX_EVENTS

@@ -1,0 +1,36 @@
+-- What the operations of a line say, and which of them is at fault.
+use Rattle.std.specs.Prelude.{◌≡◌, ℕ, ◌≤◌, true, false, is_some, List, ◌∷◌, ◌++◌, length, map, Ok, Err}
+use Rattle.pb_base.specs.declared.limits.TheConstants.{MAX_CELLS}
+use Rattle.pb_base.specs.declared.cell.Cell.{Cell}
+use Rattle.pb_base.specs.declared.content.Content.{Content}
+use Rattle.pb_base.specs.Batch.{Writes, content_in, are_distinct}
+use Rattle.pb_parse.specs.declared.script.code.Code.{Code}
+use Rattle.pb_parse.specs.declared.script.code.Code.TheVariants.{Memory, Form, Range, Hex, Twice, Seventeenth, TooMany}
+use Rattle.pb_parse.specs.ScriptWords.{operation}
+use Rattle.pb_parse.specs.ScriptLines.{cut}
+
+-- each of the texts is read, as the write in its place
+abbrev pub Say : List (List ℕ) → Writes → Type 0
+Say texts writes = map operation texts ≡ map (λ w. Ok w) writes
+
+-- Why the operation of this text is at fault after those that say these writes: by itself; or it names one of their cells; or it names another, and they are as many as a transaction may have.
+abbrev pub IsFaultAfter : Writes → List ℕ → Code → Type 0
+IsFaultAfter before text Form = operation text ≡ Err Form
+IsFaultAfter before text Range = operation text ≡ Err Range
+IsFaultAfter before text Hex = operation text ≡ Err Hex
+IsFaultAfter before text Twice = (w : Cell × Content) × (operation text ≡ Ok w) × (is_some (content_in before w.0) ≡ true)
+IsFaultAfter before text Seventeenth = (w : Cell × Content) × (operation text ≡ Ok w) × (is_some (content_in before w.0) ≡ false) × (length before ≡ MAX_CELLS)
+IsFaultAfter before text TooMany = ⊥
+IsFaultAfter before text Memory = ⊥
+
+-- the operations in front are read, of distinct cells and no more than a transaction may have, and the next is at fault after them
+pub record StopsWith (line : List ℕ) (cause : Code) : Type 0 where
+  pub front : List (List ℕ)
+  pub here : List ℕ
+  pub after : List (List ℕ)
+  pub before : Writes
+  pub parts : cut line ≡ front ++ here ∷ after
+  pub read : Say front before
+  pub distinct : are_distinct before ≡ true
+  pub few : length before ≤ MAX_CELLS
+  pub fault : IsFaultAfter before here cause

@@ -1,0 +1,16 @@
+-- The numbers by which a schedule's faults are told.
+use Rattle.std.specs.Prelude.{ℕ, Bool, true, false}
+use Rattle.pb_parse.specs.declared.schedule.fault.Code.{Code}
+use Rattle.pb_parse.specs.declared.schedule.fault.Code.TheVariants.{Memory, Form, Range, TooMany, NoObserver}
+
+abbrev pub schedule_code : Code → ℕ
+schedule_code Memory = 1
+schedule_code Form = 90
+schedule_code Range = 91
+schedule_code TooMany = 92
+schedule_code NoObserver = 93
+
+-- the code of want of memory
+abbrev pub is_memory : Code → Bool
+is_memory Memory = true
+is_memory _ = false

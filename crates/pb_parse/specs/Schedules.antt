@@ -1,0 +1,37 @@
+-- A text of lines, each an event or several.
+use Rattle.std.specs.Prelude.{◌≡◌, ◌⊎◌, ℕ, ◌+◌, nat_lt, replicate, if◌then◌else◌, List, [], ◌++◌, length, Result, Ok, Err}
+use Rattle.std.specs.Global.{Vec}
+use Rattle.pb_base.specs.declared.limits.TheConstants.{MAX_EVENTS}
+use Rattle.pb_base.specs.Reading.{◌>>=◌, in_turn, is_skipped, lines_of, numbered}
+use Rattle.pb_steps.specs.Observers.{ObserverOf}
+use Rattle.pb_parse.specs.declared.event.Event.{Event}
+use Rattle.pb_parse.specs.declared.schedule.words.Order.{Order}
+use Rattle.pb_parse.specs.declared.schedule.fault.Code.{Code}
+use Rattle.pb_parse.specs.declared.schedule.fault.Code.TheVariants.{TooMany}
+use Rattle.pb_parse.specs.declared.schedule.fault.ScheduleFault.{ScheduleFault}
+use Rattle.pb_parse.specs.ScheduleCodes.{schedule_code}
+use Rattle.pb_parse.specs.ScheduleWords.{order_of}
+
+-- the events so far, with those that an order asks for, if they are no more than a schedule may have
+abbrev pub with_order : List Event → Order → Result (List Event) Code
+with_order before order = if nat_lt MAX_EVENTS (length before + order.times) then Err TooMany else Ok (before ++ replicate order.times order.event)
+
+-- The events so far, with those of one more line. That they are too many is told last of its line's faults.
+unfoldable pub with_event_line : List ObserverOf → List Event → List ℕ → Result (List Event) Code
+with_event_line observers before line = if is_skipped line then Ok before else (order_of observers line >>= with_order before)
+
+-- the lines one after the other; the first fault ends it
+abbrev pub events_of_lines : List ObserverOf → ℕ → List Event → List (List ℕ) → Result (List Event) (ℕ × ℕ)
+events_of_lines observers n before lines = in_turn (λ m events line. numbered schedule_code m (with_event_line observers events line)) n before lines
+
+-- the events of a text, or the line and the code of its fault
+abbrev pub schedule_of : List ObserverOf → List ℕ → Result (List Event) (ℕ × ℕ)
+schedule_of observers text = events_of_lines observers 0 [] (lines_of text)
+
+abbrev pub no_memory_told : ScheduleFault
+no_memory_told = record { line = 0; code = 1 }
+
+-- what was returned is what reading gives, unless memory ran out
+abbrev pub ReadsSchedule : Result (Vec Event) ScheduleFault → Result (List Event) (ℕ × ℕ) → Type 0
+ReadsSchedule (Ok v) read = read ≡ Ok v.items
+ReadsSchedule (Err f) read = (f ≡ no_memory_told) ⊎ (read ≡ Err (f.line, f.code))

@@ -1,0 +1,42 @@
+-- A line, and a text of lines.
+use Rattle.std.specs.Prelude.{ℕ, ◌&&◌, ◌==◌, nat_le, if◌then◌else◌, is_some, List, [], ◌∷◌, ◌++◌, length, Result, Ok, Err}
+use Rattle.std.specs.List.{onto_first}
+use Rattle.pb_base.specs.declared.limits.TheConstants.{MAX_CELLS, MAX_CHANGES}
+use Rattle.pb_base.specs.Batch.{Writes, content_in}
+use Rattle.pb_parse.specs.declared.script.code.Code.{Code}
+use Rattle.pb_parse.specs.declared.script.code.Code.TheVariants.{Twice, Seventeenth, TooMany}
+use Rattle.pb_parse.specs.Codes.{script_code}
+use Rattle.pb_base.specs.Reading.{◌>>=◌, in_turn, is_skipped, lines_of, numbered}
+use Rattle.pb_parse.specs.ScriptWords.{operation}
+
+-- what stands between joints, each of them `; `
+abbrev pub cut : List ℕ → List (List ℕ)
+cut [] = [] ∷ []
+cut (b ∷ []) = (b ∷ []) ∷ []
+cut (b ∷ c ∷ bs) = if (b == 59) && (c == 32) then [] ∷ cut bs else onto_first b (cut (c ∷ bs))
+
+-- the writes of a line so far, with one more operation
+unfoldable pub with_operation : Writes → List ℕ → Result Writes Code
+with_operation before text = do
+  w ← operation text
+  if is_some (content_in before w.0) then Err Twice else if nat_le MAX_CELLS (length before) then Err Seventeenth else Ok (before ++ w ∷ [])
+
+-- one transaction
+abbrev pub batch_of : List ℕ → Result Writes Code
+batch_of line = in_turn (λ _. with_operation) 0 [] (cut line)
+
+abbrev pub Batches : Type 0
+Batches = List Writes
+
+-- the transactions so far, with what one more line adds
+unfoldable pub with_line : Batches → List ℕ → Result Batches Code
+with_line before line = if is_skipped line then Ok before else do
+  batch ← batch_of line
+  if nat_le MAX_CHANGES (length before) then Err TooMany else Ok (before ++ batch ∷ [])
+
+abbrev pub lines_read : List (List ℕ) → Result Batches (ℕ × ℕ)
+lines_read ls = in_turn (λ n before line. numbered script_code n (with_line before line)) 0 [] ls
+
+-- the transactions of a text, or the line and the code of its fault
+abbrev pub script_of : List ℕ → Result Batches (ℕ × ℕ)
+script_of text = lines_read (lines_of text)

@@ -1,0 +1,71 @@
+//! A text of lines.
+ghost use Rattle.std.specs.Prelude.{◌≡◌, ◌≤◌, length, vec_len, IfOk};
+ghost use Rattle.pb_base.specs.declared.limits.TheConstants.{MAX_EVENTS, MAX_OBSERVERS};
+ghost use Rattle.pb_base.specs.Reading.{Gives};
+ghost use Rattle.pb_parse.specs.ScheduleCodes.{is_memory};
+ghost use Rattle.pb_parse.specs.Schedules.{with_order, with_event_line, schedule_of, ReadsSchedule};
+
+use crate::event::Event;
+use crate::reading::{is_skipped, lines_of};
+use crate::schedule::fault::{Code, ScheduleFault};
+use crate::schedule::words::{Order, order_of};
+use pb_base::{MAX_EVENTS, MAX_OBSERVERS};
+use pb_steps::Observer;
+use std::alloc::Global;
+
+// Adds what an order asks for.
+fn append(events: &mut Vec<Event>, order: Order) -> Result<(), Code>
+    requires { vec_len events.old ≤ MAX_EVENTS }
+    ensures read { Gives is_memory (λ _. events.new.items) result (with_order events.old.items order) }
+    ensures most { vec_len events.new ≤ MAX_EVENTS }
+{
+    if order.times > MAX_EVENTS - events.len() {
+        return Err(Code::TooMany);
+    }
+    events.resize(events.len() + order.times, order.event)?;
+    Ok(())
+}
+
+// Adds what one line asks for.
+#[tactic(auto, unfolding(crate::specs::Schedules::with_event_line))]
+fn add_line(
+    alloc: Global,
+    observers: &[Observer],
+    events: &mut Vec<Event>,
+    line: &str,
+) -> Result<(), Code>
+    requires few { length observers.now ≤ MAX_OBSERVERS }
+    requires most { vec_len events.old ≤ MAX_EVENTS }
+    ensures read { Gives is_memory (λ _. events.new.items) result (with_event_line observers.now events.old.items line.now) }
+    ensures most { vec_len events.new ≤ MAX_EVENTS }
+{
+    if is_skipped(line) {
+        return Ok(());
+    }
+    match order_of(alloc, observers, line) {
+        Ok(order) => append(events, order),
+        Err(code) => Err(code),
+    }
+}
+
+/// The events of a schedule, one a line, or as many as a line with `step` says. Of several observers of one name the first
+/// is meant.
+pub fn parse_schedule(
+    alloc: Global,
+    text: &str,
+    observers: &[Observer],
+) -> Result<Vec<Event>, ScheduleFault>
+    requires { length observers.now ≤ MAX_OBSERVERS }
+    ensures { ReadsSchedule result (schedule_of observers.now text.now) }
+{
+    let Ok(lines) = lines_of(alloc, text) else {
+        return Err(ScheduleFault { line: 0, code: 1 });
+    };
+    let mut events = Vec::new(alloc);
+    for (index, line) in lines.iter().enumerate() {
+        if let Err(code) = add_line(alloc, observers, &mut events, line) {
+            return Err(ScheduleFault::at(index, code));
+        }
+    }
+    Ok(events)
+}

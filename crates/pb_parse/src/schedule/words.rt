@@ -1,0 +1,328 @@
+//! The words of a line, read from left to right.
+ghost use Rattle.std.specs.Prelude.{◌≡◌, ◌≤◌, ◌-◌, ◌^◌, IfOk, MatchOption, length, Ok, Err};
+ghost use Rattle.pb_base.specs.declared.limits.TheConstants.{MAX_OBSERVERS};
+ghost use Rattle.pb_base.specs.Reading.{Gives, next_word, no_word, texts_of};
+ghost use Rattle.pb_steps.specs.Observers.{observed_column};
+ghost use Rattle.pb_parse.specs.declared.schedule.fault.Code.TheVariants as code;
+ghost use Rattle.pb_parse.specs.declared.event.Event.TheVariants as event;
+ghost use Rattle.pb_parse.specs.ScheduleCodes.{is_memory};
+ghost use Rattle.pb_parse.specs.ScheduleWords.{number_between, next_number, next_actor, next_row, observer_named, next_observer, next_change, next_run, next_job, once, launch_of, times_of, step_of, crash_of, next_data_cell, next_acknowledgment, next_cell, once_on, order_of_words, order_of};
+
+use crate::event::{Event, Job};
+use crate::reading::{Numeral, number_of, words_of};
+use crate::schedule::fault::Code;
+use pb_base::{
+    COLUMNS, Cell, Column, MAX_CHANGES, MAX_EVENTS, MAX_OBSERVERS, MAX_SEATS, ObserverNo, Row,
+};
+use pb_steps::Observer;
+use std::alloc::Global;
+
+/// What a line asks for: an event, so many times.
+#[derive(Clone, Copy)]
+pub struct Order {
+    pub event: Event,
+    pub times: usize,
+}
+
+// A number in this range.
+fn number_between(least: u64, greatest: u64, word: &str) -> Result<u64, Code>
+    ensures value { Gives is_memory (λ n. n) result (number_between least greatest word.now) }
+    ensures low { IfOk result (λ n. least ≤ n) }
+    ensures high { IfOk result (λ n. n ≤ greatest) }
+{
+    let number = match number_of(word) {
+        Numeral::Malformed => return Err(Code::Form),
+        Numeral::TooLarge => return Err(Code::Range),
+        Numeral::Value(number) => number,
+    };
+    if number > greatest || number < least {
+        return Err(Code::Range);
+    }
+    Ok(number)
+}
+
+// An observer by its number, with the column that it observes.
+#[derive(Clone, Copy)]
+struct Named {
+    number: ObserverNo,
+    column: Column,
+}
+
+// The first observer of this name.
+fn observer_named(observers: &[Observer], name: &str) -> Option<Named>
+    requires { length observers.now ≤ MAX_OBSERVERS }
+    ensures number { MatchOption result (observer_named observers.now name.now ≡ Err code.NoObserver) (λ o. observer_named observers.now name.now ≡ Ok o.number) }
+    ensures column { MatchOption result (Unit {0}) (λ o. o.column ≡ observed_column observers.now o.number) }
+{
+    for (place, observer) in observers.iter().enumerate() {
+        if observer.name.as_str() == name {
+            return match ObserverNo::new(place as u8) {
+                Some(number) => Some(Named {
+                    number,
+                    column: observer.column,
+                }),
+                None => unreachable!(),
+            };
+        }
+    }
+    None
+}
+
+// What is left of a line's words.
+#[derive(Drop)]
+struct Words<'a, 'b> {
+    rest: &'b [&'a str],
+}
+
+impl<'a, 'b> Words<'a, 'b> {
+    // The next word.
+    fn next_word(&mut self) -> Result<&'a str, Code>
+        ensures { Gives is_memory (λ x. (x.now, texts_of self.new.rest.now)) result (next_word code.Form (texts_of self.old.rest.now)) }
+    {
+        match self.rest {
+            [] => Err(Code::Form),
+            [first, rest @ ..] => {
+                self.rest = rest;
+                Ok(*first)
+            }
+        }
+    }
+
+    // No word is left.
+    fn no_word(&self) -> Result<(), Code>
+        ensures { Gives is_memory (λ x. x) result (no_word code.Form (texts_of self.now.rest.now)) }
+    {
+        if !self.rest.is_empty() {
+            return Err(Code::Form);
+        }
+        Ok(())
+    }
+
+    // A number in this range.
+    #[tactic(auto, unfolding(crate::specs::ScheduleWords::next_number))]
+    fn number(&mut self, least: u64, greatest: u64) -> Result<u64, Code>
+        ensures value { Gives is_memory (λ x. (x, texts_of self.new.rest.now)) result (next_number least greatest (texts_of self.old.rest.now)) }
+        ensures low { IfOk result (λ x. least ≤ x) }
+        ensures high { IfOk result (λ x. x ≤ greatest) }
+    {
+        let word = self.next_word()?;
+        number_between(least, greatest, word)
+    }
+
+    fn actor(&mut self) -> Result<u32, Code>
+        ensures { Gives is_memory (λ x. (x, texts_of self.new.rest.now)) result (next_actor (texts_of self.old.rest.now)) }
+    {
+        let number = self.number(1, u64::from(MAX_SEATS - 1))?;
+        Ok(number as u32)
+    }
+
+    #[tactic(auto, unfolding(crate::specs::ScheduleWords::next_row))]
+    fn row(&mut self) -> Result<Row, Code>
+        ensures { Gives is_memory (λ x. (x, texts_of self.new.rest.now)) result (next_row (texts_of self.old.rest.now)) }
+    {
+        let number = self.number(0, u64::MAX)?;
+        Ok(Row(number))
+    }
+
+    // The name of an observer.
+    #[tactic(auto, unfolding(crate::specs::ScheduleWords::next_observer))]
+    fn observer(&mut self, observers: &[Observer]) -> Result<Named, Code>
+        requires { length observers.now ≤ MAX_OBSERVERS }
+        ensures value { Gives is_memory (λ x. (x.number, texts_of self.new.rest.now)) result (next_observer observers.now (texts_of self.old.rest.now)) }
+        ensures column { IfOk result (λ x. x.column ≡ observed_column observers.now x.number) }
+    {
+        let word = self.next_word()?;
+        match observer_named(observers, word) {
+            Some(observer) => Ok(observer),
+            None => Err(Code::NoObserver),
+        }
+    }
+
+    #[tactic(auto, unfolding(crate::specs::ScheduleWords::next_change))]
+    fn change(&mut self) -> Result<Job, Code>
+        ensures { Gives is_memory (λ x. (x, texts_of self.new.rest.now)) result (next_change (texts_of self.old.rest.now)) }
+    {
+        let number = self.number(1, MAX_CHANGES as u64)?;
+        Ok(Job::Change(number as u32))
+    }
+
+    #[tactic(auto, unfolding(crate::specs::ScheduleWords::next_run))]
+    fn run(&mut self, observers: &[Observer]) -> Result<Job, Code>
+        requires { length observers.now ≤ MAX_OBSERVERS }
+        ensures { Gives is_memory (λ x. (x, texts_of self.new.rest.now)) result (next_run observers.now (texts_of self.old.rest.now)) }
+    {
+        let observer = self.observer(observers)?;
+        let row = self.row()?;
+        Ok(Job::Run(observer.number, row))
+    }
+
+    #[tactic(auto, unfolding(crate::specs::ScheduleWords::next_job))]
+    fn job(&mut self, observers: &[Observer]) -> Result<Job, Code>
+        requires { length observers.now ≤ MAX_OBSERVERS }
+        ensures { Gives is_memory (λ x. (x, texts_of self.new.rest.now)) result (next_job observers.now (texts_of self.old.rest.now)) }
+    {
+        let sort = self.next_word()?;
+        match sort {
+            "change" => self.change(),
+            "run" => self.run(observers),
+            _ => Err(Code::Form),
+        }
+    }
+
+    #[tactic(auto, unfolding(crate::specs::ScheduleWords::once, crate::specs::ScheduleWords::launch_of))]
+    fn launch(&mut self, observers: &[Observer]) -> Result<Order, Code>
+        requires { length observers.now ≤ MAX_OBSERVERS }
+        ensures { Gives is_memory (λ o. o) result (launch_of observers.now (texts_of self.old.rest.now)) }
+    {
+        let actor = self.actor()?;
+        let job = self.job(observers)?;
+        self.no_word()?;
+        Ok(Order {
+            event: Event::Launch(actor, job),
+            times: 1,
+        })
+    }
+
+    // How often: once where no word says it.
+    #[tactic(auto, unfolding(crate::specs::ScheduleWords::times_of))]
+    fn times(&mut self) -> Result<usize, Code>
+        ensures { Gives is_memory (λ n. n) result (times_of (texts_of self.old.rest.now)) }
+    {
+        if self.rest.is_empty() {
+            return Ok(1);
+        }
+        let word = self.next_word()?;
+        let times = number_between(1, MAX_EVENTS as u64, word)?;
+        self.no_word()?;
+        Ok(times as usize)
+    }
+
+    #[tactic(auto, unfolding(crate::specs::ScheduleWords::step_of))]
+    fn step(&mut self) -> Result<Order, Code>
+        ensures { Gives is_memory (λ o. o) result (step_of (texts_of self.old.rest.now)) }
+    {
+        let actor = self.actor()?;
+        let times = self.times()?;
+        Ok(Order {
+            event: Event::Step(actor),
+            times,
+        })
+    }
+
+    #[tactic(auto, unfolding(crate::specs::ScheduleWords::once, crate::specs::ScheduleWords::crash_of))]
+    fn crash(&mut self) -> Result<Order, Code>
+        ensures { Gives is_memory (λ o. o) result (crash_of (texts_of self.old.rest.now)) }
+    {
+        let actor = self.actor()?;
+        self.no_word()?;
+        Ok(Order {
+            event: Event::Crash(actor),
+            times: 1,
+        })
+    }
+
+    #[tactic(auto, unfolding(crate::specs::ScheduleWords::next_data_cell))]
+    fn data_cell(&mut self) -> Result<Cell, Code>
+        ensures { Gives is_memory (λ x. (x, texts_of self.new.rest.now)) result (next_data_cell (texts_of self.old.rest.now)) }
+    {
+        let row = self.row()?;
+        let number = self.number(0, u64::from(COLUMNS - 1))?;
+        match Column::new(number as u8) {
+            Some(column) => Ok(Cell::Data(row, column)),
+            None => unreachable!(),
+        }
+    }
+
+    #[tactic(auto, unfolding(crate::specs::ScheduleWords::next_acknowledgment))]
+    fn acknowledgment(&mut self, observers: &[Observer]) -> Result<Cell, Code>
+        requires { length observers.now ≤ MAX_OBSERVERS }
+        ensures { Gives is_memory (λ x. (x, texts_of self.new.rest.now)) result (next_acknowledgment observers.now (texts_of self.old.rest.now)) }
+    {
+        let observer = self.observer(observers)?;
+        let row = self.row()?;
+        Ok(Cell::Ack(observer.number, row, observer.column))
+    }
+
+    // A data cell, or behind `ack` an acknowledgment.
+    fn cell(&mut self, observers: &[Observer]) -> Result<Cell, Code>
+        requires { length observers.now ≤ MAX_OBSERVERS }
+        ensures { Gives is_memory (λ x. (x, texts_of self.new.rest.now)) result (next_cell observers.now (texts_of self.old.rest.now)) }
+    {
+        match self.rest {
+            [] => Err(Code::Form),
+            [first, rest @ ..] => {
+                if *first == "ack" {
+                    self.rest = rest;
+                    self.acknowledgment(observers)
+                } else {
+                    self.data_cell()
+                }
+            }
+        }
+    }
+
+    #[tactic(auto, unfolding(crate::specs::ScheduleWords::once, crate::specs::ScheduleWords::once_on))]
+    fn settle(&mut self, observers: &[Observer]) -> Result<Order, Code>
+        requires { length observers.now ≤ MAX_OBSERVERS }
+        ensures { Gives is_memory (λ o. o) result (once_on event.Settle (next_cell observers.now (texts_of self.old.rest.now))) }
+    {
+        let cell = self.cell(observers)?;
+        self.no_word()?;
+        Ok(Order {
+            event: Event::Settle(cell),
+            times: 1,
+        })
+    }
+
+    #[tactic(auto, unfolding(crate::specs::ScheduleWords::once, crate::specs::ScheduleWords::once_on))]
+    fn clear(&mut self, observers: &[Observer]) -> Result<Order, Code>
+        requires { length observers.now ≤ MAX_OBSERVERS }
+        ensures { Gives is_memory (λ o. o) result (once_on event.Clear (next_cell observers.now (texts_of self.old.rest.now))) }
+    {
+        let cell = self.cell(observers)?;
+        self.no_word()?;
+        Ok(Order {
+            event: Event::Clear(cell),
+            times: 1,
+        })
+    }
+
+    #[tactic(auto, unfolding(crate::specs::ScheduleWords::once, crate::specs::ScheduleWords::once_on))]
+    fn sweep(&mut self) -> Result<Order, Code>
+        ensures { Gives is_memory (λ o. o) result (once_on event.Sweep (next_data_cell (texts_of self.old.rest.now))) }
+    {
+        let cell = self.data_cell()?;
+        self.no_word()?;
+        Ok(Order {
+            event: Event::Sweep(cell),
+            times: 1,
+        })
+    }
+
+    // What the verb and the words behind it ask for.
+    #[tactic(auto, unfolding(crate::specs::ScheduleWords::order_of_words))]
+    fn order(&mut self, observers: &[Observer]) -> Result<Order, Code>
+        requires { length observers.now ≤ MAX_OBSERVERS }
+        ensures { Gives is_memory (λ o. o) result (order_of_words observers.now (texts_of self.old.rest.now)) }
+    {
+        let verb = self.next_word()?;
+        match verb {
+            "launch" => self.launch(observers),
+            "step" => self.step(),
+            "crash" => self.crash(),
+            "settle" => self.settle(observers),
+            "clear" => self.clear(observers),
+            "sweep" => self.sweep(),
+            _ => Err(Code::Form),
+        }
+    }
+}
+
+/// What a line asks for.
+pub fn order_of(alloc: Global, observers: &[Observer], line: &str) -> Result<Order, Code>
+    requires { length observers.now ≤ MAX_OBSERVERS }
+    ensures { Gives is_memory (λ o. o) result (order_of observers.now line.now) }
+{
+    let words = words_of(alloc, line)?;
+    Words { rest: &words }.order(observers)
+}

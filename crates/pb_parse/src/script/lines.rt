@@ -1,0 +1,163 @@
+//! A line, and a text of lines.
+ghost use Rattle.std.specs.Prelude.{◌≡◌, ◌≢◌, ◌==◌, ◌+◌, ◌<◌, ◌↔◌, IfOk, true, is_some, ℕ, List, Ok, Err};
+ghost use Rattle.pb_base.specs.Batch.{Writes, writes_of, content_in, is_batch};
+ghost use Rattle.pb_parse.specs.Codes.{script_code};
+ghost use Rattle.pb_base.specs.Reading.{Gives};
+ghost use Rattle.pb_parse.specs.Codes.{is_memory};
+ghost use Rattle.pb_base.specs.Reading.{texts_of};
+ghost use Rattle.pb_parse.specs.ScriptLines.{Batches, cut, with_operation, batch_of, with_line, script_of};
+ghost use Rattle.pb_base.specs.Reading.{is_skipped};
+ghost use Rattle.pb_parse.specs.Operations.{Say, StopsWith};
+ghost use Rattle.pb_parse.specs.Scripts.{Reads, StopsAt, AreBatches};
+ghost use Rattle.pb_parse.specs.declared.script.code.Code.TheVariants.{Memory};
+
+use crate::reading::{is_skipped, lines_of};
+use crate::script::code::Code;
+use crate::script::words::{Change, operation};
+use pb_base::{Batch, Cell, MAX_CELLS, MAX_CHANGES};
+use std::alloc::{AllocError, Global};
+use thiserror::Error;
+
+// The operations' texts.
+fn cut(alloc: Global, line: &str) -> Result<Vec<&str>, AllocError>
+    ensures { IfOk result (λ v. texts_of v.items ≡ cut line.now) }
+{
+    let mut parts = Vec::new(alloc);
+    let mut rest = line;
+    while let Some((first, after)) = rest.split_once("; ") {
+        parts.push(first)?;
+        rest = after;
+    }
+    parts.push(rest)?;
+    Ok(parts)
+}
+
+// Whether the cell is named.
+fn names(writes: &[Change], cell: Cell) -> bool
+    ensures { result ≡ is_some (content_in (writes_of writes.now) cell) }
+{
+    for write in writes {
+        if cell == Cell::Data(write.0, write.1) {
+            return true;
+        }
+    }
+    false
+}
+
+// Takes one more operation of a line.
+#[tactic(auto, unfolding(crate::specs::ScriptLines::with_operation))]
+fn add(alloc: Global, writes: &mut Vec<Change>, text: &str) -> Result<(), Code>
+    ensures { Gives is_memory (λ _. writes_of writes.new.items) result (with_operation (writes_of writes.old.items) text.now) }
+{
+    let write = operation(alloc, text)?;
+    if names(writes, Cell::Data(write.0, write.1)) {
+        return Err(Code::Twice);
+    }
+    if writes.len() >= MAX_CELLS {
+        return Err(Code::Seventeenth);
+    }
+    writes.push(write)?;
+    Ok(())
+}
+
+fn writes_in(alloc: Global, line: &str) -> Result<Vec<Change>, Code>
+    ensures { Gives is_memory (λ v. writes_of v.items) result (batch_of line.now) }
+{
+    let parts = cut(alloc, line)?;
+    let mut writes = Vec::with_capacity(alloc, parts.len().min(MAX_CELLS))?;
+    for part in &parts {
+        add(alloc, &mut writes, part)?;
+    }
+    Ok(writes)
+}
+
+fn batch_of(alloc: Global, line: &str) -> Result<Batch, Code>
+    ensures { Gives is_memory (λ b. b) result (batch_of line.now) }
+{
+    match Batch::new(writes_in(alloc, line)?) {
+        Ok(batch) => Ok(batch),
+        Err(_) => unreachable!(),
+    }
+}
+
+// Adds what one line says.
+#[tactic(auto, unfolding(crate::specs::ScriptLines::with_line))]
+fn add_line(alloc: Global, batches: &mut Vec<Batch>, line: &str) -> Result<(), Code>
+    ensures { Gives is_memory (λ _. batches.new.items) result (with_line batches.old.items line.now) }
+{
+    if is_skipped(line) {
+        return Ok(());
+    }
+    let batch = batch_of(alloc, line)?;
+    if batches.len() >= MAX_CHANGES {
+        return Err(Code::TooMany);
+    }
+    batches.push(batch)?;
+    Ok(())
+}
+
+/// The line at which a script is at fault, from 1, and the code: 70 not of the form, 71 row or column out of range,
+/// 72 not 2 to 64 lower-case hexadecimal digits, even in number, 73 a cell named before in the line, 74 a 17th cell,
+/// 75 over 10,000 changes. Where memory ran out it is line 0 with code 1.
+#[derive(Clone, Copy, Debug, PartialEq, Eq, Drop, Error)]
+#[error("line {line} code {code}")]
+pub struct ScriptFault {
+    pub line: usize,
+    pub code: u8,
+}
+
+impl ScriptFault {
+    // At the line of this index.
+    fn at(index: usize, code: Code) -> ScriptFault
+        requires { index < usize.MAX }
+        ensures memory { code ≡ Memory → result ≡ record { line = 0; code = 1 } }
+        ensures other { code ≢ Memory → result ≡ record { line = index + 1; code = script_code code } }
+    {
+        let line = match code {
+            Code::Memory => 0,
+            _ => index + 1,
+        };
+        ScriptFault {
+            line,
+            code: code.code(),
+        }
+    }
+}
+
+/// The transactions of a script, one a line: operations joined by `; `, each `put ROW COL HEX` or `del ROW COL`.
+pub fn parse_script(alloc: Global, text: &str) -> Result<Vec<Batch>, ScriptFault>
+    ensures { Reads result (script_of text.now) }
+{
+    let Ok(lines) = lines_of(alloc, text) else {
+        return Err(ScriptFault { line: 0, code: 1 });
+    };
+    let mut batches = Vec::new(alloc);
+    for (index, line) in lines.iter().enumerate() {
+        if let Err(code) = add_line(alloc, &mut batches, line) {
+            return Err(ScriptFault::at(index, code));
+        }
+    }
+    Ok(batches)
+}
+
+/// The fault that is told is that of the first line at fault: the lines before it are a script of their own.
+pub fn fault_is_first()
+    ensures { (text : List ℕ) (line code : ℕ) → script_of text ≡ Err (line, code) → StopsAt text line code }
+{}
+
+/// What a script is read as is at most 10,000 transactions, each of them a batch: 1 to 16 distinct cells.
+pub fn reads_batches()
+    ensures { (text : List ℕ) (batches : Batches) → script_of text ≡ Ok batches → AreBatches batches }
+{}
+
+/// A line is read as a transaction exactly where each of its operations is read, and what they write is a batch; the
+/// transaction is then what they write, in their order.
+pub fn reads_operations()
+    ensures { (line : List ℕ) (batch : Writes) → (batch_of line ≡ Ok batch) ↔ (Say (cut line) batch × (is_batch batch ≡ true)) }
+{}
+
+/// The fault of a line is that of its first operation at fault: those before it are read, of distinct cells. It is the
+/// operation's own (70, 71 or 72), or else 73 where one before it names its cell, or else 74 where there are 16 before it.
+pub fn operation_fault_is_first()
+    ensures { (line : List ℕ) (cause : Code) → batch_of line ≡ Err cause → StopsWith line cause }
+{}

@@ -1,5 +1,0 @@
-use Rattle.pb_script.proofs.FirstLineAtFault.{stops}
-use Rattle.pb_script.proofs.schedule.laws.schedule_fault_is_first.Goals as goal
-
-pub returns : goal.returns
-returns c = stops

@@ -1,6 +1,0 @@
-use Rattle.std.proofs.Common.{◌≡◌, ◌+◌, drop}
-use Rattle.pb_script.specs.ScheduleWords.{first_named}
-use Rattle.pb_script.proofs.schedule.words.observer_named.Given as goal
-
-abbrev pub invariant-loop-place : goal.invariant-loop-place
-invariant-loop-place l = l.place + first_named (drop l.place l.observers) l.name ≡ first_named l.observers l.name

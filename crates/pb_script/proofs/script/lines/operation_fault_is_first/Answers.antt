@@ -1,5 +1,0 @@
-use Rattle.pb_script.proofs.FirstOperation.{stops_with}
-use Rattle.pb_script.proofs.script.lines.operation_fault_is_first.Goals as goal
-
-pub returns : goal.returns
-returns c = stops_with

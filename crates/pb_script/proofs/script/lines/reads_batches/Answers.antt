@@ -1,5 +1,0 @@
-use Rattle.pb_script.proofs.ReadsBatches.{reads_batches}
-use Rattle.pb_script.proofs.script.lines.reads_batches.Goals as goal
-
-pub returns : goal.returns
-returns c = reads_batches
