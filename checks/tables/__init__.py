@@ -1,0 +1,169 @@
+"""The tables that checks/rows runs, each a list of rows under its name in `TABLES` of a module here; and what rows are made of.
+
+A row says what the program is run on, and how that ends. The files of a row have short names: m is a manifest, s a script,
+e a schedule, i what `asm`, `dis` and `check` read, and o what `asm` writes.
+"""
+from __future__ import annotations
+
+import re
+import struct
+from dataclasses import dataclass, field
+
+TOO_LARGE = bytes(16_777_217)
+
+# the bytes of `mov64 r0, 0` and `exit`
+WATCH = "b7000000000000009500000000000000"
+
+# of `call 4` and `exit`, which ends with its start
+START = "85000000040000009500000000000000"
+
+# writes the changed value to column 1 of its row
+COPY = (
+    "bf1600000000000079623000000000007b2ae0ff0000000079623800000000007b2ae8ff0000000079624000000000007b2af0ff00000000"
+    "79624800000000007b2af8ff000000007961000000000000b702000001000000bfa300000000000007030000e0ffffff8500000002000000"
+    "b7000000000000009500000000000000"
+)
+
+
+@dataclass(frozen=True)
+class Row:
+    """The words behind the program's name, the files of the folder that it is started in, and how that ends.
+
+    An output of None is any but the empty one. In the end the folder holds the files and what is `written`, and nothing
+    else.
+    """
+
+    words: list[str]
+    files: dict[str, bytes] = field(default_factory=dict)
+    status: int = 0
+    out: bytes | None = b""
+    err: bytes | None = b""
+    written: dict[str, bytes] = field(default_factory=dict)
+
+
+Tables = dict[str, list[Row]]
+
+
+def of(*observers: str) -> str:
+    """The text of a manifest of these observers."""
+    return f'{{"profile":1,"observers":[{",".join(observers)}]}}'
+
+
+def observer(name: str = "watch", column: int | str = 0, helpers: str = "", code: str = WATCH) -> str:
+    """The text of an observer."""
+    return f'{{"name":"{name}","column":{column},"helpers":[{helpers}],"code":"{code}"}}'
+
+
+NOBODY = of()
+WATCHED = of(observer())
+COPIED = of(observer("copy", 0, "2", COPY))
+
+
+def files_of(**texts: str | bytes) -> dict[str, bytes]:
+    return {name: text if isinstance(text, bytes) else text.encode() for name, text in texts.items()}
+
+
+def run(manifest: str, script: str, report: str) -> Row:
+    """A run that reports so."""
+    return Row(["run", "m", "s"], files_of(m=manifest, s=script), out=report.encode())
+
+
+def run_fails(manifest: str, script: str, fault: str) -> Row:
+    """A run that tells this fault, and no report."""
+    return Row(["run", "m", "s"], files_of(m=manifest, s=script), 1, err=f"{fault}\n".encode())
+
+
+def replay(manifest: str, script: str, schedule: str, report: str, *more: str) -> Row:
+    """A replay that reports so, with more words."""
+    return Row(["replay", "m", "s", "e", *more], files_of(m=manifest, s=script, e=schedule), out=report.encode())
+
+
+def replay_fails(manifest: str, script: str, schedule: str, fault: str) -> Row:
+    """A replay that tells this fault, and no report."""
+    return Row(["replay", "m", "s", "e"], files_of(m=manifest, s=script, e=schedule), 1, err=f"{fault}\n".encode())
+
+
+def asm(text: str, code: bytes) -> Row:
+    """A text that is assembled to these bytes."""
+    return Row(["asm", "i", "o"], files_of(i=text), written={"o": code})
+
+
+def asm_fails(text: str, line: int, code: int) -> Row:
+    """A text that is refused in this line, so that no bytes are written."""
+    return Row(["asm", "i", "o"], files_of(i=text), 1, err=f"line {line} code {code}\n".encode())
+
+
+def dis(code: bytes, listing: str) -> Row:
+    """The bytes of a program, which is listed so."""
+    return Row(["dis", "i"], {"i": code}, out=listing.encode())
+
+
+def dis_refused(code: bytes, slot: int, number: int) -> Row:
+    """Bytes that are no program's."""
+    return Row(["dis", "i"], {"i": code}, 1, f"refused slot {slot} code {number}\n".encode())
+
+
+def accepted(code: bytes, slots: int) -> Row:
+    """The bytes of a program that is accepted with all helpers."""
+    return Row(["check", "i"], {"i": code}, out=f"accepted {slots} slots\n".encode())
+
+
+def refused(code: bytes, slot: int, number: int) -> Row:
+    """Bytes that are refused at this slot."""
+    return Row(["check", "i"], {"i": code}, 1, f"refused slot {slot} code {number}\n".encode())
+
+
+ARITHMETIC = "add sub mul div or and lsh rsh neg mod xor mov arsh".split()
+JUMPS = "ja jeq jgt jge jset jne jsgt jsge call exit jlt jle jslt jsle".split()
+SIZES = {"w": 0x00, "h": 0x08, "b": 0x10, "dw": 0x18}
+MEM = 0x60
+
+# the forms of MACHINE.md, "Assembler text", by what is behind the first word
+FORMS = {
+    "place to register": r"r(?P<dst>\d+), \[r(?P<src>\d+)(?P<offset>[+-]\d+)\]",
+    "register to place": r"\[r(?P<dst>\d+)(?P<offset>[+-]\d+)\], r(?P<src>\d+)",
+    "immediate to place": r"\[r(?P<dst>\d+)(?P<offset>[+-]\d+)\], (?P<imm>-?\d+)",
+    "two registers": r"r(?P<dst>\d+), r(?P<src>\d+)(, (?P<offset>[+-]\d+))?",
+    "register and immediate": r"r(?P<dst>\d+), (?P<imm>-?\d+)(, (?P<offset>[+-]\d+))?",
+    "register": r"r(?P<dst>\d+)",
+    "offset": r"(?P<offset>[+-]\d+)",
+    "nothing": r"",
+}
+
+
+def slot(opcode: int, dst: int = 0, src: int = 0, offset: int = 0, imm: int = 0) -> bytes:
+    """A slot by section 3.1 of RFC 9669."""
+    return struct.pack("<BBhi", opcode, src << 4 | dst, offset, imm)
+
+
+def opcode(word: str, has_register: bool) -> int:
+    """The opcode of a first word, by sections 3 to 5 of RFC 9669."""
+    named = re.fullmatch(r"(ldx|stx|st)(b|h|w|dw)", word)
+    if named:
+        return {"ldx": 1, "st": 2, "stx": 3}[named[1]] | SIZES[named[2]] | MEM
+    kind = 0x08 if has_register else 0x00
+    name, width = (word[:-2], word[-2:]) if word[-2:] in ("32", "64") else (word, "64")
+    if name in ARITHMETIC:
+        return ARITHMETIC.index(name) << 4 | kind | {"32": 4, "64": 7}[width]
+    return JUMPS.index(name) << 4 | kind | {"32": 6, "64": 5}[width]
+
+
+def instruction(text: str) -> bytes:
+    """The bytes of an instruction that is written as docs/MACHINE.md says."""
+    word, _, behind = text.partition(" ")
+    if word == "call":
+        return slot(opcode(word, False), imm=int(behind))
+    found = next(found for form in FORMS.values() if (found := re.fullmatch(form, behind)))
+    fields = {name: int(number) for name, number in found.groupdict().items() if number is not None}
+    if word == "lddw":
+        low, high = struct.unpack("<ii", struct.pack("<Q", fields["imm"]))
+        return slot(0x18, fields["dst"], imm=low) + slot(0, imm=high)
+    return slot(opcode(word, "src" in fields), **fields)
+
+
+def code(*texts: str) -> bytes:
+    """The bytes of a program, its instructions parted by `; `.
+
+    It takes one spelling alone for granted, and is held to LLVM's encodings in encodings.py.
+    """
+    return b"".join(instruction(line) for text in texts for line in text.split("; "))
