@@ -1,11 +1,11 @@
 ghost use Rattle.std.specs.Prelude.{◌≡◌, None, false};
 
 use crate::end_all;
-use pb_base::{NoMemory, Row, Sink, SinkFault};
+use pb_base::{NoMemory, Out, Row, Sink, SinkFault};
 use pb_command::{PathFault, Paths, command};
 use pb_memtablet::ListTablet;
 use pb_store::{Table, Tablet};
-use pb_texts::Options;
+use pb_texts::{Options, write_all};
 use std::alloc::Global;
 use std::process::Abort;
 use std::rt::HostRuntime;
@@ -440,4 +440,20 @@ fn output_may_fail_at_any_call(rt: HostRuntime) {
     let outcome = run(&rt, files, report.len(), true).expect(&rt, "memory");
     assert!(rt; outcome.status == 0);
     assert!(rt; outcome.out.as_slice() == report.as_slice());
+}
+
+#[test]
+fn whole_texts_are_written(rt: HostRuntime) {
+    let mut bytes = Vec::new(rt.alloc());
+    let mut out = Out::new(&mut bytes);
+    assert!(rt; write_all(&mut out, b"quiet\n").is_ok() && !out.has_failed());
+    assert!(rt; bytes.as_slice() == b"quiet\n".as_slice());
+}
+
+#[test]
+fn a_full_sink_fails(rt: HostRuntime) {
+    let mut room = [0; 4];
+    let mut out = Out::new(room.as_mut_slice());
+    assert!(rt; write_all(&mut out, b"quiet\n").is_err() && out.has_failed());
+    assert!(rt; room == *b"quie");
 }

@@ -1,9 +1,9 @@
-//! How a run by one seat alone ends early: by a step that is refused, or by the fault of a text.
+//! How a run by one seat alone ends early, by a step that is refused.
 ghost use Rattle.std.specs.Prelude.{◌≤◌};
 
 use crate::sheet::Sheet;
-use crate::tables::{opened, table};
-use pb_alone::{RunFault, run_alone, run_texts};
+use crate::tables::opened;
+use pb_alone::{RunFault, run_alone};
 use pb_base::{NoMemory, Ts};
 use std::alloc::Global;
 use std::rt::HostRuntime;
@@ -28,13 +28,6 @@ fn end_alone(alloc: Global, script: &str, last: Ts, limit: usize) -> Result<u8, 
     let mut sheet = Sheet::new(alloc);
     let (shared, _seats, outcome) = run_alone(alloc, script, shared, seats, &mut sheet);
     shared.close();
-    Ok(number_of(outcome))
-}
-
-// How a run of two texts ends.
-fn end_of_texts(alloc: Global, manifest: &str, script: &str) -> Result<u8, NoMemory> {
-    let mut sheet = Sheet::new(alloc);
-    let outcome = run_texts(alloc, manifest, script, table(alloc)?, Ts(0), &mut sheet);
     Ok(number_of(outcome))
 }
 
@@ -64,41 +57,6 @@ fn a_refused_step_ends_a_run(rt: HostRuntime) -> Result<(), NoMemory> {
     for (script, last, limit, wanted) in table {
         let number = end_alone(rt.alloc(), script, Ts(last), limit)?;
         assert!(rt; number == wanted, "{script} {last} {limit}");
-    }
-    Ok(())
-}
-
-// A manifest with so many observers.
-fn manifest_of(alloc: Global, count: usize) -> Result<String, NoMemory> {
-    let observer = "{\"name\":\"watch\",\"column\":0,\"helpers\":[],\"code\":\"\"}";
-    let mut text = String::from_str(alloc, "{\"profile\":1,\"observers\":[")?;
-    for place in 0..count {
-        if place > 0 {
-            text.push_str(",")?;
-        }
-        text.push_str(observer)?;
-    }
-    text.push_str("]}")?;
-    Ok(text)
-}
-
-#[test]
-fn texts_too_long_end_a_run(rt: HostRuntime) -> Result<(), NoMemory> {
-    let many = manifest_of(rt.alloc(), 33)?;
-    let mut long = String::new(rt.alloc());
-    for _ in 0..10_001u32 {
-        long.push_str("del 0 0\n")?;
-    }
-    let none = "{\"profile\":1,\"observers\":[]}";
-    let table = [
-        (many.as_str(), "", 52),
-        (none, long.as_str(), 75),
-        (many.as_str(), long.as_str(), 52),
-        (none, "", 0),
-    ];
-    for (manifest, script, wanted) in table {
-        let number = end_of_texts(rt.alloc(), manifest, script)?;
-        assert!(rt; number == wanted, "{wanted}");
     }
     Ok(())
 }

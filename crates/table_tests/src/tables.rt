@@ -16,8 +16,8 @@ use std::sync::Arc;
 /// mov64 r0, 0 and exit.
 pub const WATCH: &str = "b7000000000000009500000000000000";
 
-/// An empty table of one tablet.
-pub fn table(alloc: Global) -> Result<Table<ListTablet>, NoMemory>
+// An empty table of one tablet.
+fn table(alloc: Global) -> Result<Table<ListTablet>, NoMemory>
     ensures { IfOk result (λ t. t.contents ≡ nothing) }
 {
     let mut parts = Vec::new(alloc);

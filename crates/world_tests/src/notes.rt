@@ -234,6 +234,33 @@ fn steps_of_the_main_seat(rt: HostRuntime) {
     assert!(rt; have_notes(rt.alloc(), WATCH, script, schedule, &committed));
 }
 
+// Of an acknowledgment that has the lock of a run, which waits.
+#[test]
+fn clears_of_an_acknowledgment(rt: HostRuntime) {
+    let schedule =
+        "launch 1 change 1\nstep 1 5\nlaunch 2 run watch 18446744073709551615\nstep 2 7\nclear ack watch 18446744073709551615\nclear ack watch 7\n";
+    let wanted = [
+        Note::Launched,
+        at(1),
+        DONE,
+        DONE,
+        at(2),
+        Note::Called(Answer::Committed),
+        Note::Launched,
+        at(3),
+        first_version(),
+        Note::Called(Answer::Absent),
+        Note::Instruction,
+        Note::Instruction,
+        DONE,
+        DONE,
+        Note::Called(Answer::Waits),
+        Note::Called(Answer::Absent),
+    ];
+    let script = "put 18446744073709551615 0 2a\n";
+    assert!(rt; have_notes(rt.alloc(), WATCH, script, schedule, &wanted));
+}
+
 // A refused step ends its actor's job, and those of the main seat change nothing.
 #[test]
 fn refusals(rt: HostRuntime) {

@@ -1,0 +1,92 @@
+"""Command lines: what each asks for, told by what the program does then, and those that are refused or ask for help.
+
+Worked out by hand from docs/FORMATS.md, "Words". What `clap` prints is not looked at, but that it is where it belongs.
+"""
+from __future__ import annotations
+
+from tables import NOBODY, WATCH, Row, Tables, files_of
+
+
+def helps(*words: str) -> Row:
+    """Words that are answered by help."""
+    return Row(list(words), out=None)
+
+
+def wrong(*words: str) -> Row:
+    """Words that are no command line."""
+    return Row(list(words), status=2, err=None)
+
+
+ONE = "put 7 0 2a\n"
+PROGRAM = bytes.fromhex(WATCH)
+
+SUBCOMMANDS = [
+    Row(
+        ["run", "m.json", "s.txt"],
+        {"m.json": NOBODY.encode(), "s.txt": ONE.encode()},
+        out=b"cell 7 0 commit 2 value 2a\nquiet\n",
+    ),
+    Row(["asm", "p.s", "p.bin"], {"p.s": b"mov64 r0, 0\nexit\n"}, written={"p.bin": PROGRAM}),
+    Row(["dis", "p.bin"], {"p.bin": PROGRAM}, out=b"mov64 r0, 0\nexit\n"),
+    Row(["check", "p.bin"], {"p.bin": PROGRAM}, out=b"accepted 2 slots\n"),
+]
+
+
+def clocked(last: str, *words: str) -> Row:
+    """A replay of one change, which ends with this line, or tells this cell and is quiet."""
+    files = files_of(m=NOBODY, s=ONE, e="launch 1 change 1\nstep 1 5\n")
+    return Row(["replay", *words], files, out=f"{last}\n".encode())
+
+
+def committed(commit: int) -> str:
+    return f"cell 7 0 commit {commit} value 2a\nquiet"
+
+
+# the option may stand before, between and behind the operands; with one timestamp left the change puts its lock and isn't
+# stamped, and with none it doesn't begin
+CLOCKS = [
+    clocked("marks 0 locks 1", "m", "s", "e", "--clock", "18446744073709551614"),
+    clocked("quiet", "--clock", "18446744073709551615", "m", "s", "e"),
+    clocked(committed(9), "m", "s", "--clock", "+7", "e"),
+    clocked(committed(2), "m", "--clock", "0", "s", "e"),
+    clocked(committed(2), "m", "s", "e"),
+    clocked(committed(7), "--clock=5", "m", "s", "e"),
+]
+
+OTHER_CLOCKS = [
+    *(
+        wrong("replay", "m", "s", "e", "--clock", clock)
+        for clock in ("18446744073709551616", "x", "", "-1", "1.0", " 1")
+    ),
+    wrong("replay", "m", "s", "e", "--clock"),
+    wrong("run", "m", "s", "--clock", "1"),
+    wrong("replay", "m", "s", "e", "--clock", "1", "--clock", "1"),
+]
+
+COMMAND_LINES = [
+    wrong(),
+    wrong("walk"),
+    wrong("run", "m.json"),
+    wrong("run", "m.json", "s.txt", "x"),
+    helps("--help"),
+    helps("run", "--help"),
+    wrong("replay", "m", "s"),
+    wrong("replay", "m", "s", "e", "x"),
+    helps("replay", "--help"),
+    wrong("asm", "in"),
+    wrong("asm", "in", "out", "x"),
+    helps("asm", "--help"),
+    wrong("dis"),
+    wrong("dis", "f", "x"),
+    helps("help", "dis"),
+    wrong("check"),
+    wrong("check", "f", "x"),
+    helps("check", "--help"),
+]
+
+TABLES: Tables = {
+    "subcommands": SUBCOMMANDS,
+    "clocks": CLOCKS,
+    "other clocks": OTHER_CLOCKS,
+    "command lines": COMMAND_LINES,
+}
