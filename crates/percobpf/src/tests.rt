@@ -7,22 +7,15 @@ use pb_memtablet::ListTablet;
 use pb_store::{Table, Tablet};
 use pb_texts::{Options, write_all};
 use std::alloc::Global;
-use std::process::Abort;
 use std::rt::HostRuntime;
 
 mod checks;
-mod crashes;
-mod passes;
 mod programs;
 mod replays;
-mod whole_changes;
 
 type Boxed = Box<dyn Tablet + Send + Drop>;
 
 const MANIFEST: &[u8] = b"{\"profile\":1,\"observers\":[]}";
-
-// mov64 r0, 0 and exit.
-const WATCH: &str = "b7000000000000009500000000000000";
 
 // The two files of a run, at the paths `m` and `s`. No write succeeds.
 #[derive(Drop)]
@@ -162,249 +155,26 @@ fn run(rt: &HostRuntime, files: Held, left: usize, fails: bool) -> Result<Outcom
     carry(rt, &options, &mut files, left, fails)
 }
 
-// Whether a run of the files ends so.
-fn ends(rt: &HostRuntime, files: Held, status: u8, out: &str, err: &str) -> bool {
-    match run(rt, files, usize::MAX, true) {
+// Whether a command prints nothing but this fault.
+fn has_told(outcome: Result<Outcome, NoMemory>, fault: &str) -> bool {
+    match outcome {
         Ok(outcome) => {
-            outcome.status == status
-                && outcome.out.as_slice() == out.as_bytes()
-                && outcome.err.as_slice() == err.as_bytes()
+            outcome.status == 1
+                && outcome.out.is_empty()
+                && outcome.err.as_slice() == fault.as_bytes()
         }
         Err(_) => false,
     }
 }
 
 #[test]
-fn scripts_run(rt: HostRuntime) {
-    let table = [
-        ("put 7 0 2a\n", 0, "cell 7 0 commit 2 value 2a\nquiet\n", ""),
-        (
-            "put 7 0 2a\ndel 7 0\n",
-            0,
-            "cell 7 0 commit 4 deleted\nquiet\n",
-            "",
-        ),
-        (
-            "put 1000 15 00\nput 0 0 0100\n",
-            0,
-            "cell 0 0 commit 4 value 01\ncell 1000 15 commit 2 value 00\nquiet\n",
-            "",
-        ),
-        ("", 0, "quiet\n", ""),
-        ("put 7 16 2a\n", 1, "", "script: line 1 code 71\n"),
-        (
-            "put 7 0 2a\nput 07 0 2a\n",
-            1,
-            "",
-            "script: line 2 code 70\n",
-        ),
-    ];
-    for (script, status, out, err) in table {
-        let files = Held {
-            alloc: rt.alloc(),
-            manifest: Ok(MANIFEST),
-            script: Ok(script.as_bytes()),
-        };
-        assert!(rt; ends(&rt, files, status, out, err), "{script}");
-    }
-}
-
-#[test]
-fn manifests_are_judged(rt: HostRuntime) {
-    let table = [("{", "manifest: code 50\n"), ("[]", "manifest: code 51\n")];
-    for (manifest, err) in table {
-        let files = Held {
-            alloc: rt.alloc(),
-            manifest: Ok(manifest.as_bytes()),
-            script: Ok(b"put 7 0 2a\n"),
-        };
-        assert!(rt; ends(&rt, files, 1, "", err), "{manifest}");
-    }
-}
-
-// A manifest of one observer.
-fn manifest_of(
-    rt: &impl Abort,
-    alloc: Global,
-    name: &str,
-    column: u32,
-    helpers: &str,
-    code: &str,
-) -> String {
-    format!(in alloc;
-        "{{\"profile\":1,\"observers\":[{{\"name\":\"{name}\",\"column\":{column},\"helpers\":{helpers},\"code\":\"{code}\"}}]}}"
-    ).expect(rt, "memory")
-}
-
-// Whether a run of one change with this manifest tells this fault.
-fn is_refused(rt: &HostRuntime, manifest: &str, fault: &str) -> bool {
+fn memory_for_a_manifest_is_refused(rt: HostRuntime) {
     let files = Held {
         alloc: rt.alloc(),
-        manifest: Ok(manifest.as_bytes()),
-        script: Ok(b"put 7 0 2a\n"),
+        manifest: Err(PathFault::NoMemory),
+        script: Ok(b""),
     };
-    ends(rt, files, 1, "", fault)
-}
-
-#[test]
-fn observers_are_judged(rt: HostRuntime) {
-    let table = [
-        (("Watch", 0, "[]", WATCH), "manifest: observer 0 code 53\n"),
-        (("watch", 16, "[]", WATCH), "manifest: observer 0 code 54\n"),
-        (("watch", 0, "[]", "b"), "manifest: observer 0 code 55\n"),
-        (
-            ("watch", 0, "[]", "b7"),
-            "manifest: observer 0 code 56 slot 0 code 10\n",
-        ),
-        (
-            ("watch", 0, "[]", "9500000000000000"),
-            "manifest: observer 0 code 56 slot 0 code 21\n",
-        ),
-        (
-            ("watch", 0, "[]", "b700000000000000"),
-            "manifest: observer 0 code 56 slot 0 code 36\n",
-        ),
-        (
-            ("watch", 0, "[]", "bf160000000000009500000000000000"),
-            "manifest: observer 0 code 56 slot 1 code 21\n",
-        ),
-        (
-            ("watch", 0, "[]", "85000000040000009500000000000000"),
-            "manifest: observer 0 code 56 slot 0 code 30\n",
-        ),
-        (
-            ("watch", 0, "[2,2]", WATCH),
-            "manifest: observer 0 code 54\n",
-        ),
-    ];
-    for ((name, column, helpers, code), fault) in table {
-        let manifest = manifest_of(&rt, rt.alloc(), name, column, helpers, code);
-        assert!(rt; is_refused(&rt, manifest.as_str(), fault), "{fault}");
-    }
-}
-
-// A manifest of three observers, with this name of the third: the first two of column 0, of which the second may call
-// helper 4 and ends with its start, and one of column 1.
-fn three(rt: &impl Abort, alloc: Global, name: &str) -> String {
-    format!(in alloc;
-        "{{\"profile\":1,\"observers\":[{{\"name\":\"watch\",\"column\":0,\"helpers\":[],\"code\":\"{WATCH}\"}},{{\"name\":\"start\",\"column\":0,\"helpers\":[4],\"code\":\"85000000040000009500000000000000\"}},{{\"name\":\"{name}\",\"column\":1,\"helpers\":[],\"code\":\"{WATCH}\"}}]}}"
-    ).expect(rt, "memory")
-}
-
-#[test]
-fn several_observers_run(rt: HostRuntime) {
-    let used = three(&rt, rt.alloc(), "watch");
-    assert!(rt; is_refused(&rt, used.as_str(), "manifest: observer 2 code 53\n"));
-    let manifest = three(&rt, rt.alloc(), "other");
-    let table = [
-        (
-            "put 7 0 2a\n",
-            "cell 7 0 commit 2 value 2a\nruns watch 1\nruns start 1\nruns other 0\nquiet\n",
-        ),
-        (
-            "put 7 1 2a; put 7 0 2b\n",
-            "cell 7 0 commit 2 value 2b\ncell 7 1 commit 2 value 2a\nruns watch 1\nruns start 1\nruns other 1\nquiet\n",
-        ),
-    ];
-    for (script, out) in table {
-        let files = Held {
-            alloc: rt.alloc(),
-            manifest: Ok(manifest.as_bytes()),
-            script: Ok(script.as_bytes()),
-        };
-        assert!(rt; ends(&rt, files, 0, out, ""), "{script}");
-    }
-}
-
-#[test]
-fn observers_without_a_change_do_not_run(rt: HostRuntime) {
-    let table = [
-        ("", "runs watch 0\nquiet\n"),
-        (
-            "put 7 1 2a\n",
-            "cell 7 1 commit 2 value 2a\nruns watch 0\nquiet\n",
-        ),
-    ];
-    let manifest = manifest_of(&rt, rt.alloc(), "watch", 0, "[]", WATCH);
-    for (script, out) in table {
-        let files = Held {
-            alloc: rt.alloc(),
-            manifest: Ok(manifest.as_bytes()),
-            script: Ok(script.as_bytes()),
-        };
-        assert!(rt; ends(&rt, files, 0, out, ""), "{script}");
-    }
-}
-
-#[test]
-fn observers_run(rt: HostRuntime) {
-    let table = [
-        (
-            "put 7 0 2a\n",
-            "cell 7 0 commit 2 value 2a\nruns watch 1\nquiet\n",
-        ),
-        (
-            "put 7 0 2a\nput 7 0 2b\n",
-            "cell 7 0 commit 4 value 2b\nruns watch 1\nquiet\n",
-        ),
-    ];
-    let manifest = manifest_of(&rt, rt.alloc(), "watch", 0, "[]", WATCH);
-    for (script, out) in table {
-        let files = Held {
-            alloc: rt.alloc(),
-            manifest: Ok(manifest.as_bytes()),
-            script: Ok(script.as_bytes()),
-        };
-        assert!(rt; ends(&rt, files, 0, out, ""), "{script}");
-    }
-}
-
-#[test]
-fn programs_without_helpers_run(rt: HostRuntime) {
-    let table = [
-        // A division by zero.
-        "b700000007000000b7010000000000003f100000000000009500000000000000",
-        // A pair.
-        "180000000700000000000000010000009500000000000000",
-        // A load from the record, a way over the stack, and both ways of a comparison.
-        "79123000000000007b2af8ff0000000079a0f8ff00000000550001002a000000b7000000000000009500000000000000",
-        "79122000000000001502010000000000b700000001000000b7000000000000009500000000000000",
-    ];
-    for digits in table {
-        let manifest = manifest_of(&rt, rt.alloc(), "watch", 0, "[]", digits);
-        let files = Held {
-            alloc: rt.alloc(),
-            manifest: Ok(manifest.as_bytes()),
-            script: Ok(b"put 7 0 2a\n"),
-        };
-        let out = "cell 7 0 commit 2 value 2a\nruns watch 1\nquiet\n";
-        assert!(rt; ends(&rt, files, 0, out, ""), "{digits}");
-    }
-}
-
-#[test]
-fn files_are_read_first(rt: HostRuntime) {
-    let table = [
-        (Err(PathFault::Failed), Ok(b"" as &[u8]), "cannot read m\n"),
-        (Ok(MANIFEST), Err(PathFault::Failed), "cannot read s\n"),
-        (Ok(b"{" as &[u8]), Err(PathFault::TooLarge), "too large s\n"),
-        (
-            Err(PathFault::TooLarge),
-            Err(PathFault::Failed),
-            "too large m\n",
-        ),
-        (Err(PathFault::NoMemory), Ok(b"" as &[u8]), "no memory\n"),
-        (Ok(b"\xff" as &[u8]), Ok(b"\xff" as &[u8]), "not text m\n"),
-        (Ok(b"{" as &[u8]), Ok(b"\xff" as &[u8]), "not text s\n"),
-    ];
-    for (manifest, script, err) in table {
-        let files = Held {
-            alloc: rt.alloc(),
-            manifest,
-            script,
-        };
-        assert!(rt; ends(&rt, files, 1, "", err), "{err}");
-    }
+    assert!(rt; has_told(run(&rt, files, usize::MAX, true), "no memory\n"));
 }
 
 // Whether a run whose output ends at the j-th call prints a beginning of the report, and tells it.

@@ -1,0 +1,73 @@
+"""A change of five cells that crashes after each of its steps, and what clears up after it.
+
+Worked out by hand from docs/TABLE.md, "Where a worker stops half way".
+"""
+from __future__ import annotations
+
+from tables import WATCHED, Row, Tables, replay
+
+# its primary is cell 1 1; the last cell is of the second tablet
+FIVE_CELLS = "put 1 1 01; put 1 0 02; put 2 0 03; put 3 1 04; put 1000 0 05\n"
+
+CELLS = (
+    "cell 1 0 commit 2 value 02\ncell 1 1 commit 2 value 01\ncell 2 0 commit 2 value 03\ncell 3 1 commit 2 value 04\n"
+    "cell 1000 0 commit 2 value 05\n"
+)
+
+CLEAN_UP = "settle 1 1\nclear 1 0\nclear 2 0\nclear 3 1\nclear 1000 0\n"
+
+RUNS = "".join(f"launch 1 run watch {row}\nstep 1 100\n" for row in (1, 2, 1000))
+
+# the last line of the report where the change stops after so many steps: begin, declare, five prewrites, stamp, the
+# primary's commit, and those of four cells
+LEFT = [
+    "quiet",
+    "quiet",
+    "quiet",
+    "marks 0 locks 1",
+    "marks 0 locks 2",
+    "marks 0 locks 3",
+    "marks 0 locks 4",
+    "marks 0 locks 5",
+    "marks 0 locks 5",
+    "marks 0 locks 4",
+    "marks 1 locks 3",
+    "marks 2 locks 2",
+    "marks 2 locks 1",
+    "marks 3 locks 0",
+]
+
+# so many steps until it is committed
+COMMITTED = 9
+
+
+def cut(steps: int, more: str, runs: int, last: str) -> Row:
+    """A crash after so many steps, and more, with these runs and this last line of the report."""
+    taken = f"step 1 {steps}\n" if steps else ""
+    cells = CELLS if steps >= COMMITTED else ""
+    schedule = f"launch 1 change 1\n{taken}crash 1\n{more}"
+    return replay(WATCHED, FIVE_CELLS, schedule, f"{cells}runs watch {runs}\n{last}\n")
+
+
+AFTER_EACH_STEP = [cut(steps, "", 0, last) for steps, last in enumerate(LEFT)]
+
+# before the primary's commit all is taken back, and after it all is committed
+CLEARED = [cut(steps, CLEAN_UP, 0, "quiet") for steps in range(COMMITTED)] + [
+    cut(steps, CLEAN_UP, 0, "marks 3 locks 0") for steps in range(COMMITTED, len(LEFT))
+]
+
+OBSERVED = [cut(steps, CLEAN_UP + RUNS, 0, "quiet") for steps in range(COMMITTED)] + [
+    cut(steps, CLEAN_UP + RUNS, 3, "quiet") for steps in range(COMMITTED, len(LEFT))
+]
+
+# runs clear the locks that they meet themselves, which that on 3 1 isn't
+MET_BY_RUNS = [cut(steps, RUNS, 3, "marks 0 locks 1") for steps in (9, 10, 11)] + [
+    cut(steps, RUNS, 3, "quiet") for steps in (12, 13)
+]
+
+TABLES: Tables = {
+    "after each step": AFTER_EACH_STEP,
+    "cleared": CLEARED,
+    "observed": OBSERVED,
+    "met by runs": MET_BY_RUNS,
+}

@@ -1,0 +1,65 @@
+"""Files that can't be read or written, with the first fault told: all are read before any is taken as text or parsed.
+
+Worked out by hand from docs/FORMATS.md, "Faults".
+"""
+from __future__ import annotations
+
+from tables import NOBODY, TOO_LARGE, Row, Tables, files_of
+
+
+def fails(words: list[str], fault: str, **files: str | bytes) -> Row:
+    """These words with these files, and nothing else in the folder."""
+    return Row(words, files_of(**files), 1, err=f"{fault}\n".encode())
+
+
+RUN = ["run", "m", "s"]
+
+OF_A_RUN = [
+    fails(RUN, "cannot read m", s=""),
+    fails(RUN, "cannot read s", m=NOBODY),
+    fails(RUN, "too large s", m="{", s=TOO_LARGE),
+    fails(RUN, "too large m", m=TOO_LARGE),
+    fails(RUN, "not text m", m=b"\xff", s=b"\xff"),
+    fails(RUN, "not text s", m="{", s=b"\xff"),
+]
+
+REPLAY = ["replay", "m", "s", "e"]
+
+OF_A_REPLAY = [
+    fails(REPLAY, "cannot read m", s=b"\xff", e=b"\xff"),
+    fails(REPLAY, "too large s", m=b"\xff", s=TOO_LARGE, e=b"\xff"),
+    fails(REPLAY, "cannot read e", m=b"\xff", s=b"\xff"),
+    fails(REPLAY, "not text m", m=b"\xff", s=b"\xff", e=b"\xff"),
+    fails(REPLAY, "not text s", m="{", s=b"\xff", e=b"\xff"),
+    fails(REPLAY, "not text e", m="{", s="x", e=b"\xff"),
+]
+
+ASM = ["asm", "i", "o"]
+
+# a path that nothing can be written to
+UNWRITABLE = ["asm", "i", "missing/o"]
+
+OF_ASM = [
+    fails(ASM, "cannot read i"),
+    fails(ASM, "too large i", i=TOO_LARGE),
+    fails(ASM, "not text i", i=b"exit\n\xff"),
+    # the first fault is told
+    fails(UNWRITABLE, "cannot read i"),
+    fails(UNWRITABLE, "too large i", i=TOO_LARGE),
+    fails(UNWRITABLE, "not text i", i=b"exit\n\xff"),
+    fails(UNWRITABLE, "cannot write missing/o", i="exit"),
+]
+
+OF_DIS_AND_CHECK = [
+    fails(["dis", "i"], "cannot read i"),
+    fails(["dis", "i"], "too large i", i=TOO_LARGE),
+    fails(["check", "i"], "cannot read i"),
+    fails(["check", "i"], "too large i", i=TOO_LARGE),
+]
+
+TABLES: Tables = {
+    "of a run": OF_A_RUN,
+    "of a replay": OF_A_REPLAY,
+    "of asm": OF_ASM,
+    "of dis and check": OF_DIS_AND_CHECK,
+}
