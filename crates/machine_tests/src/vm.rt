@@ -3,7 +3,6 @@ mod ends;
 mod helping;
 mod many;
 mod observers;
-mod opcodes;
 mod rows;
 
 use pb_asm::assemble;
@@ -16,10 +15,7 @@ use std::alloc::Global;
 use std::process::Abort;
 use std::sync::Arc;
 
-// A row whose eight bytes are their places, from 1 on.
-const ROW: u64 = 0x0807_0605_0403_0201;
-
-// The same of 32 bytes.
+// A value whose bytes are their places, from 1 on.
 const VALUE: Value = [
     1, 2, 3, 4, 5, 6, 7, 8, 9, 10, 11, 12, 13, 14, 15, 16, 17, 18, 19, 20, 21, 22, 23, 24, 25, 26,
     27, 28, 29, 30, 31, 32,
@@ -106,12 +102,4 @@ fn run(
 ) -> (Finished, u16) {
     let vm = Vm::start(alloc, program, change, Ts(3)).expect(rt, "memory");
     run_on(rt, vm, reply)
-}
-
-// What a text ends with, on the record of the counted value, where a cell that it asks for is absent.
-fn result_of(rt: &impl Abort, alloc: Global, text: &str) -> u64 {
-    let program = assembled(rt, alloc, text);
-    let record = change(rt, ROW, Content::Value(VALUE));
-    let (finished, _) = run(rt, alloc, &program, record, Reply::Absent);
-    finished.result()
 }

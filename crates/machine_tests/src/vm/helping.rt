@@ -1,5 +1,5 @@
 //! What the helpers do.
-use crate::vm::{ROW, VALUE, assembled, change, data, result_of, run};
+use crate::vm::{VALUE, assembled, change, data, run};
 use pb_base::{Content, Row, Ts};
 use pb_vm::{Accepted, Ask, Finished, Phase, Reply, Vm};
 use std::alloc::Global;
@@ -104,28 +104,6 @@ fn columns_and_results(rt: HostRuntime) {
         assert!(rt; finished.result() == result, "{text}");
         assert!(rt; finished.writes().len() == writes, "{text}");
         assert!(rt; finished.is_plain() == (writes == 0), "{text}");
-    }
-}
-
-// A read of a column over 15 asks nothing, and leaves zeros; registers 6 to 10 and other bytes stay.
-#[test]
-fn reads(rt: HostRuntime) {
-    let table = [
-        (
-            "stdw [r10-8], -1\nmov64 r1, 5\nmov64 r2, 16\nmov64 r3, r10\nadd64 r3, -32\ncall 1\nldxdw r1, [r10-8]\nadd64 r0, r1\nexit\n",
-            2,
-        ),
-        (
-            "stdw [r10-40], 5\nmov64 r1, 5\nmov64 r2, 16\nmov64 r3, r10\nadd64 r3, -32\ncall 1\nldxdw r0, [r10-40]\nexit\n",
-            5,
-        ),
-        (
-            "mov64 r6, r1\nmov64 r1, 5\nmov64 r2, 1\nmov64 r3, r10\nadd64 r3, -32\ncall 1\nldxdw r0, [r6+0]\nexit\n",
-            ROW,
-        ),
-    ];
-    for (text, wanted) in table {
-        assert!(rt; result_of(&rt, rt.alloc(), text) == wanted, "{text}");
     }
 }
 
