@@ -1,10 +1,10 @@
-"""A change of five cells that crashes after each of its steps, and what clears up after it.
+"""Changes of five and of three cells that stop after each of their steps, and what clears up after them.
 
 Worked out by hand from docs/TABLE.md, "Where a worker stops half way".
 """
 from __future__ import annotations
 
-from tables import WATCHED, Row, Tables, replay
+from tables import NOBODY, WATCHED, Row, Tables, replay
 
 # its primary is cell 1 1; the last cell is of the second tablet
 FIVE_CELLS = "put 1 1 01; put 1 0 02; put 2 0 03; put 3 1 04; put 1000 0 05\n"
@@ -65,9 +65,44 @@ MET_BY_RUNS = [cut(steps, RUNS, 3, "marks 0 locks 1") for steps in (9, 10, 11)] 
     cut(steps, RUNS, 3, "quiet") for steps in (12, 13)
 ]
 
+# its primary is cell 7 2, and nobody observes it
+THREE_CELLS = "del 7 2; del 7 0; del 7 1\n"
+
+DELETED = "cell 7 0 commit 2 deleted\ncell 7 1 commit 2 deleted\ncell 7 2 commit 2 deleted\n"
+
+
+def stopped(steps: int, more: str, last: str, is_committed: bool) -> Row:
+    """A worker that makes so many steps and no more, and then others."""
+    taken = f"step 1 {steps}\n" if steps else ""
+    cells = DELETED if is_committed else ""
+    return replay(NOBODY, THREE_CELLS, f"launch 1 change 1\n{taken}{more}", f"{cells}{last}\n")
+
+
+# how many steps are made, whether the change is committed then, and the last line
+STOPS = [
+    (0, False, "quiet"),
+    (1, False, "quiet"),
+    (2, False, "quiet"),
+    (3, False, "marks 0 locks 1"),
+    (4, False, "marks 0 locks 2"),
+    (5, False, "marks 0 locks 3"),
+    (6, False, "marks 0 locks 3"),
+    (7, True, "marks 0 locks 2"),
+    (8, True, "marks 0 locks 1"),
+    (9, True, "quiet"),
+]
+
+STOPPED = [stopped(steps, "", last, is_committed) for steps, is_committed, last in STOPS]
+
+STOPPED_AND_CLEARED = [
+    stopped(steps, "settle 7 2\nclear 7 0\nclear 7 1\n", "quiet", is_committed) for steps, is_committed, _ in STOPS
+]
+
 TABLES: Tables = {
     "after each step": AFTER_EACH_STEP,
     "cleared": CLEARED,
     "observed": OBSERVED,
     "met by runs": MET_BY_RUNS,
+    "stopped": STOPPED,
+    "stopped and cleared": STOPPED_AND_CLEARED,
 }

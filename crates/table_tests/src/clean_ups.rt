@@ -1,14 +1,11 @@
-//! Transactions of several cells, and what becomes of those that stop half way.
+//! Transactions of several cells, and what rivals do with those that stop half way.
 ghost use Rattle.std.specs.Prelude.{◌≡◌, ◌≤◌, length};
 
-use crate::sheet::Sheet;
 use crate::tables::{cell, deletes, opened};
 use pb_base::{Content, NoMemory, Ts};
 use pb_core::{Answer, Observer, Seat, Shared, Step, Work};
-use pb_script::report;
 use pb_store::Tablet;
 use std::alloc::Global;
-use std::process::Abort;
 use std::rt::HostRuntime;
 
 // A step of a seat, and what it is answered, or the number that it is refused with.
@@ -114,99 +111,5 @@ fn a_rival_finishes(rt: HostRuntime) -> Result<(), NoMemory> {
     told.push((2, Step::Read(Ts(3), first), Ok(found)))?;
     told.push((2, Step::Read(Ts(3), second), Ok(found)))?;
     assert!(rt; are_told_on(rt.alloc(), Vec::new(rt.alloc()), &told)?);
-    Ok(())
-}
-
-// The first steps of a change of columns 2, 0 and 1 of that row, in the order of a worker.
-fn change_steps(rt: &impl Abort, alloc: Global, count: usize) -> Result<Vec<Step>, NoMemory> {
-    let mut steps = Vec::new(alloc);
-    steps.push(Step::Begin(Work::Script))?;
-    steps.push(Step::Declare(Ts(1), deletes(rt, alloc, &[2, 0, 1])))?;
-    steps.push(Step::Prewrite(Ts(1), cell(rt, 7, 2)))?;
-    steps.push(Step::Prewrite(Ts(1), cell(rt, 7, 0)))?;
-    steps.push(Step::Prewrite(Ts(1), cell(rt, 7, 1)))?;
-    steps.push(Step::Stamp(Ts(1)))?;
-    steps.push(Step::CommitPrimary(Ts(1)))?;
-    steps.push(Step::CommitSecondary(Ts(1), cell(rt, 7, 0)))?;
-    steps.push(Step::CommitSecondary(Ts(1), cell(rt, 7, 1)))?;
-    steps.truncate(count);
-    Ok(steps)
-}
-
-// Whether the report of the table is this.
-fn reports<T: Tablet>(alloc: Global, shared: &Shared<T>, text: &str) -> bool {
-    let mut sheet = Sheet::new(alloc);
-    report(alloc, &mut sheet, shared).is_ok() && sheet.bytes() == text.as_bytes()
-}
-
-// Makes each step by the seat of this number.
-fn call_all<T: Tablet>(
-    shared: &mut Shared<T>,
-    seats: &mut Vec<Seat>,
-    number: usize,
-    steps: &[Step],
-) {
-    for step in steps {
-        let _ = call(shared, seats, number, step);
-    }
-}
-
-// Whether a worker that stops after these steps leaves this, and another's steps leave that.
-fn leaves<T: Tablet>(
-    alloc: Global,
-    opened: (Shared<T>, Vec<Seat>),
-    steps: &[Step],
-    left: &str,
-    clean: &[Step],
-    cleaned: &str,
-) -> bool {
-    let (mut shared, mut seats) = opened;
-    call_all(&mut shared, &mut seats, 0, steps);
-    let stops_so = reports(alloc, &shared, left);
-    call_all(&mut shared, &mut seats, 1, clean);
-    let ends_so = reports(alloc, &shared, cleaned);
-    shared.close();
-    stops_so && ends_so
-}
-
-const WHOLE: &str =
-    "cell 7 0 commit 2 deleted\ncell 7 1 commit 2 deleted\ncell 7 2 commit 2 deleted\n";
-
-#[test]
-fn workers_stop_after_each_step(rt: HostRuntime) -> Result<(), NoMemory> {
-    // How many steps are made, whether the change is committed then, and the last line.
-    let table = [
-        (0, false, "quiet\n"),
-        (1, false, "quiet\n"),
-        (2, false, "quiet\n"),
-        (3, false, "marks 0 locks 1\n"),
-        (4, false, "marks 0 locks 2\n"),
-        (5, false, "marks 0 locks 3\n"),
-        (6, false, "marks 0 locks 3\n"),
-        (7, true, "marks 0 locks 2\n"),
-        (8, true, "marks 0 locks 1\n"),
-        (9, true, "quiet\n"),
-    ];
-    let clean = [
-        Step::Settle(cell(&rt, 7, 2)),
-        Step::Clear(cell(&rt, 7, 0)),
-        Step::Clear(cell(&rt, 7, 1)),
-    ];
-    for (count, is_committed, line) in table {
-        let steps = change_steps(&rt, rt.alloc(), count)?;
-        let cells = if is_committed { WHOLE } else { "" };
-        let left = format!(in rt.alloc(); "{cells}{line}").expect(&rt, "memory");
-        let cleaned = format!(in rt.alloc(); "{cells}quiet\n").expect(&rt, "memory");
-        let opened = opened(rt.alloc(), Vec::new(rt.alloc()), 2, Ts(0), 100)?;
-        let is_so = leaves(
-            rt.alloc(),
-            opened,
-            &steps,
-            left.as_str(),
-            &clean,
-            cleaned.as_str(),
-        );
-        assert!(rt; is_so, "{count}");
-    }
     Ok(())
 }

@@ -15,6 +15,4 @@ mod run_ends;
 #[cfg(test)]
 mod run_entries;
 #[cfg(test)]
-mod sheet;
-#[cfg(test)]
 mod tables;

@@ -1,10 +1,9 @@
 //! How a run by one seat alone ends early, by a step that is refused.
 ghost use Rattle.std.specs.Prelude.{◌≤◌};
 
-use crate::sheet::Sheet;
 use crate::tables::opened;
 use pb_alone::{RunFault, run_alone};
-use pb_base::{NoMemory, Ts};
+use pb_base::{NoMemory, Out, Ts};
 use std::alloc::Global;
 use std::rt::HostRuntime;
 
@@ -25,8 +24,9 @@ fn end_alone(alloc: Global, script: &str, last: Ts, limit: usize) -> Result<u8, 
     requires { limit ≤ 1000000 }
 {
     let (shared, seats) = opened(alloc, Vec::new(alloc), 1, last, limit)?;
-    let mut sheet = Sheet::new(alloc);
-    let (shared, _seats, outcome) = run_alone(alloc, script, shared, seats, &mut sheet);
+    let mut bytes: Vec<u8> = Vec::new(alloc);
+    let mut out = Out::new(&mut bytes);
+    let (shared, _seats, outcome) = run_alone(alloc, script, shared, seats, &mut out);
     shared.close();
     Ok(number_of(outcome))
 }

@@ -2,10 +2,9 @@
 ghost use Rattle.std.specs.Prelude.{◌≤◌, length};
 
 use crate::run_ends::number_of;
-use crate::sheet::Sheet;
 use crate::tables::{WATCH, observer_of, observer_with, observers_of, opened};
 use pb_alone::run_alone;
-use pb_base::{NoMemory, Ts};
+use pb_base::{NoMemory, Out, Ts};
 use pb_core::{Answer, Observer, Shared, Step, Work};
 use pb_helpers::HelperTable;
 use pb_store::Tablet;
@@ -33,8 +32,9 @@ fn told_of(alloc: Global, observers: Vec<Observer>) -> Result<((usize, Ts, Ts, b
     requires { length observers.items ≤ 32 }
 {
     let (shared, seats) = opened(alloc, observers, 1, Ts(0), 100)?;
-    let mut sheet = Sheet::new(alloc);
-    let (shared, _seats, outcome) = run_alone(alloc, "put 7 0 2a\n", shared, seats, &mut sheet);
+    let mut bytes: Vec<u8> = Vec::new(alloc);
+    let mut out = Out::new(&mut bytes);
+    let (shared, _seats, outcome) = run_alone(alloc, "put 7 0 2a\n", shared, seats, &mut out);
     let told = told(&shared);
     shared.close();
     Ok((told, number_of(outcome)))
