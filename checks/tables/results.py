@@ -5,7 +5,7 @@ program is replaced by instructions that write register 0 to cell 5 0. It runs a
 """
 from __future__ import annotations
 
-from tables import Row, Tables, code, observer, of, run
+from tables import Row, Tables, accepted, code, observer, of, replay, run
 
 MAX = 0xFFFF_FFFF_FFFF_FFFF
 
@@ -247,6 +247,39 @@ READS = [
     result(f"mov64 r6, r1; mov64 r1, 5; mov64 r2, 1; {READ}; ldxdw r0, [r6+0]", ROW),
 ]
 
+
+def counted(text: str, instructions: int) -> list[Row]:
+    """A program that does so many instructions, and neither asks nor writes, on a deleted cell: a step of the run for each.
+
+    Three steps of the table come before, and five behind, of which the last is the sweep.
+    """
+    manifest = of(observer(column=9, helpers="1,2,3,4", code=code(text).hex()))
+    first = "launch 1 change 1\nstep 1 5\nlaunch 1 run watch 7\n"
+    return [
+        replay(manifest, "del 7 9\n", f"{first}step 1 {steps}\n", f"cell 7 9 commit 2 deleted\nruns watch 1\n{last}\n")
+        for steps, last in ((7 + instructions, "marks 1 locks 0"), (8 + instructions, "quiet"))
+    ]
+
+
+PAIR = "lddw r0, 4294967303; mov64 r1, 0; mod32 r0, r1"
+
+NO_COLUMN = f"mov64 r1, 7; mov64 r2, 16; {READ}"
+
+FIRST_PROGRAMS = [
+    result("mov64 r0, 0", 0),
+    *counted("mov64 r0, 0; exit", 2),
+    result("mov64 r0, 7; mov64 r1, 0; div64 r0, r1", 0),
+    *counted("mov64 r0, 7; mov64 r1, 0; div64 r0, r1; exit", 4),
+    result("mov64 r0, 7; mov64 r1, 0; mod64 r0, r1", 7),
+    *counted("mov64 r0, 7; mov64 r1, 0; mod64 r0, r1; exit", 4),
+    accepted(code(PAIR, "exit"), 5),
+    result(PAIR, 7),
+    *counted(f"{PAIR}; exit", 4),
+    result(NO_COLUMN, 2),
+    *counted(f"{NO_COLUMN}; exit", 6),
+    *counted("call 4; exit", 2),
+]
+
 TABLES: Tables = {
     "arithmetic": ARITHMETIC,
     "comparisons": COMPARISONS,
@@ -256,4 +289,5 @@ TABLES: Tables = {
     "stack": STACK,
     "record stays": RECORD_STAYS,
     "reads": READS,
+    "first programs": FIRST_PROGRAMS,
 }

@@ -2,7 +2,7 @@
 use crate::vm::{VALUE, bytes_of, change, coded, data, run};
 use pb_base::{Content, Refused, Row, Ts};
 use pb_helpers::HelperTable;
-use pb_registry::{Registry, accept};
+use pb_registry::accept;
 use pb_verify::VerifyFault;
 use pb_vm::{Ask, Moved, Phase, Reply, Vm};
 use std::alloc::Global;
@@ -38,41 +38,6 @@ fn ends(rt: &impl Abort, alloc: Global, slots: &[u64]) -> (u64, u16) {
 }
 
 #[test]
-fn first_programs(rt: HostRuntime) {
-    let alloc = rt.alloc();
-    assert!(rt; judged(&rt, alloc, &[MOV, EXIT]) == (2, 0));
-    assert!(rt; ends(&rt, alloc, &[MOV, EXIT]) == (0, 2));
-    assert!(rt; judged(&rt, alloc, &[0xbf160000_00000000, EXIT]) == (1, 21));
-    let manifest =
-        "{\"profile\":1,\"observers\":[{\"name\":\"watch\",\"column\":0,\"helpers\":[],\"code\":\"bf160000000000009500000000000000\"}]}";
-    match Registry::from_json(alloc, manifest) {
-        Ok(_) => panic!(rt; "not refused"),
-        Err(fault) => {
-            assert!(rt; fault.observer == Some(0) && fault.code == 56);
-            assert!(rt; fault.program == Some(Refused { slot: 1, code: 21 }));
-        }
-    }
-}
-
-#[test]
-fn divisions_by_zero(rt: HostRuntime) {
-    let alloc = rt.alloc();
-    let seven = 0xb7000000_07000000;
-    let zero = 0xb7010000_00000000;
-    assert!(rt; ends(&rt, alloc, &[seven, zero, 0x3f100000_00000000, EXIT]) == (0, 4));
-    assert!(rt; ends(&rt, alloc, &[seven, zero, 0x9f100000_00000000, EXIT]) == (7, 4));
-    let pair = [
-        0x18000000_07000000,
-        0x00000000_01000000,
-        zero,
-        0x9c100000_00000000,
-        EXIT,
-    ];
-    assert!(rt; judged(&rt, alloc, &pair) == (5, 0));
-    assert!(rt; ends(&rt, alloc, &pair) == (7, 4));
-}
-
-#[test]
 fn five_hundred_and_twelve_slots(rt: HostRuntime) {
     let mut slots = [MOV; 512];
     slots[511] = EXIT;
@@ -92,9 +57,6 @@ const READ: [u64; 6] = [
     0x85000000_01000000,
     EXIT,
 ];
-
-// Column 16.
-const NO_COLUMN: u64 = 0xb7020000_10000000;
 
 #[test]
 fn asks(rt: HostRuntime) {
@@ -130,18 +92,6 @@ fn asks(rt: HostRuntime) {
             assert!(rt; !finished.is_plain());
         }
     }
-}
-
-#[test]
-fn no_such_column(rt: HostRuntime) {
-    let mut slots = READ;
-    slots[1] = NO_COLUMN;
-    assert!(rt; ends(&rt, rt.alloc(), &slots) == (2, 6));
-}
-
-#[test]
-fn start_is_told(rt: HostRuntime) {
-    assert!(rt; ends(&rt, rt.alloc(), &[0x85000000_04000000, EXIT]) == (3, 2));
 }
 
 // The observer that writes the changed value to column 1 of its row.
