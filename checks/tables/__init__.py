@@ -164,6 +164,6 @@ def instruction(text: str) -> bytes:
 def code(*texts: str) -> bytes:
     """The bytes of a program, its instructions parted by `; `.
 
-    It takes one spelling alone for granted, and is held to LLVM's encodings in encodings.py.
+    It judges nothing, and is held to LLVM's encodings in encodings.py.
     """
     return b"".join(instruction(line) for text in texts for line in text.split("; "))
