@@ -1,4 +1,4 @@
-use Rattle.std.proofs.Common.{◌≡◌, ℕ, zero, suc, ◌<◌, ◌≤◌, false, List, [], ◌∷◌, ◌++◌, length, take, drop, refl, sym, ap, ◌∙◌, inl, inr, append_assoc, arith}
+use Rattle.std.proofs.Common.{◌≡◌, ℕ, zero, suc, ◌<◌, ◌≤◌, false, List, [], ◌∷◌, length, take, drop, refl, ap, inl, inr, arith}
 use Rattle.std.specs.Prelude.{◌==◌, ◌&&◌}
 use Rattle.std.specs.Str.Pattern.{LacksTextAt, FindsText}
 use Rattle.std.specs.Str.Pattern.{SplitsAroundMatch}
@@ -41,6 +41,3 @@ pub cut_some : (s a b : List ℕ) → SplitsAroundMatch (FindsText joint) s a b 
 cut_some s a b h =
     let i = h.0 in let j = h.1 in let f = h.2 in
     rw (h.3, h.4) (cut_at s i (drop j s) f.0 f.1.split)
-
-pub more : (parts : List (List ℕ)) (s a b : List ℕ) (total : List (List ℕ)) → SplitsAroundMatch (FindsText joint) s a b → parts ++ cut s ≡ total → (parts ++ a ∷ []) ++ cut b ≡ total
-more parts s a b total h so_far = append_assoc parts (a ∷ []) (cut b) ∙ ap (λ (x : List (List ℕ)). parts ++ x) (sym (cut_some s a b h)) ∙ so_far

@@ -2,6 +2,8 @@ pub mod FirstFault
 pub mod Hexes
 pub mod Numbers
 pub mod Cuts
+pub mod PartByPart
+pub mod FirstWord
 pub mod OwnFaults
 pub mod Batches
 pub mod FirstOperation

@@ -1,7 +1,7 @@
 -- The words of one operation, each read from left to right.
-use Rattle.std.specs.Prelude.{ℕ, ◌-◌, ◌^◌, replicate, ◌||◌, ◌==◌, nat_lt, if◌then◌else◌, List, [], ◌∷◌, ◌++◌, length, drop, codes, Result, Ok, Err}
+use Rattle.std.specs.Prelude.{ℕ, ◌-◌, ◌^◌, replicate, ◌||◌, ◌==◌, nat_lt, if◌then◌else◌, List, [], ◌∷◌, ◌++◌, length, drop, codes, Option, Some, None, Result, Ok, Err}
 use Rattle.std.specs.Char.{is_ascii_uppercase}
-use Rattle.std.specs.List.{list_any, slice_split}
+use Rattle.std.specs.List.{list_any}
 use Rattle.std.specs.Str.{bytes_eq}
 use Rattle.hex.specs.Hex.{decode_of}
 use Rattle.pb_base.specs.declared.cell.Cell.{Cell}
@@ -10,7 +10,8 @@ use Rattle.pb_base.specs.declared.content.Content.{Content}
 use Rattle.pb_base.specs.declared.content.Content.TheVariants.{Value, Deleted}
 use Rattle.pb_parse.specs.declared.script.code.Code.{Code}
 use Rattle.pb_parse.specs.declared.script.code.Code.TheVariants.{Form, Range, Hex}
-use Rattle.pb_base.specs.Reading.{◌>>=◌, numeral_upto}
+use Rattle.pb_base.specs.Reading.{◌>>=◌, numeral_upto, words_of}
+use denote.Ref.{Bor}
 
 -- a number of any length, at most this
 abbrev pub number_upto : ℕ → List ℕ → Result ℕ Code
@@ -24,6 +25,11 @@ padded (Err e) = Err Hex
 -- 2 to 64 lower-case hexadecimal digits, two for a byte
 abbrev pub content_of : List ℕ → Result (List ℕ) Code
 content_of word = if (length word == 0) || (nat_lt 64 (length word) || list_any is_ascii_uppercase word) then Err Hex else padded (decode_of word)
+
+-- the words of what is left of an operation, if anything is
+abbrev pub words_left : Option (Bor (List ℕ)) → List (List ℕ)
+words_left None = []
+words_left (Some text) = words_of text.now
 
 -- the next word, and those after it
 abbrev pub field : List (List ℕ) → Result (List ℕ × List (List ℕ)) Code
@@ -65,4 +71,4 @@ write_of words = do
 
 -- one operation: its words stand with one blank between them
 abbrev pub operation : List ℕ → Result (Cell × Content) Code
-operation text = write_of (slice_split (λ b. b == 32) text)
+operation text = write_of (words_of text)

@@ -18,20 +18,6 @@ use pb_base::{Batch, Cell, MAX_CELLS, MAX_CHANGES};
 use std::alloc::{AllocError, Global};
 use thiserror::Error;
 
-// The operations' texts.
-fn cut(alloc: Global, line: &str) -> Result<Vec<&str>, AllocError>
-    ensures { IfOk result (λ v. texts_of v.items ≡ cut line.now) }
-{
-    let mut parts = Vec::new(alloc);
-    let mut rest = line;
-    while let Some((first, after)) = rest.split_once("; ") {
-        parts.push(first)?;
-        rest = after;
-    }
-    parts.push(rest)?;
-    Ok(parts)
-}
-
 // Whether the cell is named.
 fn names(writes: &[Change], cell: Cell) -> bool
     ensures { result ≡ is_some (content_in (writes_of writes.now) cell) }
@@ -46,10 +32,10 @@ fn names(writes: &[Change], cell: Cell) -> bool
 
 // Takes one more operation of a line.
 #[tactic(auto, unfolding(crate::specs::ScriptLines::with_operation))]
-fn add(alloc: Global, writes: &mut Vec<Change>, text: &str) -> Result<(), Code>
+fn add(writes: &mut Vec<Change>, text: &str) -> Result<(), Code>
     ensures { Gives is_memory (λ _. writes_of writes.new.items) result (with_operation (writes_of writes.old.items) text.now) }
 {
-    let write = operation(alloc, text)?;
+    let write = operation(text)?;
     if names(writes, Cell::Data(write.0, write.1)) {
         return Err(Code::Twice);
     }
@@ -60,14 +46,17 @@ fn add(alloc: Global, writes: &mut Vec<Change>, text: &str) -> Result<(), Code>
     Ok(())
 }
 
+// What its operations write, which are joined by `; `. Mostly it is one.
 fn writes_in(alloc: Global, line: &str) -> Result<Vec<Change>, Code>
     ensures { Gives is_memory (λ v. writes_of v.items) result (batch_of line.now) }
 {
-    let parts = cut(alloc, line)?;
-    let mut writes = Vec::with_capacity(alloc, parts.len().min(MAX_CELLS))?;
-    for part in &parts {
-        add(alloc, &mut writes, part)?;
+    let mut writes = Vec::with_capacity(alloc, 1)?;
+    let mut rest = line;
+    while let Some((first, after)) = rest.split_once("; ") {
+        add(&mut writes, first)?;
+        rest = after;
     }
+    add(&mut writes, rest)?;
     Ok(writes)
 }
 

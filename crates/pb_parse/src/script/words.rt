@@ -3,14 +3,13 @@ ghost use Rattle.std.specs.Prelude.{◌≡◌, ◌<◌, ◌≤◌, IfOk};
 ghost use Rattle.std.specs.Char.{is_ascii_uppercase};
 ghost use Rattle.std.specs.List.{list_any};
 ghost use Rattle.pb_base.specs.declared.cell.Cell.TheVariants.{Data};
-ghost use Rattle.pb_base.specs.Reading.{Gives, texts_of};
+ghost use Rattle.pb_base.specs.Reading.{Gives};
 ghost use Rattle.pb_parse.specs.Codes.{is_memory};
-ghost use Rattle.pb_parse.specs.ScriptWords.{number_upto, content_of, field, cell_at, ended, put_of, del_of, write_of, operation};
+ghost use Rattle.pb_parse.specs.ScriptWords.{number_upto, content_of, words_left, field, cell_at, ended, put_of, del_of, write_of, operation};
 
-use crate::reading::{is_numeral, words_of};
+use crate::reading::is_numeral;
 use crate::script::code::Code;
 use pb_base::{Column, Content, Row, Value};
-use std::alloc::Global;
 
 /// What an operation writes.
 pub type Change = (Row, Column, Content);
@@ -75,20 +74,23 @@ fn content_of(word: &str) -> Result<Value, Code>
     }
 }
 
-// The next word, and those after it.
-fn field<'a, 'b>(words: &'b [&'a str]) -> Result<(&'a str, &'b [&'a str]), Code>
-    ensures { Gives is_memory (λ x. (x.0.now, texts_of x.1.now)) result (field (texts_of words.now)) }
+// The next word, and what is left after it, if anything: words end at blanks.
+fn field(words: Option<&str>) -> Result<(&str, Option<&str>), Code>
+    ensures { Gives is_memory (λ x. (x.0.now, words_left x.1)) result (field (words_left words.entry)) }
 {
-    match words {
-        [] => Err(Code::Form),
-        [first, rest @ ..] => Ok((*first, rest)),
+    let Some(text) = words else {
+        return Err(Code::Form);
+    };
+    match text.split_once(' ') {
+        Some((word, after)) => Ok((word, Some(after))),
+        None => Ok((text, None)),
     }
 }
 
 // A row and a column, and the words after them.
 #[tactic(auto, unfolding(crate::specs::ScriptWords::cell_at))]
-fn cell_at<'a, 'b>(words: &'b [&'a str]) -> Result<(Place, &'b [&'a str]), Code>
-    ensures value { Gives is_memory (λ x. (Data (record { 0 = x.0.row }) x.0.column, texts_of x.1.now)) result (cell_at (texts_of words.now)) }
+fn cell_at(words: Option<&str>) -> Result<(Place, Option<&str>), Code>
+    ensures value { Gives is_memory (λ x. (Data (record { 0 = x.0.row }) x.0.column, words_left x.1)) result (cell_at (words_left words.entry)) }
     ensures bound { IfOk result (λ x. x.0.column < 16) }
 {
     let (word, words) = field(words)?;
@@ -99,10 +101,10 @@ fn cell_at<'a, 'b>(words: &'b [&'a str]) -> Result<(Place, &'b [&'a str]), Code>
 }
 
 // No word is left.
-fn ended(words: &[&str]) -> Result<(), Code>
-    ensures { Gives is_memory (λ x. x) result (ended (texts_of words.now)) }
+fn ended(words: Option<&str>) -> Result<(), Code>
+    ensures { Gives is_memory (λ x. x) result (ended (words_left words.entry)) }
 {
-    if words.is_empty() {
+    if words.is_none() {
         Ok(())
     } else {
         Err(Code::Form)
@@ -110,8 +112,8 @@ fn ended(words: &[&str]) -> Result<(), Code>
 }
 
 #[tactic(auto, unfolding(crate::specs::ScriptWords::put_of))]
-fn put_of(words: &[&str]) -> Result<Change, Code>
-    ensures { Gives is_memory (λ w. (Data w.0 w.1, w.2)) result (put_of (texts_of words.now)) }
+fn put_of(words: Option<&str>) -> Result<Change, Code>
+    ensures { Gives is_memory (λ w. (Data w.0 w.1, w.2)) result (put_of (words_left words.entry)) }
 {
     let (place, words) = cell_at(words)?;
     let (word, words) = field(words)?;
@@ -121,29 +123,23 @@ fn put_of(words: &[&str]) -> Result<Change, Code>
 }
 
 #[tactic(auto, unfolding(crate::specs::ScriptWords::del_of))]
-fn del_of(words: &[&str]) -> Result<Change, Code>
-    ensures { Gives is_memory (λ w. (Data w.0 w.1, w.2)) result (del_of (texts_of words.now)) }
+fn del_of(words: Option<&str>) -> Result<Change, Code>
+    ensures { Gives is_memory (λ w. (Data w.0 w.1, w.2)) result (del_of (words_left words.entry)) }
 {
     let (place, words) = cell_at(words)?;
     ended(words)?;
     Ok(place.with(Content::Deleted))
 }
 
+/// One operation.
 #[tactic(auto, unfolding(crate::specs::ScriptWords::write_of))]
-fn write_of(words: &[&str]) -> Result<Change, Code>
-    ensures { Gives is_memory (λ w. (Data w.0 w.1, w.2)) result (write_of (texts_of words.now)) }
+pub fn operation(text: &str) -> Result<Change, Code>
+    ensures { Gives is_memory (λ w. (Data w.0 w.1, w.2)) result (operation text.now) }
 {
-    let (verb, words) = field(words)?;
+    let (verb, words) = field(Some(text))?;
     match verb {
         "put" => put_of(words),
         "del" => del_of(words),
         _ => Err(Code::Form),
     }
-}
-
-/// One operation.
-pub fn operation(alloc: Global, text: &str) -> Result<Change, Code>
-    ensures { Gives is_memory (λ w. (Data w.0 w.1, w.2)) result (operation text.now) }
-{
-    write_of(&words_of(alloc, text)?)
 }
