@@ -1,4 +1,5 @@
 pub mod Trims
+pub mod Digits
 pub mod Newests
 pub mod OneReport
 pub mod Gathering

@@ -1,9 +1,9 @@
 //! The lines of a report.
-ghost use Rattle.std.specs.Prelude.{◌≡◌, ◌++◌, IfOk, OnOk, string_bytes};
+ghost use Rattle.std.specs.Prelude.{◌≡◌, ◌≤◌, ◌++◌, length, IfOk, OnOk, string_bytes};
 ghost use Rattle.hex.specs.Hex.{encode_lower};
 ghost use Rattle.pb_script.specs.ReportLines.{trimmed, cell_line, last_line};
 
-use pb_base::{Cell, Content, Ts};
+use pb_base::{Cell, Content, Ts, Value};
 use std::alloc::{AllocError, Global};
 
 /// What was committed at a cell last.
@@ -15,7 +15,8 @@ pub struct Newest {
 
 // The bytes without zeros at the end, but for the first.
 fn trimmed(bytes: &[u8]) -> &[u8]
-    ensures { result.now ≡ trimmed bytes.now }
+    ensures bytes { result.now ≡ trimmed bytes.now }
+    ensures no_longer { length result.now ≤ length bytes.now }
 {
     let Some((last, front)) = bytes.split_last() else {
         return bytes;
@@ -29,28 +30,33 @@ fn trimmed(bytes: &[u8]) -> &[u8]
     trimmed(front)
 }
 
-fn hex_of(alloc: Global, bytes: &[u8]) -> Result<String, AllocError>
-    ensures { IfOk result (λ s. string_bytes s ≡ encode_lower (trimmed bytes.now)) }
+// Two hexadecimal digits for each byte of a value.
+fn digits_of<'a>(value: &Value, room: &'a mut [u8; 64]) -> &'a str
+    ensures { result.now ≡ encode_lower (trimmed value.now) }
 {
-    hex::encode(alloc, trimmed(bytes))
+    let bytes = trimmed(value);
+    let digits = &mut room[..2 * bytes.len()];
+    if hex::encode_to_slice(bytes, digits).is_err() {
+        unreachable!();
+    }
+    match std::str::from_utf8(digits) {
+        Ok(text) => text,
+        Err(_) => unreachable!(),
+    }
 }
 
 /// Adds the line of a cell.
-pub fn add_cell_line(
-    alloc: Global,
-    text: &mut String,
-    cell: &Cell,
-    newest: &Newest,
-) -> Result<(), AllocError>
+pub fn add_cell_line(text: &mut String, cell: &Cell, newest: &Newest) -> Result<(), AllocError>
     ensures { OnOk result (string_bytes text.new ≡ string_bytes text.old ++ cell_line cell.now newest.now) }
 {
     let row = cell.row().0;
     let column = cell.column().number();
     let commit = newest.commit.0;
     match &newest.content {
-        Content::Value(bytes) => {
-            let hex = hex_of(alloc, bytes)?;
-            write!(text, "cell {row} {column} commit {commit} value {hex}\n")
+        Content::Value(value) => {
+            let mut room = [0; 64];
+            let digits = digits_of(value, &mut room);
+            write!(text, "cell {row} {column} commit {commit} value {digits}\n")
         }
         _ => write!(text, "cell {row} {column} commit {commit} deleted\n"),
     }

@@ -68,7 +68,7 @@ pub fn cell_lines(alloc: Global, table: &BTreeMap<Cell, Newest>) -> Result<Strin
 {
     let mut text = String::new(alloc);
     for (cell, newest) in table {
-        add_cell_line(alloc, &mut text, cell, newest)?;
+        add_cell_line(&mut text, cell, newest)?;
     }
     Ok(text)
 }
