@@ -1,5 +1,5 @@
 -- One change after another.
-use Rattle.std.proofs.Common.{◌≡◌, ℕ, ◌+◌, ◌*◌, ◌<◌, List, [], ◌∷◌, ◌++◌, length, length-append, take, drop, get_or, zero, suc, sym, ap, subst, ◌∙◌, arith}
+use Rattle.std.proofs.Common.{◌≡◌, ℕ, ◌+◌, ◌*◌, ◌<◌, List, [], ◌∷◌, ◌++◌, length, length-append, suc, refl, sym, ap, subst, ◌∙◌, arith}
 use Rattle.std.specs.List.{flat_map}
 use Rattle.pb_base.specs.Batch.{Writes}
 use Rattle.pb_core.specs.Calls.{SharedOf}
@@ -41,20 +41,18 @@ one_more s seat bs m b n g h =
 
 -- ---- where they stop
 
--- a list in three parts: before a place, at it, and after it
-parted : {A : Type 0} (xs : List A) (i : ℕ) (d y : A) → i < length xs → get_or xs i d ≡ y → xs ≡ take i xs ++ (y ∷ drop (suc i) xs)
-parted [] i d y lt e = absurd (omega (arith, lt))
-parted (x ∷ xs) zero d y lt e = ap (λ z. z ∷ xs) e
-parted (x ∷ xs) (suc i) d y lt e = ap (λ l. x ∷ l) (parted xs i d y (omega (arith, lt)) e)
+pub none_left : {A : Type 0} (xs : List A) → length xs ≡ 0 → xs ≡ []
+none_left [] e = refl
+none_left (x ∷ xs) e = absurd (omega (arith, e))
 
-pub stopped_at : (a : SharedOf) (n k : ℕ) (batches : List Writes) (i : ℕ) (d batch : Writes) (b c : SharedOf) (f : RunFault) → k ≡ n → i < length batches → get_or batches i d ≡ batch → Changes a n (take i batches) b
+pub stopped_at : (a : SharedOf) (n k : ℕ) (batches before : List Writes) (batch : Writes) (later : List Writes) (b c : SharedOf) (f : RunFault) → k ≡ n → batches ≡ before ++ batch ∷ later → Changes a n before b
     → IfRefused (StoppedAt (ChangeAsks batch) b k c) f → IfRefused (ChangesStopped a n batches c) f
-stopped_at a n k batches i d batch b c f same lt here changes s =
+stopped_at a n k batches before batch later b c f same parts changes s =
     if_refused f (λ code t. record {
-      before = take i batches;
+      before = before;
       batch = batch;
-      later = drop (suc i) batches;
-      batches_are = parted batches i d batch lt here;
+      later = later;
+      batches_are = parts;
       changed = b;
       changes = changes;
       stopped = subst (λ m. StoppedAt (ChangeAsks batch) b m c code) same t;

@@ -70,18 +70,17 @@ fn change<T: Tablet>(
 /// Makes the changes in order. It ends early where the clock or the journal comes to its end, or memory is refused.
 pub fn change_all<T: Tablet>(
     alloc: Global,
-    batches: &[Batch],
+    batches: Vec<Batch>,
     shared: &mut Shared<T>,
     seat: &mut Seat,
 ) -> Result<(), RunFault>
     requires clean { IsClean shared.old.state }
     requires seated { seat.old.number < shared.old.state.seats }
     ensures goes { Goes shared.old seat.old shared.new seat.new }
-    ensures ok { OnOk result (Changes shared.old seat.old.number batches.now shared.new) }
-    ensures err { IfErr result (IfRefused (ChangesStopped shared.old seat.old.number batches.now shared.new)) }
+    ensures ok { OnOk result (Changes shared.old seat.old.number batches.items shared.new) }
+    ensures err { IfErr result (IfRefused (ChangesStopped shared.old seat.old.number batches.items shared.new)) }
 {
     for batch in batches {
-        let batch = batch.copy()?;
         change(alloc, batch, shared, seat)?;
     }
     Ok(())

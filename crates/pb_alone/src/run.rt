@@ -35,15 +35,15 @@ fn read(alloc: Global, text: &str) -> Result<Vec<Batch>, RunFault>
 // Every change in order, and then passes over the marked cells.
 fn work<T: Tablet>(
     alloc: Global,
-    batches: &[Batch],
+    batches: Vec<Batch>,
     shared: &mut Shared<T>,
     seat: &mut Seat,
 ) -> Result<(), RunFault>
     requires clean { IsClean shared.old.state }
     requires seated { seat.old.number < shared.old.state.seats }
     ensures goes { Goes shared.old seat.old shared.new seat.new }
-    ensures ok { OnOk result (Works shared.old seat.old.number batches.now shared.new) }
-    ensures err { IfErr result (IfRefused (WorkStopped shared.old seat.old.number batches.now shared.new)) }
+    ensures ok { OnOk result (Works shared.old seat.old.number batches.items shared.new) }
+    ensures err { IfErr result (IfRefused (WorkStopped shared.old seat.old.number batches.items shared.new)) }
 {
     change_all(alloc, batches, shared, seat)?;
     drain(alloc, shared, seat)?;
@@ -67,7 +67,7 @@ fn run<T: Tablet, S: Sink>(
     let batches = read(alloc, text)?;
     prove!(shared.journal().is_empty());
     prove!(shared.seats() > 0);
-    work(alloc, &batches, shared, &mut seats[0])?;
+    work(alloc, batches, shared, &mut seats[0])?;
     // For the proof: what the journal tells of its history.
     let _ = shared.journal();
     report(alloc, sink, shared)?;
