@@ -7,7 +7,8 @@ mod rivals;
 mod runs;
 mod told;
 
-use crate::tables::{batch_of, first, observer_of, observers_of, opened};
+use crate::tables::{batch_of, first, observer_of, observers_of};
+use fixtures::opened;
 use pb_base::{Cell, Column, Content, NoMemory, ObserverNo, Row, Ts};
 use pb_core::{Accepted, Seat, Shared, Step};
 use pb_notify::{JobEnd, Need, ObserverJob};

@@ -1,62 +1,16 @@
-//! Shared tables of one tablet, and the batches and observers of these tests.
-ghost use Rattle.std.specs.Prelude.{◌≡◌, ◌≤◌, [], length, IfOk};
-ghost use Rattle.pb_core.specs.Calls.{AreSeats};
-ghost use Rattle.pb_store.specs.Contents.{nothing};
+//! The batches and observers of these tests.
+ghost use Rattle.std.specs.Prelude.{◌≤◌, length, IfOk};
 
-use pb_base::{Batch, Column, Content, NoMemory, ObserverNo, Row, Ts};
-use pb_core::{Observer, OpenRefused, Seat, Shared};
+use pb_base::{Batch, Column, Content, NoMemory, ObserverNo, Row};
+use pb_core::Observer;
 use pb_helpers::HelperTable;
-use pb_memtablet::ListTablet;
 use pb_registry::accept;
-use pb_store::Table;
 use std::alloc::Global;
 use std::process::Abort;
 use std::sync::Arc;
 
 /// mov64 r0, 0 and exit.
 pub const WATCH: &str = "b7000000000000009500000000000000";
-
-/// An empty table of one tablet.
-pub fn table(alloc: Global) -> Result<Table<ListTablet>, NoMemory>
-    ensures { IfOk result (λ t. t.contents ≡ nothing) }
-{
-    let mut parts = Vec::new(alloc);
-    parts.push((Row(0), ListTablet::new(alloc)))?;
-    match Table::new(parts) {
-        Ok(table) => Ok(table),
-        Err(_) => Err(NoMemory),
-    }
-}
-
-/// A shared table of one tablet with these observers and as many seats.
-pub fn opened(
-    alloc: Global,
-    observers: Vec<Observer>,
-    seats: u32,
-    last: Ts,
-    limit: usize,
-) -> Result<(Shared<ListTablet>, Vec<Seat>), NoMemory>
-    requires few { length observers.items ≤ 32 }
-    requires some { 1 ≤ seats }
-    requires seats { seats ≤ 64 }
-    requires bounded { limit ≤ 1000000 }
-    ensures fresh { IfOk result (λ s. s.0.journal ≡ []) }
-    ensures seated { IfOk result (λ s. AreSeats s.0 s.1.items) }
-{
-    match Shared::open(alloc, table(alloc)?, observers, seats, last, limit) {
-        Ok(opened) => Ok(opened),
-        Err(
-            OpenRefused {
-                table,
-                observers: _,
-                code: _,
-            },
-        ) => {
-            table.close();
-            Err(NoMemory)
-        }
-    }
-}
 
 /// The first observer.
 pub fn first(rt: &impl Abort) -> ObserverNo {

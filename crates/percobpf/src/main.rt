@@ -105,6 +105,3 @@ fn main(rt: HostRuntime) -> ExitCode {
         Err(_) => ExitCode::from(no_memory(&rt)),
     }
 }
-
-#[cfg(test)]
-mod tests;

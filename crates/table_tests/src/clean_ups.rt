@@ -1,7 +1,8 @@
 //! Transactions of several cells, and what rivals do with those that stop half way.
 ghost use Rattle.std.specs.Prelude.{◌≡◌, ◌≤◌, length};
 
-use crate::tables::{cell, deletes, opened};
+use crate::tables::{cell, deletes};
+use fixtures::opened;
 use pb_base::{Content, NoMemory, Ts};
 use pb_core::{Answer, Observer, Seat, Shared, Step, Work};
 use pb_store::Tablet;

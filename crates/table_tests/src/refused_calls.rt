@@ -1,7 +1,7 @@
 //! Calls of a table that are refused, by their numbers.
 ghost use Rattle.std.specs.Prelude.{◌≤◌};
 
-use crate::tables::opened;
+use fixtures::opened;
 use pb_base::{Batch, Cell, Column, Content, NoMemory, Row, Ts};
 use pb_core::{Declaration, Declared, Seat, Shared, Step, Work};
 use pb_memtablet::ListTablet;

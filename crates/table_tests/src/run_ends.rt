@@ -1,7 +1,7 @@
 //! How a run by one seat alone ends early, by a step that is refused.
 ghost use Rattle.std.specs.Prelude.{◌≤◌};
 
-use crate::tables::opened;
+use fixtures::opened;
 use pb_alone::{RunFault, run_alone};
 use pb_base::{NoMemory, Out, Ts};
 use std::alloc::Global;

@@ -2,7 +2,8 @@
 ghost use Rattle.std.specs.Prelude.{◌≤◌, length};
 
 use crate::run_ends::number_of;
-use crate::tables::{WATCH, observer_of, observer_with, observers_of, opened};
+use crate::tables::{WATCH, observer_of, observer_with, observers_of};
+use fixtures::opened;
 use pb_alone::run_alone;
 use pb_base::{NoMemory, Out, Ts};
 use pb_core::{Answer, Observer, Shared, Step, Work};

@@ -1,15 +1,14 @@
 //! Worlds opened from texts, and what events leave in them.
-ghost use Rattle.std.specs.Prelude.{◌≡◌, ◌≤◌, length, IfOk};
+ghost use Rattle.std.specs.Prelude.{◌≤◌, length, IfOk};
 ghost use Rattle.pb_core.specs.Calls.{AreSeats};
 ghost use Rattle.pb_base.specs.declared.limits.TheConstants.{MAX_OBSERVERS};
-ghost use Rattle.pb_store.specs.Contents.{nothing};
 
-use pb_base::{Batch, NoMemory, Row, Ts};
-use pb_core::{Observer, OpenRefused, Seat, Shared};
+use fixtures::opened;
+use pb_base::{Batch, NoMemory, Ts};
+use pb_core::{Observer, Seat, Shared};
 use pb_memtablet::ListTablet;
 use pb_parse::{Event, parse_schedule, parse_script};
 use pb_registry::Registry;
-use pb_store::Table;
 use pb_world::{Note, World};
 use std::alloc::Global;
 
@@ -30,17 +29,6 @@ pub struct Texts<'a> {
     pub seats: u32,
     pub last: u64,
     pub limit: usize,
-}
-
-fn table(alloc: Global) -> Result<Table<ListTablet>, NoMemory>
-    ensures { IfOk result (λ t. t.contents ≡ nothing) }
-{
-    let mut parts = Vec::new(alloc);
-    parts.push((Row(0), ListTablet::new(alloc)))?;
-    match Table::new(parts) {
-        Ok(table) => Ok(table),
-        Err(_) => Err(NoMemory),
-    }
 }
 
 fn observers(alloc: Global, manifest: &str) -> Result<Vec<Observer>, NoMemory>
@@ -126,27 +114,8 @@ fn runs(
     requires bounded { texts.now.limit ≤ 1000000 }
 {
     let batches = changes(alloc, texts.script)?;
-    let table = table(alloc)?;
-    match Shared::open(
-        alloc,
-        table,
-        observers,
-        texts.seats,
-        Ts(texts.last),
-        texts.limit,
-    ) {
-        Ok((shared, seats)) => run_in(alloc, shared, seats, batches, lists),
-        Err(
-            OpenRefused {
-                table,
-                observers: _,
-                code: _,
-            },
-        ) => {
-            table.close();
-            Err(NoMemory)
-        }
-    }
+    let (shared, seats) = opened(alloc, observers, texts.seats, Ts(texts.last), texts.limit)?;
+    run_in(alloc, shared, seats, batches, lists)
 }
 
 /// The notes of the schedule's events, or the fault that stops them.

@@ -2,7 +2,7 @@
 ghost use Rattle.std.specs.Prelude.{◌≡◌, ◌∷◌, [], true, IfOk};
 ghost use Rattle.std.specs.Str.{bytes_eq};
 
-use super::{Outcome, carry, has_told};
+use crate::carried::{Outcome, carry, has_told};
 use pb_base::NoMemory;
 use pb_command::{PathFault, Paths};
 use pb_texts::Options;

@@ -1,7 +1,7 @@
 //! `replay`, over paths and sinks in memory.
 ghost use Rattle.std.specs.Prelude.{◌≡◌, true};
 
-use super::{Outcome, carry, has_told};
+use crate::carried::{Outcome, carry, has_told};
 use pb_base::{NoMemory, Ts};
 use pb_command::{PathFault, Paths};
 use pb_texts::Options;

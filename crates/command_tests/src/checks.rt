@@ -1,6 +1,6 @@
 //! `check`, over paths and sinks in memory.
-use super::programs::{holding, is_cut};
-use super::{carry, has_told};
+use crate::carried::{carry, has_told};
+use crate::programs::{holding, is_cut};
 use pb_command::PathFault;
 use pb_texts::Options;
 use std::rt::HostRuntime;

@@ -1,0 +1,18 @@
+//! The tests of commands over paths and sinks in memory, where an output fails at some call, or memory is refused. What the
+//! built program shows by itself is run by checks/rows.
+//!
+//! They stand in a crate of their own, since a crate that has tests is proved twice.
+#![tactic(auto)]
+
+#[cfg(test)]
+mod carried;
+#[cfg(test)]
+mod checks;
+#[cfg(test)]
+mod programs;
+#[cfg(test)]
+mod replays;
+#[cfg(test)]
+mod runs;
+#[cfg(test)]
+mod sinks;
