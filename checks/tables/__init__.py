@@ -44,19 +44,23 @@ class Row:
 Tables = dict[str, list[Row]]
 
 
-def of(*observers: str) -> str:
+def manifest_of(*observers: str) -> str:
     """The text of a manifest of these observers."""
     return f'{{"profile":1,"observers":[{",".join(observers)}]}}'
 
 
-def observer(name: str = "watch", column: int | str = 0, helpers: str = "", code: str = WATCH) -> str:
+def observer(name: str = "watch", column: int | str = 0, helpers: str = "", digits: str = WATCH) -> str:
     """The text of an observer."""
-    return f'{{"name":"{name}","column":{column},"helpers":[{helpers}],"code":"{code}"}}'
+    return f'{{"name":"{name}","column":{column},"helpers":[{helpers}],"code":"{digits}"}}'
 
 
-NOBODY = of()
-WATCHED = of(observer())
-COPIED = of(observer("copy", 0, "2", COPY))
+NOBODY = manifest_of()
+WATCHED = manifest_of(observer())
+COPIED = manifest_of(observer("copy", 0, "2", COPY))
+
+# a script of one change, and its cell in a report
+ONE = "put 7 0 2a\n"
+CHANGED = "cell 7 0 commit 2 value 2a\n"
 
 
 def files_of(**texts: str | bytes) -> dict[str, bytes]:
@@ -88,9 +92,9 @@ def asm(text: str, code: bytes) -> Row:
     return Row(["asm", "i", "o"], files_of(i=text), written={"o": code})
 
 
-def asm_fails(text: str, line: int, code: int) -> Row:
+def asm_fails(text: str, line: int, number: int) -> Row:
     """A text that is refused in this line, so that no bytes are written."""
-    return Row(["asm", "i", "o"], files_of(i=text), 1, err=f"line {line} code {code}\n".encode())
+    return Row(["asm", "i", "o"], files_of(i=text), 1, err=f"line {line} code {number}\n".encode())
 
 
 def dis(code: bytes, listing: str) -> Row:
@@ -113,9 +117,12 @@ def refused(code: bytes, slot: int, number: int) -> Row:
     return Row(["check", "i"], {"i": code}, 1, f"refused slot {slot} code {number}\n".encode())
 
 
-ARITHMETIC = "add sub mul div or and lsh rsh neg mod xor mov arsh".split()
-JUMPS = "ja jeq jgt jge jset jne jsgt jsge call exit jlt jle jslt jsle".split()
-SIZES = {"w": 0x00, "h": 0x08, "b": 0x10, "dw": 0x18}
+ARITHMETIC_CODES = "add sub mul div or and lsh rsh neg mod xor mov arsh".split()
+JUMP_CODES = "ja jeq jgt jge jset jne jsgt jsge call exit jlt jle jslt jsle".split()
+
+# the sizes of loads and stores, in bytes, and their bits of an opcode
+SIZES = {"b": 1, "h": 2, "w": 4, "dw": 8}
+SIZE_BITS = {"w": 0x00, "h": 0x08, "b": 0x10, "dw": 0x18}
 MEM = 0x60
 
 # the forms of MACHINE.md, "Assembler text", by what is behind the first word
@@ -140,12 +147,12 @@ def opcode(word: str, has_register: bool) -> int:
     """The opcode of a first word, by sections 3 to 5 of RFC 9669."""
     named = re.fullmatch(r"(ldx|stx|st)(b|h|w|dw)", word)
     if named:
-        return {"ldx": 1, "st": 2, "stx": 3}[named[1]] | SIZES[named[2]] | MEM
+        return {"ldx": 1, "st": 2, "stx": 3}[named[1]] | SIZE_BITS[named[2]] | MEM
     kind = 0x08 if has_register else 0x00
     name, width = (word[:-2], word[-2:]) if word[-2:] in ("32", "64") else (word, "64")
-    if name in ARITHMETIC:
-        return ARITHMETIC.index(name) << 4 | kind | {"32": 4, "64": 7}[width]
-    return JUMPS.index(name) << 4 | kind | {"32": 6, "64": 5}[width]
+    if name in ARITHMETIC_CODES:
+        return ARITHMETIC_CODES.index(name) << 4 | kind | {"32": 4, "64": 7}[width]
+    return JUMP_CODES.index(name) << 4 | kind | {"32": 6, "64": 5}[width]
 
 
 def instruction(text: str) -> bytes:
@@ -161,9 +168,20 @@ def instruction(text: str) -> bytes:
     return slot(opcode(word, "src" in fields), **fields)
 
 
-def code(*texts: str) -> bytes:
+def encoded(*texts: str) -> bytes:
     """The bytes of a program, its instructions parted by `; `.
 
     It judges nothing, and is held to LLVM's encodings in encodings.py.
     """
     return b"".join(instruction(line) for text in texts for line in text.split("; "))
+
+
+def taken(text: str) -> Row:
+    """A program that is accepted with all helpers, with eight bytes for each of its slots."""
+    code = encoded(text)
+    return accepted(code, len(code) // 8)
+
+
+def told(text: str, slot: int, number: int) -> Row:
+    """A program that is refused at this slot with this number."""
+    return refused(encoded(text), slot, number)

@@ -4,7 +4,7 @@ Worked out by hand from docs/MACHINE.md, "Assembler text".
 """
 from __future__ import annotations
 
-from tables import Row, Tables, asm, asm_fails, code, dis
+from tables import Row, Tables, asm, asm_fails, dis, encoded
 
 
 def line(text: str, number: int) -> Row:
@@ -176,9 +176,9 @@ TEXTS = [
     asm_fails("", 0, 84),
     asm_fails("\n\n", 0, 84),
     asm_fails("# nothing\n#exit", 0, 84),
-    asm("exit", code("exit")),
-    asm("exit\n", code("exit")),
-    asm("# two\n\nlddw r1, 7\nexit\n", code("lddw r1, 7; exit")),
+    asm("exit", encoded("exit")),
+    asm("exit\n", encoded("exit")),
+    asm("# two\n\nlddw r1, 7\nexit\n", encoded("lddw r1, 7; exit")),
     asm_fails("exit\n#\nfoo\nbar", 3, 80),
     asm_fails("exit\nja -0\nfoo", 2, 81),
     asm_fails("exit\r\nexit\r\n", 1, 80),
@@ -190,10 +190,10 @@ TEXTS = [
     asm_fails("exit\n\t", 2, 80),
     asm_fails("exit\rexit", 1, 80),
     asm_fails("# one\r\nexit\r", 2, 80),
-    asm("\n\nexit\n\n", code("exit")),
-    asm("lddw r0, 1", code("lddw r0, 1")),
-    asm("exit\n# the last", code("exit")),
-    asm("#\t\u00e9\u0661\r\nexit", code("exit")),
+    asm("\n\nexit\n\n", encoded("exit")),
+    asm("lddw r0, 1", encoded("lddw r0, 1")),
+    asm("exit\n# the last", encoded("exit")),
+    asm("#\t\u00e9\u0661\r\nexit", encoded("exit")),
     asm_fails("#", 0, 84),
     asm_fails("\n", 0, 84),
 ]
@@ -237,7 +237,7 @@ THOUSAND_DIGITS = [
 FULL = "exit\n" * 511
 
 SLOT_513 = [
-    asm(f"{FULL}exit\n", code("exit") * 512),
+    asm(f"{FULL}exit\n", encoded("exit") * 512),
     asm_fails(f"{FULL}lddw r0, 1\n", 512, 83),
     asm_fails(f"{FULL}lddw r0, 1", 512, 83),
     asm_fails(f"{FULL}exit\nexit\n", 513, 83),

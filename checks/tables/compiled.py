@@ -6,7 +6,7 @@ from __future__ import annotations
 
 from pathlib import Path
 
-from tables import Row, Tables, observer, of, replay, run
+from tables import Row, Tables, manifest_of, observer, replay, run
 
 EXAMPLES = Path(__file__).resolve().parent.parent.parent / "examples/c"
 
@@ -18,7 +18,7 @@ VALUE = bytes(range(1, 33)).hex()
 
 def compiled(name: str, version: str, helpers: str) -> str:
     """A manifest of this observer with these helpers, on column 9."""
-    return of(observer(name, 9, helpers, (EXAMPLES / f"{name}.{version}.bin").read_bytes().hex()))
+    return manifest_of(observer(name, 9, helpers, (EXAMPLES / f"{name}.{version}.bin").read_bytes().hex()))
 
 
 def value_of(*words: int) -> str:
@@ -26,7 +26,7 @@ def value_of(*words: int) -> str:
     return b"".join(word.to_bytes(8, "little") for word in words).rstrip(bytes(1)).hex()
 
 
-def counted(version: str, before: tuple[int, ...], after: tuple[int, ...], content: str, told: str) -> list[Row]:
+def adds_one(version: str, before: tuple[int, ...], after: tuple[int, ...], content: str, shown: str) -> list[Row]:
     """What column 15 of the row has, if anything, and what it has then.
 
     The 18 instructions of a run take 29 steps: three of them before, one for the cell that it asks for, and seven behind,
@@ -34,7 +34,7 @@ def counted(version: str, before: tuple[int, ...], after: tuple[int, ...], conte
     """
     manifest = compiled("counter", version, "1,2")
     put = f"; put 7 15 {value_of(*before)}" if before else ""
-    cells = f"cell 7 9 commit 2 {told}\ncell 7 15 commit 4 value {value_of(*after)}\nruns counter 1\n"
+    cells = f"cell 7 9 commit 2 {shown}\ncell 7 15 commit 4 value {value_of(*after)}\nruns counter 1\n"
     change = f"{content}{put}\n"
     first = "launch 1 change 1\nstep 1 100\nlaunch 1 run counter 7\n"
     return [
@@ -53,8 +53,8 @@ COUNTER = [
         ((255, 5, 6, 7), (256, 5, 6, 7)),
         ((MAX, 5, 6, MAX), (0, 5, 6, MAX)),
     )
-    for content, told in ((f"put 7 9 {VALUE}", f"value {VALUE}"), ("del 7 9", "deleted"))
-    for row in counted(version, before, after, content, told)
+    for content, shown in ((f"put 7 9 {VALUE}", f"value {VALUE}"), ("del 7 9", "deleted"))
+    for row in adds_one(version, before, after, content, shown)
 ]
 
 

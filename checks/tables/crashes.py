@@ -41,28 +41,28 @@ LEFT = [
 COMMITTED = 9
 
 
-def cut(steps: int, more: str, runs: int, last: str) -> Row:
+def five_cells_crash(steps: int, more: str, runs: int, last: str) -> Row:
     """A crash after so many steps, and more, with these runs and this last line of the report."""
-    taken = f"step 1 {steps}\n" if steps else ""
+    made = f"step 1 {steps}\n" if steps else ""
     cells = CELLS if steps >= COMMITTED else ""
-    schedule = f"launch 1 change 1\n{taken}crash 1\n{more}"
+    schedule = f"launch 1 change 1\n{made}crash 1\n{more}"
     return replay(WATCHED, FIVE_CELLS, schedule, f"{cells}runs watch {runs}\n{last}\n")
 
 
-AFTER_EACH_STEP = [cut(steps, "", 0, last) for steps, last in enumerate(LEFT)]
+AFTER_EACH_STEP = [five_cells_crash(steps, "", 0, last) for steps, last in enumerate(LEFT)]
 
 # before the primary's commit all is taken back, and after it all is committed
-CLEARED = [cut(steps, CLEAN_UP, 0, "quiet") for steps in range(COMMITTED)] + [
-    cut(steps, CLEAN_UP, 0, "marks 3 locks 0") for steps in range(COMMITTED, len(LEFT))
+CLEARED = [five_cells_crash(steps, CLEAN_UP, 0, "quiet") for steps in range(COMMITTED)] + [
+    five_cells_crash(steps, CLEAN_UP, 0, "marks 3 locks 0") for steps in range(COMMITTED, len(LEFT))
 ]
 
-OBSERVED = [cut(steps, CLEAN_UP + RUNS, 0, "quiet") for steps in range(COMMITTED)] + [
-    cut(steps, CLEAN_UP + RUNS, 3, "quiet") for steps in range(COMMITTED, len(LEFT))
+OBSERVED = [five_cells_crash(steps, CLEAN_UP + RUNS, 0, "quiet") for steps in range(COMMITTED)] + [
+    five_cells_crash(steps, CLEAN_UP + RUNS, 3, "quiet") for steps in range(COMMITTED, len(LEFT))
 ]
 
 # runs clear the locks that they meet themselves, which that on 3 1 isn't
-MET_BY_RUNS = [cut(steps, RUNS, 3, "marks 0 locks 1") for steps in (9, 10, 11)] + [
-    cut(steps, RUNS, 3, "quiet") for steps in (12, 13)
+MET_BY_RUNS = [five_cells_crash(steps, RUNS, 3, "marks 0 locks 1") for steps in (9, 10, 11)] + [
+    five_cells_crash(steps, RUNS, 3, "quiet") for steps in (12, 13)
 ]
 
 # its primary is cell 7 2, and nobody observes it
@@ -73,9 +73,9 @@ DELETED = "cell 7 0 commit 2 deleted\ncell 7 1 commit 2 deleted\ncell 7 2 commit
 
 def stopped(steps: int, more: str, last: str, is_committed: bool) -> Row:
     """A worker that makes so many steps and no more, and then others."""
-    taken = f"step 1 {steps}\n" if steps else ""
+    made = f"step 1 {steps}\n" if steps else ""
     cells = DELETED if is_committed else ""
-    return replay(NOBODY, THREE_CELLS, f"launch 1 change 1\n{taken}{more}", f"{cells}{last}\n")
+    return replay(NOBODY, THREE_CELLS, f"launch 1 change 1\n{made}{more}", f"{cells}{last}\n")
 
 
 # how many steps are made, whether the change is committed then, and the last line

@@ -9,13 +9,13 @@ from tables import Row, Tables, dis, dis_refused
 MOV = bytes.fromhex("b700000000000000")
 
 
-def one(digits: str, number: int) -> Row:
+def first_refused(digits: str, number: int) -> Row:
     """Bytes that are refused at their first slot."""
     return dis_refused(bytes.fromhex(digits), 0, number)
 
 
 LENGTHS = [
-    one("", 10),
+    first_refused("", 10),
     *(dis(MOV * slots, "mov64 r0, 0\n" * slots) for slots in range(1, 513)),
     dis_refused(MOV * 513, 0, 11),
     *(dis_refused((MOV * 513)[:length], 0, 10) for length in (1, 7, 9, 4095, 4097)),
@@ -23,54 +23,54 @@ LENGTHS = [
 
 ONE_SLOT = [
     dis(bytes.fromhex("9500000000000000"), "exit\n"),
-    one("8f01000000000000", 12),
-    one("b70b000000000000", 13),
-    one("b7b0000000000000", 13),
-    one("8701000001000000", 14),
-    one("1800000005000000", 15),
+    first_refused("8f01000000000000", 12),
+    first_refused("b70b000000000000", 13),
+    first_refused("b7b0000000000000", 13),
+    first_refused("8701000001000000", 14),
+    first_refused("1800000005000000", 15),
     # opcodes of the RFC that the profile leaves out
-    one("dc00000010000000", 12),
-    one("d700000010000000", 12),
-    one("0600000001000000", 12),
-    one("8600000001000000", 12),
-    one("8100000000000000", 12),
-    one("db10000000000000", 12),
-    one("2000000000000000", 12),
+    first_refused("dc00000010000000", 12),
+    first_refused("d700000010000000", 12),
+    first_refused("0600000001000000", 12),
+    first_refused("8600000001000000", 12),
+    first_refused("8100000000000000", 12),
+    first_refused("db10000000000000", 12),
+    first_refused("2000000000000000", 12),
     # the lowest code, where several apply
-    one("ffffffffffffffff", 12),
-    one("95ff010000000000", 13),
-    one("18b0000005000000", 13),
-    one("1810000005000000", 14),
-    one("3f10010000000000", 14),
-    one("bf10080000000000", 14),
-    one("8510000001000000", 14),
-    one("0500000001000000", 14),
-    one("9500000000000001", 14),
+    first_refused("ffffffffffffffff", 12),
+    first_refused("95ff010000000000", 13),
+    first_refused("18b0000005000000", 13),
+    first_refused("1810000005000000", 14),
+    first_refused("3f10010000000000", 14),
+    first_refused("bf10080000000000", 14),
+    first_refused("8510000001000000", 14),
+    first_refused("0500000001000000", 14),
+    first_refused("9500000000000001", 14),
 ]
 
 TWO_SLOTS = [
     dis(bytes.fromhex("b700000000000000" "9500000000000000"), "mov64 r0, 0\nexit\n"),
     dis(bytes.fromhex("1800000005000000" "0000000000000000"), "lddw r0, 5\n"),
-    one("1810000005000000" "0000000000000000", 14),
-    one("1800000005000000" "0100000000000000", 16),
-    one("1800000005000000" "0001000000000000", 16),
-    one("1800000005000000" "0010000000000000", 16),
-    one("1800000005000000" "0000010000000000", 16),
+    first_refused("1810000005000000" "0000000000000000", 14),
+    first_refused("1800000005000000" "0100000000000000", 16),
+    first_refused("1800000005000000" "0001000000000000", 16),
+    first_refused("1800000005000000" "0010000000000000", 16),
+    first_refused("1800000005000000" "0000010000000000", 16),
     dis_refused(bytes.fromhex("b700000000000000" "1800000005000000"), 1, 15),
     dis_refused(bytes.fromhex("b700000000000000" "0000000000000000"), 1, 12),
 ]
 
 BYTES = [
-    one("", 10),
-    one("95000000000000", 10),
-    one("950000000000000095", 10),
-    one("8f01000000000000", 12),
-    one("b70b000000000000", 13),
-    one("b7b0000000000000", 13),
-    one("8701000001000000", 14),
-    one("18100000050000000000000000000000", 14),
-    one("1800000005000000", 15),
-    one("18000000050000000100000000000000", 16),
+    first_refused("", 10),
+    first_refused("95000000000000", 10),
+    first_refused("950000000000000095", 10),
+    first_refused("8f01000000000000", 12),
+    first_refused("b70b000000000000", 13),
+    first_refused("b7b0000000000000", 13),
+    first_refused("8701000001000000", 14),
+    first_refused("18100000050000000000000000000000", 14),
+    first_refused("1800000005000000", 15),
+    first_refused("18000000050000000100000000000000", 16),
     dis_refused(bytes.fromhex("9500000000000000" "8f01000000000000"), 1, 12),
     dis_refused(bytes.fromhex("9500000000000000") * 513, 0, 11),
     dis_refused(bytes.fromhex("9500000000000000" * 3 + "8f01000000000000"), 3, 12),

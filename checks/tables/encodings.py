@@ -6,14 +6,19 @@ line. The last two are worked out from RFC 9669, sections 3 to 5.
 """
 from __future__ import annotations
 
-from tables import Row, Tables, asm, code, dis
+from tables import Row, Tables, asm, dis, encoded
 
 
 def both(text: str, digits: str) -> list[Row]:
-    """The rows of an instruction, without a newline behind it and with one. The tables' own encoder has to agree."""
-    encoded = bytes.fromhex(digits)
-    assert code(text) == encoded, text
-    return [asm(text, encoded), asm(f"{text}\n", encoded), dis(encoded, f"{text}\n")]
+    """The text is assembled, without a newline behind it and with one, and its bytes are listed.
+
+    The tables' own encoder has to make the same bytes.
+    """
+    code = bytes.fromhex(digits)
+    made = encoded(text)
+    if made != code:
+        raise ValueError(f"{text} is {digits}, and the tables' encoder makes {made.hex()}")
+    return [asm(text, code), asm(f"{text}\n", code), dis(code, f"{text}\n")]
 
 
 ARITHMETIC_64_WITH_IMMEDIATES = [

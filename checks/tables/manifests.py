@@ -4,39 +4,37 @@ Worked out by hand from docs/FORMATS.md, "Manifest". Each is run with a script, 
 """
 from __future__ import annotations
 
-from tables import NOBODY, START, WATCH, Row, Tables, accepted, observer, of, replay, run, run_fails
-
-ONE = "put 7 0 2a\n"
+from tables import NOBODY, ONE, START, WATCH, Row, Tables, accepted, manifest_of, observer, replay, run, run_fails
 
 
-def taken(manifest: str, *names: str) -> Row:
+def registered(manifest: str, *names: str) -> Row:
     """A manifest of observers with these names."""
     return run(manifest, "", "".join(f"runs {name} 0\n" for name in names) + "quiet\n")
 
 
-def whole(manifest: str, code: int, script: str = "") -> Row:
+def whole(manifest: str, number: int, script: str = "") -> Row:
     """A manifest that is refused, without a place."""
-    return run_fails(manifest, script, f"manifest: code {code}")
+    return run_fails(manifest, script, f"manifest: code {number}")
 
 
-def at(manifest: str, place: int, code: int, script: str = "") -> Row:
+def at(manifest: str, place: int, number: int, script: str = "") -> Row:
     """A manifest whose observer in this place is refused."""
-    return run_fails(manifest, script, f"manifest: observer {place} code {code}")
+    return run_fails(manifest, script, f"manifest: observer {place} code {number}")
 
 
-def program(manifest: str, slot: int, code: int, script: str = "") -> Row:
+def program(manifest: str, slot: int, number: int, script: str = "") -> Row:
     """A manifest whose first observer's program isn't accepted."""
-    return run_fails(manifest, script, f"manifest: observer 0 code 56 slot {slot} code {code}")
+    return run_fails(manifest, script, f"manifest: observer 0 code 56 slot {slot} code {number}")
 
 
 def one(**members: str) -> str:
     """A manifest of one observer, with these members in place of those of `watch`."""
-    return of(observer(**members))
+    return manifest_of(observer(**members))
 
 
 TEXTS = [
-    taken('{"profile":1,"observers":[]}'),
-    taken(' { "observers" : [ ] , "profile" : 1 } \n'),
+    registered('{"profile":1,"observers":[]}'),
+    registered(' { "observers" : [ ] , "profile" : 1 } \n'),
     whole("", 50),
     whole('{"profile":1,"observers":[]', 50),
     whole('{"profile":1,"observers":[]} x', 50),
@@ -55,9 +53,9 @@ PROFILES = [
     whole('{"profile":1e0,"observers":[]}', 51),
     whole('{"profile":-1,"observers":[]}', 51),
     whole('{"profile":"1","observers":[]}', 51),
-    taken('{"profile":2,"observers":[],"profile":1}'),
+    registered('{"profile":2,"observers":[],"profile":1}'),
     whole('{"profile":1,"observers":[],"profile":2}', 51),
-    taken('{"profile":1,"observers":[5],"observers":[]}'),
+    registered('{"profile":1,"observers":[5],"observers":[]}'),
     whole('{"profile":1,"observers":[5]}', 51),
 ]
 
@@ -65,16 +63,16 @@ LONGEST = "abcdefghijklmnopqrstuvwxyz-01289"
 
 NAMES = [
     at(one(name=""), 0, 53),
-    taken(one(name="w"), "w"),
-    taken(one(name="-"), "-"),
-    taken(one(name=LONGEST), LONGEST),
+    registered(one(name="w"), "w"),
+    registered(one(name="-"), "-"),
+    registered(one(name=LONGEST), LONGEST),
     at(one(name="abcdefghijklmnopqrstuvwxyz-012890"), 0, 53),
     at(one(name="Watch"), 0, 53),
     at(one(name="a_b"), 0, 53),
 ]
 
 NUMBERS = [
-    taken(one(column="15"), "watch"),
+    registered(one(column="15"), "watch"),
     at(one(column="16"), 0, 54),
     at(one(column="18446744073709551615"), 0, 54),
     whole(one(column="18446744073709551616"), 51),
@@ -87,8 +85,8 @@ NUMBERS = [
 ]
 
 HELPERS = [
-    taken(one(helpers="1"), "watch"),
-    taken(one(helpers="4, 2, 3, 1"), "watch"),
+    registered(one(helpers="1"), "watch"),
+    registered(one(helpers="4, 2, 3, 1"), "watch"),
     at(one(helpers="0"), 0, 54),
     at(one(helpers="5"), 0, 54),
     at(one(helpers="2, 2"), 0, 54),
@@ -99,53 +97,53 @@ HELPERS = [
 ]
 
 CODES = [
-    at(one(code="b"), 0, 55),
-    at(one(code="B7"), 0, 55),
-    at(one(code="g7"), 0, 55),
-    program(one(code="b7"), 0, 10),
-    program(one(code=""), 0, 10),
-    program(one(code="9500000000000000"), 0, 21),
-    program(one(code="b700000000000000"), 0, 36),
-    program(one(code=START), 0, 30),
-    program(one(helpers="1, 2, 3", code=START), 0, 30),
-    taken(one(helpers="4", code=START), "watch"),
+    at(one(digits="b"), 0, 55),
+    at(one(digits="B7"), 0, 55),
+    at(one(digits="g7"), 0, 55),
+    program(one(digits="b7"), 0, 10),
+    program(one(digits=""), 0, 10),
+    program(one(digits="9500000000000000"), 0, 21),
+    program(one(digits="b700000000000000"), 0, 36),
+    program(one(digits=START), 0, 30),
+    program(one(helpers="1, 2, 3", digits=START), 0, 30),
+    registered(one(helpers="4", digits=START), "watch"),
 ]
 
 LOWEST_CODES = [
-    at(one(name="Watch", column="16", helpers="0", code="b"), 0, 53),
-    at(one(name="watch", column="16", helpers="", code="b"), 0, 54),
-    at(one(name="watch", column="0", helpers="2, 2", code="b"), 0, 54),
-    at(one(name="watch", column="0", helpers="2", code="b"), 0, 55),
-    whole(one(name="Watch", column="0", helpers="-1", code="b"), 51),
+    at(one(name="Watch", column="16", helpers="0", digits="b"), 0, 53),
+    at(one(name="watch", column="16", helpers="", digits="b"), 0, 54),
+    at(one(name="watch", column="0", helpers="2, 2", digits="b"), 0, 54),
+    at(one(name="watch", column="0", helpers="2", digits="b"), 0, 55),
+    whole(one(name="Watch", column="0", helpers="-1", digits="b"), 51),
 ]
 
 BEFORE_A_CHANGE = [
     at(one(name="Watch"), 0, 53, ONE),
     at(one(column="16"), 0, 54, ONE),
-    at(one(code="b"), 0, 55, ONE),
-    program(one(code="b7"), 0, 10, ONE),
-    program(one(code="9500000000000000"), 0, 21, ONE),
-    program(one(code="b700000000000000"), 0, 36, ONE),
-    program(one(code="bf160000000000009500000000000000"), 1, 21, ONE),
-    program(one(code=START), 0, 30, ONE),
+    at(one(digits="b"), 0, 55, ONE),
+    program(one(digits="b7"), 0, 10, ONE),
+    program(one(digits="9500000000000000"), 0, 21, ONE),
+    program(one(digits="b700000000000000"), 0, 36, ONE),
+    program(one(digits="bf160000000000009500000000000000"), 1, 21, ONE),
+    program(one(digits=START), 0, 30, ONE),
     at(one(helpers="2,2"), 0, 54, ONE),
-    at(of(observer(), observer("start", 0, "4", START), observer("watch", 1)), 2, 53, ONE),
+    at(manifest_of(observer(), observer("start", 0, "4", START), observer("watch", 1)), 2, 53, ONE),
 ]
 
-FIRST, SECOND, FAULTY = observer(), observer("start"), observer("start", code="b")
+FIRST, SECOND, FAULTY = observer(), observer("start"), observer("start", digits="b")
 
 USED_NAMES = [
-    taken(of(FIRST, SECOND), "watch", "start"),
-    at(of(FIRST, FIRST), 1, 53),
-    at(of(FIRST, SECOND, FIRST), 2, 53),
-    at(of(FIRST, observer(column="16", code="b")), 1, 53),
+    registered(manifest_of(FIRST, SECOND), "watch", "start"),
+    at(manifest_of(FIRST, FIRST), 1, 53),
+    at(manifest_of(FIRST, SECOND, FIRST), 2, 53),
+    at(manifest_of(FIRST, observer(column="16", digits="b")), 1, 53),
 ]
 
 FIRST_FAULT = [
-    at(of(FIRST, FAULTY), 1, 55),
-    at(of(FAULTY, observer("Watch")), 0, 55),
-    at(of(observer(column="16"), FIRST), 0, 54),
-    at(of(FIRST, FAULTY, FIRST), 1, 55),
+    at(manifest_of(FIRST, FAULTY), 1, 55),
+    at(manifest_of(FAULTY, observer("Watch")), 0, 55),
+    at(manifest_of(observer(column="16"), FIRST), 0, 54),
+    at(manifest_of(FIRST, FAULTY, FIRST), 1, 55),
 ]
 
 
@@ -154,24 +152,24 @@ def many(count: int) -> list[str]:
 
 
 COUNTS = [
-    taken(of(*many(32)), *(f"w{place}" for place in range(32))),
-    whole(of(*many(33)), 52),
-    whole(of(*many(32), "5"), 51),
-    whole(of(*many(33), "5"), 51),
+    registered(manifest_of(*many(32)), *(f"w{place}" for place in range(32))),
+    whole(manifest_of(*many(33)), 52),
+    whole(manifest_of(*many(32), "5"), 51),
+    whole(manifest_of(*many(33), "5"), 51),
 ]
 
 
 def ending(members: str) -> str:
     """A manifest of one observer without a column, and with these members behind the others."""
-    return of(f'{{"name":"watch","helpers":[],"code":"{WATCH}",{members}}}')
+    return manifest_of(f'{{"name":"watch","helpers":[],"code":"{WATCH}",{members}}}')
 
 
 LAST_MEMBERS = [
-    taken(ending('"column":16,"column":0'), "watch"),
+    registered(ending('"column":16,"column":0'), "watch"),
     at(ending('"column":0,"column":16'), 0, 54),
-    taken(ending('"column":0,"name":"w"'), "w"),
+    registered(ending('"column":0,"name":"w"'), "w"),
     at(ending('"column":0,"name":"W"'), 0, 53),
-    taken(ending('"column":0,"helpers":[2]'), "watch"),
+    registered(ending('"column":0,"helpers":[2]'), "watch"),
     at(ending('"column":0,"helpers":[2,2]'), 0, 54),
     at(ending('"column":0,"code":"b"'), 0, 55),
     whole(ending('"column":0,"more":0'), 51),
@@ -179,15 +177,15 @@ LAST_MEMBERS = [
 ]
 
 # `watch` of column 3 and `start` of column 0; a run takes eight steps of the table and one for each of two instructions
-BOTH = of(observer("watch", 3), observer("start", 0, "4", START))
+WATCH_AND_START = manifest_of(observer("watch", 3), observer("start", 0, "4", START))
 
 ORDERED = [
-    taken(BOTH, "watch", "start"),
-    run(BOTH, "put 7 3 2a", "cell 7 3 commit 2 value 2a\nruns watch 1\nruns start 0\nquiet\n"),
-    run(BOTH, ONE, "cell 7 0 commit 2 value 2a\nruns watch 0\nruns start 1\nquiet\n"),
+    registered(WATCH_AND_START, "watch", "start"),
+    run(WATCH_AND_START, "put 7 3 2a", "cell 7 3 commit 2 value 2a\nruns watch 1\nruns start 0\nquiet\n"),
+    run(WATCH_AND_START, ONE, "cell 7 0 commit 2 value 2a\nruns watch 0\nruns start 1\nquiet\n"),
     *(
         replay(
-            BOTH,
+            WATCH_AND_START,
             f"put 7 {column} 2a",
             f"launch 1 change 1\nstep 1 5\nlaunch 1 run {name} 7\nstep 1 {steps}",
             f"cell 7 {column} commit 2 value 2a\n{runs}{last}\n",
@@ -203,9 +201,9 @@ LONG = "del 0 0\n" * 10_001
 
 # what is told where texts are too long
 TOO_LONG = [
-    whole(of(*[observer(code="")] * 33), 52),
+    whole(manifest_of(*[observer(digits="")] * 33), 52),
     run_fails(NOBODY, LONG, "script: line 10001 code 75"),
-    whole(of(*[observer(code="")] * 33), 52, LONG),
+    whole(manifest_of(*[observer(digits="")] * 33), 52, LONG),
     run(NOBODY, "", "quiet\n"),
 ]
 

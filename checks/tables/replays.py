@@ -4,10 +4,8 @@ Worked out by hand from docs/TABLE.md and docs/FORMATS.md, "Schedule" and "Repor
 """
 from __future__ import annotations
 
-from tables import COPIED, WATCHED, Row, Tables, observer, of, replay, replay_fails
+from tables import CHANGED, COPIED, ONE, WATCHED, Row, Tables, manifest_of, observer, replay, replay_fails
 
-ONE = "put 7 0 2a\n"
-CHANGED = "cell 7 0 commit 2 value 2a\n"
 
 RIVALS = [
     # two runs on one cell: the first to write its acknowledgment commits, and the other conflicts with it
@@ -28,22 +26,22 @@ RIVALS = [
 ]
 
 TWO_CELLS = "put 7 1 aa; put 7 0 2a\n"
-BOTH = "cell 7 0 commit 2 value 2a\ncell 7 1 commit 2 value aa\n"
+BOTH_CELLS = "cell 7 0 commit 2 value 2a\ncell 7 1 commit 2 value aa\n"
 
 
-def cut(steps: int, more: str, report: str) -> Row:
+def two_cells_crash(steps: int, more: str, report: str) -> Row:
     """A change of two cells that crashes after so many steps, and more."""
     return replay(WATCHED, TWO_CELLS, f"launch 1 change 1\nstep 1 {steps}\ncrash 1\n{more}", report)
 
 
 CRASHED = [
     # once it is committed, its other cell is committed by whoever clears it, and marked by that
-    cut(6, "", f"{BOTH}runs watch 0\nmarks 0 locks 1\n"),
-    cut(6, "clear 7 0\n", f"{BOTH}runs watch 0\nmarks 1 locks 0\n"),
-    cut(6, "clear 7 0\nlaunch 1 run watch 7\nstep 1 100\n", f"{BOTH}runs watch 1\nquiet\n"),
+    two_cells_crash(6, "", f"{BOTH_CELLS}runs watch 0\nmarks 0 locks 1\n"),
+    two_cells_crash(6, "clear 7 0\n", f"{BOTH_CELLS}runs watch 0\nmarks 1 locks 0\n"),
+    two_cells_crash(6, "clear 7 0\nlaunch 1 run watch 7\nstep 1 100\n", f"{BOTH_CELLS}runs watch 1\nquiet\n"),
     # before its commit it is taken back by whoever settles its primary and clears its other cell
-    cut(5, "", "runs watch 0\nmarks 0 locks 2\n"),
-    cut(5, "settle 7 1\nclear 7 0\n", "runs watch 0\nquiet\n"),
+    two_cells_crash(5, "", "runs watch 0\nmarks 0 locks 2\n"),
+    two_cells_crash(5, "settle 7 1\nclear 7 0\n", "runs watch 0\nquiet\n"),
     # one whose primary was settled before it committed is lost
     replay(WATCHED, ONE, "launch 1 change 1\nstep 1 3\nsettle 7 0\nstep 1 100\n", "runs watch 0\nquiet\n"),
 ]
@@ -104,7 +102,7 @@ TEXTS = [
 REPORTS = [
     # the newest write of a cell is told
     replay(
-        of(),
+        manifest_of(),
         "put 7 0 2a\ndel 7 0\n",
         "launch 1 change 1\nstep 1 5\nlaunch 1 change 2\nstep 1 5\n",
         "cell 7 0 commit 4 deleted\nquiet\n",
@@ -117,10 +115,10 @@ REPORTS = [
         "launch 1 change 3\nstep 1 4\n",
         "cell 0 0 commit 4 value 01\ncell 1000 15 commit 2 value 00\nruns watch 1\nmarks 0 locks 2\n",
     ),
-    replay(of(), "", "", "quiet\n"),
+    replay(manifest_of(), "", "", "quiet\n"),
     # runs before the last line
     replay(
-        of(observer(), observer("copy-2", 15)),
+        manifest_of(observer(), observer("copy-2", 15)),
         ONE,
         "launch 1 change 1\nstep 1 5\nlaunch 1 run watch 7\nstep 1 9\n",
         f"{CHANGED}runs watch 1\nruns copy-2 0\nmarks 1 locks 0\n",

@@ -5,7 +5,7 @@ program is replaced by instructions that write register 0 to cell 5 0. It runs a
 """
 from __future__ import annotations
 
-from tables import Row, Tables, accepted, code, observer, of, replay, run
+from tables import Row, Tables, accepted, encoded, manifest_of, observer, replay, run
 
 MAX = 0xFFFF_FFFF_FFFF_FFFF
 
@@ -25,7 +25,7 @@ def result(text: str, wanted: int) -> Row:
     """A program, without the exit that ends it, and what register 0 has there."""
     digits = (wanted.to_bytes(8, "little").rstrip(bytes(1)) or bytes(1)).hex()
     return run(
-        of(observer(column=9, helpers="1,2,3,4", code=code(text, KEEP).hex())),
+        manifest_of(observer(column=9, helpers="1,2,3,4", digits=encoded(text, KEEP).hex())),
         f"put {ROW} 9 {VALUE}\n",
         f"cell 5 0 commit 4 value {digits}\ncell {ROW} 9 commit 2 value {VALUE}\nruns watch 1\nquiet\n",
     )
@@ -248,12 +248,12 @@ READS = [
 ]
 
 
-def counted(text: str, instructions: int) -> list[Row]:
+def takes_steps(text: str, instructions: int) -> list[Row]:
     """A program that does so many instructions, and neither asks nor writes, on a deleted cell: a step of the run for each.
 
     Three steps of the table come before, and five behind, of which the last is the sweep.
     """
-    manifest = of(observer(column=9, helpers="1,2,3,4", code=code(text).hex()))
+    manifest = manifest_of(observer(column=9, helpers="1,2,3,4", digits=encoded(text).hex()))
     first = "launch 1 change 1\nstep 1 5\nlaunch 1 run watch 7\n"
     return [
         replay(manifest, "del 7 9\n", f"{first}step 1 {steps}\n", f"cell 7 9 commit 2 deleted\nruns watch 1\n{last}\n")
@@ -267,17 +267,17 @@ NO_COLUMN = f"mov64 r1, 7; mov64 r2, 16; {READ}"
 
 FIRST_PROGRAMS = [
     result("mov64 r0, 0", 0),
-    *counted("mov64 r0, 0; exit", 2),
+    *takes_steps("mov64 r0, 0; exit", 2),
     result("mov64 r0, 7; mov64 r1, 0; div64 r0, r1", 0),
-    *counted("mov64 r0, 7; mov64 r1, 0; div64 r0, r1; exit", 4),
+    *takes_steps("mov64 r0, 7; mov64 r1, 0; div64 r0, r1; exit", 4),
     result("mov64 r0, 7; mov64 r1, 0; mod64 r0, r1", 7),
-    *counted("mov64 r0, 7; mov64 r1, 0; mod64 r0, r1; exit", 4),
-    accepted(code(PAIR, "exit"), 5),
+    *takes_steps("mov64 r0, 7; mov64 r1, 0; mod64 r0, r1; exit", 4),
+    accepted(encoded(PAIR, "exit"), 5),
     result(PAIR, 7),
-    *counted(f"{PAIR}; exit", 4),
+    *takes_steps(f"{PAIR}; exit", 4),
     result(NO_COLUMN, 2),
-    *counted(f"{NO_COLUMN}; exit", 6),
-    *counted("call 4; exit", 2),
+    *takes_steps(f"{NO_COLUMN}; exit", 6),
+    *takes_steps("call 4; exit", 2),
 ]
 
 TABLES: Tables = {

@@ -5,7 +5,7 @@ each run takes two.
 """
 from __future__ import annotations
 
-from tables import COPY, START, WATCHED, Row, Tables, code, observer, of, run
+from tables import CHANGED, COPY, ONE, START, WATCHED, Row, Tables, encoded, manifest_of, observer, run
 
 # counts its runs on the cells of a row, in column 15 of the row
 COUNT = (
@@ -20,8 +20,6 @@ DELETE = "b701000007000000b70200000000000085000000030000009500000000000000"
 # the same, but it ends with 1
 DELETE_IN_VAIN = "b701000007000000b7020000000000008500000003000000b7000000010000009500000000000000"
 
-ONE = "put 7 0 2a\n"
-CHANGED = "cell 7 0 commit 2 value 2a\n"
 
 WATCHES = [
     run(WATCHED, ONE, f"{CHANGED}runs watch 1\nquiet\n"),
@@ -31,7 +29,7 @@ WATCHES = [
     run(WATCHED, "put 7 1 2a\n", "cell 7 1 commit 2 value 2a\nruns watch 0\nquiet\n"),
 ]
 
-THREE = of(observer(), observer("start", 0, "4", START), observer("other", 1))
+THREE = manifest_of(observer(), observer("start", 0, "4", START), observer("other", 1))
 
 SEVERAL = [
     run(THREE, ONE, f"{CHANGED}runs watch 1\nruns start 1\nruns other 0\nquiet\n"),
@@ -45,7 +43,7 @@ SEVERAL = [
 
 def runs_once(digits: str) -> Row:
     """A program without helpers, which runs on one change."""
-    return run(of(observer(code=digits)), ONE, f"{CHANGED}runs watch 1\nquiet\n")
+    return run(manifest_of(observer(digits=digits)), ONE, f"{CHANGED}runs watch 1\nquiet\n")
 
 
 WITHOUT_HELPERS = [
@@ -59,19 +57,19 @@ WITHOUT_HELPERS = [
 ]
 
 COPIER = observer("copy", 0, "2", COPY)
-COPIED = f"{CHANGED}cell 7 1 commit 4 value 2a\nruns copy 1\n"
+COPIED_ONCE = f"{CHANGED}cell 7 1 commit 4 value 2a\nruns copy 1\n"
 
 COPIES = [
-    run(of(COPIER), ONE, f"{COPIED}quiet\n"),
+    run(manifest_of(COPIER), ONE, f"{COPIED_ONCE}quiet\n"),
     # one run handles both changes; of a deletion it copies zeros
     run(
-        of(COPIER),
+        manifest_of(COPIER),
         "put 7 0 2a\ndel 7 0\n",
         "cell 7 0 commit 4 deleted\ncell 7 1 commit 6 value 00\nruns copy 1\nquiet\n",
     ),
     # marks are met by row
     run(
-        of(COPIER),
+        manifest_of(COPIER),
         "put 8 0 01\nput 7 0 02\n",
         "cell 7 0 commit 4 value 02\ncell 7 1 commit 6 value 02\ncell 8 0 commit 2 value 01\ncell 8 1 commit 8 value 01\n"
         "runs copy 2\nquiet\n",
@@ -80,14 +78,14 @@ COPIES = [
 
 COUNTS = [
     run(
-        of(observer("count", 0, "1,2", COUNT)),
+        manifest_of(observer("count", 0, "1,2", COUNT)),
         "put 7 0 2a\nput 7 0 2b\nput 8 0 01\n",
         "cell 7 0 commit 4 value 2b\ncell 7 15 commit 8 value 01\ncell 8 0 commit 6 value 01\n"
         "cell 8 15 commit 10 value 01\nruns count 2\nquiet\n",
     ),
     # the second reads what the first wrote
     run(
-        of(observer("first", 0, "1,2", COUNT), observer("second", 1, "1,2", COUNT)),
+        manifest_of(observer("first", 0, "1,2", COUNT), observer("second", 1, "1,2", COUNT)),
         "put 7 0 2a; put 7 1 2b\n",
         "cell 7 0 commit 2 value 2a\ncell 7 1 commit 2 value 2b\ncell 7 15 commit 6 value 02\n"
         "runs first 1\nruns second 1\nquiet\n",
@@ -96,29 +94,29 @@ COUNTS = [
 
 ONE_AFTER_ANOTHER = [
     # two observe one column
-    run(of(COPIER, observer()), ONE, f"{COPIED}runs watch 1\nquiet\n"),
+    run(manifest_of(COPIER, observer()), ONE, f"{COPIED_ONCE}runs watch 1\nquiet\n"),
     # what one writes the other observes
-    run(of(COPIER, observer(column=1)), ONE, f"{COPIED}runs watch 1\nquiet\n"),
+    run(manifest_of(COPIER, observer(column=1)), ONE, f"{COPIED_ONCE}runs watch 1\nquiet\n"),
     # it marks a cell that the pass has gone by, which the next pass finds
     run(
-        of(observer(), observer("delete", 1, "3", DELETE)),
+        manifest_of(observer(), observer("delete", 1, "3", DELETE)),
         "put 7 1 2a\n",
         "cell 7 0 commit 4 deleted\ncell 7 1 commit 2 value 2a\nruns watch 1\nruns delete 1\nquiet\n",
     ),
     # each of its runs changes the cell that it observes, so that every pass finds its mark
     run(
-        of(observer("delete", 0, "3", DELETE)),
+        manifest_of(observer("delete", 0, "3", DELETE)),
         ONE,
         "cell 7 0 commit 2002 deleted\nruns delete 1000\nmarks 1 locks 0\n",
     ),
 ]
 
-SEVENTEEN = code(*(f"mov64 r1, {row}; mov64 r2, 2; call 3" for row in range(17)), "exit").hex()
+SEVENTEEN = encoded(*(f"mov64 r1, {row}; mov64 r2, 2; call 3" for row in range(17)), "exit").hex()
 
 # nothing is written with another result than 0, which a program has that writes a 17th cell
 OTHER_RESULTS = [
-    run(of(observer("vain", 0, "3", DELETE_IN_VAIN)), ONE, f"{CHANGED}runs vain 1\nquiet\n"),
-    run(of(observer("many", 0, "3", SEVENTEEN)), ONE, f"{CHANGED}runs many 1\nquiet\n"),
+    run(manifest_of(observer("vain", 0, "3", DELETE_IN_VAIN)), ONE, f"{CHANGED}runs vain 1\nquiet\n"),
+    run(manifest_of(observer("many", 0, "3", SEVENTEEN)), ONE, f"{CHANGED}runs many 1\nquiet\n"),
 ]
 
 TABLES: Tables = {

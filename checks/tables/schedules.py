@@ -6,9 +6,9 @@ and sweep.
 """
 from __future__ import annotations
 
-from tables import NOBODY, Row, Tables, observer, of, replay, replay_fails
+from tables import NOBODY, Row, Tables, manifest_of, observer, replay, replay_fails
 
-THREE = of(observer("watch", 0), observer("ack", 3), observer("copy-2", 15))
+THREE = manifest_of(observer("watch", 0), observer("ack", 3), observer("copy-2", 15))
 
 LAST_ROW = 18446744073709551615
 
@@ -35,21 +35,21 @@ def counted(schedule: str, count: int) -> Row:
     return replay_fails(THREE, "", f"{schedule}\nlaunch 63 change 1", f"event {count} code 63")
 
 
-def told(schedule: str, code: int, line: int = 1) -> Row:
+def schedule_fails(schedule: str, number: int, line: int = 1) -> Row:
     """A schedule that is refused."""
-    return replay_fails(THREE, "", schedule, f"schedule: line {line} code {code}")
+    return replay_fails(THREE, "", schedule, f"schedule: line {line} code {number}")
 
 
 NONE = (0, 0, 0)
-CHANGED = "launch 1 change 1\nstep 1 5\n"
-TEN_THOUSAND = "del 0 0\n" * 9_999 + "put 7 1 2a\n"
+CHANGE_MADE = "launch 1 change 1\nstep 1 5\n"
+LONGEST_SCRIPT = "del 0 0\n" * 9_999 + "put 7 1 2a\n"
 
 EVENTS_OF_JOBS = [
     put(7, 0, "launch 1 change 1\nstep 1 5", NONE, "marks 1 locks 0"),
-    left(TEN_THOUSAND, "launch 63 change 10000\nstep 63 5", "cell 7 1 commit 2 value 2a\n", NONE, "quiet"),
-    put(7, 0, f"{CHANGED}launch 2 run watch 7\nstep 2 10", (1, 0, 0), "quiet"),
-    put(0, 3, f"{CHANGED}launch 2 run ack 0\nstep 2 10", (0, 1, 0), "quiet"),
-    put(LAST_ROW, 15, f"{CHANGED}launch 63 run copy-2 {LAST_ROW}\nstep 63 10", (0, 0, 1), "quiet"),
+    left(LONGEST_SCRIPT, "launch 63 change 10000\nstep 63 5", "cell 7 1 commit 2 value 2a\n", NONE, "quiet"),
+    put(7, 0, f"{CHANGE_MADE}launch 2 run watch 7\nstep 2 10", (1, 0, 0), "quiet"),
+    put(0, 3, f"{CHANGE_MADE}launch 2 run ack 0\nstep 2 10", (0, 1, 0), "quiet"),
+    put(LAST_ROW, 15, f"{CHANGE_MADE}launch 63 run copy-2 {LAST_ROW}\nstep 63 10", (0, 0, 1), "quiet"),
     # the third step puts the lock, the fifth commits
     put(7, 0, "launch 1 change 1\nstep 1\nstep 1", NONE, "quiet", False),
     put(7, 0, "launch 1 change 1\nstep 1\nstep 1\nstep 1", NONE, "marks 0 locks 1", False),
@@ -62,12 +62,12 @@ EVENTS_OF_JOBS = [
 
 def cut_run(name: str, more: str) -> str:
     """A run of this observer on row 7 with its lock on the acknowledgment, crashed then, and more."""
-    return f"{CHANGED}launch 2 run {name} 7\nstep 2 7\ncrash 2\n{more}"
+    return f"{CHANGE_MADE}launch 2 run {name} 7\nstep 2 7\ncrash 2\n{more}"
 
 
 def unswept(name: str, row: int, more: str) -> str:
     """A run of this observer that is committed and crashed before its sweep, and more."""
-    return f"{CHANGED}launch 2 run {name} {row}\nstep 2 9\ncrash 2\n{more}"
+    return f"{CHANGE_MADE}launch 2 run {name} {row}\nstep 2 9\ncrash 2\n{more}"
 
 
 def second_cell(more: str) -> Row:
@@ -114,104 +114,104 @@ EVENTS_IN_ORDER = [
 ]
 
 NUMBERS_OUT_OF_RANGE = [
-    told("launch 0 change 1", 91),
-    told("launch 64 run watch 7", 91),
-    told("step 0", 91),
-    told("step 64", 91),
-    told("crash 0", 91),
-    told("crash 64", 91),
-    told("launch 1 change 0", 91),
-    told("launch 1 change 10001", 91),
-    told("step 1 0", 91),
-    told("step 1 1000001", 91),
-    told("step 18446744073709551617", 91),
-    told("step 1 340282366920938463463374607431768211457", 91),
+    schedule_fails("launch 0 change 1", 91),
+    schedule_fails("launch 64 run watch 7", 91),
+    schedule_fails("step 0", 91),
+    schedule_fails("step 64", 91),
+    schedule_fails("crash 0", 91),
+    schedule_fails("crash 64", 91),
+    schedule_fails("launch 1 change 0", 91),
+    schedule_fails("launch 1 change 10001", 91),
+    schedule_fails("step 1 0", 91),
+    schedule_fails("step 1 1000001", 91),
+    schedule_fails("step 18446744073709551617", 91),
+    schedule_fails("step 1 340282366920938463463374607431768211457", 91),
 ]
 
 CELLS_OUT_OF_RANGE = [
-    told("launch 1 run watch 18446744073709551616", 91),
-    told("settle 18446744073709551616 0", 91),
-    told("settle 7 16", 91),
-    told("settle 7 18446744073709551616", 91),
-    told("settle ack watch 18446744073709551616", 91),
-    told("clear 18446744073709551616 0", 91),
-    told("clear 7 16", 91),
-    told("clear ack watch 18446744073709551616", 91),
-    told("sweep 18446744073709551616 0", 91),
-    told("sweep 7 16", 91),
+    schedule_fails("launch 1 run watch 18446744073709551616", 91),
+    schedule_fails("settle 18446744073709551616 0", 91),
+    schedule_fails("settle 7 16", 91),
+    schedule_fails("settle 7 18446744073709551616", 91),
+    schedule_fails("settle ack watch 18446744073709551616", 91),
+    schedule_fails("clear 18446744073709551616 0", 91),
+    schedule_fails("clear 7 16", 91),
+    schedule_fails("clear ack watch 18446744073709551616", 91),
+    schedule_fails("sweep 18446744073709551616 0", 91),
+    schedule_fails("sweep 7 16", 91),
 ]
 
 WORDS_OUT_OF_FORM = [
-    told("stop 1", 90),
-    told("Step 1", 90),
-    told("launch", 90),
-    told("launch 1", 90),
-    told("launch 1 walk watch 7", 90),
-    told("launch 1 change", 90),
-    told("launch 1 run", 90),
-    told("launch 1 run watch", 90),
-    told("settle ack", 90),
-    told("settle ack watch", 90),
-    told("sweep ack watch 7", 90),
-    told(" # step 1", 90),
+    schedule_fails("stop 1", 90),
+    schedule_fails("Step 1", 90),
+    schedule_fails("launch", 90),
+    schedule_fails("launch 1", 90),
+    schedule_fails("launch 1 walk watch 7", 90),
+    schedule_fails("launch 1 change", 90),
+    schedule_fails("launch 1 run", 90),
+    schedule_fails("launch 1 run watch", 90),
+    schedule_fails("settle ack", 90),
+    schedule_fails("settle ack watch", 90),
+    schedule_fails("sweep ack watch 7", 90),
+    schedule_fails(" # step 1", 90),
 ]
 
 NUMBERS_OUT_OF_FORM = [
-    told("step", 90),
-    told("step +1", 90),
-    told("step 01", 90),
-    told("step 1 00", 90),
-    told("step 1 1000000x", 90),
-    told("step 1\r", 90),
-    told("launch 1 change 1.0", 90),
-    told("launch 1 run watch -7", 90),
-    told("settle 7", 90),
-    told("settle 7 x", 90),
-    told("clear  7 0", 90),
-    told("sweep 7 00", 90),
+    schedule_fails("step", 90),
+    schedule_fails("step +1", 90),
+    schedule_fails("step 01", 90),
+    schedule_fails("step 1 00", 90),
+    schedule_fails("step 1 1000000x", 90),
+    schedule_fails("step 1\r", 90),
+    schedule_fails("launch 1 change 1.0", 90),
+    schedule_fails("launch 1 run watch -7", 90),
+    schedule_fails("settle 7", 90),
+    schedule_fails("settle 7 x", 90),
+    schedule_fails("clear  7 0", 90),
+    schedule_fails("sweep 7 00", 90),
 ]
 
 WORDS_BEHIND_THE_LAST = [
-    told("launch 1 change 1 1", 90),
-    told("launch 1 run watch 7 7", 90),
-    told("step 1 1 1", 90),
-    told("step 1 ", 90),
-    told("step 1 1 ", 90),
-    told("crash 1 1", 90),
-    told("settle 7 0 0", 90),
-    told("settle ack watch 7 0", 90),
-    told("clear 7 0 ", 90),
-    told("clear ack watch 7 0", 90),
-    told("sweep 7 0 0", 90),
+    schedule_fails("launch 1 change 1 1", 90),
+    schedule_fails("launch 1 run watch 7 7", 90),
+    schedule_fails("step 1 1 1", 90),
+    schedule_fails("step 1 ", 90),
+    schedule_fails("step 1 1 ", 90),
+    schedule_fails("crash 1 1", 90),
+    schedule_fails("settle 7 0 0", 90),
+    schedule_fails("settle ack watch 7 0", 90),
+    schedule_fails("clear 7 0 ", 90),
+    schedule_fails("clear ack watch 7 0", 90),
+    schedule_fails("sweep 7 0 0", 90),
 ]
 
 NAMES_OF_NOBODY = [
-    told("launch 1 run nobody 7", 93),
-    told("launch 1 run Watch 7", 93),
-    told("launch 1 run  7", 93),
-    told("settle ack nobody 7", 93),
-    told("settle ack  7", 93),
-    told("settle ack 7 0", 93),
-    told("clear ack nobody 7", 93),
-    told("clear ack watc 7", 93),
+    schedule_fails("launch 1 run nobody 7", 93),
+    schedule_fails("launch 1 run Watch 7", 93),
+    schedule_fails("launch 1 run  7", 93),
+    schedule_fails("settle ack nobody 7", 93),
+    schedule_fails("settle ack  7", 93),
+    schedule_fails("settle ack 7 0", 93),
+    schedule_fails("clear ack nobody 7", 93),
+    schedule_fails("clear ack watc 7", 93),
     replay_fails(NOBODY, "", "launch 1 run watch 7", "schedule: line 1 code 93"),
     replay_fails(NOBODY, "", "launch 1 change 7", "event 0 code 63"),
     replay(NOBODY, "del 0 0\n" * 7, "launch 1 change 7", "quiet\n"),
 ]
 
 FIRST_FAULT_OF_A_LINE = [
-    told("launch 0 walk", 91),
-    told("launch x change 0", 90),
-    told("launch 64 run nobody x", 91),
-    told("launch 1 run nobody 18446744073709551616", 93),
-    told("launch 1 run nobody x y", 93),
-    told("launch 1 run watch 18446744073709551616 x", 91),
-    told("step 64 x", 91),
-    told("step x 0", 90),
-    told("step 1 0 x", 91),
-    told("settle x 16", 90),
-    told("settle 18446744073709551616 x", 91),
-    told("clear ack nobody x", 93),
+    schedule_fails("launch 0 walk", 91),
+    schedule_fails("launch x change 0", 90),
+    schedule_fails("launch 64 run nobody x", 91),
+    schedule_fails("launch 1 run nobody 18446744073709551616", 93),
+    schedule_fails("launch 1 run nobody x y", 93),
+    schedule_fails("launch 1 run watch 18446744073709551616 x", 91),
+    schedule_fails("step 64 x", 91),
+    schedule_fails("step x 0", 90),
+    schedule_fails("step 1 0 x", 91),
+    schedule_fails("settle x 16", 90),
+    schedule_fails("settle 18446744073709551616 x", 91),
+    schedule_fails("clear ack nobody x", 93),
 ]
 
 COUNTED_LINES = [
@@ -225,25 +225,25 @@ COUNTED_LINES = [
     counted("step 1\n", 1),
     idle("# x\n\nstep 1\n\nstep 2 3\n# y"),
     counted("# x\n\nstep 1\n\nstep 2 3\n# y", 4),
-    told("\n\nstep 0", 91, 3),
-    told("#step 0\nstep 1\n\nstep 01\nstep 0", 90, 4),
-    told("step 1\nlaunch 1 run nobody 7\nx", 93, 2),
+    schedule_fails("\n\nstep 0", 91, 3),
+    schedule_fails("#step 0\nstep 1\n\nstep 01\nstep 0", 90, 4),
+    schedule_fails("step 1\nlaunch 1 run nobody 7\nx", 93, 2),
 ]
 
 COUNTED_EVENTS = [
     idle("step 1 1000000"),
-    told("step 1 1000000\nstep 1", 92, 2),
+    schedule_fails("step 1 1000000\nstep 1", 92, 2),
     idle("step 1 999999\nstep 1\n# x\n"),
     counted("step 1 999999", 999_999),
-    told("step 1 999999\nstep 1 2", 92, 2),
-    told("step 1 999998\n\nstep 1\ncrash 2\nsettle 7 0", 92, 5),
-    told("step 1 1000000\nlaunch 1 run watch 7", 92, 2),
+    schedule_fails("step 1 999999\nstep 1 2", 92, 2),
+    schedule_fails("step 1 999998\n\nstep 1\ncrash 2\nsettle 7 0", 92, 5),
+    schedule_fails("step 1 1000000\nlaunch 1 run watch 7", 92, 2),
     # its own faults come first
-    told("step 1 1000000\nx", 90, 2),
-    told("step 1 1000000\nstep 1 1 1", 90, 2),
-    told("step 1 1000000\nstep 64", 91, 2),
-    told("step 1 1000000\nstep 1 1000001", 91, 2),
-    told("step 1 1000000\nlaunch 1 run nobody 7", 93, 2),
+    schedule_fails("step 1 1000000\nx", 90, 2),
+    schedule_fails("step 1 1000000\nstep 1 1 1", 90, 2),
+    schedule_fails("step 1 1000000\nstep 64", 91, 2),
+    schedule_fails("step 1 1000000\nstep 1 1000001", 91, 2),
+    schedule_fails("step 1 1000000\nlaunch 1 run nobody 7", 93, 2),
 ]
 
 TABLES: Tables = {

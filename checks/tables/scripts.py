@@ -4,7 +4,7 @@ Worked out by hand from docs/FORMATS.md, "Script": each change takes two timesta
 """
 from __future__ import annotations
 
-from tables import NOBODY, Row, Tables, observer, of, replay, run, run_fails
+from tables import NOBODY, Row, Tables, manifest_of, observer, replay, run, run_fails
 
 
 def made(script: str, *cells: str) -> Row:
@@ -12,9 +12,9 @@ def made(script: str, *cells: str) -> Row:
     return run(NOBODY, script, "".join(f"cell {cell}\n" for cell in cells) + "quiet\n")
 
 
-def told(script: str, code: int, line: int = 1) -> Row:
+def script_fails(script: str, number: int, line: int = 1) -> Row:
     """A script that is refused."""
-    return run_fails(NOBODY, script, f"script: line {line} code {code}")
+    return run_fails(NOBODY, script, f"script: line {line} code {number}")
 
 
 SCRIPTS = [
@@ -22,15 +22,15 @@ SCRIPTS = [
     made("put 7 0 2a", "7 0 commit 2 value 2a"),
     made("# x\n\nput 7 1 aa\ndel 0 15\n", "0 15 commit 4 deleted", "7 1 commit 2 value aa"),
     made("put 18446744073709551615 15 00", "18446744073709551615 15 commit 2 value 00"),
-    told("put 7 16 2a", 71),
-    told("#\nput 07 1 2a", 70, 2),
-    told("put 18446744073709551616 x 2a", 71),
-    told("put 1 1 2A", 72),
-    told("put 1 1 2", 72),
-    told("put 1 1 ", 72),
-    told("put 1 1", 70),
-    told("put 1 1 2a 3", 70),
-    told("put 1 1 2a\r", 72),
+    script_fails("put 7 16 2a", 71),
+    script_fails("#\nput 07 1 2a", 70, 2),
+    script_fails("put 18446744073709551616 x 2a", 71),
+    script_fails("put 1 1 2A", 72),
+    script_fails("put 1 1 2", 72),
+    script_fails("put 1 1 ", 72),
+    script_fails("put 1 1", 70),
+    script_fails("put 1 1 2a 3", 70),
+    script_fails("put 1 1 2a\r", 72),
 ]
 
 RUNS = [
@@ -38,8 +38,8 @@ RUNS = [
     made("put 7 0 2a\ndel 7 0\n", "7 0 commit 4 deleted"),
     made("put 1000 15 00\nput 0 0 0100\n", "0 0 commit 4 value 01", "1000 15 commit 2 value 00"),
     made(""),
-    told("put 7 16 2a\n", 71),
-    told("put 7 0 2a\nput 07 0 2a\n", 70, 2),
+    script_fails("put 7 16 2a\n", 71),
+    script_fails("put 7 0 2a\nput 07 0 2a\n", 70, 2),
 ]
 
 OPERATIONS = [
@@ -53,38 +53,38 @@ OPERATIONS = [
     made("del 7 0; del 7 1\n\ndel 7 0; del 7 1\n", "7 0 commit 4 deleted", "7 1 commit 4 deleted"),
     made("# del 7 0; x"),
     # the first fault, wherever it is, and whatever stands behind it
-    told("put 7 16 2a; put 7 1 2a", 71),
-    told("put 7 0 2a; x", 70),
-    told("put 7 0 2a; put 07 1 2a", 70),
-    told("put 7 0 2a; put 18446744073709551616 1 2a", 71),
-    told("put 7 0 2a; put 7 16 2a", 71),
-    told("put 7 0 2a; put 7 1 2A", 72),
-    told("del 1 1; del 2 2; del 3", 70),
-    told("del 1 1; del 2 2; del 3 16", 71),
-    told("del 1 1; del 2 2; put 3 3 2", 72),
-    told("del 1 1; del 2 16; x", 71),
-    told("del 1 1\ndel 1 1; del 2 16\nx", 71, 2),
+    script_fails("put 7 16 2a; put 7 1 2a", 71),
+    script_fails("put 7 0 2a; x", 70),
+    script_fails("put 7 0 2a; put 07 1 2a", 70),
+    script_fails("put 7 0 2a; put 18446744073709551616 1 2a", 71),
+    script_fails("put 7 0 2a; put 7 16 2a", 71),
+    script_fails("put 7 0 2a; put 7 1 2A", 72),
+    script_fails("del 1 1; del 2 2; del 3", 70),
+    script_fails("del 1 1; del 2 2; del 3 16", 71),
+    script_fails("del 1 1; del 2 2; put 3 3 2", 72),
+    script_fails("del 1 1; del 2 16; x", 71),
+    script_fails("del 1 1\ndel 1 1; del 2 16\nx", 71, 2),
     # a cell named before, after the operation's own faults
-    told("put 7 0 2a; put 7 0 2a", 73),
-    told("put 7 0 2a; del 7 0", 73),
-    told("del 7 0; del 7 1; del 7 0; x", 73),
-    told("x; del 7 0; del 7 0", 70),
-    told("del 7 0; put 7 0 2A", 72),
-    told("del 7 0; del 7 0 x", 70),
+    script_fails("put 7 0 2a; put 7 0 2a", 73),
+    script_fails("put 7 0 2a; del 7 0", 73),
+    script_fails("del 7 0; del 7 1; del 7 0; x", 73),
+    script_fails("x; del 7 0; del 7 0", 70),
+    script_fails("del 7 0; put 7 0 2A", 72),
+    script_fails("del 7 0; del 7 0 x", 70),
 ]
 
 JOINTS = [
-    told("put 1 1 2a;del 1 2", 72),
-    told("del 1 1;del 1 2", 70),
-    told("put 1 1 2a;", 72),
-    told("put 1 1 2a;  del 1 2", 70),
-    told("put 1 1 2a ; del 1 2", 70),
-    told("put 1 1 ; del 1 2", 72),
-    told("put 1 1 2a; ", 70),
-    told("; put 1 1 2a", 70),
-    told("del 1 1; ; del 1 2", 70),
-    told("; ", 70),
-    told("del 1 1; # x", 70),
+    script_fails("put 1 1 2a;del 1 2", 72),
+    script_fails("del 1 1;del 1 2", 70),
+    script_fails("put 1 1 2a;", 72),
+    script_fails("put 1 1 2a;  del 1 2", 70),
+    script_fails("put 1 1 2a ; del 1 2", 70),
+    script_fails("put 1 1 ; del 1 2", 72),
+    script_fails("put 1 1 2a; ", 70),
+    script_fails("; put 1 1 2a", 70),
+    script_fails("del 1 1; ; del 1 2", 70),
+    script_fails("; ", 70),
+    script_fails("del 1 1; # x", 70),
 ]
 
 SEVERAL_CELLS = [
@@ -96,10 +96,10 @@ SEVERAL_CELLS = [
         "8 0 commit 4 value 0b",
     ),
     made("put 1000 15 00; put 0 0 0100\n", "0 0 commit 2 value 01", "1000 15 commit 2 value 00"),
-    told("put 7 0 2a; del 7 0\n", 73),
-    told("put 7 0 2a\n# a remark\nput 7 0 2b; put 7 16 2a\n", 71, 3),
-    told("put 7 0 2a;put 7 1 2a\n", 72),
-    told("put 7 0 2a; \n", 70),
+    script_fails("put 7 0 2a; del 7 0\n", 73),
+    script_fails("put 7 0 2a\n# a remark\nput 7 0 2b; put 7 16 2a\n", 71, 3),
+    script_fails("put 7 0 2a;put 7 1 2a\n", 72),
+    script_fails("put 7 0 2a; \n", 70),
 ]
 
 
@@ -116,20 +116,20 @@ COUNTED_CELLS = [
     deleted(2),
     deleted(15),
     deleted(16),
-    told(deletions(17), 74),
-    told(f"{deletions(15)}; del 14 0", 73),
-    told(f"{deletions(15)}; put 0 0 2a", 73),
-    told(f"{deletions(16)}; del 0 1", 74),
-    told(f"{deletions(16)}; del 3 0", 73),
-    told(f"{deletions(16)}; put 15 0 2a", 73),
-    told(f"{deletions(16)}; put 16 0 2A", 72),
-    told(f"{deletions(16)}; del 16 16", 71),
-    told(f"{deletions(16)}; ", 70),
-    told(f"{deletions(17)}; del 0 0", 74),
-    told(f"{deletions(17)}; x", 74),
+    script_fails(deletions(17), 74),
+    script_fails(f"{deletions(15)}; del 14 0", 73),
+    script_fails(f"{deletions(15)}; put 0 0 2a", 73),
+    script_fails(f"{deletions(16)}; del 0 1", 74),
+    script_fails(f"{deletions(16)}; del 3 0", 73),
+    script_fails(f"{deletions(16)}; put 15 0 2a", 73),
+    script_fails(f"{deletions(16)}; put 16 0 2A", 72),
+    script_fails(f"{deletions(16)}; del 16 16", 71),
+    script_fails(f"{deletions(16)}; ", 70),
+    script_fails(f"{deletions(17)}; del 0 0", 74),
+    script_fails(f"{deletions(17)}; x", 74),
 ]
 
-LAST_COLUMN = of(observer("watch", 15))
+LAST_COLUMN = manifest_of(observer("watch", 15))
 
 
 def puts(count: int) -> str:
@@ -147,24 +147,24 @@ EACH_SIZE = [
     run_fails(LAST_COLUMN, f"put 8 0 2a; {puts(16)}", "script: line 1 code 74"),
 ]
 
-TEN_THOUSAND = "del 0 0; del 1 0\n" * 10_000
+TWO_CELLS_EACH = "del 0 0; del 1 0\n" * 10_000
 
 COUNTED_CHANGES = [
-    made(TEN_THOUSAND, "0 0 commit 20000 deleted", "1 0 commit 20000 deleted"),
-    told(f"{TEN_THOUSAND}del 0 0", 75, 10_001),
-    told(f"{TEN_THOUSAND}del 0 0; del 1 0", 75, 10_001),
-    told(f"{TEN_THOUSAND}x", 70, 10_001),
-    told(f"{TEN_THOUSAND}del 0 0; del 1 16", 71, 10_001),
-    told(f"{TEN_THOUSAND}del 0 0; put 1 0 2A", 72, 10_001),
-    told(f"{TEN_THOUSAND}del 0 0; del 0 0", 73, 10_001),
-    told(f"{TEN_THOUSAND}{deletions(17)}", 74, 10_001),
+    made(TWO_CELLS_EACH, "0 0 commit 20000 deleted", "1 0 commit 20000 deleted"),
+    script_fails(f"{TWO_CELLS_EACH}del 0 0", 75, 10_001),
+    script_fails(f"{TWO_CELLS_EACH}del 0 0; del 1 0", 75, 10_001),
+    script_fails(f"{TWO_CELLS_EACH}x", 70, 10_001),
+    script_fails(f"{TWO_CELLS_EACH}del 0 0; del 1 16", 71, 10_001),
+    script_fails(f"{TWO_CELLS_EACH}del 0 0; put 1 0 2A", 72, 10_001),
+    script_fails(f"{TWO_CELLS_EACH}del 0 0; del 0 0", 73, 10_001),
+    script_fails(f"{TWO_CELLS_EACH}{deletions(17)}", 74, 10_001),
 ]
 
 # three cells, then one
 ORDER = "put 7 0 2a; del 7 15; put 0 3 00ff\n# x\ndel 7 0"
 
 
-def cut(steps: int, more: str, last: str) -> Row:
+def three_cells_crash(steps: int, more: str, last: str) -> Row:
     """The first of these changes, crashed after so many steps, and then more."""
     cells = "cell 0 3 commit 2 value 00ff\ncell 7 0 commit 2 value 2a\ncell 7 15 commit 2 deleted\n" if steps > 6 else ""
     return replay(NOBODY, ORDER, f"launch 1 change 1\nstep 1 {steps}\ncrash 1\n{more}", f"{cells}{last}\n")
@@ -174,16 +174,16 @@ def cut(steps: int, more: str, last: str) -> Row:
 # clears one, once the primary is settled or committed
 KEPT_IN_ORDER = [
     made(ORDER, "0 3 commit 2 value 00ff", "7 0 commit 4 deleted", "7 15 commit 2 deleted"),
-    cut(3, "settle 7 15\nsettle 0 3\n", "marks 0 locks 1"),
-    cut(3, "settle 7 0\n", "quiet"),
-    cut(4, "settle 7 0\nclear 0 3\n", "marks 0 locks 1"),
-    cut(4, "settle 7 0\nclear 7 15\n", "quiet"),
-    cut(5, "settle 7 0\nclear 7 15\n", "marks 0 locks 1"),
-    cut(5, "settle 7 0\nclear 7 15\nclear 0 3\n", "quiet"),
-    cut(7, "clear 7 15\n", "marks 0 locks 1"),
-    cut(8, "clear 7 15\n", "marks 0 locks 1"),
-    cut(8, "clear 0 3\n", "quiet"),
-    cut(9, "", "quiet"),
+    three_cells_crash(3, "settle 7 15\nsettle 0 3\n", "marks 0 locks 1"),
+    three_cells_crash(3, "settle 7 0\n", "quiet"),
+    three_cells_crash(4, "settle 7 0\nclear 0 3\n", "marks 0 locks 1"),
+    three_cells_crash(4, "settle 7 0\nclear 7 15\n", "quiet"),
+    three_cells_crash(5, "settle 7 0\nclear 7 15\n", "marks 0 locks 1"),
+    three_cells_crash(5, "settle 7 0\nclear 7 15\nclear 0 3\n", "quiet"),
+    three_cells_crash(7, "clear 7 15\n", "marks 0 locks 1"),
+    three_cells_crash(8, "clear 7 15\n", "marks 0 locks 1"),
+    three_cells_crash(8, "clear 0 3\n", "quiet"),
+    three_cells_crash(9, "", "quiet"),
 ]
 
 TABLES: Tables = {

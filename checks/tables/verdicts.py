@@ -4,27 +4,29 @@ Unless a row names its helpers, a program may call all four.
 """
 from __future__ import annotations
 
-from tables import COPY, WATCH, Row, Tables, accepted, code, observer, of, refused, run, run_fails
-
-SIZES = {"b": 1, "h": 2, "w": 4, "dw": 8}
-
-
-def told(text: str, slot: int, number: int) -> Row:
-    """A program that is refused at this slot with this code."""
-    return refused(code(text), slot, number)
-
-
-def taken(text: str, slots: int) -> Row:
-    """A program that is accepted."""
-    return accepted(code(text), slots)
-
+from tables import (
+    COPY,
+    SIZES,
+    WATCH,
+    Row,
+    Tables,
+    accepted,
+    encoded,
+    manifest_of,
+    observer,
+    refused,
+    run,
+    run_fails,
+    taken,
+    told,
+)
 
 ARITHMETIC_AND_STORES = [
     told("mov64 r10, 0; exit", 0, 22),
     told("mov32 r0, r1; exit", 0, 23),
     told("stxdw [r10-8], r1", 0, 24),
     told("stb [r10-513], 5", 0, 25),
-    taken("stb [r10-512], 5; mov64 r0, 0; exit", 3),
+    taken("stb [r10-512], 5; mov64 r0, 0; exit"),
     told("stb [r1+0], 0", 0, 28),
     told("mov64 r2, 0; ldxb r0, [r2+0]", 1, 29),
 ]
@@ -36,13 +38,13 @@ CALLS_AND_ENDS = [
     told("mov64 r0, 0; exit; exit", 2, 35),
     told("mov64 r0, 0", 0, 36),
     told("mov64 r0, r1; exit", 1, 37),
-    taken("mov64 r0, 0; exit", 2),
+    taken("mov64 r0, 0; exit"),
 ]
 
 REGISTERS_AND_THE_RECORD = [
     told("mov64 r6, r1; exit", 1, 21),
     told("add64 r1, 80; ldxb r0, [r1+0]; exit", 1, 27),
-    taken("add64 r1, 79; ldxb r0, [r1+0]; exit", 3),
+    taken("add64 r1, 79; ldxb r0, [r1+0]; exit"),
     told("jeq64 r1, r10, +0; mov64 r0, 0; exit", 0, 38),
 ]
 
@@ -66,28 +68,28 @@ JUMPS_OF_EVERY_CLASS = [
     for word in ("jeq32", "jeq64")
     for row in (
         told(around_pair(f"{word} r0, {operand}, -2"), 1, 32),
-        taken(around_pair(f"{word} r0, {operand}, +0"), 5),
+        taken(around_pair(f"{word} r0, {operand}, +0")),
         told(around_pair(f"{word} r0, {operand}, +1"), 1, 34),
-        taken(around_pair(f"{word} r0, {operand}, +2"), 5),
+        taken(around_pair(f"{word} r0, {operand}, +2")),
         told(around_pair(f"{word} r0, {operand}, +3"), 1, 33),
     )
 ] + [
     told(around_pair("ja -2"), 1, 32),
-    taken(around_pair("ja +0"), 5),
+    taken(around_pair("ja +0")),
     told(around_pair("ja +1"), 1, 34),
     # nothing else leads behind a jump
     told(around_pair("ja +2"), 2, 35),
     told(around_pair("ja +3"), 1, 33),
 ]
 
-MOV, EXIT = code("mov64 r0, 0"), code("exit")
+MOV, EXIT = encoded("mov64 r0, 0"), encoded("exit")
 
 SLOTS_512 = [
     refused(MOV * 512, 511, 36),
     accepted(MOV * 511 + EXIT, 512),
     refused(MOV * 255 + EXIT + MOV * 255 + EXIT, 256, 35),
     # a jump over all but the last
-    refused(code("ja +510") + MOV * 254 + EXIT + MOV * 255 + code("mov64 r0, r10"), 1, 35),
+    refused(encoded("ja +510") + MOV * 254 + EXIT + MOV * 255 + encoded("mov64 r0, r10"), 1, 35),
     refused(MOV * 511 + EXIT * 2, 0, 11),
 ]
 
@@ -97,8 +99,8 @@ NINTH = 8 * 8
 def copying(ninth: str, helpers: str) -> str:
     """A manifest of the observer that copies, with this in its slot 8, and these helpers."""
     digits = bytes.fromhex(COPY)
-    changed = digits[:NINTH] + code(ninth) + digits[NINTH + 8 :]
-    return of(observer("copy", 0, helpers, changed.hex()))
+    changed = digits[:NINTH] + encoded(ninth) + digits[NINTH + 8 :]
+    return manifest_of(observer("copy", 0, helpers, changed.hex()))
 
 
 LAST_STORE = "stxdw [r10-8], r2"
@@ -121,7 +123,7 @@ def meeting(way: str) -> str:
 WAYS_THAT_MEET = [
     # a pointer that has two distances is none, one that has the same twice stays
     told(meeting("add64 r3, -8"), 4, 21),
-    taken(meeting("add64 r3, 0"), 7),
+    taken(meeting("add64 r3, 0")),
     # a number on one way and a pointer on the other
     told(meeting("mov64 r3, 0"), 4, 21),
 ]
@@ -132,8 +134,8 @@ def stack_ends(size: str) -> list[Row]:
     rows = []
     for offset in (-512, -SIZES[size]):
         rows += [
-            taken(f"st{size} [r10{offset}], 5; ldx{size} r0, [r10{offset}]; exit", 3),
-            taken(f"mov64 r0, 5; stx{size} [r10{offset}], r0; exit", 3),
+            taken(f"st{size} [r10{offset}], 5; ldx{size} r0, [r10{offset}]; exit"),
+            taken(f"mov64 r0, 5; stx{size} [r10{offset}], r0; exit"),
             told(f"ldx{size} r0, [r10{offset}]; exit", 0, 26),
         ]
     for offset in (-513, 1 - SIZES[size]):
@@ -149,9 +151,9 @@ def record_ends(size: str) -> list[Row]:
     """Loads of this size at both ends of the record."""
     last = 80 - SIZES[size]
     return [
-        taken(f"ldx{size} r0, [r1+0]; exit", 2),
+        taken(f"ldx{size} r0, [r1+0]; exit"),
         told(f"ldx{size} r0, [r1-1]; exit", 0, 27),
-        taken(f"ldx{size} r0, [r1+{last}]; exit", 2),
+        taken(f"ldx{size} r0, [r1+{last}]; exit"),
         told(f"ldx{size} r0, [r1+{last + 1}]; exit", 0, 27),
     ]
 
@@ -168,10 +170,10 @@ def far(*moves: str) -> str:
 
 POINTERS_COME_BACK = [
     # far out and back: the distance is a whole number, and nothing wraps
-    taken(far("add64 r2, 2147483647", "add64 r2, 2147483647", "sub64 r2, 2147483647", "sub64 r2, 2147483647"), 8),
+    taken(far("add64 r2, 2147483647", "add64 r2, 2147483647", "sub64 r2, 2147483647", "sub64 r2, 2147483647")),
     # twice 2 ^ 31 up is no way back to where it was
     told(far("sub64 r2, -2147483648", "sub64 r2, -2147483648", "add64 r2, 0", "add64 r2, 0"), 5, 25),
-    taken(far("sub64 r2, -2147483648", "sub64 r2, -2147483648", "add64 r2, -2147483648", "add64 r2, -2147483648"), 8),
+    taken(far("sub64 r2, -2147483648", "sub64 r2, -2147483648", "add64 r2, -2147483648", "add64 r2, -2147483648")),
 ]
 
 

@@ -4,28 +4,17 @@ Unless a row names its helpers, a program may call all four.
 """
 from __future__ import annotations
 
-from tables import Row, Tables, accepted, code, observer, of, refused, run, run_fails
+from tables import SIZES, Row, Tables, encoded, manifest_of, observer, run, run_fails, taken, told
 
 OPERATIONS = "add sub mul div or and lsh rsh mod xor arsh".split()
 COMPARISONS = "jeq jgt jge jset jne jsgt jsge jlt jle jslt jsle".split()
 WIDTHS = (32, 64)
-SIZES = ("b", "h", "w", "dw")
 END = "mov64 r0, 0; exit"
-
-
-def told(text: str, number: int, slot: int = 0) -> Row:
-    """A program that is refused with this code."""
-    return refused(code(text), slot, number)
-
-
-def taken(text: str) -> Row:
-    """A program that is accepted, with eight bytes for each of its slots."""
-    return accepted(code(text), len(code(text)) // 8)
 
 
 def first(text: str, number: int) -> Row:
     """An instruction that is refused with this code where it stands before two that end the program."""
-    return told(f"{text}; {END}", number)
+    return told(f"{text}; {END}", 0, number)
 
 
 def fits(text: str) -> Row:
@@ -55,7 +44,7 @@ READS_UNSET = [
 ]
 
 UNSET_AFTER_A_CALL = [
-    *(told(f"mov64 r{register}, 0; call 4; mov64 r0, r{register}; exit", 21, 2) for register in (1, 2, 3, 4, 5)),
+    *(told(f"mov64 r{register}, 0; call 4; mov64 r0, r{register}; exit", 2, 21) for register in (1, 2, 3, 4, 5)),
     *(taken(f"mov64 r{register}, 0; call 4; mov64 r0, r{register}; exit") for register in (0, 6, 7, 8, 9)),
 ]
 
@@ -78,7 +67,7 @@ POINTER_ARITHMETIC = [
     *(first(f"neg{width} r1", 23) for width in WIDTHS),
     first("mov32 r0, r10", 23),
     # a pointer as the second operand of a number
-    told("mov64 r2, 8; add64 r2, r10; exit", 23, 1),
+    told("mov64 r2, 8; add64 r2, r10; exit", 1, 23),
 ]
 
 POINTER_STORED = [
@@ -98,16 +87,16 @@ OUTSIDE_STACK = [
     first("ldxb r0, [r10+0]", 25),
     first("ldxb r0, [r10-513]", 25),
     taken(read_at(-32)),
-    told(read_at(-31), 25, 4),
+    told(read_at(-31), 4, 25),
     taken(read_at(-512)),
-    told(read_at(-513), 25, 4),
+    told(read_at(-513), 4, 25),
 ]
 
 UNWRITTEN_BYTE = [
     first("ldxb r0, [r10-1]", 26),
     taken("stw [r10-8], 5; ldxw r0, [r10-8]; exit"),
-    told("stw [r10-8], 5; ldxdw r0, [r10-8]; exit", 26, 1),
-    told("stw [r10-8], 5; ldxw r0, [r10-6]; exit", 26, 1),
+    told("stw [r10-8], 5; ldxdw r0, [r10-8]; exit", 1, 26),
+    told("stw [r10-8], 5; ldxw r0, [r10-6]; exit", 1, 26),
     taken("stw [r10-8], 5; ldxh r0, [r10-6]; exit"),
 ]
 
@@ -120,8 +109,8 @@ def filled_by(helper: int) -> str:
 
 UNWRITTEN_IN_A_CALL = [
     taken(filled_by(1)),
-    told(filled_by(3), 26, 10),
-    told(filled_by(4), 26, 10),
+    told(filled_by(3), 10, 26),
+    told(filled_by(4), 10, 26),
 ]
 
 OUTSIDE_RECORD = [
@@ -136,40 +125,40 @@ OUTSIDE_RECORD = [
 
 WRITES_RECORD = [
     *(first(f"st{size} [r1{offset}], 0", 28) for size in SIZES for offset in ("+0", "+48", "+80", "-1")),
-    told("mov64 r2, 0; stxdw [r1+0], r2; exit", 28, 1),
+    told("mov64 r2, 0; stxdw [r1+0], r2; exit", 1, 28),
 ]
 
 THROUGH_NUMBER = [
-    told("lddw r2, 4096; ldxw r0, [r2+0]; exit", 29, 2),
-    told("lddw r2, 4096; sth [r2+0], 0; exit", 29, 2),
-    told("lddw r2, 4096; stxb [r2+0], r2; exit", 29, 2),
+    told("lddw r2, 4096; ldxw r0, [r2+0]; exit", 2, 29),
+    told("lddw r2, 4096; sth [r2+0], 0; exit", 2, 29),
+    told("lddw r2, 4096; stxb [r2+0], r2; exit", 2, 29),
     # what a pointer was before it was loaded doesn't count
-    told("ldxdw r1, [r1+0]; ldxb r0, [r1+0]; exit", 29, 1),
+    told("ldxdw r1, [r1+0]; ldxb r0, [r1+0]; exit", 1, 29),
 ]
 
 
 def with_helper_4(helper: int) -> str:
     """A manifest whose observer may call helper 4 alone, and calls this one."""
-    return of(observer(helpers="4", code=code(f"call {helper}; exit").hex()))
+    return manifest_of(observer(helpers="4", digits=encoded(f"call {helper}; exit").hex()))
 
 
 NOT_DECLARED = [
-    *(told(f"call {helper}; exit", 30) for helper in (-1, 0, 5, 2147483647)),
+    *(told(f"call {helper}; exit", 0, 30) for helper in (-1, 0, 5, 2147483647)),
     *(run_fails(with_helper_4(helper), "", "manifest: observer 0 code 56 slot 0 code 30") for helper in (1, 2, 3)),
     run(with_helper_4(4), "", "runs watch 0\nquiet\n"),
 ]
 
 WRONG_ARGUMENT = [
     # register 1 points to the record
-    told("mov64 r2, 0; mov64 r3, r10; add64 r3, -32; call 1; exit", 31, 3),
-    told("mov64 r2, r1; mov64 r1, 0; call 3; exit", 31, 2),
-    told("mov64 r3, r1; mov64 r1, 0; mov64 r2, 0; call 2; exit", 31, 3),
+    told("mov64 r2, 0; mov64 r3, r10; add64 r3, -32; call 1; exit", 3, 31),
+    told("mov64 r2, r1; mov64 r1, 0; call 3; exit", 2, 31),
+    told("mov64 r3, r1; mov64 r1, 0; mov64 r2, 0; call 2; exit", 3, 31),
     taken("mov64 r1, -1; mov64 r2, 99; call 3; exit"),
 ]
 
 # onto itself, the first slot, and before it
 BACKWARD_JUMP = [
-    told(f"mov64 r0, 0; {jump} {offset}; exit" if jump == "ja" else f"mov64 r0, 0; {jump}, {offset}; exit", 32, 1)
+    told(f"mov64 r0, 0; {jump} {offset}; exit" if jump == "ja" else f"mov64 r0, 0; {jump}, {offset}; exit", 1, 32)
     for offset in (-1, -2, -3, -32768)
     for jump in ("ja", "jeq64 r0, 0")
 ]
@@ -177,47 +166,47 @@ BACKWARD_JUMP = [
 JUMP_OUTSIDE = [
     taken("mov64 r0, 0; ja +0; exit"),
     taken("mov64 r0, 0; jeq64 r0, 0, +0; exit"),
-    told("mov64 r0, 0; ja +1; exit", 33, 1),
-    told("mov64 r0, 0; jeq64 r0, 0, +1; exit", 33, 1),
-    told("mov64 r0, 0; ja +32767; exit", 33, 1),
-    told("mov64 r0, 0; jeq64 r0, 0, +32767; exit", 33, 1),
+    told("mov64 r0, 0; ja +1; exit", 1, 33),
+    told("mov64 r0, 0; jeq64 r0, 0, +1; exit", 1, 33),
+    told("mov64 r0, 0; ja +32767; exit", 1, 33),
+    told("mov64 r0, 0; jeq64 r0, 0, +32767; exit", 1, 33),
 ]
 
 JUMP_INTO_PAIR = [
     taken("mov64 r0, 0; jeq64 r0, 0, +0; lddw r2, 5; exit"),
-    told("mov64 r0, 0; jeq64 r0, 0, +1; lddw r2, 5; exit", 34, 1),
+    told("mov64 r0, 0; jeq64 r0, 0, +1; lddw r2, 5; exit", 1, 34),
     taken("mov64 r0, 0; jeq64 r0, 0, +2; lddw r2, 5; exit"),
-    told("mov64 r0, 0; jeq64 r0, 0, +3; lddw r2, 5; exit", 33, 1),
+    told("mov64 r0, 0; jeq64 r0, 0, +3; lddw r2, 5; exit", 1, 33),
 ]
 
 UNREACHABLE = [
-    told("mov64 r0, 0; ja +1; mov64 r10, 0; exit", 35, 2),
-    told("mov64 r0, 0; exit; lddw r10, 5", 35, 2),
+    told("mov64 r0, 0; ja +1; mov64 r10, 0; exit", 2, 35),
+    told("mov64 r0, 0; exit; lddw r10, 5", 2, 35),
 ]
 
 FALLS_OFF = [
-    told("mov64 r6, 0; mov64 r0, 0", 36, 1),
-    told("mov64 r6, 0; neg64 r6", 36, 1),
-    told("mov64 r6, 0; ldxb r0, [r1+0]", 36, 1),
-    told("mov64 r6, 0; stb [r10-1], 5", 36, 1),
-    told("mov64 r6, 0; stxb [r10-1], r6", 36, 1),
-    told("mov64 r6, 0; call 4", 36, 1),
+    told("mov64 r6, 0; mov64 r0, 0", 1, 36),
+    told("mov64 r6, 0; neg64 r6", 1, 36),
+    told("mov64 r6, 0; ldxb r0, [r1+0]", 1, 36),
+    told("mov64 r6, 0; stb [r10-1], 5", 1, 36),
+    told("mov64 r6, 0; stxb [r10-1], r6", 1, 36),
+    told("mov64 r6, 0; call 4", 1, 36),
     # the slot after a pair is the second after its first
-    told("mov64 r6, 0; lddw r0, 5", 36, 1),
-    told("mov64 r6, 0; jeq64 r6, 0, +0", 33, 1),
-    told("mov64 r6, 0; mov64 r10, 0", 22, 1),
+    told("mov64 r6, 0; lddw r0, 5", 1, 36),
+    told("mov64 r6, 0; jeq64 r6, 0, +0", 1, 33),
+    told("mov64 r6, 0; mov64 r10, 0", 1, 22),
 ]
 
 EXITS_WITH_POINTER = [
-    told("mov64 r0, r1; exit", 37, 1),
-    told("mov64 r0, r10; exit", 37, 1),
+    told("mov64 r0, r1; exit", 1, 37),
+    told("mov64 r0, r10; exit", 1, 37),
 ]
 
 POINTER_COMPARED = [
     *(first(f"{comparison}{width} r10, 0, +0", 38) for comparison in COMPARISONS for width in WIDTHS),
     *(first(f"{comparison}{width} r1, r10, +0", 38) for comparison in COMPARISONS for width in WIDTHS),
     *(
-        told(f"mov64 r0, 0; {comparison}{width} r0, r10, +0; exit", 38, 1)
+        told(f"mov64 r0, 0; {comparison}{width} r0, r10, +0; exit", 1, 38)
         for comparison in COMPARISONS
         for width in WIDTHS
     ),

@@ -4,7 +4,7 @@ Worked out by hand from docs/FORMATS.md, "Words". What `clap` prints is not look
 """
 from __future__ import annotations
 
-from tables import NOBODY, WATCH, Row, Tables, files_of
+from tables import NOBODY, ONE, WATCH, Row, Tables, files_of
 
 
 def helps(*words: str) -> Row:
@@ -17,7 +17,6 @@ def wrong(*words: str) -> Row:
     return Row(list(words), status=2, err=None)
 
 
-ONE = "put 7 0 2a\n"
 PROGRAM = bytes.fromhex(WATCH)
 
 SUBCOMMANDS = [
