@@ -29,8 +29,8 @@ def value_of(*words: int) -> str:
 def adds_one(version: str, before: tuple[int, ...], after: tuple[int, ...], content: str, shown: str) -> list[Row]:
     """What column 15 of the row has, if anything, and what it has then.
 
-    The 18 instructions of a run take 29 steps: three of them before, one for the cell that it asks for, and seven behind,
-    of which the last is the sweep.
+    A run takes 29 steps: three before its 18 instructions, one for the cell that it asks for, and seven behind, of which
+    the last is the sweep.
     """
     manifest = compiled("counter", version, "1,2")
     put = f"; put 7 15 {value_of(*before)}" if before else ""

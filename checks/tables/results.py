@@ -1,7 +1,6 @@
 """What programs end with, told by a run: each opcode of the profile once at least, and both ends of stack and record.
 
-Worked out by hand from RFC 9669, sections 4.1, 4.3 and 5, and docs/MACHINE.md, "The change record". The exit that ends each
-program is replaced by instructions that write register 0 to cell 5 0. It runs at 3, on a change of row ROW and column 9.
+Worked out by hand from RFC 9669, sections 4.1, 4.3 and 5, and docs/MACHINE.md, "The change record".
 """
 from __future__ import annotations
 
@@ -22,13 +21,18 @@ KEEP = (
 
 
 def result(text: str, wanted: int) -> Row:
-    """A program, without the exit that ends it, and what register 0 has there."""
+    """A program, without the exit that ends it, and what register 0 has there.
+
+    In place of the exit stand instructions that write register 0 to cell 5 0. It runs at 3, on a change of row ROW and column
+    9.
+    """
     digits = (wanted.to_bytes(8, "little").rstrip(bytes(1)) or bytes(1)).hex()
     return run(
         manifest_of(observer(column=9, helpers="1,2,3,4", digits=encoded(text, KEEP).hex())),
         f"put {ROW} 9 {VALUE}\n",
         f"cell 5 0 commit 4 value {digits}\ncell {ROW} 9 commit 2 value {VALUE}\nruns watch 1\nquiet\n",
     )
+
 
 COUNTED = 0xFEDC_BA98_7654_3210
 
@@ -154,6 +158,7 @@ def comparison(jump: str, a: int, b: int, wide: bool, narrow: bool) -> list[Row]
         )
     ]
 
+
 ARITHMETIC = [row for rows in (ADDS, DIVIDES, BITS, SHIFTS) for fields in rows for row in arithmetic(*fields)]
 
 COMPARISONS = [row for rows in (EQUALITIES, UNSIGNED, SIGNED) for fields in rows for row in comparison(*fields)]
@@ -199,6 +204,7 @@ def record(size: str, bytes_moved: int, first: int, last: int) -> list[Row]:
         result(f"sub64 r1, 1000; mov64 r2, r1; add64 r2, {at}; ldx{size} r0, [r2+1000]", last),
     ]
 
+
 # at 0 the row stands with its lowest byte first, and the last bytes are those of the value
 RECORD = [
     *record("b", 1, 0x01, 0x20),
@@ -215,6 +221,7 @@ def stored(size: str, at: int, wanted: int) -> list[Row]:
         result(f"st{size} [r10-{at}], -2; ldx{size} r0, [r10-{at}]", wanted),
         result(f"{moved}; ldx{size} r0, [r10-{at}]", wanted),
     ]
+
 
 STACK = [
     row

@@ -101,6 +101,14 @@ BUSY = "launch 2 change 1\nstep 2 2\nlaunch 3 change 3\n"
 
 EVENTS_IN_ORDER = [
     replay_fails(THREE, "del 0 1\ndel 0 1\n", f"{ORDER}\nlaunch 63 change 3", "event 1005 code 63"),
+    # its last event sweeps the mark that a run has left
+    left(
+        "put 7 0 2a\nput 7 1 02\n",
+        unswept("watch", 7, ORDER),
+        "cell 7 0 commit 2 value 2a\n",
+        (1, 0, 0),
+        "quiet",
+    ),
     left(THREE_CHANGES, ORDER, "", NONE, "quiet"),
     left(THREE_CHANGES, f"{ORDER}\nstep 1", "", NONE, "marks 0 locks 1"),
     left(THREE_CHANGES, f"{ORDER}\nstep 1 3", "cell 7 1 commit 2 value 02\n", NONE, "quiet"),
