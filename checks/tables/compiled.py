@@ -16,9 +16,10 @@ MAX = 0xFFFF_FFFF_FFFF_FFFF
 VALUE = bytes(range(1, 33)).hex()
 
 
-def compiled(name: str, version: str, helpers: str) -> str:
-    """A manifest of this observer with these helpers, on column 9."""
-    return manifest_of(observer(name, 9, helpers, (EXAMPLES / f"{name}.{version}.bin").read_bytes().hex()))
+def compiled(name: str, helpers: str) -> list[str]:
+    """Manifests of this observer with these helpers, on column 9: one for each version whose bytes differ."""
+    codes = [(EXAMPLES / f"{name}.{version}.bin").read_bytes() for version in ("v1", "v3")]
+    return [manifest_of(observer(name, 9, helpers, code.hex())) for code in dict.fromkeys(codes)]
 
 
 def value_of(*words: int) -> str:
@@ -26,13 +27,12 @@ def value_of(*words: int) -> str:
     return b"".join(word.to_bytes(8, "little") for word in words).rstrip(bytes(1)).hex()
 
 
-def adds_one(version: str, before: tuple[int, ...], after: tuple[int, ...], content: str, shown: str) -> list[Row]:
+def adds_one(manifest: str, before: tuple[int, ...], after: tuple[int, ...], content: str, shown: str) -> list[Row]:
     """What column 15 of the row has, if anything, and what it has then.
 
     A run takes 29 steps: three before its 18 instructions, one for the cell that it asks for, and seven behind, of which
     the last is the sweep.
     """
-    manifest = compiled("counter", version, "1,2")
     put = f"; put 7 15 {value_of(*before)}" if before else ""
     cells = f"cell 7 9 commit 2 {shown}\ncell 7 15 commit 4 value {value_of(*after)}\nruns counter 1\n"
     change = f"{content}{put}\n"
@@ -44,9 +44,10 @@ def adds_one(version: str, before: tuple[int, ...], after: tuple[int, ...], cont
     ]
 
 
+# clang makes the same bytes for both versions, which are run once
 COUNTER = [
     row
-    for version in ("v1", "v3")
+    for manifest in compiled("counter", "1,2")
     for before, after in (
         ((), (1, 0, 0, 0)),
         ((1, 0, 0, 0), (2, 0, 0, 0)),
@@ -54,15 +55,15 @@ COUNTER = [
         ((MAX, 5, 6, MAX), (0, 5, 6, MAX)),
     )
     for content, shown in ((f"put 7 9 {VALUE}", f"value {VALUE}"), ("del 7 9", "deleted"))
-    for row in adds_one(version, before, after, content, shown)
+    for row in adds_one(manifest, before, after, content, shown)
 ]
 
 
-def graded(version: str, mark: int, weight: int, grade: int, total: int) -> Row:
+def graded(manifest: str, mark: int, weight: int, grade: int, total: int) -> Row:
     """The grade of a mark and a weight, and their sum of 32 bits. Without helper 1 it asks for nothing."""
     value = value_of(weight << 32 | mark & 0xFFFF_FFFF, 1, 2, MAX)
     cells = f"cell 7 9 commit 2 value {value}\ncell 7 14 commit 4 value {value_of(grade, total, 0, 0)}\n"
-    return run(compiled("grader", version, "2,3"), f"put 7 9 {value}\n", f"{cells}runs grader 1\nquiet\n")
+    return run(manifest, f"put 7 9 {value}\n", f"{cells}runs grader 1\nquiet\n")
 
 
 GRADES = [
@@ -81,11 +82,11 @@ GRADES = [
 
 GRADER = [
     row
-    for version in ("v1", "v3")
+    for manifest in compiled("grader", "2,3")
     for row in (
-        *(graded(version, *grade) for grade in GRADES),
+        *(graded(manifest, *grade) for grade in GRADES),
         run(
-            compiled("grader", version, "2,3"),
+            manifest,
             "del 7 9\n",
             "cell 7 9 commit 2 deleted\ncell 7 14 commit 4 deleted\nruns grader 1\nquiet\n",
         ),

@@ -22,7 +22,6 @@ LENGTHS = [
 ]
 
 ONE_SLOT = [
-    dis(bytes.fromhex("9500000000000000"), "exit\n"),
     first_refused("8f01000000000000", 12),
     first_refused("b70b000000000000", 13),
     first_refused("b7b0000000000000", 13),
@@ -61,16 +60,8 @@ TWO_SLOTS = [
 ]
 
 BYTES = [
-    first_refused("", 10),
     first_refused("95000000000000", 10),
     first_refused("950000000000000095", 10),
-    first_refused("8f01000000000000", 12),
-    first_refused("b70b000000000000", 13),
-    first_refused("b7b0000000000000", 13),
-    first_refused("8701000001000000", 14),
-    first_refused("18100000050000000000000000000000", 14),
-    first_refused("1800000005000000", 15),
-    first_refused("18000000050000000100000000000000", 16),
     dis_refused(bytes.fromhex("9500000000000000" "8f01000000000000"), 1, 12),
     dis_refused(bytes.fromhex("9500000000000000") * 513, 0, 11),
     dis_refused(bytes.fromhex("9500000000000000" * 3 + "8f01000000000000"), 3, 12),

@@ -167,9 +167,6 @@ WIDE_IMMEDIATE = [
 BY_HAND = [
     *both("div64 r0, r1", "3f10000000000000"),
     *both("mod32 r0, r1", "9c10000000000000"),
-    *both("neg64 r1", "8701000000000000"),
-    *both("ldxdw r2, [r1+48]", "7912300000000000"),
-    *both("stxdw [r10-32], r2", "7b2ae0ff00000000"),
     *both("jsgt32 r3, -5, +2", "66030200fbffffff"),
     *both("lddw r0, 4294967303", "18000000070000000000000001000000"),
 ]
@@ -186,7 +183,6 @@ ENDS_OF_RANGES = [
     *both("ja -3", "0500fdff00000000"),
     *both("jeq64 r1, r2, +0", "1d21000000000000"),
     *both("call -1", "85000000ffffffff"),
-    *both("exit", "9500000000000000"),
 ]
 
 TABLES: Tables = {

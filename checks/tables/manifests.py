@@ -193,7 +193,6 @@ ORDERED = [
         for name, column, runs in (("watch", 3, "runs watch 1\nruns start 0\n"), ("start", 0, "runs watch 0\nruns start 1\n"))
         for steps, last in ((9, "marks 1 locks 0"), (10, "quiet"))
     ),
-    accepted(bytes.fromhex(WATCH), 2),
     accepted(bytes.fromhex(START), 2),
 ]
 
@@ -204,7 +203,6 @@ TOO_LONG = [
     whole(manifest_of(*[observer(digits="")] * 33), 52),
     run_fails(NOBODY, LONG, "script: line 10001 code 75"),
     whole(manifest_of(*[observer(digits="")] * 33), 52, LONG),
-    run(NOBODY, "", "quiet\n"),
 ]
 
 TABLES: Tables = {

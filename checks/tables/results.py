@@ -175,7 +175,6 @@ OTHERS = [
     result("stb [r10-8], -2; ldxb r0, [r10-8]", 0xFE),
     result("sth [r10-8], -2; ldxh r0, [r10-8]", 0xFFFE),
     result("stw [r10-8], -2; ldxw r0, [r10-8]", 0xFFFF_FFFE),
-    result("stdw [r10-8], -2; ldxdw r0, [r10-8]", 0xFFFF_FFFF_FFFF_FFFE),
     result("stdw [r10-8], 2147483647; ldxdw r0, [r10-8]", 0x7FFF_FFFF),
     # the lowest byte comes first
     result("stw [r10-8], 16909060; ldxb r0, [r10-8]", 4),

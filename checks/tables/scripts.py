@@ -18,7 +18,6 @@ def script_fails(script: str, number: int, line: int = 1) -> Row:
 
 
 SCRIPTS = [
-    made(""),
     made("put 7 0 2a", "7 0 commit 2 value 2a"),
     made("# x\n\nput 7 1 aa\ndel 0 15\n", "0 15 commit 4 deleted", "7 1 commit 2 value aa"),
     made("put 18446744073709551615 15 00", "18446744073709551615 15 commit 2 value 00"),
@@ -37,7 +36,6 @@ RUNS = [
     made("put 7 0 2a\n", "7 0 commit 2 value 2a"),
     made("put 7 0 2a\ndel 7 0\n", "7 0 commit 4 deleted"),
     made("put 1000 15 00\nput 0 0 0100\n", "0 0 commit 4 value 01", "1000 15 commit 2 value 00"),
-    made(""),
     script_fails("put 7 16 2a\n", 71),
     script_fails("put 7 0 2a\nput 07 0 2a\n", 70, 2),
 ]

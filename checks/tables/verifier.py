@@ -1,10 +1,10 @@
 """Each rule of docs/MACHINE.md, "Verification", by programs that break it and by the like that don't, worked out by hand.
 
-Unless a row names its helpers, a program may call all four.
+Unless a row names its helpers, a program may call all four. The jumps into a pair, 34, stand in verdicts.py.
 """
 from __future__ import annotations
 
-from tables import SIZES, Row, Tables, encoded, manifest_of, observer, run, run_fails, taken, told
+from tables import SIZES, Row, Tables, encoded, manifest_of, observer, run_fails, taken, told
 
 OPERATIONS = "add sub mul div or and lsh rsh mod xor arsh".split()
 COMPARISONS = "jeq jgt jge jset jne jsgt jsge jlt jle jslt jsle".split()
@@ -25,8 +25,6 @@ def fits(text: str) -> Row:
 READS_UNSET = [
     first("mov64 r0, r7", 21),
     first("mov32 r0, r7", 21),
-    first("add64 r7, 1", 21),
-    first("sub64 r7, 1", 21),
     first("neg64 r7", 21),
     first("neg32 r7", 21),
     first("ldxb r0, [r7+0]", 21),
@@ -144,8 +142,8 @@ def with_helper_4(helper: int) -> str:
 
 NOT_DECLARED = [
     *(told(f"call {helper}; exit", 0, 30) for helper in (-1, 0, 5, 2147483647)),
+    # that it may call helper 4 stands in manifests.py
     *(run_fails(with_helper_4(helper), "", "manifest: observer 0 code 56 slot 0 code 30") for helper in (1, 2, 3)),
-    run(with_helper_4(4), "", "runs watch 0\nquiet\n"),
 ]
 
 WRONG_ARGUMENT = [
@@ -170,13 +168,6 @@ JUMP_OUTSIDE = [
     told("mov64 r0, 0; jeq64 r0, 0, +1; exit", 1, 33),
     told("mov64 r0, 0; ja +32767; exit", 1, 33),
     told("mov64 r0, 0; jeq64 r0, 0, +32767; exit", 1, 33),
-]
-
-JUMP_INTO_PAIR = [
-    taken("mov64 r0, 0; jeq64 r0, 0, +0; lddw r2, 5; exit"),
-    told("mov64 r0, 0; jeq64 r0, 0, +1; lddw r2, 5; exit", 1, 34),
-    taken("mov64 r0, 0; jeq64 r0, 0, +2; lddw r2, 5; exit"),
-    told("mov64 r0, 0; jeq64 r0, 0, +3; lddw r2, 5; exit", 1, 33),
 ]
 
 UNREACHABLE = [
@@ -231,7 +222,6 @@ TABLES: Tables = {
     "31 argument of a wrong kind": WRONG_ARGUMENT,
     "32 backward jump": BACKWARD_JUMP,
     "33 jump outside": JUMP_OUTSIDE,
-    "34 jump into a pair": JUMP_INTO_PAIR,
     "35 unreachable": UNREACHABLE,
     "36 falls off the end": FALLS_OFF,
     "37 exit without a number": EXITS_WITH_POINTER,
