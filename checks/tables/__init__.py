@@ -9,6 +9,9 @@ import re
 import struct
 from dataclasses import dataclass, field
 
+# how many tables there are, so that a lost one is noticed
+TABLE_COUNT = 133
+
 TOO_LARGE = bytes(16_777_217)
 
 # the bytes of `mov64 r0, 0` and `exit`
@@ -39,6 +42,11 @@ class Row:
     out: bytes | None = b""
     err: bytes | None = b""
     written: dict[str, bytes] = field(default_factory=dict)
+
+    def key(self) -> tuple:
+        """The same for the same rows alone."""
+        files, written = frozenset(self.files.items()), frozenset(self.written.items())
+        return (tuple(self.words), files, self.status, self.out, self.err, written)
 
 
 Tables = dict[str, list[Row]]
@@ -118,7 +126,12 @@ def refused(code: bytes, slot: int, number: int) -> Row:
 
 
 ARITHMETIC_CODES = "add sub mul div or and lsh rsh neg mod xor mov arsh".split()
+ARITHMETIC_CLASSES = {"32": 4, "64": 7}
 JUMP_CODES = "ja jeq jgt jge jset jne jsgt jsge call exit jlt jle jslt jsle".split()
+JUMP_CLASSES = {"32": 6, "64": 5}
+
+# the jumps whose word has no width
+WITHOUT_WIDTH = ("ja", "call", "exit")
 
 # the sizes of loads and stores, in bytes, and their bits of an opcode
 SIZES = {"b": 1, "h": 2, "w": 4, "dw": 8}
@@ -148,11 +161,15 @@ def opcode(word: str, has_register: bool) -> int:
     named = re.fullmatch(r"(ldx|stx|st)(b|h|w|dw)", word)
     if named:
         return {"ldx": 1, "st": 2, "stx": 3}[named[1]] | SIZE_BITS[named[2]] | MEM
+    if word in WITHOUT_WIDTH:
+        return JUMP_CODES.index(word) << 4 | 5
     kind = 0x08 if has_register else 0x00
-    name, width = (word[:-2], word[-2:]) if word[-2:] in ("32", "64") else (word, "64")
-    if name in ARITHMETIC_CODES:
-        return ARITHMETIC_CODES.index(name) << 4 | kind | {"32": 4, "64": 7}[width]
-    return JUMP_CODES.index(name) << 4 | kind | {"32": 6, "64": 5}[width]
+    name, width = word[:-2], word[-2:]
+    if name in ARITHMETIC_CODES and width in ARITHMETIC_CLASSES:
+        return ARITHMETIC_CODES.index(name) << 4 | kind | ARITHMETIC_CLASSES[width]
+    if name in JUMP_CODES and name not in WITHOUT_WIDTH and width in JUMP_CLASSES:
+        return JUMP_CODES.index(name) << 4 | kind | JUMP_CLASSES[width]
+    raise ValueError(f"{word} is no first word")
 
 
 def instruction(text: str) -> bytes:
@@ -160,7 +177,9 @@ def instruction(text: str) -> bytes:
     word, _, behind = text.partition(" ")
     if word == "call":
         return slot(opcode(word, False), imm=int(behind))
-    found = next(found for form in FORMS.values() if (found := re.fullmatch(form, behind)))
+    found = next((found for form in FORMS.values() if (found := re.fullmatch(form, behind))), None)
+    if found is None:
+        raise ValueError(f"{text} is of no form")
     fields = {name: int(number) for name, number in found.groupdict().items() if number is not None}
     if word == "lddw":
         low, high = struct.unpack("<ii", struct.pack("<Q", fields["imm"]))
