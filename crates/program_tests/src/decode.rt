@@ -1,3 +1,4 @@
+//! What a fault of decoding is told as.
 use pb_decode::DecodeFault;
 use std::rt::HostRuntime;
 use std::test::*;

@@ -2,7 +2,7 @@
 ghost use Rattle.std.specs.Prelude.{◌≡◌, ◌≤◌};
 
 use crate::worlds::{COPY, Texts, WATCH, notes};
-use pb_base::{Cell, Column, Content, ObserverNo, Row, Ts, Value};
+use pb_base::{Cell, Column, Content, Row, Ts, Value};
 use pb_core::Answer;
 use pb_world::Note;
 use std::alloc::Global;

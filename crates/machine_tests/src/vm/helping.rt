@@ -1,7 +1,7 @@
 //! What the helpers do.
 use crate::vm::{VALUE, assembled, change, data, run};
 use pb_base::{Content, Row, Ts};
-use pb_vm::{Accepted, Ask, Finished, Phase, Reply, Vm};
+use pb_vm::{Accepted, Finished, Phase, Reply, Vm};
 use std::alloc::Global;
 use std::process::Abort;
 use std::rt::HostRuntime;
