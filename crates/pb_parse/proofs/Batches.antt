@@ -14,10 +14,10 @@ use Rattle.pb_base.specs.declared.content.Content.{Content}
 use Rattle.pb_base.specs.declared.content.Content.TheVariants.{Value, Deleted}
 use Rattle.pb_base.specs.Batch.{Writes, content_in, is_unstamped, is_data_write, are_distinct, is_batch}
 use Rattle.pb_parse.specs.declared.script.code.Code.{Code}
-use Rattle.pb_parse.specs.declared.script.code.Code.TheVariants.{Twice, Seventeenth}
-use Rattle.pb_base.specs.Reading.{◌>>=◌, in_turn}
+use Rattle.pb_parse.specs.declared.script.code.Code.TheVariants.{Form, Twice, Seventeenth}
+use Rattle.pb_base.specs.Reading.{◌>>=◌, in_turn, next_word, no_word}
 use Rattle.pb_base.specs.declared.limits.TheConstants.{MAX_CELLS}
-use Rattle.pb_parse.specs.ScriptWords.{put_of, del_of, write_of, operation, cell_at, field, number_upto, content_of, ended}
+use Rattle.pb_parse.specs.ScriptWords.{put_of, del_of, write_of, operation, cell_at, number_upto, content_of}
 use Rattle.pb_parse.specs.ScriptLines.{cut, with_operation, batch_of}
 use Rattle.pb_parse.specs.Operations.{Say}
 
@@ -35,9 +35,9 @@ chosen false x y z h = inr (refl, h)
 cell_is_data : (words : List (List ℕ)) (c : Cell × List (List ℕ)) → cell_at words ≡ Ok c → is_data c.0 ≡ true
 unfolding cell_at
 cell_is_data words c h =
-    let a = bind_ok (field words) _ c h in
+    let a = bind_ok (next_word Form words) _ c h in
     let b = bind_ok (number_upto (2 ^ 64 - 1) a.0.0) _ c a.2 in
-    let d = bind_ok (field a.0.1) _ c b.2 in
+    let d = bind_ok (next_word Form a.0.1) _ c b.2 in
     let e = bind_ok (number_upto 15 d.0.0) _ c d.2 in
     sym (ap (λ (p : Cell × List (List ℕ)). is_data p.0) (ok_same {E = Code} (Data (record { 0 = b.0 }) e.0, d.0.1) c e.2))
 
@@ -48,22 +48,22 @@ plain_put : (words : List (List ℕ)) (w : Cell × Content) → put_of words ≡
 unfolding put_of
 plain_put words w h =
     let a = bind_ok (cell_at words) _ w h in
-    let b = bind_ok (field a.0.1) _ w a.2 in
+    let b = bind_ok (next_word Form a.0.1) _ w a.2 in
     let c = bind_ok (content_of b.0.0) _ w b.2 in
-    let d = bind_ok (ended b.0.1) _ w c.2 in
+    let d = bind_ok (no_word Form b.0.1) _ w c.2 in
     is_written a.0.0 (Value c.0) w (cell_is_data words a.0 a.1) refl d.2
 
 plain_del : (words : List (List ℕ)) (w : Cell × Content) → del_of words ≡ Ok w → is_data_write w ≡ true
 unfolding del_of
 plain_del words w h =
     let a = bind_ok (cell_at words) _ w h in
-    let d = bind_ok (ended a.0.1) _ w a.2 in
+    let d = bind_ok (no_word Form a.0.1) _ w a.2 in
     is_written a.0.0 Deleted w (cell_is_data words a.0 a.1) refl d.2
 
 plain_write : (words : List (List ℕ)) (w : Cell × Content) → write_of words ≡ Ok w → is_data_write w ≡ true
 unfolding write_of
 plain_write words w h =
-    let a = bind_ok (field words) _ w h in
+    let a = bind_ok (next_word Form words) _ w h in
     elim (chosen (bytes_eq a.0.0 (codes "put")) (put_of a.0.1) _ (Ok w) a.2) [
       | inl p ↦ plain_put a.0.1 w p.1
       | inr q ↦ elim (chosen (bytes_eq a.0.0 (codes "del")) (del_of a.0.1) _ (Ok w) q.1) [

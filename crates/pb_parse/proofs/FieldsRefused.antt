@@ -1,27 +1,27 @@
 -- A line's fault, unless it is its form, is that of a field; and a field's fault is the line's.
-use Rattle.std.proofs.Common.{◌≡◌, ◌≢◌, ℕ, ◌-◌, ◌^◌, ◌<◌, ◌≤◌, Bool, true, false, cond, List, [], ◌∷◌, ◌++◌, length, Result, Ok, Err, refl, sym, ap, subst, ◌∙◌, arith, inl, inr}
-use Rattle.std.specs.Prelude.{◌==◌, ◌⊎◌, nat_le, nat_lt, codes}
+use Rattle.std.proofs.Common.{◌≡◌, ℕ, ◌-◌, ◌^◌, ◌<◌, ◌≤◌, true, cond, List, [], ◌∷◌, length, Result, Ok, Err, refl, sym, ap, subst, ◌∙◌, arith, inl, inr}
+use Rattle.std.specs.Prelude.{◌⊎◌, nat_le, nat_lt, codes}
 use Rattle.std.specs.Fmt.{decimal}
 use Rattle.std.specs.Str.{bytes_eq}
 use Rattle.std.specs.Str.Parse.{digits_value}
-use Rattle.std.proofs.lemmas.Bool.{leb-true, leb-false, ltb-false, ltb-true, le-leb, lt-leb, lt-ltb, le-ltb}
+use Rattle.std.proofs.lemmas.Bool.{leb-false, ltb-false, ltb-true}
 use Rattle.pb_base.specs.declared.limits.TheConstants.{COLUMNS, MAX_CHANGES, MAX_EVENTS, MAX_SEATS}
 use Rattle.pb_base.specs.declared.cell.Cell.{Cell}
 use Rattle.pb_base.specs.declared.names.Row.{Row}
 use Rattle.pb_base.specs.Reading.{◌>>=◌, is_numeral, next_word, no_word, numeral_upto, words_of}
 use Rattle.pb_steps.specs.Observers.{ObserverOf, acknowledgment}
 use Rattle.pb_parse.specs.declared.event.Job.{Job}
-use Rattle.pb_parse.specs.declared.event.Job.TheVariants.{Change, Run}
+use Rattle.pb_parse.specs.declared.event.Job.TheVariants.{Run}
 use Rattle.pb_parse.specs.declared.event.Event.{Event}
-use Rattle.pb_parse.specs.declared.event.Event.TheVariants.{Launch, Step, Crash, Settle, Clear, Sweep}
+use Rattle.pb_parse.specs.declared.event.Event.TheVariants.{Launch, Crash, Settle, Clear, Sweep}
 use Rattle.pb_parse.specs.declared.schedule.words.Order.{Order}
 use Rattle.pb_parse.specs.declared.schedule.fault.Code.{Code}
 use Rattle.pb_parse.specs.declared.schedule.fault.Code.TheVariants.{Form, Range, NoObserver}
 use Rattle.pb_parse.specs.ScheduleWords.{number_between, next_number, next_actor, next_row, first_named, observer_named, next_observer, next_change, next_run, next_job, once, launch_of, times_of, step_of, crash_of, next_data_cell, next_acknowledgment, next_cell, once_on, order_by, order_of_words, order_of}
 use Rattle.pb_parse.specs.EventLines.{name_of, IsActor, IsRow, IsNamed}
-use Rattle.pb_parse.specs.ScheduleFaults.{Field, LaunchActor, ChangeNumber, RunName, RunRow, StepActor, StepTimes, CrashActor, SettleRow, SettleColumn, SettleName, SettleAckRow, ClearRow, ClearColumn, ClearName, ClearAckRow, SweepRow, SweepColumn, words_in_front, FitsInFront, IsOutside, IsNoActor, IsNoRow, IsNoColumn, IsNobody, IsRefusedAt, StopsAtField}
+use Rattle.pb_parse.specs.ScheduleFaults.{LaunchActor, ChangeNumber, RunName, RunRow, StepActor, StepTimes, CrashActor, SettleRow, SettleColumn, SettleName, SettleAckRow, ClearRow, ClearColumn, ClearName, ClearAckRow, SweepRow, SweepColumn, IsOutside, IsNoRow, IsNoColumn, IsNobody, StopsAtField}
 use Rattle.pb_parse.proofs.Blanks.{AreWords, words_are}
-use Rattle.pb_parse.proofs.Steps.{chosen, same_text, next_is, next_number_is, next_row_is, next_observer_is, some_named}
+use Rattle.pb_parse.proofs.Steps.{chosen, same_text, next_is, next_row_is, next_observer_is, some_named}
 use Rattle.pb_parse.proofs.OrdersWritten.{actor_is}
 
 pub bind_err : {A B : Type 0} (r : Result A Code) (f : A → Result B Code) (e : Code) → (r >>= f) ≡ Err e → (r ≡ Err e) ⊎ ((x : A) × (r ≡ Ok x) × (f x ≡ Err e))

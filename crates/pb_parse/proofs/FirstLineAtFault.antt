@@ -1,9 +1,9 @@
 -- The fault of a schedule is that of its first line at fault, which is told by its text.
-use Rattle.std.proofs.Common.{◌≡◌, ◌≢◌, ℕ, ◌+◌, ◌<◌, Bool, true, false, cond, List, [], ◌∷◌, ◌++◌, length, Result, Ok, Err, refl, sym, ap, subst, ◌∙◌, arith, inl, inr}
-use Rattle.std.specs.Prelude.{◌==◌, ◌⊎◌, ◌↔◌, nat_lt, replicate}
+use Rattle.std.proofs.Common.{◌≡◌, ◌≢◌, ℕ, ◌+◌, ◌<◌, Bool, true, false, List, [], ◌++◌, length, Result, Ok, Err, refl, sym, ap, ◌∙◌, arith, inl, inr}
+use Rattle.std.specs.Prelude.{◌⊎◌, ◌↔◌, nat_lt, replicate}
 use Rattle.std.proofs.lemmas.Bool.{ltb-true, lt-ltb}
 use Rattle.pb_base.specs.declared.limits.TheConstants.{MAX_EVENTS}
-use Rattle.pb_base.specs.Reading.{◌>>=◌, is_skipped, lines_of, numbered, words_of}
+use Rattle.pb_base.specs.Reading.{is_skipped, lines_of, numbered}
 use Rattle.pb_steps.specs.Observers.{ObserverOf}
 use Rattle.pb_parse.specs.declared.event.Event.{Event}
 use Rattle.pb_parse.specs.declared.schedule.words.Order.{Order}
@@ -12,7 +12,7 @@ use Rattle.pb_parse.specs.declared.schedule.fault.Code.TheVariants.{Memory, Form
 use Rattle.pb_parse.specs.ScheduleCodes.{schedule_code}
 use Rattle.pb_parse.specs.ScheduleWords.{order_of}
 use Rattle.pb_parse.specs.Schedules.{with_order, with_event_line, schedule_of}
-use Rattle.pb_parse.specs.ScheduleFaults.{ScheduleStopsAt, Field, LaunchActor, ChangeNumber, RunName, RunRow, StepActor, StepTimes, CrashActor, SettleRow, SettleColumn, SettleName, SettleAckRow, ClearRow, ClearColumn, ClearName, ClearAckRow, SweepRow, SweepColumn, IsOutside, IsNobody, IsRefusedAt, StopsAtField, GoesPast}
+use Rattle.pb_parse.specs.ScheduleFaults.{ScheduleStopsAt, Field, LaunchActor, ChangeNumber, RunName, RunRow, StepActor, StepTimes, CrashActor, SettleRow, SettleColumn, SettleName, SettleAckRow, ClearRow, ClearColumn, ClearName, ClearAckRow, SweepRow, SweepColumn, IsRefusedAt, GoesPast}
 use Rattle.pb_parse.proofs.Steps.{chosen}
 use Rattle.pb_parse.proofs.FirstFault.{first_fault}
 use Rattle.pb_parse.proofs.FieldsRefused.{bind_err, blamed}

@@ -3,7 +3,7 @@ pub mod Hexes
 pub mod Numbers
 pub mod Cuts
 pub mod PartByPart
-pub mod FirstWord
+pub mod FirstPart
 pub mod OwnFaults
 pub mod Batches
 pub mod FirstOperation

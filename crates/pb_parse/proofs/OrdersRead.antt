@@ -8,8 +8,8 @@ use Rattle.pb_base.specs.declared.limits.TheConstants.{COLUMNS, MAX_CHANGES, MAX
 use Rattle.pb_base.specs.declared.cell.Cell.{Cell}
 use Rattle.pb_base.specs.declared.cell.Cell.TheVariants.{Data, Ack}
 use Rattle.pb_base.specs.declared.names.Row.{Row}
-use Rattle.pb_base.specs.Reading.{◌>>=◌, is_numeral, words_of}
-use Rattle.pb_steps.specs.Observers.{ObserverOf, observed_column, acknowledgment}
+use Rattle.pb_base.specs.Reading.{is_numeral, words_of}
+use Rattle.pb_steps.specs.Observers.{ObserverOf, acknowledgment}
 use Rattle.pb_parse.specs.declared.event.Job.{Job}
 use Rattle.pb_parse.specs.declared.event.Job.TheVariants.{Change, Run}
 use Rattle.pb_parse.specs.declared.event.Event.{Event}
@@ -17,7 +17,7 @@ use Rattle.pb_parse.specs.declared.event.Event.TheVariants.{Launch, Step, Crash,
 use Rattle.pb_parse.specs.declared.schedule.words.Order.{Order}
 use Rattle.pb_parse.specs.declared.schedule.fault.Code.{Code}
 use Rattle.pb_parse.specs.ScheduleWords.{next_actor, next_change, next_run, next_job, once, launch_of, times_of, step_of, crash_of, next_data_cell, next_acknowledgment, next_cell, once_on, order_of_words, order_of}
-use Rattle.pb_parse.specs.EventLines.{name_of, cell_words, job_words, event_words, IsActor, IsRow, IsNamed, FitsJob, FitsCell, IsRowCell, FitsEvent, IsStep, AreWordsOf, IsLineOf}
+use Rattle.pb_parse.specs.EventLines.{name_of, cell_words, job_words, event_words, IsActor, IsRow, IsNamed, FitsJob, FitsCell, IsRowCell, FitsEvent, IsStep, IsLineOf}
 use Rattle.pb_parse.proofs.Blanks.{IsWord, AreWords, joined_words, decimal_word}
 use Rattle.pb_parse.proofs.Numerals.{numeral_of}
 use Rattle.pb_parse.proofs.Steps.{same_text, number_back, next_number_back, next_row_back, next_observer_back}

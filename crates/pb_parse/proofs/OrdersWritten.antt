@@ -1,26 +1,25 @@
 -- What is read as an order is written as the order's line.
-use Rattle.std.proofs.Common.{◌≡◌, ℕ, ◌-◌, ◌^◌, ◌≤◌, Bool, true, false, cond, List, [], ◌∷◌, ◌++◌, Result, Ok, Err, refl, sym, ap, subst, ◌∙◌, arith, inl, inr}
+use Rattle.std.proofs.Common.{◌≡◌, ℕ, ◌-◌, ◌≤◌, true, cond, List, [], ◌∷◌, ◌++◌, Result, Ok, refl, sym, ap, subst, ◌∙◌, arith, inl, inr}
 use Rattle.std.specs.Prelude.{◌⊎◌, codes}
 use Rattle.std.specs.Fmt.{decimal}
 use Rattle.std.specs.Str.{bytes_eq}
-use Rattle.std.specs.List.{join_with_byte}
 use Rattle.std.proofs.lemmas.List.{append-nil}
 use Rattle.std.proofs.lemmas.List.Splits.{join_with_byte-slice_split}
 use Rattle.pb_base.specs.declared.limits.TheConstants.{COLUMNS, MAX_CHANGES, MAX_EVENTS, MAX_SEATS}
 use Rattle.pb_base.specs.declared.cell.Cell.{Cell}
-use Rattle.pb_base.specs.declared.cell.Cell.TheVariants.{Data, Ack}
-use Rattle.pb_base.specs.Reading.{◌>>=◌, next_word, no_word, words_of}
-use Rattle.pb_steps.specs.Observers.{ObserverOf, observed_column, acknowledgment}
+use Rattle.pb_base.specs.declared.cell.Cell.TheVariants.{Data}
+use Rattle.pb_base.specs.Reading.{next_word, no_word, words_of}
+use Rattle.pb_steps.specs.Observers.{ObserverOf, acknowledgment}
 use Rattle.pb_parse.specs.declared.event.Job.{Job}
 use Rattle.pb_parse.specs.declared.event.Job.TheVariants.{Change, Run}
 use Rattle.pb_parse.specs.declared.event.Event.{Event}
 use Rattle.pb_parse.specs.declared.event.Event.TheVariants.{Launch, Step, Crash, Settle, Clear, Sweep}
 use Rattle.pb_parse.specs.declared.schedule.words.Order.{Order}
 use Rattle.pb_parse.specs.declared.schedule.fault.Code.{Code}
-use Rattle.pb_parse.specs.declared.schedule.fault.Code.TheVariants.{Form, Range}
+use Rattle.pb_parse.specs.declared.schedule.fault.Code.TheVariants.{Form}
 use Rattle.pb_parse.specs.ScheduleWords.{number_between, next_number, next_actor, next_row, next_observer, next_change, next_run, next_job, once, launch_of, times_of, step_of, crash_of, next_data_cell, next_acknowledgment, next_cell, once_on, order_by, order_of_words, order_of}
-use Rattle.pb_parse.specs.EventLines.{name_of, cell_words, job_words, event_words, IsActor, IsRow, IsNamed, FitsJob, FitsCell, IsRowCell, FitsEvent, IsStep, AreWordsOf, IsLineOf}
-use Rattle.pb_parse.proofs.Blanks.{IsWord, AreWords, words_are}
+use Rattle.pb_parse.specs.EventLines.{name_of, cell_words, job_words, event_words, IsActor, FitsJob, FitsCell, IsRowCell, FitsEvent, AreWordsOf, IsLineOf}
+use Rattle.pb_parse.proofs.Blanks.{AreWords, words_are}
 use Rattle.pb_parse.proofs.Steps.{then_ok, ok_is, chosen, same_text, next_is, none_left, once_is, number_is, next_number_is, next_row_is, next_observer_is}
 
 pub record TakesActor (actor : ℕ) (words rest : List (List ℕ)) : Type 0 where

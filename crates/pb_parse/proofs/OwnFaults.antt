@@ -5,8 +5,8 @@ use Rattle.std.specs.List.{slice_split}
 use Rattle.hex.specs.Hex.{decode_of}
 use Rattle.pb_parse.specs.declared.script.code.Code.{Code}
 use Rattle.pb_parse.specs.declared.script.code.Code.TheVariants.{Memory, Form, Range, Hex, Twice, Seventeenth, TooMany}
-use Rattle.pb_base.specs.Reading.{◌>>=◌}
-use Rattle.pb_parse.specs.ScriptWords.{number_upto, padded, content_of, field, cell_at, ended, put_of, del_of, write_of, operation}
+use Rattle.pb_base.specs.Reading.{◌>>=◌, next_word, no_word}
+use Rattle.pb_parse.specs.ScriptWords.{number_upto, padded, content_of, cell_at, put_of, del_of, write_of, operation}
 
 abbrev pub IsOwn : Code → Type 0
 IsOwn Form = Unit {0}
@@ -47,29 +47,29 @@ pads (Err e) = own Hex tt
 content : (word : List ℕ) → FaultIsOwn (content_of word)
 content word = either _ _ _ (own Hex tt) (pads (decode_of word))
 
-next : (words : List (List ℕ)) → FaultIsOwn (field words)
+next : (words : List (List ℕ)) → FaultIsOwn (next_word Form words)
 next [] = own Form tt
 next (word ∷ words) = good _
 
-ends : (words : List (List ℕ)) → FaultIsOwn (ended words)
+ends : (words : List (List ℕ)) → FaultIsOwn (no_word Form words)
 ends [] = good _
 ends (word ∷ words) = own Form tt
 
 cell : (words : List (List ℕ)) → FaultIsOwn (cell_at words)
 unfolding cell_at
-cell words = bind (field words) _ (next words) (λ a. bind (number_upto _ a.0) _ (number _ a.0) (λ row. bind (field a.1) _ (next a.1) (λ b. bind (number_upto _ b.0) _ (number _ b.0) (λ column. good _))))
+cell words = bind (next_word Form words) _ (next words) (λ a. bind (number_upto _ a.0) _ (number _ a.0) (λ row. bind (next_word Form a.1) _ (next a.1) (λ b. bind (number_upto _ b.0) _ (number _ b.0) (λ column. good _))))
 
 put : (words : List (List ℕ)) → FaultIsOwn (put_of words)
 unfolding put_of
-put words = bind (cell_at words) _ (cell words) (λ a. bind (field a.1) _ (next a.1) (λ b. bind (content_of b.0) _ (content b.0) (λ v. bind (ended b.1) _ (ends b.1) (λ e. good _))))
+put words = bind (cell_at words) _ (cell words) (λ a. bind (next_word Form a.1) _ (next a.1) (λ b. bind (content_of b.0) _ (content b.0) (λ v. bind (no_word Form b.1) _ (ends b.1) (λ e. good _))))
 
 del : (words : List (List ℕ)) → FaultIsOwn (del_of words)
 unfolding del_of
-del words = bind (cell_at words) _ (cell words) (λ a. bind (ended a.1) _ (ends a.1) (λ e. good _))
+del words = bind (cell_at words) _ (cell words) (λ a. bind (no_word Form a.1) _ (ends a.1) (λ e. good _))
 
 write : (words : List (List ℕ)) → FaultIsOwn (write_of words)
 unfolding write_of
-write words = bind (field words) _ (next words) (λ a. either _ _ _ (put a.1) (either _ _ _ (del a.1) (own Form tt)))
+write words = bind (next_word Form words) _ (next words) (λ a. either _ _ _ (put a.1) (either _ _ _ (del a.1) (own Form tt)))
 
 pub own_fault : (text : List ℕ) (cause : Code) → operation text ≡ Err cause → IsOwn cause
 own_fault text cause h = write (slice_split (λ b. b == 32) text) cause h

@@ -1,11 +1,11 @@
 -- A text is read as events exactly where its lines ask for them.
 use Rattle.std.proofs.Common.{◌≡◌, ℕ, ◌+◌, ◌≤◌, ◌↔◌, Bool, true, false, cond, List, [], ◌∷◌, ◌++◌, length, map, Result, Ok, Err, refl, sym, ap, subst, ◌∙◌, arith, append_assoc, append-nil, length-append}
-use Rattle.std.specs.Prelude.{◌==◌, nat_lt, not, replicate}
+use Rattle.std.specs.Prelude.{nat_lt, not, replicate}
 use Rattle.std.specs.List.{filter}
 use Rattle.std.proofs.lemmas.Bool.{ltb-false, le-ltb}
 use Rattle.std.proofs.Math.ListN.{length-replicate}
 use Rattle.pb_base.specs.declared.limits.TheConstants.{MAX_EVENTS}
-use Rattle.pb_base.specs.Reading.{◌>>=◌, in_turn, is_skipped, lines_of, numbered}
+use Rattle.pb_base.specs.Reading.{◌>>=◌, is_skipped, lines_of, numbered}
 use Rattle.pb_steps.specs.Observers.{ObserverOf}
 use Rattle.pb_parse.specs.declared.event.Event.{Event}
 use Rattle.pb_parse.specs.declared.schedule.words.Order.{Order}

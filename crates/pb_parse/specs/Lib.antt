@@ -1,5 +1,6 @@
 pub mod FirstFault
 pub mod Codes
+pub mod Left
 pub mod ScriptWords
 pub mod ScriptLines
 pub mod Operations

@@ -1,5 +1,5 @@
 -- The words of one operation, each read from left to right.
-use Rattle.std.specs.Prelude.{ℕ, ◌-◌, ◌^◌, replicate, ◌||◌, ◌==◌, nat_lt, if◌then◌else◌, List, [], ◌∷◌, ◌++◌, length, drop, codes, Option, Some, None, Result, Ok, Err}
+use Rattle.std.specs.Prelude.{ℕ, ◌-◌, ◌^◌, replicate, ◌||◌, ◌==◌, nat_lt, if◌then◌else◌, List, ◌++◌, length, drop, codes, Result, Ok, Err}
 use Rattle.std.specs.Char.{is_ascii_uppercase}
 use Rattle.std.specs.List.{list_any}
 use Rattle.std.specs.Str.{bytes_eq}
@@ -10,8 +10,7 @@ use Rattle.pb_base.specs.declared.content.Content.{Content}
 use Rattle.pb_base.specs.declared.content.Content.TheVariants.{Value, Deleted}
 use Rattle.pb_parse.specs.declared.script.code.Code.{Code}
 use Rattle.pb_parse.specs.declared.script.code.Code.TheVariants.{Form, Range, Hex}
-use Rattle.pb_base.specs.Reading.{◌>>=◌, numeral_upto, words_of}
-use denote.Ref.{Bor}
+use Rattle.pb_base.specs.Reading.{◌>>=◌, next_word, no_word, numeral_upto, words_of}
 
 -- a number of any length, at most this
 abbrev pub number_upto : ℕ → List ℕ → Result ℕ Code
@@ -26,47 +25,32 @@ padded (Err e) = Err Hex
 abbrev pub content_of : List ℕ → Result (List ℕ) Code
 content_of word = if (length word == 0) || (nat_lt 64 (length word) || list_any is_ascii_uppercase word) then Err Hex else padded (decode_of word)
 
--- the words of what is left of an operation, if anything is
-abbrev pub words_left : Option (Bor (List ℕ)) → List (List ℕ)
-words_left None = []
-words_left (Some text) = words_of text.now
-
--- the next word, and those after it
-abbrev pub field : List (List ℕ) → Result (List ℕ × List (List ℕ)) Code
-field [] = Err Form
-field (word ∷ words) = Ok (word, words)
-
 -- a row and a column, and the words after them
 unfoldable pub cell_at : List (List ℕ) → Result (Cell × List (List ℕ)) Code
 cell_at words = do
-  first ← field words
+  first ← next_word Form words
   row ← number_upto (2 ^ 64 - 1) first.0
-  second ← field first.1
+  second ← next_word Form first.1
   column ← number_upto 15 second.0
   Ok (Data (record { 0 = row }) column, second.1)
-
--- no word is left
-abbrev pub ended : List (List ℕ) → Result (Unit {0}) Code
-ended [] = Ok tt
-ended (word ∷ words) = Err Form
 
 unfoldable pub put_of : List (List ℕ) → Result (Cell × Content) Code
 put_of words = do
   cell ← cell_at words
-  word ← field cell.1
+  word ← next_word Form cell.1
   content ← content_of word.0
-  end ← ended word.1
+  end ← no_word Form word.1
   Ok (cell.0, Value content)
 
 unfoldable pub del_of : List (List ℕ) → Result (Cell × Content) Code
 del_of words = do
   cell ← cell_at words
-  end ← ended cell.1
+  end ← no_word Form cell.1
   Ok (cell.0, Deleted)
 
 unfoldable pub write_of : List (List ℕ) → Result (Cell × Content) Code
 write_of words = do
-  verb ← field words
+  verb ← next_word Form words
   if bytes_eq verb.0 (codes "put") then put_of verb.1 else if bytes_eq verb.0 (codes "del") then del_of verb.1 else Err Form
 
 -- one operation: its words stand with one blank between them

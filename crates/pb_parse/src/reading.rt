@@ -1,17 +1,29 @@
 //! Texts cut into lines and these into words, and numbers.
-ghost use Rattle.std.specs.Prelude.{◌≡◌, ◌==◌, IfOk};
+ghost use Rattle.std.specs.Prelude.{◌≡◌, ◌==◌, ◌∷◌};
 ghost use Rattle.std.specs.Char.{is_ascii_digit};
 ghost use Rattle.std.specs.List.{list_all};
-ghost use Rattle.pb_base.specs.Reading.{is_numeral, is_skipped, lines_of, texts_of, words_of};
+ghost use Rattle.pb_base.specs.Reading.{is_numeral, is_skipped, lines_of, words_of};
+ghost use Rattle.pb_parse.specs.Left.{lines_left, words_left};
 ghost use Rattle.pb_parse.specs.Numerals.{IsRead};
 
-use std::alloc::{AllocError, Global};
-
-/// The lines of a text.
-pub fn lines_of(alloc: Global, text: &str) -> Result<Vec<&str>, AllocError>
-    ensures { IfOk result (λ v. texts_of v.items ≡ lines_of text.now) }
+/// The first line of a text, and what stands behind its newline, if it has one.
+pub fn first_line(text: &str) -> (&str, Option<&str>)
+    ensures { lines_of text.now ≡ result.0.now ∷ lines_left result.1 }
 {
-    text.split('\n').collect(alloc)
+    match text.split_once('\n') {
+        Some((line, after)) => (line, Some(after)),
+        None => (text, None),
+    }
+}
+
+/// The first word of a line, and what stands behind its blank, if it has one.
+pub fn first_word(line: &str) -> (&str, Option<&str>)
+    ensures { words_of line.now ≡ result.0.now ∷ words_left result.1 }
+{
+    match line.split_once(' ') {
+        Some((word, after)) => (word, Some(after)),
+        None => (line, None),
+    }
 }
 
 /// Whether a line is empty, or a remark.
@@ -20,13 +32,6 @@ pub fn is_skipped(line: &str) -> bool
 {
     let bytes = line.as_bytes();
     bytes.is_empty() || bytes[0] == b'#'
-}
-
-/// The words of a line.
-pub fn words_of(alloc: Global, line: &str) -> Result<Vec<&str>, AllocError>
-    ensures { IfOk result (λ v. texts_of v.items ≡ words_of line.now) }
-{
-    line.split(' ').collect(alloc)
 }
 
 fn all_digits(digits: &[u8]) -> bool

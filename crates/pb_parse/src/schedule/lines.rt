@@ -6,7 +6,7 @@ ghost use Rattle.pb_parse.specs.ScheduleCodes.{is_memory};
 ghost use Rattle.pb_parse.specs.Schedules.{with_order, with_event_line, schedule_of, ReadsSchedule};
 
 use crate::event::Event;
-use crate::reading::{is_skipped, lines_of};
+use crate::reading::{first_line, is_skipped};
 use crate::schedule::fault::{Code, ScheduleFault};
 use crate::schedule::words::{Order, order_of};
 use pb_base::{MAX_EVENTS, MAX_OBSERVERS};
@@ -28,12 +28,7 @@ fn append(events: &mut Vec<Event>, order: Order) -> Result<(), Code>
 
 // Adds what one line asks for.
 #[tactic(auto, unfolding(crate::specs::Schedules::with_event_line))]
-fn add_line(
-    alloc: Global,
-    observers: &[Observer],
-    events: &mut Vec<Event>,
-    line: &str,
-) -> Result<(), Code>
+fn add_line(observers: &[Observer], events: &mut Vec<Event>, line: &str) -> Result<(), Code>
     requires few { length observers.now ≤ MAX_OBSERVERS }
     requires most { vec_len events.old ≤ MAX_EVENTS }
     ensures read { Gives is_memory (λ _. events.new.items) result (with_event_line observers.now events.old.items line.now) }
@@ -42,7 +37,7 @@ fn add_line(
     if is_skipped(line) {
         return Ok(());
     }
-    match order_of(alloc, observers, line) {
+    match order_of(observers, line) {
         Ok(order) => append(events, order),
         Err(code) => Err(code),
     }
@@ -58,14 +53,16 @@ pub fn parse_schedule(
     requires { length observers.now ≤ MAX_OBSERVERS }
     ensures { ReadsSchedule result (schedule_of observers.now text.now) }
 {
-    let Ok(lines) = lines_of(alloc, text) else {
-        return Err(ScheduleFault { line: 0, code: 1 });
-    };
     let mut events = Vec::new(alloc);
-    for (index, line) in lines.iter().enumerate() {
-        if let Err(code) = add_line(alloc, observers, &mut events, line) {
+    let mut index = 0;
+    let mut left = Some(text);
+    while let Some(lines) = left {
+        let (line, after) = first_line(lines);
+        if let Err(code) = add_line(observers, &mut events, line) {
             return Err(ScheduleFault::at(index, code));
         }
+        index += 1;
+        left = after;
     }
     Ok(events)
 }

@@ -1,21 +1,21 @@
 //! The words of a line, read from left to right.
 ghost use Rattle.std.specs.Prelude.{◌≡◌, ◌≤◌, ◌-◌, ◌^◌, IfOk, MatchOption, length, Ok, Err};
 ghost use Rattle.pb_base.specs.declared.limits.TheConstants.{MAX_OBSERVERS};
-ghost use Rattle.pb_base.specs.Reading.{Gives, next_word, no_word, texts_of};
+ghost use Rattle.pb_base.specs.Reading.{Gives, next_word, no_word};
 ghost use Rattle.pb_steps.specs.Observers.{observed_column};
 ghost use Rattle.pb_parse.specs.declared.schedule.fault.Code.TheVariants as code;
 ghost use Rattle.pb_parse.specs.declared.event.Event.TheVariants as event;
+ghost use Rattle.pb_parse.specs.Left.{words_left};
 ghost use Rattle.pb_parse.specs.ScheduleCodes.{is_memory};
 ghost use Rattle.pb_parse.specs.ScheduleWords.{number_between, next_number, next_actor, next_row, observer_named, next_observer, next_change, next_run, next_job, once, launch_of, times_of, step_of, crash_of, next_data_cell, next_acknowledgment, next_cell, once_on, order_of_words, order_of};
 
 use crate::event::{Event, Job};
-use crate::reading::{Numeral, number_of, words_of};
+use crate::reading::{Numeral, first_word, number_of};
 use crate::schedule::fault::Code;
 use pb_base::{
     COLUMNS, Cell, Column, MAX_CHANGES, MAX_EVENTS, MAX_OBSERVERS, MAX_SEATS, ObserverNo, Row,
 };
 use pb_steps::Observer;
-use std::alloc::Global;
 
 /// What a line asks for: an event, so many times.
 #[derive(Clone, Copy)]
@@ -68,31 +68,32 @@ fn observer_named(observers: &[Observer], name: &str) -> Option<Named>
     None
 }
 
-// What is left of a line's words.
+// What is left of a line, if anything is.
 #[derive(Drop)]
-struct Words<'a, 'b> {
-    rest: &'b [&'a str],
+struct Words<'a> {
+    rest: Option<&'a str>,
 }
 
-impl<'a, 'b> Words<'a, 'b> {
+impl<'a> Words<'a> {
     // The next word.
     fn next_word(&mut self) -> Result<&'a str, Code>
-        ensures { Gives is_memory (λ x. (x.now, texts_of self.new.rest.now)) result (next_word code.Form (texts_of self.old.rest.now)) }
+        ensures { Gives is_memory (λ x. (x.now, words_left self.new.rest)) result (next_word code.Form (words_left self.old.rest)) }
     {
         match self.rest {
-            [] => Err(Code::Form),
-            [first, rest @ ..] => {
+            Some(line) => {
+                let (word, rest) = first_word(line);
                 self.rest = rest;
-                Ok(*first)
+                Ok(word)
             }
+            None => Err(Code::Form),
         }
     }
 
     // No word is left.
     fn no_word(&self) -> Result<(), Code>
-        ensures { Gives is_memory (λ x. x) result (no_word code.Form (texts_of self.now.rest.now)) }
+        ensures { Gives is_memory (λ x. x) result (no_word code.Form (words_left self.now.rest)) }
     {
-        if !self.rest.is_empty() {
+        if self.rest.is_some() {
             return Err(Code::Form);
         }
         Ok(())
@@ -101,7 +102,7 @@ impl<'a, 'b> Words<'a, 'b> {
     // A number in this range.
     #[tactic(auto, unfolding(crate::specs::ScheduleWords::next_number))]
     fn number(&mut self, least: u64, greatest: u64) -> Result<u64, Code>
-        ensures value { Gives is_memory (λ x. (x, texts_of self.new.rest.now)) result (next_number least greatest (texts_of self.old.rest.now)) }
+        ensures value { Gives is_memory (λ x. (x, words_left self.new.rest)) result (next_number least greatest (words_left self.old.rest)) }
         ensures low { IfOk result (λ x. least ≤ x) }
         ensures high { IfOk result (λ x. x ≤ greatest) }
     {
@@ -110,7 +111,7 @@ impl<'a, 'b> Words<'a, 'b> {
     }
 
     fn actor(&mut self) -> Result<u32, Code>
-        ensures { Gives is_memory (λ x. (x, texts_of self.new.rest.now)) result (next_actor (texts_of self.old.rest.now)) }
+        ensures { Gives is_memory (λ x. (x, words_left self.new.rest)) result (next_actor (words_left self.old.rest)) }
     {
         let number = self.number(1, u64::from(MAX_SEATS - 1))?;
         Ok(number as u32)
@@ -118,7 +119,7 @@ impl<'a, 'b> Words<'a, 'b> {
 
     #[tactic(auto, unfolding(crate::specs::ScheduleWords::next_row))]
     fn row(&mut self) -> Result<Row, Code>
-        ensures { Gives is_memory (λ x. (x, texts_of self.new.rest.now)) result (next_row (texts_of self.old.rest.now)) }
+        ensures { Gives is_memory (λ x. (x, words_left self.new.rest)) result (next_row (words_left self.old.rest)) }
     {
         let number = self.number(0, u64::MAX)?;
         Ok(Row(number))
@@ -128,7 +129,7 @@ impl<'a, 'b> Words<'a, 'b> {
     #[tactic(auto, unfolding(crate::specs::ScheduleWords::next_observer))]
     fn observer(&mut self, observers: &[Observer]) -> Result<Named, Code>
         requires { length observers.now ≤ MAX_OBSERVERS }
-        ensures value { Gives is_memory (λ x. (x.number, texts_of self.new.rest.now)) result (next_observer observers.now (texts_of self.old.rest.now)) }
+        ensures value { Gives is_memory (λ x. (x.number, words_left self.new.rest)) result (next_observer observers.now (words_left self.old.rest)) }
         ensures column { IfOk result (λ x. x.column ≡ observed_column observers.now x.number) }
     {
         let word = self.next_word()?;
@@ -140,7 +141,7 @@ impl<'a, 'b> Words<'a, 'b> {
 
     #[tactic(auto, unfolding(crate::specs::ScheduleWords::next_change))]
     fn change(&mut self) -> Result<Job, Code>
-        ensures { Gives is_memory (λ x. (x, texts_of self.new.rest.now)) result (next_change (texts_of self.old.rest.now)) }
+        ensures { Gives is_memory (λ x. (x, words_left self.new.rest)) result (next_change (words_left self.old.rest)) }
     {
         let number = self.number(1, MAX_CHANGES as u64)?;
         Ok(Job::Change(number as u32))
@@ -149,7 +150,7 @@ impl<'a, 'b> Words<'a, 'b> {
     #[tactic(auto, unfolding(crate::specs::ScheduleWords::next_run))]
     fn run(&mut self, observers: &[Observer]) -> Result<Job, Code>
         requires { length observers.now ≤ MAX_OBSERVERS }
-        ensures { Gives is_memory (λ x. (x, texts_of self.new.rest.now)) result (next_run observers.now (texts_of self.old.rest.now)) }
+        ensures { Gives is_memory (λ x. (x, words_left self.new.rest)) result (next_run observers.now (words_left self.old.rest)) }
     {
         let observer = self.observer(observers)?;
         let row = self.row()?;
@@ -159,7 +160,7 @@ impl<'a, 'b> Words<'a, 'b> {
     #[tactic(auto, unfolding(crate::specs::ScheduleWords::next_job))]
     fn job(&mut self, observers: &[Observer]) -> Result<Job, Code>
         requires { length observers.now ≤ MAX_OBSERVERS }
-        ensures { Gives is_memory (λ x. (x, texts_of self.new.rest.now)) result (next_job observers.now (texts_of self.old.rest.now)) }
+        ensures { Gives is_memory (λ x. (x, words_left self.new.rest)) result (next_job observers.now (words_left self.old.rest)) }
     {
         let sort = self.next_word()?;
         match sort {
@@ -172,7 +173,7 @@ impl<'a, 'b> Words<'a, 'b> {
     #[tactic(auto, unfolding(crate::specs::ScheduleWords::once, crate::specs::ScheduleWords::launch_of))]
     fn launch(&mut self, observers: &[Observer]) -> Result<Order, Code>
         requires { length observers.now ≤ MAX_OBSERVERS }
-        ensures { Gives is_memory (λ o. o) result (launch_of observers.now (texts_of self.old.rest.now)) }
+        ensures { Gives is_memory (λ o. o) result (launch_of observers.now (words_left self.old.rest)) }
     {
         let actor = self.actor()?;
         let job = self.job(observers)?;
@@ -186,12 +187,13 @@ impl<'a, 'b> Words<'a, 'b> {
     // How often: once where no word says it.
     #[tactic(auto, unfolding(crate::specs::ScheduleWords::times_of))]
     fn times(&mut self) -> Result<usize, Code>
-        ensures { Gives is_memory (λ n. n) result (times_of (texts_of self.old.rest.now)) }
+        ensures { Gives is_memory (λ n. n) result (times_of (words_left self.old.rest)) }
     {
-        if self.rest.is_empty() {
+        let Some(line) = self.rest else {
             return Ok(1);
-        }
-        let word = self.next_word()?;
+        };
+        let (word, rest) = first_word(line);
+        self.rest = rest;
         let times = number_between(1, MAX_EVENTS as u64, word)?;
         self.no_word()?;
         Ok(times as usize)
@@ -199,7 +201,7 @@ impl<'a, 'b> Words<'a, 'b> {
 
     #[tactic(auto, unfolding(crate::specs::ScheduleWords::step_of))]
     fn step(&mut self) -> Result<Order, Code>
-        ensures { Gives is_memory (λ o. o) result (step_of (texts_of self.old.rest.now)) }
+        ensures { Gives is_memory (λ o. o) result (step_of (words_left self.old.rest)) }
     {
         let actor = self.actor()?;
         let times = self.times()?;
@@ -211,7 +213,7 @@ impl<'a, 'b> Words<'a, 'b> {
 
     #[tactic(auto, unfolding(crate::specs::ScheduleWords::once, crate::specs::ScheduleWords::crash_of))]
     fn crash(&mut self) -> Result<Order, Code>
-        ensures { Gives is_memory (λ o. o) result (crash_of (texts_of self.old.rest.now)) }
+        ensures { Gives is_memory (λ o. o) result (crash_of (words_left self.old.rest)) }
     {
         let actor = self.actor()?;
         self.no_word()?;
@@ -223,7 +225,7 @@ impl<'a, 'b> Words<'a, 'b> {
 
     #[tactic(auto, unfolding(crate::specs::ScheduleWords::next_data_cell))]
     fn data_cell(&mut self) -> Result<Cell, Code>
-        ensures { Gives is_memory (λ x. (x, texts_of self.new.rest.now)) result (next_data_cell (texts_of self.old.rest.now)) }
+        ensures { Gives is_memory (λ x. (x, words_left self.new.rest)) result (next_data_cell (words_left self.old.rest)) }
     {
         let row = self.row()?;
         let number = self.number(0, u64::from(COLUMNS - 1))?;
@@ -236,7 +238,7 @@ impl<'a, 'b> Words<'a, 'b> {
     #[tactic(auto, unfolding(crate::specs::ScheduleWords::next_acknowledgment))]
     fn acknowledgment(&mut self, observers: &[Observer]) -> Result<Cell, Code>
         requires { length observers.now ≤ MAX_OBSERVERS }
-        ensures { Gives is_memory (λ x. (x, texts_of self.new.rest.now)) result (next_acknowledgment observers.now (texts_of self.old.rest.now)) }
+        ensures { Gives is_memory (λ x. (x, words_left self.new.rest)) result (next_acknowledgment observers.now (words_left self.old.rest)) }
     {
         let observer = self.observer(observers)?;
         let row = self.row()?;
@@ -246,25 +248,24 @@ impl<'a, 'b> Words<'a, 'b> {
     // A data cell, or behind `ack` an acknowledgment.
     fn cell(&mut self, observers: &[Observer]) -> Result<Cell, Code>
         requires { length observers.now ≤ MAX_OBSERVERS }
-        ensures { Gives is_memory (λ x. (x, texts_of self.new.rest.now)) result (next_cell observers.now (texts_of self.old.rest.now)) }
+        ensures { Gives is_memory (λ x. (x, words_left self.new.rest)) result (next_cell observers.now (words_left self.old.rest)) }
     {
-        match self.rest {
-            [] => Err(Code::Form),
-            [first, rest @ ..] => {
-                if *first == "ack" {
-                    self.rest = rest;
-                    self.acknowledgment(observers)
-                } else {
-                    self.data_cell()
-                }
-            }
+        let Some(line) = self.rest else {
+            return Err(Code::Form);
+        };
+        let (first, rest) = first_word(line);
+        if first == "ack" {
+            self.rest = rest;
+            self.acknowledgment(observers)
+        } else {
+            self.data_cell()
         }
     }
 
     #[tactic(auto, unfolding(crate::specs::ScheduleWords::once, crate::specs::ScheduleWords::once_on))]
     fn settle(&mut self, observers: &[Observer]) -> Result<Order, Code>
         requires { length observers.now ≤ MAX_OBSERVERS }
-        ensures { Gives is_memory (λ o. o) result (once_on event.Settle (next_cell observers.now (texts_of self.old.rest.now))) }
+        ensures { Gives is_memory (λ o. o) result (once_on event.Settle (next_cell observers.now (words_left self.old.rest))) }
     {
         let cell = self.cell(observers)?;
         self.no_word()?;
@@ -277,7 +278,7 @@ impl<'a, 'b> Words<'a, 'b> {
     #[tactic(auto, unfolding(crate::specs::ScheduleWords::once, crate::specs::ScheduleWords::once_on))]
     fn clear(&mut self, observers: &[Observer]) -> Result<Order, Code>
         requires { length observers.now ≤ MAX_OBSERVERS }
-        ensures { Gives is_memory (λ o. o) result (once_on event.Clear (next_cell observers.now (texts_of self.old.rest.now))) }
+        ensures { Gives is_memory (λ o. o) result (once_on event.Clear (next_cell observers.now (words_left self.old.rest))) }
     {
         let cell = self.cell(observers)?;
         self.no_word()?;
@@ -289,7 +290,7 @@ impl<'a, 'b> Words<'a, 'b> {
 
     #[tactic(auto, unfolding(crate::specs::ScheduleWords::once, crate::specs::ScheduleWords::once_on))]
     fn sweep(&mut self) -> Result<Order, Code>
-        ensures { Gives is_memory (λ o. o) result (once_on event.Sweep (next_data_cell (texts_of self.old.rest.now))) }
+        ensures { Gives is_memory (λ o. o) result (once_on event.Sweep (next_data_cell (words_left self.old.rest))) }
     {
         let cell = self.data_cell()?;
         self.no_word()?;
@@ -303,7 +304,7 @@ impl<'a, 'b> Words<'a, 'b> {
     #[tactic(auto, unfolding(crate::specs::ScheduleWords::order_of_words))]
     fn order(&mut self, observers: &[Observer]) -> Result<Order, Code>
         requires { length observers.now ≤ MAX_OBSERVERS }
-        ensures { Gives is_memory (λ o. o) result (order_of_words observers.now (texts_of self.old.rest.now)) }
+        ensures { Gives is_memory (λ o. o) result (order_of_words observers.now (words_left self.old.rest)) }
     {
         let verb = self.next_word()?;
         match verb {
@@ -319,10 +320,9 @@ impl<'a, 'b> Words<'a, 'b> {
 }
 
 /// What a line asks for.
-pub fn order_of(alloc: Global, observers: &[Observer], line: &str) -> Result<Order, Code>
+pub fn order_of(observers: &[Observer], line: &str) -> Result<Order, Code>
     requires { length observers.now ≤ MAX_OBSERVERS }
     ensures { Gives is_memory (λ o. o) result (order_of observers.now line.now) }
 {
-    let words = words_of(alloc, line)?;
-    Words { rest: &words }.order(observers)
+    Words { rest: Some(line) }.order(observers)
 }

@@ -11,7 +11,7 @@ ghost use Rattle.pb_parse.specs.Operations.{Say, StopsWith};
 ghost use Rattle.pb_parse.specs.Scripts.{Reads, StopsAt, AreBatches};
 ghost use Rattle.pb_parse.specs.declared.script.code.Code.TheVariants.{Memory};
 
-use crate::reading::{is_skipped, lines_of};
+use crate::reading::{first_line, is_skipped};
 use crate::script::code::Code;
 use crate::script::words::{Change, operation};
 use pb_base::{Batch, Cell, MAX_CELLS, MAX_CHANGES};
@@ -117,14 +117,16 @@ impl ScriptFault {
 pub fn parse_script(alloc: Global, text: &str) -> Result<Vec<Batch>, ScriptFault>
     ensures { Reads result (script_of text.now) }
 {
-    let Ok(lines) = lines_of(alloc, text) else {
-        return Err(ScriptFault { line: 0, code: 1 });
-    };
     let mut batches = Vec::new(alloc);
-    for (index, line) in lines.iter().enumerate() {
+    let mut index = 0;
+    let mut left = Some(text);
+    while let Some(lines) = left {
+        let (line, after) = first_line(lines);
         if let Err(code) = add_line(alloc, &mut batches, line) {
             return Err(ScriptFault::at(index, code));
         }
+        index += 1;
+        left = after;
     }
     Ok(batches)
 }

@@ -3,11 +3,13 @@ ghost use Rattle.std.specs.Prelude.{◌≡◌, ◌<◌, ◌≤◌, IfOk};
 ghost use Rattle.std.specs.Char.{is_ascii_uppercase};
 ghost use Rattle.std.specs.List.{list_any};
 ghost use Rattle.pb_base.specs.declared.cell.Cell.TheVariants.{Data};
-ghost use Rattle.pb_base.specs.Reading.{Gives};
+ghost use Rattle.pb_base.specs.Reading.{Gives, next_word, no_word};
+ghost use Rattle.pb_parse.specs.declared.script.code.Code.TheVariants as code;
 ghost use Rattle.pb_parse.specs.Codes.{is_memory};
-ghost use Rattle.pb_parse.specs.ScriptWords.{number_upto, content_of, words_left, field, cell_at, ended, put_of, del_of, write_of, operation};
+ghost use Rattle.pb_parse.specs.Left.{words_left};
+ghost use Rattle.pb_parse.specs.ScriptWords.{number_upto, content_of, cell_at, put_of, del_of, write_of, operation};
 
-use crate::reading::is_numeral;
+use crate::reading::{first_word, is_numeral};
 use crate::script::code::Code;
 use pb_base::{Column, Content, Row, Value};
 
@@ -75,15 +77,12 @@ fn content_of(word: &str) -> Result<Value, Code>
 }
 
 // The next word, and what is left after it, if anything: words end at blanks.
-fn field(words: Option<&str>) -> Result<(&str, Option<&str>), Code>
-    ensures { Gives is_memory (λ x. (x.0.now, words_left x.1)) result (field (words_left words.entry)) }
+fn next_word(words: Option<&str>) -> Result<(&str, Option<&str>), Code>
+    ensures { Gives is_memory (λ x. (x.0.now, words_left x.1)) result (next_word code.Form (words_left words.entry)) }
 {
-    let Some(text) = words else {
-        return Err(Code::Form);
-    };
-    match text.split_once(' ') {
-        Some((word, after)) => Ok((word, Some(after))),
-        None => Ok((text, None)),
+    match words {
+        Some(text) => Ok(first_word(text)),
+        None => Err(Code::Form),
     }
 }
 
@@ -93,16 +92,16 @@ fn cell_at(words: Option<&str>) -> Result<(Place, Option<&str>), Code>
     ensures value { Gives is_memory (λ x. (Data (record { 0 = x.0.row }) x.0.column, words_left x.1)) result (cell_at (words_left words.entry)) }
     ensures bound { IfOk result (λ x. x.0.column < 16) }
 {
-    let (word, words) = field(words)?;
+    let (word, words) = next_word(words)?;
     let row = number_upto(u64::MAX, word)?;
-    let (word, words) = field(words)?;
+    let (word, words) = next_word(words)?;
     let column = number_upto(15, word)? as u8;
     Ok((Place { row, column }, words))
 }
 
 // No word is left.
-fn ended(words: Option<&str>) -> Result<(), Code>
-    ensures { Gives is_memory (λ x. x) result (ended (words_left words.entry)) }
+fn no_word(words: Option<&str>) -> Result<(), Code>
+    ensures { Gives is_memory (λ x. x) result (no_word code.Form (words_left words.entry)) }
 {
     if words.is_none() {
         Ok(())
@@ -116,9 +115,9 @@ fn put_of(words: Option<&str>) -> Result<Change, Code>
     ensures { Gives is_memory (λ w. (Data w.0 w.1, w.2)) result (put_of (words_left words.entry)) }
 {
     let (place, words) = cell_at(words)?;
-    let (word, words) = field(words)?;
+    let (word, words) = next_word(words)?;
     let content = content_of(word)?;
-    ended(words)?;
+    no_word(words)?;
     Ok(place.with(Content::Value(content)))
 }
 
@@ -127,7 +126,7 @@ fn del_of(words: Option<&str>) -> Result<Change, Code>
     ensures { Gives is_memory (λ w. (Data w.0 w.1, w.2)) result (del_of (words_left words.entry)) }
 {
     let (place, words) = cell_at(words)?;
-    ended(words)?;
+    no_word(words)?;
     Ok(place.with(Content::Deleted))
 }
 
@@ -136,7 +135,7 @@ fn del_of(words: Option<&str>) -> Result<Change, Code>
 pub fn operation(text: &str) -> Result<Change, Code>
     ensures { Gives is_memory (λ w. (Data w.0 w.1, w.2)) result (operation text.now) }
 {
-    let (verb, words) = field(Some(text))?;
+    let (verb, words) = next_word(Some(text))?;
     match verb {
         "put" => put_of(words),
         "del" => del_of(words),

@@ -1,5 +1,5 @@
 use Rattle.std.proofs.Common.{sym, ◌∙◌}
-use Rattle.pb_parse.proofs.Numerals.{value_is, too_large}
+use Rattle.pb_parse.proofs.Numerals.{too_large}
 use Rattle.pb_parse.proofs.reading.number_of.Goals as goal
 
 pub returns-in-Err : goal.returns-in-Err

@@ -1,9 +1,15 @@
-use Rattle.std.proofs.Common.{◌≡◌, drop, map}
-use Rattle.pb_base.specs.Reading.{in_turn}
+use Rattle.std.proofs.Common.{◌≡◌, ◌+◌, ◌≤◌, length}
+use Rattle.pb_base.specs.Reading.{in_turn, numbered}
 use Rattle.pb_parse.specs.Codes.{script_code}
+use Rattle.pb_parse.specs.Left.{lines_left}
 use Rattle.pb_parse.specs.ScriptLines.{with_line, script_of}
-use Rattle.pb_base.specs.Reading.{numbered}
 use Rattle.pb_parse.proofs.script.lines.parse_script.Given as goal
 
-abbrev pub invariant-loop-index : goal.invariant-loop-index
-invariant-loop-index l = in_turn (λ n before line. numbered script_code n (with_line before line)) l.index l.batches.items (map (λ w. w.now) (drop l.index l.line-items)) ≡ script_of l.text
+abbrev pub invariant-loop-left : goal.invariant-loop-left
+invariant-loop-left l = record {
+  so_far : in_turn (λ n before line. numbered script_code n (with_line before line)) l.index l.batches.items (lines_left l.left) ≡ script_of l.text;
+  counted : l.index + length (lines_left l.left) ≤ length l.text + 1;
+}
+
+abbrev pub decreases-loop-left : goal.decreases-loop-left
+decreases-loop-left l = length (lines_left l.left)
