@@ -29,7 +29,7 @@ use Rattle.pb_notify.specs.declared.place.Place.{Place}
 use Rattle.pb_notify.specs.declared.place.Place.TheVariants.{Starting, Computing}
 use Rattle.pb_notify.specs.Places.{ComesFrom, Comes, place_of}
 use Rattle.pb_notify.specs.Steps.{Steps}
-use Rattle.pb_notify.specs.Runs.{RunOf, HasNext, next_of, need_of, answered, IsTold, Computes}
+use Rattle.pb_notify.specs.Runs.{RunOf, HasNext, next_of, need_of, answered, HearsLook, Computes}
 use Rattle.pb_notify.specs.Talks.{Reaches, made, took, computed}
 use Rattle.pb_notify.specs.Forms.{JobsEnd}
 use Rattle.pb_notify.specs.Allowed.{JobsAreAllowed, RunsAreKept}
@@ -107,7 +107,7 @@ first observers n x s q job known is =
     }
 
 module _ (observers : List ObserverOf) (n : ℕ) (x : Cell) (s0 : SharedOf) (q0 : SeatOf) (s : SharedOf) (q : SeatOf) (job : RunOf) (along : IsAlong observers n x s0 q0 s q job) where
-  pub next : (step : Step) → next_of job ≡ Some step → (a : Answer) → CanAnswer step a → (s' : SharedOf) (q' : SeatOf) → Calls s q step a s' q' → (l : RunOf) → l ≡ answered job a → IsTold job a l → (k : RunOf) → IsComputed l k
+  pub next : (step : Step) → next_of job ≡ Some step → (a : Answer) → CanAnswer step a → (s' : SharedOf) (q' : SeatOf) → Calls s q step a s' q' → (l : RunOf) → l ≡ answered job a → HearsLook job a l → (k : RunOf) → IsComputed l k
       → IsAlong observers n x s0 q0 s' q' k
   next step e a can s' q' c l answer is k on_to = record {
     goes = goes_on s0 q0 s q s' q' along.goes (called s q step a s' q' c);

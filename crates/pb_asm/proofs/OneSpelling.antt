@@ -25,7 +25,7 @@ use Rattle.pb_asm.specs.declared.fault.Code.{Code}
 use Rattle.pb_asm.specs.declared.fault.Code.TheVariants as code
 use Rattle.pb_asm.specs.declared.names.Word.{Word}
 use Rattle.pb_asm.specs.declared.names.Word.TheVariants as word
-use Rattle.pb_asm.specs.Names.{name, words, registers, word_in, word_named, reg_name, reg_in, reg_named}
+use Rattle.pb_asm.specs.Names.{name, words, registers, word_in, word_named, reg_name, reg_spelled, reg_named}
 use Rattle.pb_base.specs.Reading.{◌>>=◌}
 use Rattle.std.specs.Prelude.{ok_or}
 use Rattle.pb_asm.specs.Cuts.{strip_prefix, strip_suffix, split_once}
@@ -180,9 +180,9 @@ found : {A : Type 0} (text : List ℕ) (called : A → List ℕ) (x y : A) (rest
 found text called x y rest true is h others = (bytes_eq-Decides text (called x)).0 is ∙ ap called (some_is x y (Some x) refl h)
 found text called x y rest false is h others = others h
 
-reg_among : (text : List ℕ) (rs : List Reg) (r : Reg) → reg_in text rs ≡ Some r → text ≡ reg_name r
+reg_among : (text : List ℕ) (rs : List Reg) (r : Reg) → reg_spelled text rs ≡ Some r → text ≡ reg_name r
 reg_among text [] r h = absurd cc
-reg_among text (s ∷ rs) r h = found text reg_name s r (reg_in text rs) (bytes_eq text (reg_name s)) refl h (reg_among text rs r)
+reg_among text (s ∷ rs) r h = found text reg_name s r (reg_spelled text rs) (bytes_eq text (reg_name s)) refl h (reg_among text rs r)
 
 reg_is : (text : List ℕ) (r : Reg) → reg_of_text text ≡ Ok r → text ≡ reg_name r
 reg_is text r h = reg_among text registers r (there_ok (reg_named text) code.Form r h)

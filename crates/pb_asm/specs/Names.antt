@@ -101,9 +101,9 @@ reg_name R10 = codes "r10"
 unfoldable pub registers : List Reg
 registers = R0 ∷ R1 ∷ R2 ∷ R3 ∷ R4 ∷ R5 ∷ R6 ∷ R7 ∷ R8 ∷ R9 ∷ R10 ∷ []
 
-abbrev pub reg_in : List ℕ → List Reg → Option Reg
-reg_in text [] = None
-reg_in text (r ∷ rs) = if bytes_eq text (reg_name r) then Some r else reg_in text rs
+abbrev pub reg_spelled : List ℕ → List Reg → Option Reg
+reg_spelled text [] = None
+reg_spelled text (r ∷ rs) = if bytes_eq text (reg_name r) then Some r else reg_spelled text rs
 
 abbrev pub reg_named : List ℕ → Option Reg
-reg_named text = reg_in text registers
+reg_named text = reg_spelled text registers

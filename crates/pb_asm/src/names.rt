@@ -1,6 +1,6 @@
 //! The words of the text.
 ghost use Rattle.std.specs.Prelude.{◌≡◌};
-ghost use Rattle.pb_asm.specs.Names.{name, word_in, word_named, reg_name, reg_in, reg_named};
+ghost use Rattle.pb_asm.specs.Names.{name, word_in, word_named, reg_name, reg_spelled, reg_named};
 
 use pb_isa::{AluOp, Cmp, Reg, Size, Width};
 
@@ -131,8 +131,8 @@ pub fn reg_name(reg: Reg) -> &'static str
     }
 }
 
-fn reg_in(registers: &[Reg], text: &str) -> Option<Reg>
-    ensures { result ≡ reg_in text.now registers.now }
+fn reg_spelled(registers: &[Reg], text: &str) -> Option<Reg>
+    ensures { result ≡ reg_spelled text.now registers.now }
 {
     for reg in registers {
         if text == reg_name(*reg) {
@@ -147,7 +147,7 @@ fn reg_in(registers: &[Reg], text: &str) -> Option<Reg>
 pub fn reg_named(text: &str) -> Option<Reg>
     ensures { result ≡ reg_named text.now }
 {
-    reg_in(&REGISTERS, text)
+    reg_spelled(&REGISTERS, text)
 }
 
 const REGISTERS: [Reg; 11] = [

@@ -10,7 +10,7 @@ use Rattle.pb_command.specs.declared.answer.Verdict.{Verdict}
 use Rattle.pb_command.specs.declared.answer.Verdict.TheVariants.{Accepted, Refused}
 use Rattle.pb_command.specs.declared.fault.Fault.{Fault}
 use Rattle.pb_command.specs.declared.fault.Fault.TheVariants as faults
-use Rattle.pb_command.specs.FaultLines.{Tells, IsQuiet}
+use Rattle.pb_command.specs.FaultLines.{Tells, SaysNothing}
 use Rattle.pb_command.specs.Files.{Text, Held, IsKnownAs}
 use Rattle.pb_command.specs.PathFaults.{IsFileFault}
 use Rattle.pb_command.specs.Programs.{AsmLeaves, AnswerLeaves, Lists, Checks}
@@ -60,26 +60,26 @@ ReplayLeaves before manifest script schedule clock old now failed (Err f) = Repl
 -- ---- any command
 
 -- What is left where a command ended so: only `asm` writes to a path, and it writes no output.
-abbrev pub Leaves : Options → Held → Held → Bool → Bool → Option (List ℕ) → Option (List ℕ) → Bool → Result Verdict Fault → Type 0
-Leaves (options.Run manifest script) before after was unwritten old now failed outcome =
+abbrev pub LeavesBehind : Options → Held → Held → Bool → Bool → Option (List ℕ) → Option (List ℕ) → Bool → Result Verdict Fault → Type 0
+LeavesBehind (options.Run manifest script) before after was unwritten old now failed outcome =
     (after ≡ before) × (unwritten ≡ was) × RunLeaves before manifest.now script.now old now failed outcome
-Leaves (options.Replay manifest script schedule clock) before after was unwritten old now failed outcome =
+LeavesBehind (options.Replay manifest script schedule clock) before after was unwritten old now failed outcome =
     (after ≡ before) × (unwritten ≡ was) × ReplayLeaves before manifest.now script.now schedule.now clock.0 old now failed outcome
-Leaves (options.Asm input output) before after was unwritten old now failed outcome =
+LeavesBehind (options.Asm input output) before after was unwritten old now failed outcome =
     (now ≡ old) × (failed ≡ false) × AsmLeaves before after was unwritten input.now output.now outcome
-Leaves (options.Dis file) before after was unwritten old now failed outcome =
+LeavesBehind (options.Dis file) before after was unwritten old now failed outcome =
     (after ≡ before) × (unwritten ≡ was) × AnswerLeaves Lists (before file.now) file.now old now failed outcome
-Leaves (options.Check file) before after was unwritten old now failed outcome =
+LeavesBehind (options.Check file) before after was unwritten old now failed outcome =
     (after ≡ before) × (unwritten ≡ was) × AnswerLeaves Checks (before file.now) file.now old now failed outcome
 
 -- an outcome as a status, with what was told
 abbrev pub IsToldAs : Result Verdict Fault → Option (List ℕ) → Option (List ℕ) → Bool → ℕ → Type 0
-IsToldAs (Ok Accepted) old now failed status = (status ≡ 0) × IsQuiet old now failed
-IsToldAs (Ok Refused) old now failed status = (status ≡ 1) × IsQuiet old now failed
+IsToldAs (Ok Accepted) old now failed status = (status ≡ 0) × SaysNothing old now failed
+IsToldAs (Ok Refused) old now failed status = (status ≡ 1) × SaysNothing old now failed
 IsToldAs (Err f) old now failed status = (status ≡ 1) × Tells f old now failed
 
 -- how a command ended, as its status and the line of its fault tell it
 pub record Commands (options : Options) (before after : Held) (was unwritten : Bool) (old now : Option (List ℕ)) (failed : Bool) (quiet told : Option (List ℕ)) (mute : Bool) (status : ℕ) : Type 0 where
   pub outcome : Result Verdict Fault
-  pub leaves : Leaves options before after was unwritten old now failed outcome
+  pub leaves : LeavesBehind options before after was unwritten old now failed outcome
   pub tells : IsToldAs outcome quiet told mute status

@@ -61,5 +61,5 @@ abbrev pub Tells : Fault → Option (List ℕ) → Option (List ℕ) → Bool �
 Tells f old now failed = SaysLine (fault_line f) old now failed ⊎ SaysLine (codes "no memory\n") old now failed
 
 -- nothing was told
-abbrev pub IsQuiet : Option (List ℕ) → Option (List ℕ) → Bool → Type 0
-IsQuiet old now failed = (now ≡ old) × (failed ≡ false)
+abbrev pub SaysNothing : Option (List ℕ) → Option (List ℕ) → Bool → Type 0
+SaysNothing old now failed = (now ≡ old) × (failed ≡ false)

@@ -87,7 +87,7 @@ at_asked n s v q (On look) asks few = (few, asks)
 at_asked n s v q (Tells a) asks few = (few, refl)
 at_asked n s v q Blocks asks few = tt
 
-at_outcome : (n r : ℕ) (p : PlanOf) (o : Option Outcome) → outcome_of p ≡ o → orders.Fits (length (orders.declared_cells p.what)) p.place → AtPlace n (by_outcome r p o)
+at_outcome : (n r : ℕ) (p : PlanOf) (o : Option Outcome) → outcome_of p ≡ o → orders.LiesWithin (length (orders.declared_cells p.what)) p.place → AtPlace n (by_outcome r p o)
 at_outcome n r p None is fits = (is, fits)
 at_outcome n r p (Some (outcomes.Committed c)) is fits = tt
 at_outcome n r p (Some outcomes.Conflicted) is fits = tt

@@ -31,12 +31,12 @@ use Rattle.pb_notify.specs.declared.need.JobEnd.TheVariants as ends
 use Rattle.pb_notify.specs.declared.place.Place.{Place}
 use Rattle.pb_notify.specs.declared.place.Place.TheVariants.{Beginning, Observing, Acknowledging, Starting, Computing, Asking, Planning, Sweeping, Over}
 use Rattle.pb_notify.specs.Looks.{look_after}
-use Rattle.pb_notify.specs.Machines.{entry}
+use Rattle.pb_notify.specs.Machines.{first_position}
 use Rattle.pb_notify.specs.Steps.{Steps}
 use Rattle.pb_notify.specs.Places.{place_after, after_begin, if_found, after_cell, after_acknowledgment, after_ask, by_outcome, place_of, Comes, ComesFrom, IsToldBy, IsToldAt}
 use Rattle.pb_notify.specs.Runs.{RunOf, fresh}
 use Rattle.pb_notify.specs.Talks.{Reaches, made, took, computed}
-use Rattle.pb_notify.specs.Led.{StandsAt, IsLed, IsMachineOf, MachinesAreLed}
+use Rattle.pb_notify.specs.Led.{MachineStandsAt, IsLed, IsMachineOf, MachinesAreLed}
 use Rattle.pb_notify.proofs.RunTalk as talk
 
 -- ---- the machine alone
@@ -45,7 +45,7 @@ first : (e : Environment) → Leads e [] 0 (start e)
 unfolding point_after
 first e = refl
 
-at_entry : (judged : JudgedOf) (bytes : List ℕ) (began : ℕ) → IsLed (entry judged bytes began)
+at_entry : (judged : JudgedOf) (bytes : List ℕ) (began : ℕ) → IsLed (first_position judged bytes began)
 at_entry judged bytes began a p = (start (environment_of judged bytes began a), first (environment_of judged bytes began a))
 
 -- the same placement of the same record
@@ -146,7 +146,7 @@ reached_led j said k led (computed before from to reaches need c) = computed_led
 
 module _ (o : ℕ) (judged : JudgedOf) (row : Row) (column : ℕ) where
   -- a look goes on from what was said before it
-  machine_at : (said : List Received) (n : ℕ) (place : Place) (s : Ts) (v : Position) → StandsAt place s v → talk.SoFar o judged row column n place said → AtLed place → IsMachineOf o judged row column s v said
+  machine_at : (said : List Received) (n : ℕ) (place : Place) (s : Ts) (v : Position) → MachineStandsAt place s v → talk.SoFar o judged row column n place said → AtLed place → IsMachineOf o judged row column s v said
   machine_at said n (Computing t w) s v stands so led =
       subst (λ (z : Position). IsMachineOf o judged row column s z said) stands.1
       (subst (λ (z : Ts). IsMachineOf o judged row column z w said) stands.0

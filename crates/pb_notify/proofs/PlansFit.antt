@@ -11,45 +11,45 @@ use Rattle.pb_txn.specs.declared.place.Outcome.{Outcome}
 use Rattle.pb_txn.specs.declared.place.Outcome.TheVariants as outcomes
 use Rattle.pb_txn.specs.declared.place.Place.{Place}
 use Rattle.pb_txn.specs.declared.place.Place.TheVariants.{Declaring, Prewriting, Stamping, CommittingPrimary, CommittingSecondary, Settling, Clearing, Over}
-use Rattle.pb_txn.specs.Places.{declared_cells, place_after, prewrite_from, commit_from, clear_from, after_prewrite, after_stamp, after_primary, Fits}
+use Rattle.pb_txn.specs.Places.{declared_cells, place_after, prewrite_from, commit_from, clear_from, after_prewrite, after_stamp, after_primary, LiesWithin}
 use Rattle.pb_txn.specs.Plans.{PlanOf, next_of, outcome_of}
 
 below : (a b : ℕ) → nat_lt a b ≡ true → a < b
 below a b e = grind (arith, e)
 
 -- the place that a test chooses
-by_test : (count : ℕ) (b : Bool) (p q : Place) → (b ≡ true → Fits count p) → Fits count q → Fits count (cond b p q)
+by_test : (count : ℕ) (b : Bool) (p q : Place) → (b ≡ true → LiesWithin count p) → LiesWithin count q → LiesWithin count (cond b p q)
 by_test count true p q first second = first refl
 by_test count false p q first second = second
 
-prewrites : (count k : ℕ) → Fits count (prewrite_from count k)
+prewrites : (count k : ℕ) → LiesWithin count (prewrite_from count k)
 prewrites count k = by_test count (nat_lt k count) (Prewriting k) Stamping (below k count) tt
 
-commits : (count : ℕ) (c : Ts) (k : ℕ) → 0 < k → Fits count (commit_from count c k)
+commits : (count : ℕ) (c : Ts) (k : ℕ) → 0 < k → LiesWithin count (commit_from count c k)
 commits count c k some = by_test count (nat_lt k count) (CommittingSecondary c k) (Over (outcomes.Committed c)) (λ e. (some, below k count e)) tt
 
-clears : (count k end : ℕ) (o : Outcome) → 0 < k → end ≤ count → Fits count (clear_from k end o)
+clears : (count k end : ℕ) (o : Outcome) → 0 < k → end ≤ count → LiesWithin count (clear_from k end o)
 clears count k end o some most = by_test count (nat_lt k end) (Clearing k end o) (Over o) (λ e. (some, below k end e, most)) tt
 
-after_conflict : (count k : ℕ) (b : Bool) → (k == 0) ≡ b → k < count → Fits count (cond b (Over outcomes.Conflicted) (Settling k))
+after_conflict : (count k : ℕ) (b : Bool) → (k == 0) ≡ b → k < count → LiesWithin count (cond b (Over outcomes.Conflicted) (Settling k))
 after_conflict count k true e lt = tt
 after_conflict count k false e lt = (positive k e, lt) where
   positive : (n : ℕ) → (n == 0) ≡ false → 0 < n
   positive n h = grind (arith, h)
 
-prewrite_after : (count k : ℕ) (a : Answer) → k < count → Fits count (after_prewrite count k a)
+prewrite_after : (count k : ℕ) (a : Answer) → k < count → LiesWithin count (after_prewrite count k a)
 prewrite_after count k answers.Conflict lt = after_conflict count k (k == 0) refl lt
 prewrite_after count k _ lt = prewrites count (k + 1)
 
-stamp_after : (count : ℕ) (a : Answer) → Fits count (after_stamp a)
+stamp_after : (count : ℕ) (a : Answer) → LiesWithin count (after_stamp a)
 stamp_after count (answers.At c) = tt
 stamp_after count _ = tt
 
-primary_after : (count : ℕ) (c : Ts) (a : Answer) → Fits count (after_primary count c a)
+primary_after : (count : ℕ) (c : Ts) (a : Answer) → LiesWithin count (after_primary count c a)
 primary_after count c answers.Committed = commits count c 1 (omega arith)
 primary_after count c _ = clears count 1 count outcomes.Lost (omega arith) (omega arith)
 
-pub fits_after : (count : ℕ) (p : Place) (a : Answer) → Fits count p → Fits count (place_after count p a)
+pub fits_after : (count : ℕ) (p : Place) (a : Answer) → LiesWithin count p → LiesWithin count (place_after count p a)
 fits_after count Declaring a fits = prewrites count 0
 fits_after count (Prewriting k) a fits = prewrite_after count k a fits
 fits_after count Stamping a fits = stamp_after count a
@@ -66,9 +66,9 @@ at_cell [] k f lt = absurd (omega (arith, lt))
 at_cell (x ∷ xs) zero f lt = (f x, refl)
 at_cell (x ∷ xs) (suc k) f lt = at_cell xs k f (omega (arith, lt))
 
-pub next_is : (p : PlanOf) (place : Place) → p.place ≡ place → Fits (length (declared_cells p.what)) place → outcome_of p ≡ None → (s : Step) × (next_of p ≡ Some s)
-next_is p place is fits none = found p.place (subst (Fits (length (declared_cells p.what))) (sym is) fits) none where
-  found : (at : Place) → Fits (length (declared_cells p.what)) at → outcome_of (record p { place = at }) ≡ None → (s : Step) × (next_of (record p { place = at }) ≡ Some s)
+pub next_is : (p : PlanOf) (place : Place) → p.place ≡ place → LiesWithin (length (declared_cells p.what)) place → outcome_of p ≡ None → (s : Step) × (next_of p ≡ Some s)
+next_is p place is fits none = found p.place (subst (LiesWithin (length (declared_cells p.what))) (sym is) fits) none where
+  found : (at : Place) → LiesWithin (length (declared_cells p.what)) at → outcome_of (record p { place = at }) ≡ None → (s : Step) × (next_of (record p { place = at }) ≡ Some s)
   found Declaring fits none = (steps.Declare (record { 0 = p.start }) p.what, refl)
   found (Prewriting k) fits none = at_cell _ k _ fits
   found Stamping fits none = (steps.Stamp (record { 0 = p.start }), refl)

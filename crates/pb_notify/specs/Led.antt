@@ -19,10 +19,10 @@ use Rattle.pb_notify.specs.Talks.{Reaches}
 use Rattle.pb_notify.specs.Forms.{AreAsked}
 
 -- the machine of a place stands at this position, begun at this start
-abbrev pub StandsAt : Place → Ts → Position → Type 0
-StandsAt (Computing t w) s v = (t ≡ s) × (w ≡ v)
-StandsAt (Asking t w q look) s v = (t ≡ s) × (w ≡ v)
-StandsAt place s v = ⊥
+abbrev pub MachineStandsAt : Place → Ts → Position → Type 0
+MachineStandsAt (Computing t w) s v = (t ≡ s) × (w ≡ v)
+MachineStandsAt (Asking t w q look) s v = (t ≡ s) × (w ≡ v)
+MachineStandsAt place s v = ⊥
 
 -- at every placement its instructions led from entry to a state, with exactly its asks and replies
 abbrev pub IsLed : Position → Type 0
@@ -44,4 +44,4 @@ pub record IsMachineOf (o : ℕ) (judged : JudgedOf) (row : Row) (column : ℕ) 
 
 abbrev pub MachinesAreLed : Type 0
 MachinesAreLed = (o : ℕ) (judged : JudgedOf) (row : Row) (column : ℕ) (said : List Received) (k : RunOf) (s : Ts) (v : Position) → Reaches (fresh o judged row column) said k
-    → StandsAt k.place s v → IsMachineOf o judged row column s v said
+    → MachineStandsAt k.place s v → IsMachineOf o judged row column s v said

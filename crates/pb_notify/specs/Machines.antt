@@ -17,15 +17,15 @@ use Rattle.pb_notify.specs.declared.machine.Standing.{Standing}
 use Rattle.pb_notify.specs.declared.machine.Standing.TheVariants.{Running, Exited}
 
 -- before its first instruction
-abbrev pub entry : JudgedOf → List ℕ → ℕ → Position
-entry judged bytes began = record { judged = judged; bytes = bytes; began = began; talk = []; taken = 0; phase = Going }
+abbrev pub first_position : JudgedOf → List ℕ → ℕ → Position
+first_position judged bytes began = record { judged = judged; bytes = bytes; began = began; talk = []; taken = 0; phase = Going }
 
 -- after its ask was replied to
 abbrev pub after_reply : Position → Ask → machine.Reply → Position
 after_reply v q r = record v { talk = v.talk ++ (ask_of q, r) ∷ []; taken = v.taken + 1; phase = Going }
 
 -- the instruction that asked is done, with what the read of its cell was answered
-pub record IsTold (v : Position) (q : Ask) (a : Answer) (w : Position) : Type 0 where
+pub record HearsReply (v : Position) (q : Ask) (a : Answer) (w : Position) : Type 0 where
   pub reply : Reply
   pub reply_is : reply_of reply ≡ value_in a
   pub told : RepliedWith v q reply w

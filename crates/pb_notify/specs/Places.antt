@@ -33,7 +33,7 @@ use Rattle.pb_notify.specs.declared.need.JobEnd.TheVariants as ends
 use Rattle.pb_notify.specs.declared.place.Place.{Place}
 use Rattle.pb_notify.specs.declared.place.Place.TheVariants.{Beginning, Observing, Acknowledging, Starting, Computing, Asking, Planning, Sweeping, Over}
 use Rattle.pb_notify.specs.Looks.{look_step, look_after, locked_after}
-use Rattle.pb_notify.specs.Machines.{entry, after_reply, IsTold}
+use Rattle.pb_notify.specs.Machines.{first_position, after_reply, HearsReply}
 use Rattle.pb_notify.specs.Steps.{Steps, WentOn, MovesOn}
 use Rattle.pb_vm.specs.declared.moved.Moved.{Moved}
 use Rattle.pb_vm.specs.declared.moved.Moved.TheVariants as moved
@@ -109,7 +109,7 @@ place_after locked (Over end) a = Over end
 
 -- where a look for the machine comes to its end, the machine is told
 abbrev pub IsToldBy : Position → Ask → Looked → Place → Type 0
-IsToldBy v q (Tells a) (Computing s w) = IsTold v q a w
+IsToldBy v q (Tells a) (Computing s w) = HearsReply v q a w
 IsToldBy v q looked place = Unit {0}
 
 abbrev pub IsToldAt : ℕ → Place → Answer → Place → Type 0
@@ -139,7 +139,7 @@ pub record Comes (o : ℕ) (s : Ts) (v : Position) (place : Place) : Type 0 wher
 -- the machine begins on the record of what was seen of the cell
 pub record Starts (o : ℕ) (judged : JudgedOf) (x : Cell) (s : Ts) (seen : Seen) (place : Place) : Type 0 where
   pub size : length (record_of x seen.version seen.acknowledged.0) ≡ RECORD_BYTES
-  pub comes : Comes o s (entry judged (record_of x seen.version seen.acknowledged.0) s.0) place
+  pub comes : Comes o s (first_position judged (record_of x seen.version seen.acknowledged.0) s.0) place
 
 -- from a place: the machine begins, or goes on where it stands
 abbrev pub ComesFrom : ℕ → JudgedOf → Cell → Place → Place → Type 0
@@ -172,7 +172,7 @@ AtPlace locked (Acknowledging s found look) = locked < MAX_LOCKED
 AtPlace locked (Starting s seen) = locked < MAX_LOCKED
 AtPlace locked (Computing s v) = (locked < MAX_LOCKED) × (v.phase ≡ phases.Going)
 AtPlace locked (Asking s v q look) = (locked < MAX_LOCKED) × (v.phase ≡ phases.Asking q)
-AtPlace locked (Planning r p) = (outcome_of p ≡ None) × orders.Fits (length (orders.declared_cells p.what)) p.place
+AtPlace locked (Planning r p) = (outcome_of p ≡ None) × orders.LiesWithin (length (orders.declared_cells p.what)) p.place
 AtPlace locked (Sweeping end) = Unit {0}
 AtPlace locked (Over end) = Unit {0}
 

@@ -45,8 +45,8 @@ abbrev pub answered : RunOf → Answer → RunOf
 answered j a = record j { locked = locked_at j.locked j.place a; place = place_after j.locked j.place a }
 
 -- its machine was told what a look for it found
-abbrev pub IsTold : RunOf → Answer → RunOf → Type 0
-IsTold j a k = IsToldAt j.locked j.place a k.place
+abbrev pub HearsLook : RunOf → Answer → RunOf → Type 0
+HearsLook j a k = IsToldAt j.locked j.place a k.place
 
 -- there is a next step, which can have this answer
 abbrev pub CanTake : RunOf → Answer → Type 0

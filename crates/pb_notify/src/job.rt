@@ -41,7 +41,7 @@ impl Model for ObserverJob {
 impl ObserverJob {
     ghost use Rattle.std.specs.Prelude.{◌≡◌, None, Some, MatchOption, OnOk, OnErr};
     ghost use Rattle.pb_notify.specs.declared.need.Need.TheVariants.{Local, Call};
-    ghost use Rattle.pb_notify.specs.Runs.{fresh, next_of, HasNext, need_of, answered, IsTold, CanTake, Computes};
+    ghost use Rattle.pb_notify.specs.Runs.{fresh, next_of, HasNext, need_of, answered, HearsLook, CanTake, Computes};
 
     /// The run of this observer, whose program this is, on the cell of this row and column. It takes no memory.
     pub fn new(
@@ -89,7 +89,7 @@ impl ObserverJob {
     pub fn took(&mut self, answer: Answer)
         requires { CanTake self.old answer }
         ensures answered { self.new ≡ answered self.old answer }
-        ensures told { IsTold self.old answer self.new }
+        ensures told { HearsLook self.old answer self.new }
     {
         let place = mem::replace(&mut self.place, Place::Beginning);
         let locked = locked_at(self.locked, &place, &answer);

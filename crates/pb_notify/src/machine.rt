@@ -1,7 +1,7 @@
 //! The machine of a run, which tries its exit again where memory was refused to declare what it leaves.
 ghost use Rattle.std.specs.Prelude.{◌≡◌, IfOk};
 ghost use Rattle.pb_steps.specs.Reads.{value_in};
-ghost use Rattle.pb_notify.specs.Machines.{entry, after_reply, IsTold};
+ghost use Rattle.pb_notify.specs.Machines.{first_position, after_reply, HearsReply};
 ghost use Rattle.pb_vm.specs.declared.moved.Phase.TheVariants.{Asking};
 
 mod stepped;
@@ -49,7 +49,7 @@ impl Machine {
         change: Record,
         run: Ts,
     ) -> Result<Machine, NoMemory>
-        ensures { IfOk result (λ m. m ≡ entry accepted.now.value change run.0) }
+        ensures { IfOk result (λ m. m ≡ first_position accepted.now.value change run.0) }
     {
         let vm = Vm::start(alloc, accepted, change, run)?;
         let vm = Box::new(alloc, vm)?;
@@ -61,7 +61,7 @@ impl Machine {
     /// Tells the instruction that waits what a read of its cell was answered.
     pub fn reply(self, ask: Ask, answer: Answer) -> Machine
         requires { self.phase ≡ Asking ask }
-        ensures told { IsTold self ask answer result }
+        ensures told { HearsReply self ask answer result }
         ensures is { result ≡ after_reply self ask (value_in answer) }
     {
         match self.standing {

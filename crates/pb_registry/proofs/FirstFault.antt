@@ -14,7 +14,7 @@ use Rattle.pb_registry.specs.declared.code.Code.{Code}
 use Rattle.pb_registry.specs.declared.code.Code.TheVariants.{Memory}
 use Rattle.pb_registry.specs.declared.fault.RegistryFault.{RegistryFault}
 use Rattle.pb_registry.specs.Codes.{is_memory}
-use Rattle.pb_registry.specs.Judging.{IsObserver, AreObservers, HasOneMore, IsFaultAfter, IsFirstFault, IsTold, names_of, told, told_at}
+use Rattle.pb_registry.specs.Judging.{IsObserver, AreObservers, HasOneMore, IsLowestAfter, IsFirstElementFault, TellsFault, names_of, fault_with, fault_at}
 
 pub no_observers : (os : List ObserverOf) → os ≡ [] → AreObservers [] os
 unfolding IsDistinct
@@ -30,7 +30,7 @@ module _ (vs : List Value) (i : ℕ) (v : Value) (lt : i < length vs) (at : get_
         apart = apart;
       }
 
-  first_fault : (code : Code) → IsFaultAfter (names_of old) (view v) code → IsFirstFault (map view vs) i code
+  first_fault : (code : Code) → IsLowestAfter (names_of old) (view v) code → IsFirstElementFault (map view vs) i code
   first_fault code fault = record {
     before = old;
     good = subst (λ ds. AreObservers ds old) (sym (take-map view i vs)) good;
@@ -39,9 +39,9 @@ module _ (vs : List Value) (i : ℕ) (v : Value) (lt : i < length vs) (at : get_
     fault = fault;
   }
 
-  pub told_fault : (code : Code) (f : RegistryFault) → f ≡ told_at i code → (code ≢ Memory → IsFaultAfter (names_of old) (view v) code) → (f ≡ told None Memory) ⊎ IsTold (Ok (map view vs)) f
+  pub told_fault : (code : Code) (f : RegistryFault) → f ≡ fault_at i code → (code ≢ Memory → IsLowestAfter (names_of old) (view v) code) → (f ≡ fault_with None Memory) ⊎ TellsFault (Ok (map view vs)) f
   told_fault code f is fault = by (is_memory code) refl
     where
-      by : (b : Bool) → is_memory code ≡ b → (f ≡ told None Memory) ⊎ IsTold (Ok (map view vs)) f
-      by true m = inl (is ∙ ap (λ b. if b then told None Memory else told (Some i) code) m)
-      by false m = inr (i, code, first_fault code (fault (λ e. true≢false (sym (ap is_memory e) ∙ m))), is ∙ ap (λ b. if b then told None Memory else told (Some i) code) m)
+      by : (b : Bool) → is_memory code ≡ b → (f ≡ fault_with None Memory) ⊎ TellsFault (Ok (map view vs)) f
+      by true m = inl (is ∙ ap (λ b. if b then fault_with None Memory else fault_with (Some i) code) m)
+      by false m = inr (i, code, first_fault code (fault (λ e. true≢false (sym (ap is_memory e) ∙ m))), is ∙ ap (λ b. if b then fault_with None Memory else fault_with (Some i) code) m)

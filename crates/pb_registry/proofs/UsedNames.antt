@@ -11,7 +11,7 @@ use Rattle.pb_steps.specs.Observers.{ObserverOf}
 use Rattle.pb_registry.specs.declared.code.Code.{Code}
 use Rattle.pb_registry.specs.declared.code.Code.TheVariants.{Name}
 use Rattle.pb_registry.specs.declared.observer.Held.{Held}
-use Rattle.pb_registry.specs.Manifests.{WrittenOf, is_name, name_in, text_at, column_in, number_at, helpers_in, elements_at, bytes_in, written_in}
+use Rattle.pb_registry.specs.Manifests.{WrittenOf, is_name, name_in, text_at, column_in, number_at, helpers_in, elements_at, bytes_in, members_of}
 use Rattle.pb_registry.specs.Observers.{observers_of}
 use Rattle.pb_registry.specs.Judging.{IsObserver, is_among, is_used, names_of}
 
@@ -47,8 +47,8 @@ name_of : (t : Option (List ℕ)) (a : Result ℕ Code) (h : Result HelperSet Co
 name_of None a h b w e = absurd (true≢false (sym (ap is_ok e)))
 name_of (Some s) a h b w e = name_kept s (is_name s) a h b w e
 
-named : (d : Data) (w : WrittenOf) → written_in d ≡ Ok w → text_at (codes "name") d ≡ Some w.name
-unfolding written_in
+named : (d : Data) (w : WrittenOf) → members_of d ≡ Ok w → text_at (codes "name") d ≡ Some w.name
+unfolding members_of
 named d w e = name_of (text_at (codes "name") d) (column_in (number_at (codes "column") d)) (helpers_in (elements_at (codes "helpers") d)) (bytes_in (text_at (codes "code") d)) w e
 
 nothing_found : {A : Type 0} (r : Option A) → is_some r ≡ false → r ≡ None

@@ -4,10 +4,10 @@ use Rattle.std.specs.Fmt.{decimal}
 use Rattle.pb_base.specs.declared.refusal.Refused.{Refused}
 use Rattle.pb_registry.specs.declared.fault.RegistryFault.{RegistryFault}
 
-abbrev pub told_at : Option ℕ → ℕ → Option Refused → List ℕ
-told_at None code r = codes "code " ++ decimal code
-told_at (Some observer) code None = codes "observer " ++ (decimal observer ++ (codes " code " ++ decimal code))
-told_at (Some observer) code (Some r) = codes "observer " ++ (decimal observer ++ (codes " code " ++ (decimal code ++ (codes " slot " ++ (decimal r.slot ++ (codes " code " ++ decimal r.code))))))
+abbrev pub fault_words : Option ℕ → ℕ → Option Refused → List ℕ
+fault_words None code r = codes "code " ++ decimal code
+fault_words (Some observer) code None = codes "observer " ++ (decimal observer ++ (codes " code " ++ decimal code))
+fault_words (Some observer) code (Some r) = codes "observer " ++ (decimal observer ++ (codes " code " ++ (decimal code ++ (codes " slot " ++ (decimal r.slot ++ (codes " code " ++ decimal r.code))))))
 
 abbrev pub fault_text : RegistryFault → List ℕ
-fault_text f = told_at f.observer f.code f.program
+fault_text f = fault_words f.observer f.code f.program

@@ -10,7 +10,7 @@ use Rattle.pb_registry.specs.declared.code.Code.TheVariants.{Memory, Name, Progr
 use Rattle.pb_registry.specs.declared.fault.RegistryFault.{RegistryFault}
 use Rattle.pb_registry.specs.Accepting.{IsAcceptedCode, IsRefusedCode}
 use Rattle.pb_registry.specs.Codes.{number_of, refusal_of, is_memory}
-use Rattle.pb_registry.specs.Manifests.{WrittenOf, text_at, written_in, elements_of_text}
+use Rattle.pb_registry.specs.Manifests.{WrittenOf, text_at, members_of, elements_of_text}
 
 -- an observer as it is written, with the program that its code is
 pub record IsUpload (w : WrittenOf) (o : ObserverOf) : Type 0 where
@@ -20,7 +20,7 @@ pub record IsUpload (w : WrittenOf) (o : ObserverOf) : Type 0 where
 
 -- this observer is written in this element
 abbrev pub IsObserver : Data → ObserverOf → Type 0
-IsObserver d o = (w : WrittenOf) × (written_in d ≡ Ok w) × IsUpload w o
+IsObserver d o = (w : WrittenOf) × (members_of d ≡ Ok w) × IsUpload w o
 
 -- the program that this code is isn't accepted with these helpers
 abbrev pub IsProgramFault : List ℕ → HelperSet → Code → Type 0
@@ -29,7 +29,7 @@ IsProgramFault bytes helpers c = ⊥
 
 -- the lowest code of an element by itself, that of its program last
 abbrev pub IsOwnFault : Data → Code → Type 0
-IsOwnFault d c = (written_in d ≡ Err c) ⊎ ((w : WrittenOf) × (written_in d ≡ Ok w) × IsProgramFault w.bytes w.helpers c)
+IsOwnFault d c = (members_of d ≡ Err c) ⊎ ((w : WrittenOf) × (members_of d ≡ Ok w) × IsProgramFault w.bytes w.helpers c)
 
 abbrev pub names_of : List ObserverOf → List (List ℕ)
 names_of os = map (λ o. o.name) os
@@ -47,8 +47,8 @@ FaultAfter true d c = c ≡ Name
 FaultAfter false d c = IsOwnFault d c
 
 -- the lowest code of an element after others with these names
-abbrev pub IsFaultAfter : List (List ℕ) → Data → Code → Type 0
-IsFaultAfter names d c = FaultAfter (is_used names d) d c
+abbrev pub IsLowestAfter : List (List ℕ) → Data → Code → Type 0
+IsLowestAfter names d c = FaultAfter (is_used names d) d c
 
 -- the observer of this element stands behind those before
 abbrev pub HasOneMore : Data → List ObserverOf → List ObserverOf → Type 0
@@ -60,36 +60,36 @@ pub record AreObservers (ds : List Data) (os : List ObserverOf) : Type 0 where
   pub apart : IsDistinct bytes_eq (names_of os)
 
 -- the first element at fault is at this place, with this code: those before it are observers
-pub record IsFirstFault (ds : List Data) (place : ℕ) (code : Code) : Type 0 where
+pub record IsFirstElementFault (ds : List Data) (place : ℕ) (code : Code) : Type 0 where
   pub before : List ObserverOf
   pub good : AreObservers (take place ds) before
   pub element : Data
   pub there : slice_get ds place ≡ Some element
-  pub fault : IsFaultAfter (names_of before) element code
+  pub fault : IsLowestAfter (names_of before) element code
 
--- how a code is told, of the whole or of the observer at a place
-abbrev pub told : Option ℕ → Code → RegistryFault
-told place c = record { observer = place; code = number_of c; program = refusal_of c }
+-- how a code is fault_with, of the whole or of the observer at a place
+abbrev pub fault_with : Option ℕ → Code → RegistryFault
+fault_with place c = record { observer = place; code = number_of c; program = refusal_of c }
 
 -- the same of an observer, where want of memory has no place
-abbrev pub told_at : ℕ → Code → RegistryFault
-told_at place c = if is_memory c then told None Memory else told (Some place) c
+abbrev pub fault_at : ℕ → Code → RegistryFault
+fault_at place c = if is_memory c then fault_with None Memory else fault_with (Some place) c
 
 abbrev pub AreTaken : Result (List Data) Code → List ObserverOf → Type 0
 AreTaken (Ok ds) os = AreObservers ds os
 AreTaken (Err c) os = ⊥
 
 -- the fault of the whole, or that of the first observer at fault
-abbrev pub IsTold : Result (List Data) Code → RegistryFault → Type 0
-IsTold (Err c) f = f ≡ told None c
-IsTold (Ok ds) f = (place : ℕ) × (c : Code) × IsFirstFault ds place c × (f ≡ told (Some place) c)
+abbrev pub TellsFault : Result (List Data) Code → RegistryFault → Type 0
+TellsFault (Err c) f = f ≡ fault_with None c
+TellsFault (Ok ds) f = (place : ℕ) × (c : Code) × IsFirstElementFault ds place c × (f ≡ fault_with (Some place) c)
 
 -- what reading a manifest tells: its observers, or its fault
 abbrev pub ReadsManifest : List ℕ → Result (List ObserverOf) RegistryFault → Type 0
 ReadsManifest text (Ok os) = AreTaken (elements_of_text text) os
-ReadsManifest text (Err f) = IsTold (elements_of_text text) f
+ReadsManifest text (Err f) = TellsFault (elements_of_text text) f
 
 -- a manifest is taken with the observers that it says, and refused with its fault, unless memory ran out
 abbrev pub IsJudged : Result (List ObserverOf) RegistryFault → List ℕ → Type 0
 IsJudged (Ok os) text = ReadsManifest text (Ok os)
-IsJudged (Err f) text = (f ≡ told None Memory) ⊎ ReadsManifest text (Err f)
+IsJudged (Err f) text = (f ≡ fault_with None Memory) ⊎ ReadsManifest text (Err f)

@@ -121,8 +121,8 @@ pub record WrittenOf : Type 0 where
   pub bytes : List ℕ
 
 -- name, column, helpers and digits are read in this order, so the fault that is told has the lowest code
-unfoldable pub written_in : Data → Result WrittenOf Code
-written_in d = do
+unfoldable pub members_of : Data → Result WrittenOf Code
+members_of d = do
   name ← name_in (text_at (codes "name") d)
   column ← column_in (number_at (codes "column") d)
   helpers ← helpers_in (elements_at (codes "helpers") d)

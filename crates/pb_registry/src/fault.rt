@@ -1,6 +1,6 @@
 //! How the fault of a manifest is told.
 ghost use Rattle.std.specs.Prelude.{◌≡◌};
-ghost use Rattle.pb_registry.specs.Judging.{told, told_at};
+ghost use Rattle.pb_registry.specs.Judging.{fault_with, fault_at};
 
 use crate::code::Code;
 use pb_base::Refused;
@@ -43,8 +43,8 @@ impl fmt::Display for RegistryFault {
 impl Error for RegistryFault {}
 
 /// A code as it is told: of the whole, or of the observer at a place.
-pub fn told(observer: Option<u8>, code: Code) -> RegistryFault
-    ensures { result ≡ told observer code }
+pub fn fault_with(observer: Option<u8>, code: Code) -> RegistryFault
+    ensures { result ≡ fault_with observer code }
 {
     RegistryFault {
         observer,
@@ -54,11 +54,11 @@ pub fn told(observer: Option<u8>, code: Code) -> RegistryFault
 }
 
 /// The same of the observer at a place, where want of memory has none.
-pub fn told_at(place: u8, code: Code) -> RegistryFault
-    ensures { result ≡ told_at place code }
+pub fn fault_at(place: u8, code: Code) -> RegistryFault
+    ensures { result ≡ fault_at place code }
 {
     match code {
-        Code::Memory => told(None, code),
-        _ => told(Some(place), code),
+        Code::Memory => fault_with(None, code),
+        _ => fault_with(Some(place), code),
     }
 }

@@ -5,10 +5,10 @@ ghost use Rattle.std.specs.Str.{bytes_eq};
 ghost use Rattle.serde_json.specs.View.{view};
 ghost use Rattle.pb_registry.specs.declared.code.Code.TheVariants.{Memory};
 ghost use Rattle.pb_registry.specs.Observers.{observers_of};
-ghost use Rattle.pb_registry.specs.Judging.{AreObservers, HasOneMore, IsFaultAfter, IsTold, is_used, names_of, told};
+ghost use Rattle.pb_registry.specs.Judging.{AreObservers, HasOneMore, IsLowestAfter, TellsFault, is_used, names_of, fault_with};
 
 use crate::code::Code;
-use crate::fault::{RegistryFault, told_at};
+use crate::fault::{RegistryFault, fault_at};
 use crate::form::text_at;
 use crate::observer::{Held, observer_in};
 use indexmap::IndexMap;
@@ -26,7 +26,7 @@ fn is_used(observers: &IndexMap<String, Held>, element: &Value) -> bool
     }
 }
 
-// Reads one observer more. A name that was used before is told first, as its code is the lowest.
+// Reads one observer more. A name that was used before is fault_with first, as its code is the lowest.
 fn add_observer(
     alloc: Global,
     observers: &mut IndexMap<String, Held>,
@@ -34,7 +34,7 @@ fn add_observer(
 ) -> Result<(), Code>
     ensures more { OnOk result (HasOneMore (view element.now) (observers_of observers.old.entries) (observers_of observers.new.entries)) }
     ensures apart { OnOk result (IsDistinct bytes_eq (names_of (observers_of observers.new.entries))) }
-    ensures err { IfErr result (λ c. c ≢ Memory → IsFaultAfter (names_of (observers_of observers.old.entries)) (view element.now) c) }
+    ensures err { IfErr result (λ c. c ≢ Memory → IsLowestAfter (names_of (observers_of observers.old.entries)) (view element.now) c) }
 {
     if is_used(observers, element) {
         return Err(Code::Name);
@@ -50,19 +50,19 @@ fn add_observer(
     }
 }
 
-/// Reads the observers of a manifest, in its order. The first at fault is told, with its lowest code.
+/// Reads the observers of a manifest, in its order. The first at fault is fault_with, with its lowest code.
 pub fn observers_in(
     alloc: Global,
     elements: &[Value],
 ) -> Result<IndexMap<String, Held>, RegistryFault>
     requires { length elements.now ≤ MAX_OBSERVERS }
     ensures ok { IfOk result (λ m. AreObservers (map view elements.now) (observers_of m.entries)) }
-    ensures err { IfErr result (λ f. (f ≡ told None Memory) ⊎ IsTold (Ok (map view elements.now)) f) }
+    ensures err { IfErr result (λ f. (f ≡ fault_with None Memory) ⊎ TellsFault (Ok (map view elements.now)) f) }
 {
     let mut observers = IndexMap::new(alloc);
     for (place, element) in elements.iter().enumerate() {
         if let Err(code) = add_observer(alloc, &mut observers, element) {
-            return Err(told_at(place as u8, code));
+            return Err(fault_at(place as u8, code));
         }
     }
     Ok(observers)

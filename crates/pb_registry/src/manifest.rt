@@ -2,7 +2,7 @@
 ghost use Rattle.std.specs.Prelude.{◌≡◌, ◌≤◌, length, IfOk, IfErr};
 ghost use Rattle.pb_registry.specs.Judging.{IsJudged};
 
-use crate::fault::{RegistryFault, told};
+use crate::fault::{RegistryFault, fault_with};
 use crate::form::{value_of, whole_in};
 use crate::listing::observers_in;
 use crate::observer::Held;
@@ -40,11 +40,11 @@ impl Registry {
     {
         let value = match value_of(alloc, text) {
             Ok(value) => value,
-            Err(code) => return Err(told(None, code)),
+            Err(code) => return Err(fault_with(None, code)),
         };
         let elements = match whole_in(&value) {
             Ok(elements) => elements,
-            Err(code) => return Err(told(None, code)),
+            Err(code) => return Err(fault_with(None, code)),
         };
         let observers = observers_in(alloc, elements)?;
         Ok(Registry { observers })

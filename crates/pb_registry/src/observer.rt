@@ -3,7 +3,7 @@ ghost use Rattle.std.specs.Prelude.{◌≡◌, ◌≢◌, Ok, map, IfOk, IfErr, 
 ghost use Rattle.std.specs.List.{list_all, list_any};
 ghost use Rattle.std.specs.Char.{is_ascii_uppercase};
 ghost use Rattle.serde_json.specs.View.{view};
-ghost use Rattle.pb_registry.specs.Manifests.{is_name_letter, is_name, name_in, column_in, numbers_of, helpers_in, bytes_in, written_in, text_at, number_at, elements_at};
+ghost use Rattle.pb_registry.specs.Manifests.{is_name_letter, is_name, name_in, column_in, numbers_of, helpers_in, bytes_in, members_of, text_at, number_at, elements_at};
 ghost use Rattle.pb_registry.specs.declared.code.Code.TheVariants.{Memory};
 ghost use Rattle.pb_registry.specs.Helpers.{helpers_of};
 ghost use Rattle.pb_registry.specs.Accepting.{IsAcceptedCode};
@@ -159,9 +159,9 @@ fn copy_of(alloc: Global, text: &str) -> Result<String, Code>
 }
 
 // Reads an observer as it is written.
-#[tactic(auto, unfolding(crate::specs::Manifests::written_in))]
-fn written_in(alloc: Global, value: &Value) -> Result<Written, Code>
-    ensures { Gives is_memory written_of result (written_in (view value.now)) }
+#[tactic(auto, unfolding(crate::specs::Manifests::members_of))]
+fn members_of(alloc: Global, value: &Value) -> Result<Written, Code>
+    ensures { Gives is_memory written_of result (members_of (view value.now)) }
 {
     let name = name_in(value)?;
     let column = column_in(value)?;
@@ -186,7 +186,7 @@ pub fn observer_in(alloc: Global, value: &Value) -> Result<Observer, Code>
         column,
         helpers,
         bytes,
-    } = written_in(alloc, value)?;
+    } = members_of(alloc, value)?;
     let program = program_in(alloc, &bytes, helpers)?;
     Ok(Observer {
         name,

@@ -13,7 +13,7 @@ use Rattle.pb_parse.specs.declared.event.Event.{Event}
 use Rattle.pb_parse.specs.Schedules.{schedule_of}
 use Rattle.pb_world.specs.declared.fault.WorldFault.{WorldFault}
 use Rattle.pb_world.specs.declared.note.Note.{Note}
-use Rattle.pb_world.specs.Events.{WorldOf, idle_actors, RunsTo, StopsAt}
+use Rattle.pb_world.specs.Events.{WorldOf, idle_actors, RunsTo, StopsAtEvent}
 use Rattle.pb_script.specs.declared.fault.ReportFault.{ReportFault}
 use Rattle.pb_script.specs.declared.fault.ReportFault.TheVariants as ends
 use Rattle.pb_script.specs.TableReports.{Wrote, Began}
@@ -82,22 +82,22 @@ pub record BeganReport (w : WorldOf) (events : List Event) (old now : Option (Li
 pub record Stopped (w : WorldOf) (events : List Event) (f : WorldFault) : Type 0 where
   pub other : f.code ≢ reason_code NoMemory
   pub after : WorldOf
-  pub stops : StopsAt w events f.event f.code after
+  pub stops : StopsAtEvent w events f.event f.code after
 
 -- how a run of events in a world ended, and what the sink had taken and has taken
-abbrev pub Ends : WorldOf → List Event → Option (List ℕ) → Option (List ℕ) → Bool → Result (Unit {0}) ReplayFault → Type 0
-Ends w events old now failed (Ok u) = Reported w events old now × (failed ≡ false)
-Ends w events old now failed (Err faults.Output) = BeganReport w events old now × (failed ≡ true)
-Ends w events old now failed (Err (faults.Event f)) = Stopped w events f × (now ≡ old) × (failed ≡ false)
-Ends w events old now failed (Err faults.NoMemory) = (now ≡ old) × (failed ≡ false)
-Ends w events old now failed (Err _) = ⊥
+abbrev pub EventsEnd : WorldOf → List Event → Option (List ℕ) → Option (List ℕ) → Bool → Result (Unit {0}) ReplayFault → Type 0
+EventsEnd w events old now failed (Ok u) = Reported w events old now × (failed ≡ false)
+EventsEnd w events old now failed (Err faults.Output) = BeganReport w events old now × (failed ≡ true)
+EventsEnd w events old now failed (Err (faults.Event f)) = Stopped w events f × (now ≡ old) × (failed ≡ false)
+EventsEnd w events old now failed (Err faults.NoMemory) = (now ≡ old) × (failed ≡ false)
+EventsEnd w events old now failed (Err _) = ⊥
 
 -- a world of a table with all its seats, where these changes may be launched, as it is opened
 abbrev pub opened_world : SharedOf → List SeatOf → List Writes → WorldOf
 opened_world shared seats batches = record { shared = shared; seats = seats; actors = idle_actors (length seats); batches = batches }
 
 abbrev pub Replays : SharedOf → List SeatOf → List Writes → List Event → Option (List ℕ) → Option (List ℕ) → Bool → Result (Unit {0}) ReplayFault → Type 0
-Replays shared seats batches events old now failed result = Ends (opened_world shared seats batches) events old now failed result
+Replays shared seats batches events old now failed result = EventsEnd (opened_world shared seats batches) events old now failed result
 
 -- ---- the whole
 

@@ -4,7 +4,7 @@ ghost use Rattle.pb_base.specs.declared.limits.TheConstants.{MAX_OBSERVERS};
 ghost use Rattle.pb_store.specs.Contents.{nothing};
 ghost use Rattle.pb_core.specs.Calls.{AreSeats};
 ghost use Rattle.pb_world.specs.Events.{WorldOf};
-ghost use Rattle.pb_replay.specs.Replays.{Replays, Ends, IsReadAs, IsUnread, ReplaysTexts};
+ghost use Rattle.pb_replay.specs.Replays.{Replays, EventsEnd, IsReadAs, IsUnread, ReplaysTexts};
 
 use crate::fault::ReplayFault;
 use crate::texts::{changes_in, events_in, observers_in};
@@ -51,7 +51,7 @@ fn run<T: Tablet, S: Sink>(
     sink: &mut S,
 ) -> Result<(), ReplayFault>
     requires unfailed { S.failed sink.old ≡ false }
-    ensures { Ends world.old events.now (S.taken sink.old) (S.taken sink.new) (S.failed sink.new) result }
+    ensures { EventsEnd world.old events.now (S.taken sink.old) (S.taken sink.new) (S.failed sink.new) result }
 {
     match world.run(alloc, events) {
         Ok(_notes) => match report(alloc, sink, world.shared()) {

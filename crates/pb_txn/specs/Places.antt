@@ -78,12 +78,12 @@ step_at s what Declaring = Some (steps.Declare (record { 0 = s }) what)
 step_at s what place = later_step s (declared_cells what) place
 
 -- the place lies within so many cells
-abbrev pub Fits : ℕ → Place → Type 0
-Fits count Declaring = Unit {0}
-Fits count (Prewriting k) = k < count
-Fits count Stamping = Unit {0}
-Fits count (CommittingPrimary c) = Unit {0}
-Fits count (CommittingSecondary c k) = (0 < k) × (k < count)
-Fits count (Settling k) = (0 < k) × (k < count)
-Fits count (Clearing k end o) = (0 < k) × (k < end) × (end ≤ count)
-Fits count (Over o) = Unit {0}
+abbrev pub LiesWithin : ℕ → Place → Type 0
+LiesWithin count Declaring = Unit {0}
+LiesWithin count (Prewriting k) = k < count
+LiesWithin count Stamping = Unit {0}
+LiesWithin count (CommittingPrimary c) = Unit {0}
+LiesWithin count (CommittingSecondary c k) = (0 < k) × (k < count)
+LiesWithin count (Settling k) = (0 < k) × (k < count)
+LiesWithin count (Clearing k end o) = (0 < k) × (k < end) × (end ≤ count)
+LiesWithin count (Over o) = Unit {0}

@@ -9,7 +9,7 @@ use Rattle.pb_steps.specs.Answers.{CanAnswer}
 use Rattle.pb_txn.specs.declared.place.Outcome.{Outcome}
 use Rattle.pb_txn.specs.declared.place.Place.{Place}
 use Rattle.pb_txn.specs.declared.place.Place.TheVariants.{Declaring, Over}
-use Rattle.pb_txn.specs.Places.{declared_cells, place_after, later_step, step_at, Fits}
+use Rattle.pb_txn.specs.Places.{declared_cells, place_after, later_step, step_at, LiesWithin}
 
 -- a transaction's start, what it declares, and which step is next
 pub record PlanOf : Type 0 where
@@ -49,9 +49,9 @@ what_in _ = declared.Script []
 pub record IsPlan (s : ℕ) (declare : Step) (later : Option Step) (place : Place) : Type 0 where
   pub declares : declare ≡ steps.Declare (record { 0 = s }) (what_in declare)
   pub stored : later ≡ later_step s (declared_cells (what_in declare)) place
-  pub fits : Fits (length (declared_cells (what_in declare))) place
+  pub fits : LiesWithin (length (declared_cells (what_in declare))) place
 
 -- the step is a declaration
-abbrev pub Declares : Step → Type 0
-Declares (steps.Declare s what) = Unit {0}
-Declares _ = ⊥
+abbrev pub IsDeclaration : Step → Type 0
+IsDeclaration (steps.Declare s what) = Unit {0}
+IsDeclaration _ = ⊥

@@ -1,6 +1,6 @@
 //! Where a plan stands, and where an answer leads.
 ghost use Rattle.std.specs.Prelude.{◌≡◌, ◌<◌, ◌≤◌, ℕ};
-ghost use Rattle.pb_txn.specs.Places.{place_after, Fits};
+ghost use Rattle.pb_txn.specs.Places.{place_after, LiesWithin};
 
 use pb_base::Ts;
 use pb_steps::Answer;
@@ -37,7 +37,7 @@ pub enum Place {
 // The next cell to prewrite, or the stamp.
 fn prewrite_from(count: usize, k: usize) -> Place
     ensures place { result ≡ Rattle.pb_txn.specs.Places.prewrite_from count k }
-    ensures fits { Fits count result }
+    ensures fits { LiesWithin count result }
 {
     if k < count {
         Place::Prewriting(k)
@@ -50,7 +50,7 @@ fn prewrite_from(count: usize, k: usize) -> Place
 fn commit_from(count: usize, commit: Ts, k: usize) -> Place
     requires { 0 < k }
     ensures place { result ≡ Rattle.pb_txn.specs.Places.commit_from count commit k }
-    ensures fits { Fits count result }
+    ensures fits { LiesWithin count result }
 {
     if k < count {
         Place::CommittingSecondary(commit, k)
@@ -63,7 +63,7 @@ fn commit_from(count: usize, commit: Ts, k: usize) -> Place
 fn clear_from(k: usize, end: usize, outcome: Outcome) -> Place
     requires { 0 < k }
     ensures place { result ≡ Rattle.pb_txn.specs.Places.clear_from k end outcome }
-    ensures fits { (count : ℕ) → end ≤ count → Fits count result }
+    ensures fits { (count : ℕ) → end ≤ count → LiesWithin count result }
 {
     if k < end {
         Place::Clearing(k, end, outcome)
@@ -76,7 +76,7 @@ fn clear_from(k: usize, end: usize, outcome: Outcome) -> Place
 fn after_prewrite(count: usize, k: usize, answer: Answer) -> Place
     requires { k < count }
     ensures place { result ≡ Rattle.pb_txn.specs.Places.after_prewrite count k answer }
-    ensures fits { Fits count result }
+    ensures fits { LiesWithin count result }
 {
     match answer {
         Answer::Conflict => {
@@ -92,9 +92,9 @@ fn after_prewrite(count: usize, k: usize, answer: Answer) -> Place
 
 /// Where an answer leads.
 pub fn place_after(count: usize, place: Place, answer: Answer) -> Place
-    requires { Fits count place }
+    requires { LiesWithin count place }
     ensures place { result ≡ place_after count place answer }
-    ensures fits { Fits count result }
+    ensures fits { LiesWithin count result }
 {
     match place {
         Place::Declaring => prewrite_from(count, 0),

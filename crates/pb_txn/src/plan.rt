@@ -1,8 +1,8 @@
 //! Plans.
 ghost use Rattle.std.specs.Prelude.{◌≡◌, ◌<◌, length, slice_get, Some};
 ghost use Rattle.pb_steps.specs.Declarations.{IsKnown};
-ghost use Rattle.pb_txn.specs.Places.{declared_cells, later_step, Fits};
-ghost use Rattle.pb_txn.specs.Plans.{what_in, Declares};
+ghost use Rattle.pb_txn.specs.Places.{declared_cells, later_step, LiesWithin};
+ghost use Rattle.pb_txn.specs.Plans.{what_in, IsDeclaration};
 
 use crate::place::{Outcome, Place, place_after};
 use pb_base::{Cell, Ts};
@@ -65,7 +65,7 @@ fn cell_at(what: &Declared, place: usize) -> Cell
 
 // What a step declares.
 fn declared_by(step: &Step) -> &Declared
-    requires { Declares step.now }
+    requires { IsDeclaration step.now }
     ensures { result.now ≡ what_in step.now }
 {
     match step {
@@ -76,7 +76,7 @@ fn declared_by(step: &Step) -> &Declared
 
 // The step at a place, but for the declaration.
 fn step_at(start: Ts, what: &Declared, place: Place) -> Option<Step>
-    requires { Fits (length (declared_cells what.now)) place }
+    requires { LiesWithin (length (declared_cells what.now)) place }
     ensures { result ≡ later_step start.0 (declared_cells what.now) place }
 {
     match place {

@@ -13,10 +13,10 @@ use Rattle.pb_core.specs.Calls.{SharedOf, SeatOf}
 use Rattle.pb_txn.specs.Changes.{ChangeOf, new_change, Talks, ChangesTalk}
 use Rattle.pb_notify.specs.Runs.{RunOf}
 use Rattle.pb_notify.specs.Forms.{JobsTalk}
-use Rattle.pb_notify.specs.Led.{StandsAt, IsMachineOf, MachinesAreLed}
+use Rattle.pb_notify.specs.Led.{MachineStandsAt, IsMachineOf, MachinesAreLed}
 use Rattle.pb_world.specs.declared.job.ActorJob.{ActorJob}
 use Rattle.pb_world.specs.declared.job.ActorJob.TheVariants.{Change, Run}
-use Rattle.pb_world.specs.Jobs.{IsAccepted}
+use Rattle.pb_world.specs.Jobs.{RulesAccept}
 use Rattle.pb_world.specs.Events.{WorldOf}
 use Rattle.pb_world.specs.Sound.{ChangeCame, RunCame, Came, IsTied, IsSound}
 use Rattle.pb_world.specs.Headline.{IsNeverStuck, HoldsOfChange, HoldsOfRun, HoldsOfJob, HoldsOfActor}
@@ -32,7 +32,7 @@ not_empty batch is e = false_true (subst (λ b. is_batch b ≡ true) e is)
 some_placement : (n : ℕ) → n ≡ RECORD_BYTES → (a : Placement) × IsPlacement n a
 some_placement n is = (record { stack = RECORD_BYTES; record_at = 0 }, record { stack_fits = omega arith; record_fits = omega (arith, is); apart = inr (omega (arith, is)) })
 
-never_stuck : AcceptedAreNeverStuck → (v : Position) → IsAccepted v.judged → length v.bytes ≡ RECORD_BYTES → ((a : Placement) → IsPlacement (length v.bytes) a → (here : State) × IsAtState v a here) → IsNeverStuck v
+never_stuck : AcceptedAreNeverStuck → (v : Position) → RulesAccept v.judged → length v.bytes ≡ RECORD_BYTES → ((a : Placement) → IsPlacement (length v.bytes) a → (here : State) × IsAtState v a here) → IsNeverStuck v
 never_stuck law v ok size led = record {
   at = λ a p.
       let here = led a p in
@@ -64,7 +64,7 @@ of_run stuck talks led w r said m =
       talk = t.3;
       machine = λ s v stands.
           let machine = led m.number m.observer.program m.row m.observer.column said r s v m.reaches stands in
-          let accepted : IsAccepted v.judged = subst (λ j. IsAccepted j) (sym machine.program) m.accepted in
+          let accepted : RulesAccept v.judged = subst (λ j. RulesAccept j) (sym machine.program) m.accepted in
           (machine, never_stuck stuck v accepted machine.size machine.led);
     }
 

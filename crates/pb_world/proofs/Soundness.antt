@@ -39,7 +39,7 @@ use Rattle.pb_world.specs.declared.job.ActorJob.TheVariants.{Change, Run}
 use Rattle.pb_world.specs.declared.note.Note.{Note}
 use Rattle.pb_world.specs.declared.note.Note.TheVariants.{Refused}
 use Rattle.pb_world.specs.Jobs.{next_of, is_local, is_local_need, is_over, kept, Takes, Computes, IsReady}
-use Rattle.pb_world.specs.Actors.{AnswersJob, RefusesJob, CallSteps, Instructs, IsIdle, IsLeft, JobSteps, ActorSteps, launched, crashed}
+use Rattle.pb_world.specs.Actors.{AnswersJob, RefusesJob, CallSteps, Instructs, IsIdle, ChangesJobAlone, JobSteps, ActorSteps, launched, crashed}
 use Rattle.pb_world.specs.Events.{WorldOf, change_of, job_for, with_actor, actor_of, no_actor, no_launch, fault_of, Launches, StepsActor, CrashesActor, OwnAnswers, OwnCalls, Does, Happens, RunsTo}
 use Rattle.pb_world.specs.Sound.{ChangeCame, RunCame, Came, IsTied, IsSound, EventsKeepSound}
 use Rattle.pb_world.proofs.SeatLists.{called}

@@ -24,14 +24,14 @@ abbrev pub OnNote : {E : Type 0} → Result Note E → (Note → Type 0) → Typ
 OnNote r P Q = MatchResult r P (λ _. Q)
 
 -- nothing but the job has changed
-pub record IsLeft (s : SharedOf) (seat : SeatOf) (t : SharedOf) (told : SeatOf) : Type 0 where
+pub record ChangesJobAlone (s : SharedOf) (seat : SeatOf) (t : SharedOf) (told : SeatOf) : Type 0 where
   pub table : t ≡ s
   pub list : told ≡ seat
 
 -- the job asks nothing
 pub record AsksNothing (s : SharedOf) (seat : SeatOf) (j : ActorJob) (t : SharedOf) (told : SeatOf) : Type 0 where
   pub none : next_of j ≡ None
-  pub same : IsLeft s seat t told
+  pub same : ChangesJobAlone s seat t told
 
 -- the job's next step was answered
 pub record Answers (s : SharedOf) (seat : SeatOf) (j : ActorJob) (t : SharedOf) (told : SeatOf) (answer : Answer) : Type 0 where
@@ -46,7 +46,7 @@ pub record IsNotAnswered (s : SharedOf) (seat : SeatOf) (j : ActorJob) (t : Shar
   pub step : Step
   pub next : next_of j ≡ Some step
   pub refused : IsRefusedBy s seat.number step why
-  pub same : IsLeft s seat t told
+  pub same : ChangesJobAlone s seat t told
 
 -- the table answers the step, and the job takes it
 pub record AnswersJob (s : SharedOf) (seat : SeatOf) (j : ActorJob) (step : Step) (n : Note) (t : SharedOf) (told : SeatOf) (rest : Option ActorJob) : Type 0 where
@@ -61,7 +61,7 @@ pub record AnswersJob (s : SharedOf) (seat : SeatOf) (j : ActorJob) (step : Step
 -- the table refuses the step, which ends the job
 pub record RefusesJob (s : SharedOf) (seat : SeatOf) (why : Reason) (n : Note) (t : SharedOf) (told : SeatOf) (rest : Option ActorJob) : Type 0 where
   pub note : n ≡ Refused (reason_code why)
-  pub same : IsLeft s seat t told
+  pub same : ChangesJobAlone s seat t told
   pub left : rest ≡ None
 
 abbrev pub CallSteps : SharedOf → SeatOf → ActorJob → Step → Note → SharedOf → SeatOf → Option ActorJob → Type 0
@@ -71,14 +71,14 @@ CallSteps s seat j step n t told left = MatchOption (call_reason s seat.number s
 pub record Instructs (s : SharedOf) (seat : SeatOf) (j : ActorJob) (n : Note) (t : SharedOf) (told : SeatOf) (rest : Option ActorJob) : Type 0 where
   pub after : ActorJob
   pub note : n ≡ Instruction
-  pub same : IsLeft s seat t told
+  pub same : ChangesJobAlone s seat t told
   pub computes : Computes j after
   pub left : rest ≡ Some after
 
 -- there was nothing to do
 pub record IsIdle (s : SharedOf) (seat : SeatOf) (n : Note) (t : SharedOf) (told : SeatOf) (rest : Option ActorJob) : Type 0 where
   pub note : n ≡ Idle
-  pub same : IsLeft s seat t told
+  pub same : ChangesJobAlone s seat t told
   pub left : rest ≡ None
 
 -- one instruction or one call, as the job needs

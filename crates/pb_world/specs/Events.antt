@@ -150,7 +150,7 @@ RunsTo w (e ∷ es) (n ∷ ns) v = (m : WorldOf) × Happens w e n m × RunsTo m 
 RunsTo w _ _ v = ⊥
 
 -- The events before this one happened, and it did nothing: memory was refused, or it is at fault by itself.
-pub record StopsAt (w : WorldOf) (es : List Event) (at code : ℕ) (v : WorldOf) : Type 0 where
+pub record StopsAtEvent (w : WorldOf) (es : List Event) (at code : ℕ) (v : WorldOf) : Type 0 where
   pub notes : List Note
   pub within : at ≤ length es
   pub before : RunsTo w (take at es) notes v

@@ -19,7 +19,7 @@ use Rattle.pb_txn.specs.Changes.{IsWholeChange}
 use Rattle.pb_notify.specs.declared.need.JobEnd.{JobEnd}
 use Rattle.pb_notify.specs.Runs.{RunOf}
 use Rattle.pb_notify.specs.Forms.{IsRunTalk}
-use Rattle.pb_notify.specs.Led.{StandsAt, IsMachineOf}
+use Rattle.pb_notify.specs.Led.{MachineStandsAt, IsMachineOf}
 use Rattle.pb_parse.specs.declared.event.Event.{Event}
 use Rattle.pb_world.specs.declared.actor.Actor.{Actor}
 use Rattle.pb_world.specs.declared.job.ActorJob.{ActorJob}
@@ -55,7 +55,7 @@ pub record HoldsOfRun (w : WorldOf) (r : RunOf) (said : List Received) : Type 0 
   pub end : JobEnd
   pub run : Option Meant
   pub talk : IsRunTalk number observer.program row observer.column (said ++ rest) end run
-  pub machine : (s : Ts) (v : Position) → StandsAt r.place s v → IsMachineOf number observer.program row observer.column s v said × IsNeverStuck v
+  pub machine : (s : Ts) (v : Position) → MachineStandsAt r.place s v → IsMachineOf number observer.program row observer.column s v said × IsNeverStuck v
 
 abbrev pub HoldsOfJob : WorldOf → ActorJob → List Received → Type 0
 HoldsOfJob w (Change c) said = HoldsOfChange w said
@@ -73,7 +73,7 @@ pub record HoldsOfActor (w : WorldOf) (k launched : ℕ) (seat : SeatOf) (j : Ac
 
 -- ---- worlds
 
-pub record Holds (w : WorldOf) : Type 0 where
+pub record HeadlineHolds (w : WorldOf) : Type 0 where
   pub actors : (k : ℕ) (a : Actor) (seat : SeatOf) (j : ActorJob) → slice_get w.actors k ≡ Some a → slice_get w.seats k ≡ Some seat → a.job ≡ Some j → HoldsOfActor w k a.launched seat j
   pub history : IsSnapshotHistory w.shared
   pub records : TellsRecords w.shared.journal w.shared.state
@@ -103,4 +103,4 @@ RunsPart = (w : WorldOf) (es fs : List Event) (ns : List Note) (v : WorldOf) →
 
 -- whatever events happen in an opened world
 abbrev pub WorldsHold : Type 0
-WorldsHold = (w : WorldOf) (es : List Event) (ns : List Note) (v : WorldOf) → IsOpened w → RunsTo w es ns v → Holds v
+WorldsHold = (w : WorldOf) (es : List Event) (ns : List Note) (v : WorldOf) → IsOpened w → RunsTo w es ns v → HeadlineHolds v

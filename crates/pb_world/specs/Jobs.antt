@@ -26,7 +26,7 @@ CanTake j a = plans.CanTake (next_of j) a
 -- after its next step was answered
 abbrev pub Takes : ActorJob → Answer → ActorJob → Type 0
 Takes (Change c) a k = k ≡ Change (changes.answered c a)
-Takes (Run r) a k = (l : RunOf) × (k ≡ Run l) × (l ≡ runs.answered r a) × runs.IsTold r a l
+Takes (Run r) a k = (l : RunOf) × (k ≡ Run l) × (l ≡ runs.answered r a) × runs.HearsLook r a l
 
 abbrev pub is_local_need : Need → Bool
 is_local_need Local = true
@@ -57,7 +57,7 @@ kept j = if is_over j then None else Some j
 -- ---- what a launch gives
 
 -- the rules accept it for the change record
-pub record IsAccepted (j : JudgedOf) : Type 0 where
+pub record RulesAccept (j : JudgedOf) : Type 0 where
   pub program : IsProgram j.program
   pub accepts : Accepts j
   pub size : j.record_size ≡ RECORD_BYTES
@@ -65,4 +65,4 @@ pub record IsAccepted (j : JudgedOf) : Type 0 where
 -- a change of some cells, each named once, or a run of an accepted program
 abbrev pub IsReady : ActorJob → Type 0
 IsReady (Change c) = is_batch c.batch ≡ true
-IsReady (Run r) = IsAccepted r.judged
+IsReady (Run r) = RulesAccept r.judged

@@ -17,7 +17,7 @@ use Rattle.pb_world.specs.declared.actor.Actor.{Actor}
 use Rattle.pb_world.specs.declared.job.ActorJob.{ActorJob}
 use Rattle.pb_world.specs.declared.job.ActorJob.TheVariants.{Change, Run}
 use Rattle.pb_world.specs.declared.note.Note.{Note}
-use Rattle.pb_world.specs.Jobs.{IsAccepted}
+use Rattle.pb_world.specs.Jobs.{RulesAccept}
 use Rattle.pb_parse.specs.declared.event.Event.{Event}
 use Rattle.pb_world.specs.Events.{WorldOf, change_of, RunsTo}
 
@@ -35,7 +35,7 @@ pub record RunCame (w : WorldOf) (r : RunOf) (said : List Received) : Type 0 whe
   pub observer : ObserverOf
   pub row : Row
   pub there : slice_get w.shared.state.observers number ≡ Some observer
-  pub accepted : IsAccepted observer.program
+  pub accepted : RulesAccept observer.program
   pub reaches : Reaches (fresh number observer.program row observer.column) said r
 
 abbrev pub Came : WorldOf → ActorJob → List Received → Type 0

@@ -82,7 +82,7 @@ impl<T: Tablet> World<T> {
     ghost use Rattle.pb_world.specs.declared.fault.EventFault.TheVariants as faults;
     ghost use Rattle.pb_world.specs.Actors.{OnNote};
     ghost use Rattle.pb_world.specs.Jobs.{IsReady};
-    ghost use Rattle.pb_world.specs.Events.{idle_actors, actor_of, change_of, job_for, no_actor, no_launch, fault_of, Launches, StepsActor, CrashesActor, OwnCalls, Does, Happens, RunsTo, StopsAt};
+    ghost use Rattle.pb_world.specs.Events.{idle_actors, actor_of, change_of, job_for, no_actor, no_launch, fault_of, Launches, StepsActor, CrashesActor, OwnCalls, Does, Happens, RunsTo, StopsAtEvent};
 
     /// A world over a table with all its seats, in order, where these changes may be launched. Its actors have no job.
     ///
@@ -302,7 +302,7 @@ impl<T: Tablet> World<T> {
     /// there is no such change or observer, 1 memory was refused. The events before it stand, and it did nothing.
     pub fn run(&mut self, alloc: Global, events: &[Event]) -> Result<Vec<Note>, WorldFault>
         ensures ok { IfOk result (λ ns. RunsTo self.old events.now ns.items self.new) }
-        ensures err { IfErr result (λ f. StopsAt self.old events.now f.event f.code self.new) }
+        ensures err { IfErr result (λ f. StopsAtEvent self.old events.now f.event f.code self.new) }
     {
         let Ok(mut notes) = room_for(alloc, events.len()) else {
             return Err(stopped(0, EventFault::NoMemory));

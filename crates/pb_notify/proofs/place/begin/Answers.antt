@@ -1,5 +1,5 @@
 use Rattle.std.proofs.Common.{subst, ap, sym, length, ◌∙◌}
-use Rattle.pb_notify.specs.Machines.{entry}
+use Rattle.pb_notify.specs.Machines.{first_position}
 use Rattle.pb_notify.specs.Steps.{Steps}
 use Rattle.pb_notify.proofs.place.begin.Goals as goal
 
@@ -9,7 +9,7 @@ returns-in-Ok-step-clause-ok c =
       size = ap length (sym c.new-record.ensures) ∙ c.bytes.ensures.size;
       comes = record {
         stepped = c.in-Ok-step.stepped;
-        steps = subst (λ v. Steps c.args.observer v c.in-Ok-step.stepped) (c.in-Ok.ensures ∙ ap (λ b. entry c.args.accepted.now.value b c.args.start.0) c.new-record.ensures) c.in-Ok-step.ensures.ok;
+        steps = subst (λ v. Steps c.args.observer v c.in-Ok-step.stepped) (c.in-Ok.ensures ∙ ap (λ b. first_position c.args.accepted.now.value b c.args.start.0) c.new-record.ensures) c.in-Ok-step.ensures.ok;
         place_is = c.place_of.ensures;
       };
     }

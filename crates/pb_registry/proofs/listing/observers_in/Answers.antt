@@ -1,6 +1,6 @@
 use Rattle.std.proofs.Common.{rules, ◌≡◌, sym, ap}
 use Rattle.pb_registry.specs.Observers.{observers_of}
-use Rattle.pb_registry.specs.Judging.{told_at}
+use Rattle.pb_registry.specs.Judging.{fault_at}
 use Rattle.pb_registry.proofs.FirstFault.{no_observers, grown, told_fault}
 use Rattle.pb_registry.proofs.listing.observers_in.Goals as goal
 
@@ -9,10 +9,10 @@ loop-place-init c = no_observers (observers_of c.new-observers.result.entries) (
 
 pub returns-in-Err : goal.returns-in-Err
 returns-in-Err c =
-    let told : c.told_at.result ≡ told_at c.loop-place.place c.in-Err.code = search rules in
+    let told : c.fault_at.result ≡ fault_at c.loop-place.place c.in-Err.code = search rules in
     record {
       ok = tt;
-      err = told_fault c.args.elements.now c.loop-place.place c.index-elements-place.result c.loop-place-test.true (sym c.index-elements-place.is) (observers_of c.loop-place.observers.entries) c.loop-place.invariant c.in-Err.code c.told_at.result told c.in-Err.ensures.err;
+      err = told_fault c.args.elements.now c.loop-place.place c.index-elements-place.result c.loop-place-test.true (sym c.index-elements-place.is) (observers_of c.loop-place.observers.entries) c.loop-place.invariant c.in-Err.code c.fault_at.result told c.in-Err.ensures.err;
     }
 
 pub loop-place-preserved : goal.loop-place-preserved
