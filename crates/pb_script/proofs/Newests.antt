@@ -1,11 +1,10 @@
 use Rattle.std.specs.BTreeMap as tree
-use Rattle.std.proofs.Common.{◌≡◌, ◌≢◌, ℕ, ◌+◌, ◌≤◌, ◌<◌, ◌⊎◌, inl, inr, Bool, true, false, cond, List, [], ◌∷◌, ◌++◌, length, take, get_or, Option, Some, None, BTreeMap, refl, sym, ap, subst, ◌∙◌, arith}
+use Rattle.std.proofs.Common.{◌≡◌, ◌≢◌, ℕ, ◌≤◌, ◌<◌, ◌⊎◌, inl, inr, Bool, true, false, cond, List, [], ◌∷◌, ◌++◌, Option, Some, None, refl, sym, ap, subst, ◌∙◌, arith}
 use Rattle.std.specs.Prelude.{◌&&◌, Contains}
 use Rattle.std.specs.Cmp.{eq_by_cmp_equiv}
 use Rattle.std.specs.declared.cmp.Ordering.{Ordering}
 use Rattle.std.specs.declared.cmp.Ordering.TheVariants.{Less, Equal, Greater}
 use Rattle.std.proofs.lemmas.Bool.{cases_Bool, ltb-true, ltb-false}
-use Rattle.std.proofs.lemmas.List.{take_more, take_all}
 use Rattle.std.proofs.lemmas.List.Elements.{Contains-append_left, Contains-push, Contains-push_cases}
 use Rattle.pb_base.specs.declared.cell.Cell.{Cell}
 use Rattle.pb_base.specs.declared.cell.Cell.TheVariants.{Data, Ack}
@@ -103,25 +102,15 @@ newest_same puts p f h old x =
       | inr there ↦ told_by (IsNewestPut puts) (IsNewestPut (puts ++ p ∷ [])) x (f x) (other puts p x (f x) (other_cell p.cell x there)) (h x)
     ]
 
--- the loop's step
-next_is : (puts : List Put) (i : ℕ) (p : Put) → i < length puts → p ≡ get_or puts i p → take (i + 1) puts ≡ take i puts ++ p ∷ []
-next_is puts i p lt e = take_more puts i p lt ∙ ap (λ (q : Put). take i puts ++ q ∷ []) (sym e)
+-- ---- one write more
 
-pub turn_put : (puts : List Put) (i : ℕ) (p : Put) (f g : Cell → Option Newest) → i < length puts → p ≡ get_or puts i p → AreTold (take i puts) f → is_data p.cell ≡ true
-    → (is_later (f p.cell) p.commit ≡ true → (x : Cell) → g x ≡ cond (tree.is_at (cell_cmp p.cell) x) (Some (newest_in p)) (f x)) → (is_later (f p.cell) p.commit ≡ false → (x : Cell) → g x ≡ f x) → AreTold (take (i + 1) puts) g
-turn_put puts i p f g lt e h held newer older x =
-    subst (λ (ps : List Put). IsTold (IsNewestPut ps) x (g x)) (sym (next_is puts i p lt e))
-    (elim (cases_Bool (is_later (f p.cell) p.commit)) [
-      | inl later ↦ newest_more (take i puts) p f g h (ap (λ b. b && is_later (f p.cell) p.commit) held ∙ later) (newer later) x
-      | inr late ↦ subst (IsTold (IsNewestPut (take i puts ++ p ∷ [])) x) (sym (older late x)) (newest_same (take i puts) p f h (ap (λ b. b && is_later (f p.cell) p.commit) held ∙ late) x)
-    ])
+pub noted : (puts : List Put) (p : Put) (f g : Cell → Option Newest) → is_data p.cell ≡ true → (is_later (f p.cell) p.commit ≡ true → (x : Cell) → g x ≡ cond (tree.is_at (cell_cmp p.cell) x) (Some (newest_in p)) (f x))
+    → (is_later (f p.cell) p.commit ≡ false → (x : Cell) → g x ≡ f x) → AreTold puts f → AreTold (puts ++ p ∷ []) g
+noted puts p f g held newer older h x =
+    elim (cases_Bool (is_later (f p.cell) p.commit)) [
+      | inl later ↦ newest_more puts p f g h (ap (λ b. b && is_later (f p.cell) p.commit) held ∙ later) (newer later) x
+      | inr late ↦ subst (IsTold (IsNewestPut (puts ++ p ∷ [])) x) (sym (older late x)) (newest_same puts p f h (ap (λ b. b && is_later (f p.cell) p.commit) held ∙ late) x)
+    ]
 
-pub turn_same : (puts : List Put) (i : ℕ) (p : Put) (f : Cell → Option Newest) → i < length puts → p ≡ get_or puts i p → AreTold (take i puts) f → is_data p.cell ≡ false → AreTold (take (i + 1) puts) f
-turn_same puts i p f lt e h no_data x =
-    subst (λ (ps : List Put). IsTold (IsNewestPut ps) x (f x)) (sym (next_is puts i p lt e)) (newest_same (take i puts) p f h (ap (λ b. b && is_later (f p.cell) p.commit) no_data) x)
-
-pub turn_end : (puts : List Put) (i : ℕ) (f : Cell → Option Newest) → length puts ≤ i → AreTold (take i puts) f → AreTold puts f
-turn_end puts i f le h x = subst (λ (ps : List Put). IsTold (IsNewestPut ps) x (f x)) (take_all i puts le) (h x)
-
-abbrev pub goal_at : List Put → ℕ → BTreeMap Cell Newest → Cell → Type 0
-goal_at puts i m x = IsTold (IsNewestPut (take (i + 1) puts)) x (tree.get cell_cmp m x)
+pub passed : (puts : List Put) (p : Put) (f : Cell → Option Newest) → is_data p.cell ≡ false → AreTold puts f → AreTold (puts ++ p ∷ []) f
+passed puts p f no_data h = newest_same puts p f h (ap (λ b. b && is_later (f p.cell) p.commit) no_data)

@@ -1,5 +1,6 @@
 -- What is reported of a table.
 use Rattle.std.specs.Prelude.{◌≡◌, ℕ, ◌≤◌, List, Contains, Option, Some, None}
+use Rattle.std.specs.BTreeMap.{BTreeMap}
 use Rattle.pb_base.specs.declared.names.Row.{Row}
 use Rattle.pb_base.specs.declared.cell.Cell.{Cell}
 use Rattle.pb_base.specs.declared.cell.Cell.TheVariants.{Data}
@@ -9,6 +10,7 @@ use Rattle.pb_history.specs.declared.entry.Entry.{Entry}
 use Rattle.pb_history.specs.History.{Member, InHistory, WritesTo, IsSnapshot, NoSnapshot}
 use Rattle.pb_script.specs.declared.reports.lines.Newest.{Newest}
 use Rattle.pb_script.specs.declared.reports.newest.Put.{Put}
+use Rattle.pb_script.specs.Reports.{AreNewest}
 
 -- a committed transaction of the journal wrote this content to x, with this commit
 pub record IsWrite (observers : List ObserverOf) (journal : List Entry) (x : Cell) (commit : ℕ) (content : Content) : Type 0 where
@@ -26,6 +28,12 @@ IsSeenAt observers journal s x (Some n) = (start : ℕ) × IsSnapshot observers 
 pub record Gathers (observers : List ObserverOf) (journal : List Entry) (puts : List Put) : Type 0 where
   pub sound : (p : Put) → Contains puts p → IsWrite observers journal p.cell p.commit.0 p.content
   pub whole : (row : Row) (column commit : ℕ) (content : Content) → IsWrite observers journal (Data row column) commit content → Contains puts (record { cell = Data row column; commit = record { 0 = commit }; content = content })
+
+-- the table has, of the committed writes of the journal, the newest at each data cell
+pub record HasNewest (observers : List ObserverOf) (journal : List Entry) (table : BTreeMap Cell Newest) : Type 0 where
+  pub puts : List Put
+  pub gathered : Gathers observers journal puts
+  pub newest : AreNewest puts table
 
 -- no transaction is committed above this timestamp
 abbrev pub AreSeen : List ObserverOf → List Entry → ℕ → Type 0

@@ -1,5 +1,6 @@
 -- What a report says of a history.
 use Rattle.std.specs.BTreeMap as tree
+use Rattle.std.specs.BTreeMap.{BTreeMap}
 use Rattle.std.specs.Prelude.{◌≡◌, ◌≢◌, ℕ, ◌≤◌, Bool, true, nat_lt, List, ◌++◌, map, Contains, Option, Some, None}
 use Rattle.std.specs.List.Sorted.{IsStrictlySortedBy}
 use Rattle.std.specs.Map.{lookup}
@@ -36,6 +37,11 @@ IsReport puts runs marks locks text = IsReportOf (IsNewestPut puts) runs marks l
 -- no cell has two writes of one commit
 abbrev pub AreApart : List Put → Type 0
 AreApart puts = (p q : Put) → Contains puts p → Contains puts q → p.cell ≡ q.cell → p.commit ≡ q.commit → p ≡ q
+
+-- the table has, of these writes, the newest at each data cell
+pub record AreNewest (puts : List Put) (table : BTreeMap Cell Newest) : Type 0 where
+  pub told : (x : Cell) → IsTold (IsNewestPut puts) x (tree.get cell_cmp table x)
+  pub rising : tree.IsOrdered cell_cmp table
 
 -- what a write leaves at its cell
 abbrev pub newest_in : Put → Newest

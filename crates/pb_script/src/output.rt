@@ -1,54 +1,67 @@
 //! The report of a table.
-ghost use Rattle.std.specs.Prelude.{◌≡◌, ◌++◌, IfOk, map, string_bytes, false};
+ghost use Rattle.std.specs.Prelude.{◌≡◌, ◌++◌, IfOk, OnOk, List, map, string_bytes, false};
 ghost use Rattle.pb_script.specs.Puts.{put_by, puts_by};
-ghost use Rattle.pb_script.specs.Committed.{AreSeen, Gathers};
+ghost use Rattle.pb_script.specs.Committed.{AreSeen, HasNewest};
+ghost use Rattle.pb_script.specs.Reports.{AreNewest};
+ghost use Rattle.pb_script.specs.declared.reports.newest.Put.{Put};
 ghost use Rattle.pb_script.specs.TableReports.{IsReportIn, Reports};
 
 use crate::fault::ReportFault;
-use crate::reports::{Put, report_of};
+use crate::reports::{Newest, Put, note, report_of};
 use crate::tallies::tallies_of;
 use pb_base::{Batch, Cell, Content, NoMemory, Sink, Ts};
 use pb_core::{Answer, Declared, Entry, Phase, Shared, Step};
 use pb_store::Tablet;
 use pb_texts::write_all;
 use std::alloc::Global;
+use std::collections::BTreeMap;
 
-// Adds what a committed script transaction wrote.
-fn add_batch(puts: &mut Vec<Put>, batch: &Batch, commit: Ts) -> Result<(), NoMemory>
-    ensures { IfOk result (λ _. puts.new.items ≡ puts.old.items ++ map (put_by commit) batch.now) }
+// Notes what a committed script transaction wrote.
+fn note_batch(table: &mut BTreeMap<Cell, Newest>, batch: &Batch, commit: Ts) -> Result<(), NoMemory>
+    ensures { OnOk result ((puts : List Put) → AreNewest puts table.old → AreNewest (puts ++ map (put_by commit) batch.now) table.new) }
 {
     for place in 0..batch.len() {
         let (cell, content) = batch.at(place);
-        puts.push(Put {
-            cell,
-            commit,
-            content,
-        })?;
+        note(
+            table,
+            &Put {
+                cell,
+                commit,
+                content,
+            },
+        )?;
     }
     Ok(())
 }
 
-// Adds what the program of a committed run wrote.
-fn add_writes(puts: &mut Vec<Put>, writes: &[(Cell, Content)], commit: Ts) -> Result<(), NoMemory>
-    ensures { IfOk result (λ _. puts.new.items ≡ puts.old.items ++ map (put_by commit) writes.now) }
+// Notes what the program of a committed run wrote.
+fn note_writes(
+    table: &mut BTreeMap<Cell, Newest>,
+    writes: &[(Cell, Content)],
+    commit: Ts,
+) -> Result<(), NoMemory>
+    ensures { OnOk result ((puts : List Put) → AreNewest puts table.old → AreNewest (puts ++ map (put_by commit) writes.now) table.new) }
 {
     for write in writes {
-        puts.push(Put {
-            cell: write.0,
-            commit,
-            content: write.1,
-        })?;
+        note(
+            table,
+            &Put {
+                cell: write.0,
+                commit,
+                content: write.1,
+            },
+        )?;
     }
     Ok(())
 }
 
-// Adds what an entry's transaction wrote to data cells, if the entry declares it and it is committed.
-fn add_entry<T: Tablet>(
-    puts: &mut Vec<Put>,
+// Notes what an entry's transaction wrote to data cells, if the entry declares it and it is committed.
+fn note_entry<T: Tablet>(
+    table: &mut BTreeMap<Cell, Newest>,
     shared: &Shared<T>,
     entry: &Entry,
 ) -> Result<(), NoMemory>
-    ensures { IfOk result (λ _. puts.new.items ≡ puts.old.items ++ puts_by shared.now.state entry.now) }
+    ensures { OnOk result ((puts : List Put) → AreNewest puts table.old → AreNewest (puts ++ puts_by shared.now.state entry.now) table.new) }
 {
     if entry.answer != Answer::Done {
         return Ok(());
@@ -60,30 +73,33 @@ fn add_entry<T: Tablet>(
         return Ok(());
     };
     match what.get() {
-        Declared::Script(batch) => add_batch(puts, batch, commit),
-        Declared::Run(_, finished) => add_writes(puts, finished.writes(), commit),
+        Declared::Script(batch) => note_batch(table, batch, commit),
+        Declared::Run(_, finished) => note_writes(table, finished.writes(), commit),
     }
 }
 
-// The committed writes of a table to data cells.
-fn puts_of<T: Tablet>(alloc: Global, shared: &Shared<T>) -> Result<Vec<Put>, NoMemory>
-    ensures gathered { IfOk result (λ v. Gathers shared.now.state.observers shared.now.journal v.items) }
+// The newest committed write of each data cell of a table.
+fn newest_of<T: Tablet>(
+    alloc: Global,
+    shared: &Shared<T>,
+) -> Result<BTreeMap<Cell, Newest>, NoMemory>
+    ensures newest { IfOk result (λ m. HasNewest shared.now.state.observers shared.now.journal m) }
     ensures seen { AreSeen shared.now.state.observers shared.now.journal shared.now.state.clock }
 {
-    let mut puts = Vec::new(alloc);
+    let mut table = BTreeMap::new(alloc);
     for entry in shared.journal() {
-        add_entry(&mut puts, shared, entry)?;
+        note_entry(&mut table, shared, entry)?;
     }
-    Ok(puts)
+    Ok(table)
 }
 
 // The text of the report.
 fn text_of<T: Tablet>(alloc: Global, shared: &Shared<T>) -> Result<String, NoMemory>
     ensures { IfOk result (λ s. IsReportIn shared.now (string_bytes s)) }
 {
-    let puts = puts_of(alloc, shared)?;
+    let table = newest_of(alloc, shared)?;
     let tallies = tallies_of(alloc, shared)?;
-    report_of(alloc, &puts, &tallies, shared.marks(), shared.locks())
+    report_of(alloc, &table, &tallies, shared.marks(), shared.locks())
 }
 
 /// Writes the report of a table: the newest committed write of each data cell, the runs of each observer, and what is

@@ -4,31 +4,31 @@ mod newest;
 mod tally;
 
 ghost use Rattle.std.specs.Prelude.{◌≡◌, ℕ, List, IfOk, string_bytes};
-ghost use Rattle.pb_script.specs.Reports.{IsReport, AreApart};
+ghost use Rattle.pb_script.specs.Reports.{AreNewest, IsReport, AreApart};
 ghost use Rattle.pb_script.specs.ReportLines.{Tallies};
 ghost use Rattle.pb_script.specs.declared.reports.newest.Put.{Put};
 
 use crate::reports::lines::last_line;
-use crate::reports::newest::{cell_lines, newest_of};
+use crate::reports::newest::cell_lines;
 use crate::reports::tally::run_lines;
 pub use lines::Newest;
-pub use newest::Put;
-use pb_base::NoMemory;
+pub use newest::{Put, note};
+use pb_base::{Cell, NoMemory};
 use std::alloc::Global;
+use std::collections::BTreeMap;
 pub use tally::Tally;
 
-/// The report of these committed writes and runs, with so many marks and locks left.
+/// The report of the committed writes that the table has the newest of, and of these runs, with so many marks and locks left.
 pub fn report_of(
     alloc: Global,
-    puts: &[Put],
+    table: &BTreeMap<Cell, Newest>,
     tallies: &[Tally],
     marks: usize,
     locks: usize,
 ) -> Result<String, NoMemory>
-    ensures { IfOk result (λ s. IsReport puts.now tallies.now marks locks (string_bytes s)) }
+    ensures { (puts : List Put) → AreNewest puts table.now → IfOk result (λ s. IsReport puts tallies.now marks locks (string_bytes s)) }
 {
-    let table = newest_of(alloc, puts)?;
-    let mut text = cell_lines(alloc, &table)?;
+    let mut text = cell_lines(alloc, table)?;
     let runs = run_lines(alloc, tallies)?;
     text.push_str(runs.as_str())?;
     let last = last_line(alloc, marks, locks)?;

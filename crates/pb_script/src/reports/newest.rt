@@ -1,10 +1,10 @@
 //! What is newest at each data cell.
 ghost use Rattle.std.specs.BTreeMap as tree;
-ghost use Rattle.std.specs.Prelude.{◌≡◌, true, false, cond, Some, IfOk, OnOk, string_bytes};
+ghost use Rattle.std.specs.Prelude.{◌≡◌, true, false, cond, Some, IfOk, OnOk, List, [], ◌∷◌, ◌++◌, string_bytes};
 ghost use Rattle.pb_base.specs.Cell.{cell_cmp, is_data};
 ghost use Rattle.pb_script.specs.ReportLines.{cell_lines};
-ghost use Rattle.pb_script.specs.Reports.{IsNewestPut, IsTold, is_later, newest_in};
-ghost use Rattle.pb_script.specs.declared.reports.lines.Newest.{Newest};
+ghost use Rattle.pb_script.specs.Reports.{AreNewest, is_later, newest_in};
+ghost use Rattle.pb_script.specs.declared.reports.newest.Put.{Put};
 
 use crate::reports::lines::{Newest, add_cell_line};
 use pb_base::{Cell, Content, Ts};
@@ -48,18 +48,14 @@ fn put_newest(table: &mut BTreeMap<Cell, Newest>, put: &Put) -> Result<(), Alloc
     Ok(())
 }
 
-/// The newest of each data cell.
-pub fn newest_of(alloc: Global, puts: &[Put]) -> Result<BTreeMap<Cell, Newest>, AllocError>
-    ensures told { IfOk result (λ m. (x : Cell) → IsTold (IsNewestPut puts.now) x (tree.get cell_cmp m x)) }
-    ensures rising { IfOk result (λ m. tree.IsOrdered cell_cmp m) }
+/// Notes one more committed write.
+pub fn note(table: &mut BTreeMap<Cell, Newest>, put: &Put) -> Result<(), AllocError>
+    ensures { OnOk result ((puts : List Put) → AreNewest puts table.old → AreNewest (puts ++ put.now ∷ []) table.new) }
 {
-    let mut table = BTreeMap::new(alloc);
-    for put in puts {
-        if is_data(&put.cell) {
-            put_newest(&mut table, put)?;
-        }
+    if is_data(&put.cell) {
+        put_newest(table, put)?;
     }
-    Ok(table)
+    Ok(())
 }
 
 /// The lines of the cells.

@@ -25,6 +25,6 @@ if_report s puts marks locks runs (Err e) g low rs ms ls h = tt
 pub returns : goal.returns
 returns g c =
     let s = c.args.shared.now in
-    if_report s c.deref.result.now c.marks.result c.locks.result _ c.report_of.result
-    (subst (Gathers s.state.observers s.journal) (sym c.deref.ensures.value) c.in_ok-puts.ensures.gathered) c.puts_of.ensures.seen
-    (subst (AreTallies s.state.observers s.journal 0 s.state.observers) (sym c.deref-2.ensures.value) c.in_ok-tallies.ensures) c.marks.ensures c.locks.ensures c.report_of.ensures
+    let n = c.in_ok-table.ensures.newest in
+    if_report s n.puts c.marks.result c.locks.result _ c.report_of.result n.gathered c.newest_of.ensures.seen
+    (subst (AreTallies s.state.observers s.journal 0 s.state.observers) (sym c.deref.ensures.value) c.in_ok-tallies.ensures) c.marks.ensures c.locks.ensures (c.report_of.ensures n.puts n.newest)
