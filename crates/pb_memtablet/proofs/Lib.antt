@@ -6,3 +6,4 @@ pub mod Cuts
 pub mod Nearest
 pub mod Edits
 pub mod Answered
+pub mod Pairs

@@ -249,13 +249,9 @@ module _ {K X : Type 0} {R : K → K → Ordering} (o : IsTotalOrder R) where
   )
 
   -- two keys come side by side
-  pub put-both : (es fs hs : List (K × X)) (k q : K) (v w : X) (i j : ℕ) (a b : Bool) → IsGap R es k i → IsGap R (insert es i (k, v)) q j
-      → fs ≡ cond a (insert es i (k, v)) es → a ≡ true → hs ≡ cond b (insert fs j (q, w)) fs → b ≡ true → hs ≡ put R q w (put R k v es)
-  put-both es fs hs k q v w i j a b gap behind fs_is a_is hs_is b_is =
-      let first_in : fs ≡ insert es i (k, v) = fs_is ∙ ap (λ c. cond c (insert es i (k, v)) es) a_is in
+  pub put-both : (es hs : List (K × X)) (k q : K) (v w : X) (i j : ℕ) → IsGap R es k i → IsGap R (insert es i (k, v)) q j → hs ≡ insert (insert es i (k, v)) j (q, w) → hs ≡ put R q w (put R k v es)
+  put-both es hs k q v w i j gap behind hs_is =
       hs_is
-      ∙ ap (λ c. cond c (insert fs j (q, w)) fs) b_is
-      ∙ ap (λ l. insert l j (q, w)) first_in
       ∙ sym (put-gap (insert es i (k, v)) q w j behind)
       ∙ ap (put R q w) (sym (put-gap es k v i gap))
 

@@ -302,7 +302,7 @@ pub(crate) fn put_among<K: Ord + Drop, V: Drop>(
 
 // Puts two values at two keys side by side, and notes the place of their chunk as the next likely one. It answers whether
 // that could be done: both belong into one chunk, which has room for them, and no key stands between. Else nothing is changed.
-pub(crate) fn put_both_among<K: Ord + Drop, V: Drop>(
+pub(crate) fn put_both_among<K: Ord + Copy + Drop, V: Copy + Drop>(
     chunks: &mut Vec<Chunk<K, V>>,
     counts: &mut Vec<usize>,
     likely: &Likely,

@@ -203,9 +203,25 @@ fn fits_behind<K: Ord, V>(entries: &[(K, V)], place: usize, key: &K, next: &K, v
     next.cmp(&entries[place].0).is_lt()
 }
 
+// Puts two elements in side by side, and moves what stands from there on once, where two inserts would move it twice.
+fn insert_both<T: Copy + Drop>(elements: &mut Vec<T>, place: usize, first: T, second: T)
+    requires within { place ≤ vec_len elements.old }
+    requires room { vec_len elements.old + 2 ≤ vec_capacity elements.old }
+    ensures items { elements.new.items ≡ insert (insert elements.old.items place first) (place + 1) second }
+    ensures capacity { vec_capacity elements.old ≤ vec_capacity elements.new }
+    ensures len { vec_len elements.new ≡ vec_len elements.old + 2 }
+{
+    let end = elements.len();
+    elements.push(first).unwrap();
+    elements.push(second).unwrap();
+    elements.copy_within(place..end, place + 2);
+    elements[place] = first;
+    elements[place + 1] = second;
+}
+
 // Puts two values at two keys side by side. It answers whether that could be done: neither is there, and no key stands
 // between the two. Else nothing is changed. There is room for two entries more.
-pub(crate) fn put_both_in<K: Ord + Drop, V: Drop>(
+pub(crate) fn put_both_in<K: Ord + Copy + Drop, V: Copy + Drop>(
     entries: &mut Vec<(K, V)>,
     key: K,
     value: V,
@@ -225,8 +241,7 @@ pub(crate) fn put_both_in<K: Ord + Drop, V: Drop>(
     if !fits_behind(entries, i, &key, &next, &value) {
         return false;
     }
-    entries.insert(i, (key, value)).unwrap();
-    entries.insert(i + 1, (next, next_value)).unwrap();
+    insert_both(entries, i, (key, value), (next, next_value));
     likely.set(i + 1);
     true
 }

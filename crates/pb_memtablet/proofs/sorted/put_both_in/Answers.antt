@@ -1,4 +1,4 @@
-use Rattle.std.proofs.Common.{◌+◌, ap, subst, is_ok}
+use Rattle.std.proofs.Common.{◌+◌, subst}
 use Rattle.std.specs.List.{insert}
 use Rattle.pb_memtablet.specs.Places.{IsGap}
 use Rattle.pb_memtablet.proofs.Spots.{put-both}
@@ -8,5 +8,4 @@ pub returns-clause-items : goal.returns-clause-items
 returns-clause-items g c =
     let gap = subst (λ es. IsGap g.K.Ord.cmp es c.args.key c.in-Err.i) c.deref.ensures.value c.in-Err.ensures.gap in
     let behind = subst (λ es. IsGap g.K.Ord.cmp (insert es c.in-Err.i (c.args.key, c.args.value)) c.args.next (c.in-Err.i + 1)) c.deref-2.ensures.value (c.fits_behind.ensures c.if-not-fits_behind.false) in
-    put-both g.met.K.Ord.total c.args.entries.now.items c.insert.new.self.items c.insert-2.new.self.items c.args.key c.args.next c.args.value c.args.next_value c.in-Err.i (c.in-Err.i + 1) (is_ok c.insert.result) (is_ok c.insert-2.result)
-    gap behind c.insert.ensures.items (ap is_ok c.unwrap.ensures) c.insert-2.ensures.items (ap is_ok c.unwrap-2.ensures)
+    put-both g.met.K.Ord.total c.args.entries.now.items c.insert_both.new.elements.items c.args.key c.args.next c.args.value c.args.next_value c.in-Err.i (c.in-Err.i + 1) gap behind c.insert_both.ensures.items
