@@ -6,7 +6,7 @@ mod shared;
 
 pub use pb_history::{Entry, Received};
 pub use pb_state::{
-    Accepted, Answer, Declaration, Declared, Finished, Moved, Observer, Phase, Record,
+    Accepted, Answer, Declaration, Declared, EndedRun, Finished, Moved, Observer, Phase, Record,
     RecordedRead, Seen, Step, Vm, Work, acknowledged_in, version_in,
 };
 pub use seat::Seat;

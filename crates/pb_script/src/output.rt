@@ -74,7 +74,7 @@ fn note_entry<T: Tablet>(
     };
     match what.get() {
         Declared::Script(batch) => note_batch(table, batch, commit),
-        Declared::Run(_, finished) => note_writes(table, finished.writes(), commit),
+        Declared::Run(_, run) => note_writes(table, run.get().writes(), commit),
     }
 }
 

@@ -64,7 +64,7 @@ fn run_writes(what: &Declared) -> &[(Cell, Content)]
 {
     match what {
         Declared::Script(_) => &[],
-        Declared::Run(_, finished) => finished.writes(),
+        Declared::Run(_, run) => run.get().writes(),
     }
 }
 

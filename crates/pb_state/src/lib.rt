@@ -22,7 +22,7 @@ mod transaction;
 mod transactions;
 
 pub use pb_steps::{
-    Answer, Declaration, Declared, Observer, Phase, RecordedRead, Seen, Step, Work,
+    Answer, Declaration, Declared, EndedRun, Observer, Phase, RecordedRead, Seen, Step, Work,
     acknowledged_in, version_in,
 };
 pub use pb_vm::{Accepted, Finished, Moved, Record, Vm};

@@ -167,8 +167,8 @@ pub(crate) fn is_its(
         },
         Work::Run(number, row) => match what {
             Declared::Script(_) => false,
-            Declared::Run(by, finished) => {
-                *by == number && is_run_of(observers, number, row, start, reads, finished)
+            Declared::Run(by, run) => {
+                *by == number && is_run_of(observers, number, row, start, reads, run.get())
             }
         },
     }

@@ -1,11 +1,13 @@
 //! The steps of the shared table (OSDI 2010, sections 2.2 to 2.4): what is asked, what is answered, and what a step does.
 #![tactic(auto)]
 
+mod ended_run;
 mod observer;
 mod phase;
 mod seen;
 mod step;
 
+pub use ended_run::EndedRun;
 pub use observer::Observer;
 pub use phase::Phase;
 pub use seen::{RecordedRead, Seen, acknowledged_in, reply_in, stamp_of, version_in};

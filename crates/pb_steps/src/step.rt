@@ -1,8 +1,8 @@
 //! The steps that are asked of the table, and their answers.
 ghost use Rattle.std.specs.Prelude.{◌≡◌, IfOk};
 
+use crate::ended_run::EndedRun;
 use pb_base::{Batch, Cell, Content, NoMemory, ObserverNo, Row, Ts};
-use pb_vm::Finished;
 use std::alloc::{AllocFailed, Global};
 use std::marker::Model;
 use std::sync::Arc;
@@ -21,7 +21,7 @@ pub enum Work {
 pub enum Declared {
     Script(Batch),
     /// A run of this observer, ended.
-    Run(ObserverNo, Finished),
+    Run(ObserverNo, EndedRun),
 }
 
 /// What is declared, with several owners: steps, the journal and the table share it. Contracts see what it holds, and it
@@ -54,7 +54,7 @@ impl Declared {
             Declared::Script(batch) => {
                 let _ = batch.len();
             }
-            Declared::Run(_, finished) => finished.known(),
+            Declared::Run(_, run) => run.get().known(),
         }
     }
 }

@@ -39,7 +39,7 @@ fn cell_count(what: &Declared) -> usize
 {
     match what {
         Declared::Script(batch) => batch.len(),
-        Declared::Run(_, finished) => finished.writes().len() + 1,
+        Declared::Run(_, run) => run.get().writes().len() + 1,
     }
 }
 
@@ -53,7 +53,8 @@ fn cell_at(what: &Declared, place: usize) -> Cell
             let (cell, _) = batch.at(place);
             cell
         }
-        Declared::Run(observer, finished) => {
+        Declared::Run(observer, ended) => {
+            let finished = ended.get();
             if place == 0 {
                 let record = finished.record();
                 return Cell::Ack(*observer, record.row(), record.column());

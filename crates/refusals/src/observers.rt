@@ -4,7 +4,9 @@ ghost use Rattle.std.specs.Prelude.{◌≡◌, ◌≤◌, length, IfOk};
 use crate::calls::{batch, calls, column, table};
 use crate::machines;
 use pb_base::{Cell, NoMemory, ObserverNo, Row, Ts};
-use pb_core::{Declaration, Declared, Finished, Observer, OpenRefused, Seat, Shared, Step, Work};
+use pb_core::{
+    Declaration, Declared, EndedRun, Finished, Observer, OpenRefused, Seat, Shared, Step, Work,
+};
 use pb_helpers::HelperTable;
 use pb_memtablet::ListTablet;
 use pb_registry::{Registry, accept};
@@ -140,7 +142,7 @@ pub fn runs_are_declared(alloc: Global) -> Result<bool, NoMemory> {
     let Some(watch) = ObserverNo::new(0) else {
         return Ok(false);
     };
-    let run = Declared::Run(watch, finished(alloc, &program)?);
+    let run = Declared::Run(watch, EndedRun::new(alloc, finished(alloc, &program)?)?);
     let steps = [
         Step::Begin(Work::Script),
         Step::Declare(

@@ -2,7 +2,7 @@
 use crate::clean_ups::{Told, are_told_on};
 use crate::tables::{WATCH, acknowledgment, cell, deletes, first, observer_of, observers_of};
 use pb_base::{Content, NoMemory, Row, Ts, Version};
-use pb_core::{Answer, Declaration, Declared, Observer, Step, Work};
+use pb_core::{Answer, Declaration, Declared, EndedRun, Observer, Step, Work};
 use pb_helpers::{Record, Reply};
 use pb_vm::{Finished, Phase, Vm};
 use std::alloc::Global;
@@ -47,7 +47,8 @@ fn run_of(rt: &impl Abort, alloc: Global, observer: &Observer, reply: Reply) -> 
     };
     let record = Record::new(cell(rt, 7, 0), &version, Ts(0));
     let vm = Vm::start(alloc, &observer.program, record, THREE).expect(rt, "memory");
-    let declared = Declared::Run(first(rt), finished_by(rt, vm, reply));
+    let run = EndedRun::new(alloc, finished_by(rt, vm, reply));
+    let declared = Declared::Run(first(rt), run.ok().expect(rt, "memory"));
     Declaration::new(alloc, declared).ok().expect(rt, "memory")
 }
 

@@ -54,7 +54,8 @@ fn declare_text(alloc: Global, start: Ts, what: &Declared) -> Text {
             }
             Ok(text)
         }
-        Declared::Run(observer, finished) => {
+        Declared::Run(observer, run) => {
+            let finished = run.get();
             let number = observer.number();
             let result = finished.result();
             let mut text = format!(in alloc; "declare {start} run {number} result {result}")?;

@@ -9,7 +9,7 @@ ghost use Rattle.pb_vm.specs.declared.moved.Phase.TheVariants.{Going};
 use crate::machine::{Machine, Standing};
 use pb_base::ObserverNo;
 use pb_helpers::Ask;
-use pb_steps::{Declaration, Declared};
+use pb_steps::{Declaration, Declared, EndedRun};
 use pb_vm::{Finished, Moved};
 use std::alloc::Global;
 
@@ -35,11 +35,19 @@ fn declare(
     ensures same { IfErr result (λ m. m ≡ exit_at finished taken) }
 {
     let end = finished.result();
-    match Declaration::new(alloc, Declared::Run(observer, finished)) {
+    let run = match EndedRun::new(alloc, finished) {
+        Ok(run) => run,
+        Err(failed) => {
+            return Err(Machine {
+                standing: Standing::Exited(failed.value, taken),
+            });
+        }
+    };
+    match Declaration::new(alloc, Declared::Run(observer, run)) {
         Ok(what) => Ok(Stepped::Ended(end, what)),
         Err(failed) => match failed.value {
-            Declared::Run(_, finished) => Err(Machine {
-                standing: Standing::Exited(finished, taken),
+            Declared::Run(_, run) => Err(Machine {
+                standing: Standing::Exited(run.into_finished(), taken),
             }),
             Declared::Script(_) => unreachable!(),
         },

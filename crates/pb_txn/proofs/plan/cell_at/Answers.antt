@@ -11,5 +11,5 @@ returns-else-place-eq0 c =
     let is = c.in-Run.is in
     let lt = subst (λ (w : Declared). k < length (declared_cells w)) is c.requires in
     ap (λ (w : Declared). slice_get (declared_cells w) k) is
-    ∙ after_first _ c.in-Run.finished.writes k d c.if-place-eq0.false lt
-    ∙ ap (λ ws. Some (slice_index_or ws (k - 1) d).0) (sym c.writes.ensures)
+    ∙ after_first _ c.in-Run.ended.writes k d c.if-place-eq0.false lt
+    ∙ ap (λ ws. Some (slice_index_or ws (k - 1) d).0) (sym (c.writes.ensures ∙ ap (λ f. f.writes) c.get-finished.ensures))
