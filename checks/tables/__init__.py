@@ -9,8 +9,9 @@ import re
 import struct
 from dataclasses import dataclass, field
 
-# how many tables there are, so that a lost one is noticed
-TABLE_COUNT = 133
+# how many tables there are, and how many rows in all, so that a lost one is noticed
+TABLE_COUNT = 145
+ROW_COUNT = 2571
 
 TOO_LARGE = bytes(16_777_217)
 

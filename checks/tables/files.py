@@ -4,7 +4,7 @@ Worked out by hand from docs/FORMATS.md, "Faults".
 """
 from __future__ import annotations
 
-from tables import NOBODY, TOO_LARGE, Row, Tables, files_of
+from tables import CHANGED, NOBODY, ONE, TOO_LARGE, WATCH, Row, Tables, files_of
 
 
 def fails(words: list[str], fault: str, **files: str | bytes) -> Row:
@@ -34,6 +34,29 @@ OF_A_REPLAY = [
     fails(REPLAY, "not text e", m="{", s="x", e=b"\xff"),
 ]
 
+# the first of several that are missing
+MISSING = [
+    fails(REPLAY, "cannot read m"),
+    fails(REPLAY, "cannot read s", m="x"),
+    fails(REPLAY, "cannot read m", s=TOO_LARGE),
+    fails(REPLAY, "cannot read m", e=b"\xff"),
+    fails(RUN, "cannot read m"),
+]
+
+# a path that is as long as its name may be, and one file at two paths
+LONG = "m" * 250
+
+PATHS = [
+    fails(["run", LONG, "s"], f"cannot read {LONG}", s=ONE),
+    fails(["run", "m", LONG], f"too large {LONG}", m="{", **{LONG: TOO_LARGE}),
+    fails(["run", LONG, "s"], f"not text {LONG}", s=ONE, **{LONG: b"\xff"}),
+    Row(["run", LONG, "s"], files_of(s=ONE, **{LONG: NOBODY}), out=f"{CHANGED}quiet\n".encode()),
+    fails(["run", "m", "m"], "script: line 1 code 70", m=NOBODY),
+    fails(["run", "s", "s"], "manifest: code 50", s=ONE),
+    fails(["replay", "m", "s", "s"], "schedule: line 1 code 90", m=NOBODY, s=ONE),
+    Row(["asm", "i", "i"], files_of(i="mov64 r0, 0\nexit\n"), written={"i": bytes.fromhex(WATCH)}),
+]
+
 ASM = ["asm", "i", "o"]
 
 # a path that nothing can be written to
@@ -60,6 +83,8 @@ OF_DIS_AND_CHECK = [
 TABLES: Tables = {
     "of a run": OF_A_RUN,
     "of a replay": OF_A_REPLAY,
+    "missing": MISSING,
+    "paths": PATHS,
     "of asm": OF_ASM,
     "of dis and check": OF_DIS_AND_CHECK,
 }

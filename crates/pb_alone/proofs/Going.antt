@@ -68,15 +68,6 @@ called a p step answer b q c = record {
 abbrev pub room_of : SharedOf → ℕ
 room_of s = s.limit - length s.journal
 
--- a call takes some of it, and what follows gives none back
-pub less_room : (a : SharedOf) (p : SeatOf) (step : Step) (answer : Answer) (b : SharedOf) (q : SeatOf) (c : SharedOf) (r : SeatOf) → Calls a p step answer b q → length b.journal ≤ b.limit → Goes b q c r → room_of c < room_of a
-less_room a p step answer b q c r call room g =
-    let one : length b.journal ≡ length a.journal + 1 = ap (λ (l : List Entry). length l) call.journal ∙ length-append a.journal (entry p.number step answer ∷ []) in
-    let more : length c.journal ≡ length b.journal + length (entries_by q.number g.more) = ap (λ (l : List Entry). length l) g.journal ∙ length-append b.journal (entries_by q.number g.more) in
-    let first = call.limit in
-    let then = g.limit in
-    omega (arith, one, more, room, first, then)
-
 -- ---- what its journal gains
 
 pub gains_none : {P : List Received → Type 0} (a : SharedOf) (n : ℕ) → P [] → Gains P a n a

@@ -96,13 +96,3 @@ module _ (e : Entries) (x : Cell) (s c : ℕ) where
       ]
 
 -- ---- a cell put and committed
-
-pub past_none : (o : Option Cell) → ((q : Cell) → o ≡ Some q → ⊥) → o ≡ None
-past_none None h = refl
-past_none (Some q) h = absurd (h q refl)
-
--- the lock that was put is gone again, and no other came
-pub no_lock_after : (e : Entries) (x p : Cell) (k : Content) (s c : ℕ) → ((y : Cell) (u : ℕ) → lock_at e y u ≡ None) → (y : Cell) (u : ℕ) → lock_at (commit_lock (put_lock e x s k p) x s c) y u ≡ None
-no_lock_after e x p k s c none y u = past_none _ (λ q h.
-    let o = commit_only (put_lock e x s k p) x s c y u q h in
-    elim (put_only e x p k s y u q o.0) [ inl new ↦ o.1 new.0 new.1 | inr old ↦ (let n = none y u in cc) ])

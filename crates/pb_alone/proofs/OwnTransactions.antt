@@ -30,6 +30,3 @@ pub allowed_own : (z : StateOf) (seat a : ℕ) (t : TransactionOf) (why : Transa
 allowed_own z seat a t why lt own =
     ap (λ o. first_reason (reasons_of o why))
     ((λ i. cond (not (lt-ltb seat z.seats lt i)) None (if_of_seat seat (own.there i))) ∙ ap (λ b. cond b (Some t) None) (eq-eqb t.seat seat own.mine))
-
-pub some_not_none : (o : Option Cell) → o ≡ None → is_some o ≡ true → ⊥
-some_not_none o n s = cc

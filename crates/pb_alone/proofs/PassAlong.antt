@@ -1,11 +1,10 @@
 -- Passes over the marked cells on their way.
-use Rattle.std.proofs.Common.{◌≡◌, ◌≢◌, ℕ, ◌+◌, ◌<◌, Bool, true, false, cond, not, List, [], ◌∷◌, ◌++◌, length, Option, Some, None, refl, sym, ap, subst, ◌∙◌, inl, inr}
-use Rattle.std.specs.Prelude.{is_some, nat_lt}
+use Rattle.std.proofs.Common.{◌≡◌, ◌≢◌, ℕ, ◌+◌, ◌<◌, Bool, true, false, not, List, [], ◌∷◌, ◌++◌, Option, Some, None, refl, sym, ap, subst, ◌∙◌, inl, inr}
+use Rattle.std.specs.Prelude.{is_some}
 use Rattle.std.proofs.lemmas.Bool.{lt-ltb}
 use Rattle.pb_base.specs.declared.cell.Cell.{Cell}
 use Rattle.pb_base.specs.declared.refusal.Reason.{Reason}
 use Rattle.pb_base.specs.declared.refusal.Reason.TheVariants.{OutOfTimestamps, NotOfSeat}
-use Rattle.pb_steps.specs.declared.step.Step.{Step}
 use Rattle.pb_steps.specs.declared.step.Step.TheVariants.{NextMark}
 use Rattle.pb_steps.specs.declared.step.Answer.{Answer}
 use Rattle.pb_steps.specs.declared.step.Answer.TheVariants.{Marked, NoMark}
@@ -19,7 +18,6 @@ use Rattle.pb_core.specs.Calls.{SharedOf, SeatOf, Calls}
 use Rattle.pb_txn.specs.Talks.{told}
 use Rattle.pb_alone.specs.declared.fault.RunFault.{RunFault}
 use Rattle.pb_alone.specs.declared.passes.TheConstants.{MAX_PASSES}
-use Rattle.pb_notify.specs.Allowed.{entries_by}
 use Rattle.pb_alone.specs.Alone.{Gains}
 use Rattle.pb_alone.specs.Faults.{IsRefusedBy}
 use Rattle.pb_alone.specs.Passes.{IsRun, RunAsks, IsOfOther, AreRuns, before_all, runs as ran_then, passes_by, AreAllRuns, RunsAsk, IsWalk, at_beginning, found as found_then, IsPass, IsPassThat, PassAsks, a_mark, a_run, ArePasses, at_first, one_more, IsDrain, DrainAsks}

@@ -1,13 +1,14 @@
 -- No pass begins a script's transaction.
-use Rattle.std.proofs.Common.{◌≡◌, ◌≢◌, ℕ, ◌⊎◌, inl, inr, List, [], ◌∷◌, ◌++◌, Option, Some, None, refl, sym, ap, subst, ◌∙◌}
+use Rattle.std.proofs.Common.{◌≡◌, ◌≢◌, ℕ, inl, inr, List, [], ◌∷◌, ◌++◌, Option, Some, None, sym, subst}
 use Rattle.std.specs.Prelude.{slice_get, option_map}
 use Rattle.pb_base.specs.declared.cell.Cell.{Cell}
+use Rattle.pb_base.specs.declared.cell.Cell.TheVariants.{Data, Ack}
 use Rattle.pb_base.specs.declared.names.Row.{Row}
 use Rattle.pb_base.specs.declared.names.Ts.{Ts}
 use Rattle.pb_steps.specs.declared.step.Work.TheVariants as works
 use Rattle.pb_steps.specs.declared.step.Declared.{Declared}
 use Rattle.pb_steps.specs.declared.step.Step.{Step}
-use Rattle.pb_steps.specs.declared.step.Step.TheVariants.{Begin, Read, Declare, Prewrite, Stamp, CommitPrimary, CommitSecondary, Settle, Clear, NextMark, Sweep}
+use Rattle.pb_steps.specs.declared.step.Step.TheVariants.{Begin, Declare, Prewrite, Stamp, CommitPrimary, CommitSecondary, Settle, Clear, NextMark, Sweep}
 use Rattle.pb_steps.specs.declared.step.Answer.TheVariants.{Marked, NoMark}
 use Rattle.pb_steps.specs.Observers.{ObserverOf}
 use Rattle.pb_history.specs.declared.entry.Received.{Received}
@@ -19,7 +20,7 @@ use Rattle.pb_txn.specs.Places as plans
 use Rattle.pb_notify.specs.declared.look.Look.{Look}
 use Rattle.pb_notify.specs.declared.look.Look.TheVariants.{Reading, Clearing, Settling, ClearingAgain}
 use Rattle.pb_notify.specs.declared.place.Place as jobs
-use Rattle.pb_notify.specs.declared.place.Place.TheVariants.{Beginning, Observing, Acknowledging, Starting, Computing, Asking, Planning, Sweeping, Over}
+use Rattle.pb_notify.specs.declared.place.Place.TheVariants.{Beginning, Observing, Acknowledging, Recalling, Starting, Computing, Asking, Planning, Sweeping, Over}
 use Rattle.pb_notify.specs.Looks.{look_step}
 use Rattle.pb_notify.specs.Places.{step_at}
 use Rattle.pb_notify.specs.Runs.{RunOf}
@@ -50,11 +51,12 @@ more r rs h k q (inr e) = k q e
 
 -- ---- a job's steps
 
-looks : (s : Ts) (x : Cell) (look : Look) → IsNone (look_step s x look)
-looks s x Reading e = cc
-looks s x (Clearing p) e = cc
-looks s x (Settling p) e = cc
-looks s x ClearingAgain e = cc
+looks : (s : Ts) (x : Cell) (at : Option Ts) (look : Look) → IsNone (look_step s x at look)
+looks s x None Reading e = cc
+looks s x (Some u) Reading e = cc
+looks s x at (Clearing p) e = cc
+looks s x at (Settling p) e = cc
+looks s x at ClearingAgain e = cc
 
 same_step : (t u : Step) → Some t ≡ Some u → t ≡ u
 same_step t u e = cc
@@ -75,11 +77,12 @@ of_plan s what (orders.Over o) t e = absurd cc
 
 of_job : (o : ℕ) (row : Row) (column : ℕ) (p : jobs.Place) (t : Step) → step_at o row column p ≡ Some t → IsNone t
 of_job o row column Beginning t e = subst IsNone (same_step (Begin (works.Run o row)) t e) (λ z. cc)
-of_job o row column (Observing s look) t e = subst IsNone (same_step (look_step s _ look) t e) (looks s _ look)
-of_job o row column (Acknowledging s found look) t e = subst IsNone (same_step (look_step s _ look) t e) (looks s _ look)
+of_job o row column (Observing s look) t e = subst IsNone (same_step (look_step s (Data row column) None look) t e) (looks s (Data row column) None look)
+of_job o row column (Acknowledging s found look) t e = subst IsNone (same_step (look_step s (Ack o row column) None look) t e) (looks s (Ack o row column) None look)
+of_job o row column (Recalling s seen look) t e = subst IsNone (same_step (look_step s (Data row column) (Some seen.acknowledged) look) t e) (looks s (Data row column) (Some seen.acknowledged) look)
 of_job o row column (Starting s seen) t e = absurd cc
 of_job o row column (Computing s v) t e = absurd cc
-of_job o row column (Asking s v q look) t e = subst IsNone (same_step (look_step s _ look) t e) (looks s _ look)
+of_job o row column (Asking s v q look) t e = subst IsNone (same_step (look_step s (Data q.row q.column) None look) t e) (looks s (Data q.row q.column) None look)
 of_job o row column (Planning r p) t e = of_plan p.start p.what p.place t e
 of_job o row column (Sweeping end) t e = subst IsNone (same_step (Sweep _) t e) (λ z. cc)
 of_job o row column (Over end) t e = absurd cc

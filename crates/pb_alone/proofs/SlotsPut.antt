@@ -1,20 +1,13 @@
 -- Entries of a table at slots that are put and taken out.
-use Rattle.std.proofs.Common.{◌≡◌, ℕ, ◌⊎◌, inl, inr, Bool, true, false, cond, Option, Some, None, refl, sym, ap, ◌∙◌}
+use Rattle.std.proofs.Common.{◌≡◌, Bool, true, false, cond, Some, None, refl, ap, ◌∙◌}
 use Rattle.std.specs.Ordering.{eq_by_cmp, is_eq}
 use Rattle.std.specs.Cmp.{Equal-is, tied_itself}
 use Rattle.std.specs.FinMap as map
-use Rattle.pb_base.specs.declared.cell.Cell.{Cell}
-use Rattle.pb_base.specs.declared.content.Content.{Content}
 use Rattle.pb_store.specs.declared.slot.Slot.{Slot}
 use Rattle.pb_store.specs.declared.slot.Item.{Item}
-use Rattle.pb_store.specs.declared.slot.Item.TheVariants as items
 use Rattle.pb_store.specs.declared.slot.Sort.{Sort}
-use Rattle.pb_store.specs.declared.slot.Sort.TheVariants as sorts
 use Rattle.pb_store.specs.Slot.{slot_cmp, slot_cmp_total, slot_cmp-IsAntisymmetric}
-use Rattle.pb_store.specs.Contents.{Entries, slot_at}
-use Rattle.pb_steps.specs.Readings.{lock_at, write_at, primary_of, start_of}
-use Rattle.pb_steps.specs.Prewrite.{put_lock}
-use Rattle.pb_steps.specs.Commits.{commit_lock}
+use Rattle.pb_store.specs.Contents.{Entries}
 
 pub same_slot : (a b : Slot) → eq_by_cmp slot_cmp a b ≡ true → a ≡ b
 same_slot a b e = slot_cmp-IsAntisymmetric a b ((Equal-is (slot_cmp a b)).0 e)

@@ -1,6 +1,5 @@
 -- Where a run of a script stops before its end, and the end of the clock or of the journal that it came to.
 use Rattle.std.specs.Prelude.{◌≡◌, ℕ, ◌⊎◌, List, ◌∷◌, ◌++◌, Some}
-use Rattle.std.specs.List.{flat_map}
 use Rattle.pb_base.specs.declared.refusal.Reason.{Reason}
 use Rattle.pb_base.specs.declared.refusal.Reason.TheVariants.{OutOfTimestamps, JournalFull}
 use Rattle.pb_base.specs.Reasons.{reason_code}
@@ -12,7 +11,7 @@ use Rattle.pb_txn.specs.Changes.{ChangeOf, new_change, next_of, Talks}
 use Rattle.pb_alone.specs.declared.fault.RunFault.{RunFault}
 use Rattle.pb_alone.specs.declared.fault.RunFault.TheVariants as faults
 use Rattle.pb_notify.specs.Allowed.{entries_by}
-use Rattle.pb_alone.specs.Alone.{Changes, change_entries, changes_from}
+use Rattle.pb_alone.specs.Alone.{Changes}
 use Rattle.pb_alone.specs.Passes.{DrainAsks}
 
 -- the step was refused with this number, for want of a timestamp or of room in the journal

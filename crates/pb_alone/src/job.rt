@@ -48,8 +48,10 @@ pub(crate) fn run_one<T: Tablet>(
     requires seated { seat.old.number < shared.old.state.seats }
     requires known { HasColumn shared.old.state.observers number cell }
     ensures goes { Goes shared.old seat.old shared.new seat.new }
-    ensures ok { OnOk result (Gains (IsRun shared.old.state.observers number cell) shared.old seat.old.number shared.new) }
-    ensures err { IfErr result (IfRefused (StoppedAt (RunAsks shared.old.state.observers number cell) shared.old seat.old.number shared.new)) }
+    ensures ok { OnOk result
+        (Gains (IsRun shared.old.state.observers number cell) shared.old seat.old.number shared.new) }
+    ensures err { IfErr result (IfRefused
+        (StoppedAt (RunAsks shared.old.state.observers number cell) shared.old seat.old.number shared.new)) }
 {
     // For the proof: what a job has asked at its end is a whole conversation, and only the clock refuses its steps.
     jobs_talk();

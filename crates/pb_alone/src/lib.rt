@@ -10,6 +10,6 @@ mod texts;
 
 pub use change::change_all;
 pub use fault::RunFault;
-pub use passes::MAX_PASSES;
+pub use passes::{MAX_PASSES, passes_limit_is_this};
 pub use run::run_alone;
 pub use texts::run_texts;

@@ -15,6 +15,11 @@ use std::alloc::Global;
 /// How many passes are made at most.
 pub const MAX_PASSES: u32 = 1000;
 
+/// The limit of passes has this value.
+pub fn passes_limit_is_this()
+    ensures { MAX_PASSES ≡ 1000 }
+{}
+
 // Whether the observer of this number is one of the cell's column.
 fn is_observer_of<T: Tablet>(shared: &Shared<T>, place: usize, cell: &Cell) -> bool
     requires { place < length shared.now.state.observers }
@@ -34,8 +39,10 @@ fn run_all<T: Tablet>(
 ) -> Result<(), RunFault>
     requires seated { seat.old.number < shared.old.state.seats }
     ensures goes { Goes shared.old seat.old shared.new seat.new }
-    ensures ok { OnOk result (Gains (AreAllRuns shared.old.state.observers cell.now) shared.old seat.old.number shared.new) }
-    ensures err { IfErr result (IfRefused (StoppedAt (RunsAsk shared.old.state.observers cell.now) shared.old seat.old.number shared.new)) }
+    ensures ok { OnOk result
+        (Gains (AreAllRuns shared.old.state.observers cell.now) shared.old seat.old.number shared.new) }
+    ensures err { IfErr result
+        (IfRefused (StoppedAt (RunsAsk shared.old.state.observers cell.now) shared.old seat.old.number shared.new)) }
 {
     for place in 0..shared.observers().len() {
         if is_observer_of(shared, place, cell) {
@@ -52,8 +59,10 @@ fn run_all<T: Tablet>(
 fn pass<T: Tablet>(alloc: Global, shared: &mut Shared<T>, seat: &mut Seat) -> Result<bool, RunFault>
     requires seated { seat.old.number < shared.old.state.seats }
     ensures goes { Goes shared.old seat.old shared.new seat.new }
-    ensures ok { IfOk result (λ marked. Gains (IsPassThat shared.old.state.observers marked) shared.old seat.old.number shared.new) }
-    ensures err { IfErr result (IfRefused (StoppedAt (PassAsks shared.old.state.observers) shared.old seat.old.number shared.new)) }
+    ensures ok { IfOk result
+        (λ marked. Gains (IsPassThat shared.old.state.observers marked) shared.old seat.old.number shared.new) }
+    ensures err { IfErr result
+        (IfRefused (StoppedAt (PassAsks shared.old.state.observers) shared.old seat.old.number shared.new)) }
 {
     let mut last = None;
     loop {
@@ -75,7 +84,8 @@ pub(crate) fn drain<T: Tablet>(
     requires seated { seat.old.number < shared.old.state.seats }
     ensures goes { Goes shared.old seat.old shared.new seat.new }
     ensures ok { OnOk result (Gains (IsDrain shared.old.state.observers) shared.old seat.old.number shared.new) }
-    ensures err { IfErr result (IfRefused (StoppedAt (DrainAsks shared.old.state.observers) shared.old seat.old.number shared.new)) }
+    ensures err { IfErr result
+        (IfRefused (StoppedAt (DrainAsks shared.old.state.observers) shared.old seat.old.number shared.new)) }
 {
     for _count in 0..MAX_PASSES {
         let marked = pass(alloc, shared, seat)?;

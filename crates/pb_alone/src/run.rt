@@ -61,7 +61,8 @@ fn run<T: Tablet, S: Sink>(
     requires fresh { shared.old.journal ≡ [] }
     requires seated { AreSeats shared.old seats.old.items }
     requires unfailed { S.failed sink.old ≡ false }
-    ensures runs { Runs text.now shared.old shared.new (S.taken sink.old) (S.taken sink.new) (S.failed sink.new) result }
+    ensures runs { Runs text.now shared.old shared.new (S.taken sink.old) (S.taken sink.new) (S.failed sink.new)
+        result }
     ensures keeps { KeepsSeats shared.old shared.new seats.new.items }
 {
     let batches = read(alloc, text)?;

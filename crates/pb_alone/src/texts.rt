@@ -48,7 +48,8 @@ pub fn run_texts<T: Tablet, S: Sink>(
 ) -> Result<(), RunFault>
     requires empty { table.contents ≡ nothing }
     requires unfailed { S.failed sink.old ≡ false }
-    ensures { RunsTexts manifest.now script.now last.0 (S.taken sink.old) (S.taken sink.new) (S.failed sink.new) result }
+    ensures { RunsTexts manifest.now script.now last.0 (S.taken sink.old) (S.taken sink.new) (S.failed sink.new)
+        result }
 {
     let observers = match observers_in(alloc, manifest) {
         Ok(observers) => observers,

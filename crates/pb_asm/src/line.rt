@@ -1,5 +1,5 @@
 //! The words of a line, read from left to right.
-ghost use Rattle.std.specs.Prelude.{◌≡◌, IfOk, ◌==◌};
+ghost use Rattle.std.specs.Prelude.{◌≡◌, IfOk, ◌==◌, false};
 ghost use Rattle.std.specs.List.{slice_split};
 ghost use Rattle.pb_isa.specs.declared.insn.Insn.TheVariants as insn;
 ghost use Rattle.pb_base.specs.Reading.{Gives, texts_of, next_word, no_word, words_of};
@@ -23,7 +23,8 @@ struct Words<'a, 'b> {
 impl<'a, 'b> Words<'a, 'b> {
     // The next word, and those after it.
     fn next_word(self) -> Result<(&'a str, Words<'a, 'b>), Code>
-        ensures { Gives is_memory (λ x. (x.0.now, texts_of x.1.rest.now)) result (next_word code.Form (texts_of self.entry.rest.now)) }
+        ensures { Gives (λ _. false) (λ x. (x.0.now, texts_of x.1.rest.now)) result
+            (next_word code.Form (texts_of self.entry.rest.now)) }
     {
         match self.rest {
             [] => Err(Code::Form),
@@ -33,7 +34,7 @@ impl<'a, 'b> Words<'a, 'b> {
 
     // No word is left.
     fn no_word(self) -> Result<(), Code>
-        ensures { Gives is_memory (λ x. x) result (no_word code.Form (texts_of self.entry.rest.now)) }
+        ensures { Gives (λ _. false) (λ x. x) result (no_word code.Form (texts_of self.entry.rest.now)) }
     {
         if self.rest.is_empty() {
             Ok(())
@@ -45,7 +46,8 @@ impl<'a, 'b> Words<'a, 'b> {
     // The next word, which has a comma at its end, and those after it.
     #[tactic(auto, unfolding(crate::specs::Operands::comma))]
     fn comma(self) -> Result<(&'a str, Words<'a, 'b>), Code>
-        ensures { Gives is_memory (λ x. (x.0.now, texts_of x.1.rest.now)) result (comma (texts_of self.entry.rest.now)) }
+        ensures { Gives (λ _. false) (λ x. (x.0.now, texts_of x.1.rest.now)) result
+            (comma (texts_of self.entry.rest.now)) }
     {
         let (word, words) = self.next_word()?;
         match strip_suffix(word, ',') {
@@ -56,7 +58,7 @@ impl<'a, 'b> Words<'a, 'b> {
 
     #[tactic(auto, unfolding(crate::specs::Operands::alu_operands, crate::specs::Operands::last))]
     fn alu(self, op: AluOp, width: Width) -> Result<Insn, Code>
-        ensures { Gives is_memory (λ i. i) result (alu_operands (insn.Alu op width) (texts_of self.entry.rest.now)) }
+        ensures { Gives (λ _. false) (λ i. i) result (alu_operands (insn.Alu op width) (texts_of self.entry.rest.now)) }
     {
         let (word, words) = self.comma()?;
         let dst = reg_of(word)?;
@@ -73,7 +75,7 @@ impl<'a, 'b> Words<'a, 'b> {
 
     #[tactic(auto, unfolding(crate::specs::Operands::load_imm_operands, crate::specs::Operands::last))]
     fn wide(self) -> Result<Insn, Code>
-        ensures { Gives is_memory (λ i. i) result (load_imm_operands (texts_of self.entry.rest.now)) }
+        ensures { Gives (λ _. false) (λ i. i) result (load_imm_operands (texts_of self.entry.rest.now)) }
     {
         let (word, words) = self.comma()?;
         let dst = reg_of(word)?;
@@ -85,7 +87,7 @@ impl<'a, 'b> Words<'a, 'b> {
 
     #[tactic(auto, unfolding(crate::specs::Operands::load_operands, crate::specs::Operands::last))]
     fn load(self, size: Size) -> Result<Insn, Code>
-        ensures { Gives is_memory (λ i. i) result (load_operands (insn.Load size) (texts_of self.entry.rest.now)) }
+        ensures { Gives (λ _. false) (λ i. i) result (load_operands (insn.Load size) (texts_of self.entry.rest.now)) }
     {
         let (word, words) = self.comma()?;
         let dst = reg_of(word)?;
@@ -102,7 +104,8 @@ impl<'a, 'b> Words<'a, 'b> {
 
     #[tactic(auto, unfolding(crate::specs::Operands::store_imm_operands, crate::specs::Operands::last))]
     fn store_imm(self, size: Size) -> Result<Insn, Code>
-        ensures { Gives is_memory (λ i. i) result (store_imm_operands (insn.StoreImm size) (texts_of self.entry.rest.now)) }
+        ensures { Gives (λ _. false) (λ i. i) result
+            (store_imm_operands (insn.StoreImm size) (texts_of self.entry.rest.now)) }
     {
         let (word, words) = self.comma()?;
         let (dst, offset) = place_of(word)?;
@@ -119,7 +122,7 @@ impl<'a, 'b> Words<'a, 'b> {
 
     #[tactic(auto, unfolding(crate::specs::Operands::store_operands, crate::specs::Operands::last))]
     fn store(self, size: Size) -> Result<Insn, Code>
-        ensures { Gives is_memory (λ i. i) result (store_operands (insn.Store size) (texts_of self.entry.rest.now)) }
+        ensures { Gives (λ _. false) (λ i. i) result (store_operands (insn.Store size) (texts_of self.entry.rest.now)) }
     {
         let (word, words) = self.comma()?;
         let (dst, offset) = place_of(word)?;
@@ -136,7 +139,8 @@ impl<'a, 'b> Words<'a, 'b> {
 
     #[tactic(auto, unfolding(crate::specs::Operands::jump_if_operands, crate::specs::Operands::last))]
     fn jump_if(self, cmp: Cmp, width: Width) -> Result<Insn, Code>
-        ensures { Gives is_memory (λ i. i) result (jump_if_operands (insn.JumpIf cmp width) (texts_of self.entry.rest.now)) }
+        ensures { Gives (λ _. false) (λ i. i) result
+            (jump_if_operands (insn.JumpIf cmp width) (texts_of self.entry.rest.now)) }
     {
         let (word, words) = self.comma()?;
         let dst = reg_of(word)?;
@@ -156,7 +160,7 @@ impl<'a, 'b> Words<'a, 'b> {
 
     #[tactic(auto, unfolding(crate::specs::Operands::last))]
     fn last_reg(self) -> Result<Reg, Code>
-        ensures { Gives is_memory (λ r. r) result (last reg_of_text (texts_of self.entry.rest.now)) }
+        ensures { Gives (λ _. false) (λ r. r) result (last reg_of_text (texts_of self.entry.rest.now)) }
     {
         let (word, words) = self.next_word()?;
         let reg = reg_of(word)?;
@@ -166,7 +170,7 @@ impl<'a, 'b> Words<'a, 'b> {
 
     #[tactic(auto, unfolding(crate::specs::Operands::last))]
     fn last_offset(self) -> Result<i16, Code>
-        ensures { Gives is_memory (λ o. o) result (last offset_of_text (texts_of self.entry.rest.now)) }
+        ensures { Gives (λ _. false) (λ o. o) result (last offset_of_text (texts_of self.entry.rest.now)) }
     {
         let (word, words) = self.next_word()?;
         let offset = offset_of(word)?;
@@ -176,7 +180,7 @@ impl<'a, 'b> Words<'a, 'b> {
 
     #[tactic(auto, unfolding(crate::specs::Operands::last))]
     fn last_imm(self) -> Result<i32, Code>
-        ensures { Gives is_memory (λ k. k) result (last imm_of_text (texts_of self.entry.rest.now)) }
+        ensures { Gives (λ _. false) (λ k. k) result (last imm_of_text (texts_of self.entry.rest.now)) }
     {
         let (word, words) = self.next_word()?;
         let imm = imm_of(word)?;
@@ -186,7 +190,7 @@ impl<'a, 'b> Words<'a, 'b> {
 
     // The operands that a first word asks for.
     fn operands(self, word: Word) -> Result<Insn, Code>
-        ensures { Gives is_memory (λ i. i) result (operands word (texts_of self.entry.rest.now)) }
+        ensures { Gives (λ _. false) (λ i. i) result (operands word (texts_of self.entry.rest.now)) }
     {
         match word {
             Word::Alu(op, width) => self.alu(op, width),
@@ -215,7 +219,7 @@ impl<'a, 'b> Words<'a, 'b> {
     // One instruction.
     #[tactic(auto, unfolding(crate::specs::Operands::insn_of_words))]
     fn insn(self) -> Result<Insn, Code>
-        ensures { Gives is_memory (λ i. i) result (insn_of_words (texts_of self.entry.rest.now)) }
+        ensures { Gives (λ _. false) (λ i. i) result (insn_of_words (texts_of self.entry.rest.now)) }
     {
         let (first, words) = self.next_word()?;
         match Word::named(first) {

@@ -46,7 +46,8 @@ fn one(alloc: Global, word: Word, operand: &str) -> Result<String, AllocError>
 
 // A first word and two operands.
 fn two(alloc: Global, word: Word, first: &str, second: &str) -> Result<String, AllocError>
-    ensures { IfOk result (λ s. string_bytes s ≡ name word ++ (codes " " ++ (first.now ++ (codes ", " ++ second.now)))) }
+    ensures { IfOk result
+        (λ s. string_bytes s ≡ name word ++ (codes " " ++ (first.now ++ (codes ", " ++ second.now)))) }
 {
     let name = word.name();
     format!(in alloc; "{name} {first}, {second}")

@@ -1,10 +1,9 @@
 //! Registers, numbers and places, each a text of its own.
-ghost use Rattle.std.specs.Prelude.{◌≡◌, ◌≤◌, ◌<◌, ◌^◌, ◌-◌, ◌-ℤ◌, ◌≤ℤ◌, pos, neg_ℤ, IfOk, ℤ};
+ghost use Rattle.std.specs.Prelude.{◌≡◌, ◌≤◌, ◌<◌, ◌^◌, ◌-◌, ◌-ℤ◌, ◌≤ℤ◌, pos, neg_ℤ, IfOk, ℤ, false};
 ghost use Rattle.std.specs.Char.{is_ascii_digit};
 ghost use Rattle.std.specs.List.{list_all};
 ghost use Rattle.pb_base.specs.Reading.{Gives, is_numeral, numeral_upto};
 ghost use Rattle.pb_asm.specs.declared.fault.Code.TheVariants as code;
-ghost use Rattle.pb_asm.specs.Codes.{is_memory};
 ghost use Rattle.pb_asm.specs.Operands.{minus, plus, imm_of_text, offset_of_text, reg_of_text, operand_of_text, base_and_offset, place_of_text};
 
 use crate::cuts::{split_once, strip_prefix, strip_suffix};
@@ -34,7 +33,7 @@ fn is_numeral(text: &str) -> bool
 
 /// A number, at most this.
 pub fn numeral_upto(greatest: u64, text: &str) -> Result<u64, Code>
-    ensures value { Gives is_memory (λ n. n) result (numeral_upto code.Form code.Range greatest text.now) }
+    ensures value { Gives (λ _. false) (λ n. n) result (numeral_upto code.Form code.Range greatest text.now) }
     ensures bound { IfOk result (λ n. n ≤ greatest) }
 {
     if !is_numeral(text) {
@@ -53,7 +52,7 @@ pub fn numeral_upto(greatest: u64, text: &str) -> Result<u64, Code>
 // The digits behind a minus: at most this, and not zero.
 #[tactic(auto, unfolding(crate::specs::Operands::minus))]
 fn minus(greatest: u32, text: &str) -> Result<i64, Code>
-    ensures value { Gives is_memory (λ z. z) result (minus greatest text.now) }
+    ensures value { Gives (λ _. false) (λ z. z) result (minus greatest text.now) }
     ensures low { IfOk result (λ z. neg_ℤ (pos greatest) ≤ℤ z) }
     ensures high { IfOk result (λ z. z ≤ℤ pos 0) }
 {
@@ -68,7 +67,7 @@ fn minus(greatest: u32, text: &str) -> Result<i64, Code>
 #[tactic(auto, unfolding(crate::specs::Operands::plus))]
 fn plus(limit: u32, text: &str) -> Result<i64, Code>
     requires { 0 < limit }
-    ensures value { Gives is_memory (λ z. z) result (plus limit text.now) }
+    ensures value { Gives (λ _. false) (λ z. z) result (plus limit text.now) }
     ensures low { IfOk result (λ z. pos 0 ≤ℤ z) }
     ensures high { IfOk result (λ z. z ≤ℤ pos (limit - 1)) }
 {
@@ -78,7 +77,7 @@ fn plus(limit: u32, text: &str) -> Result<i64, Code>
 
 /// An immediate, which has a sign only where it is negative.
 pub fn imm_of(text: &str) -> Result<i32, Code>
-    ensures { Gives is_memory (λ z. z) result (imm_of_text text.now) }
+    ensures { Gives (λ _. false) (λ z. z) result (imm_of_text text.now) }
 {
     let number = match strip_prefix(text, '-') {
         Some(digits) => minus(0x8000_0000, digits)?,
@@ -89,7 +88,7 @@ pub fn imm_of(text: &str) -> Result<i32, Code>
 
 /// An offset, which always has a sign.
 pub fn offset_of(text: &str) -> Result<i16, Code>
-    ensures { Gives is_memory (λ z. z) result (offset_of_text text.now) }
+    ensures { Gives (λ _. false) (λ z. z) result (offset_of_text text.now) }
 {
     if let Some(digits) = strip_prefix(text, '-') {
         return Ok(minus(0x8000, digits)? as i16);
@@ -102,7 +101,7 @@ pub fn offset_of(text: &str) -> Result<i16, Code>
 
 /// A register.
 pub fn reg_of(text: &str) -> Result<Reg, Code>
-    ensures { Gives is_memory (λ r. r) result (reg_of_text text.now) }
+    ensures { Gives (λ _. false) (λ r. r) result (reg_of_text text.now) }
 {
     match reg_named(text) {
         Some(reg) => Ok(reg),
@@ -113,7 +112,7 @@ pub fn reg_of(text: &str) -> Result<Reg, Code>
 /// An operand that may be a register or an immediate.
 #[tactic(auto, unfolding(crate::specs::Operands::operand_of_text))]
 pub fn operand_of(text: &str) -> Result<Operand, Code>
-    ensures { Gives is_memory (λ a. a) result (operand_of_text text.now) }
+    ensures { Gives (λ _. false) (λ a. a) result (operand_of_text text.now) }
 {
     let bytes = text.as_bytes();
     if !bytes.is_empty() && bytes[0] == b'r' {
@@ -126,7 +125,7 @@ pub fn operand_of(text: &str) -> Result<Operand, Code>
 /// A place in memory: a register and an offset in brackets.
 #[tactic(auto, unfolding(crate::specs::Operands::place_of_text, crate::specs::Operands::base_and_offset))]
 pub fn place_of(text: &str) -> Result<(Reg, i16), Code>
-    ensures { Gives is_memory (λ p. p) result (place_of_text text.now) }
+    ensures { Gives (λ _. false) (λ p. p) result (place_of_text text.now) }
 {
     let Some(front) = strip_prefix(text, '[') else {
         return Err(Code::Form);

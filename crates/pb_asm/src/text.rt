@@ -35,7 +35,8 @@ impl Lines {
     fn add(&mut self, alloc: Global, line: &str) -> Result<(), Code>
         requires most { self.old.taken ≤ MAX_SLOTS }
         requires fits { AllByRecursion Fits self.old.insns.items }
-        ensures read { Gives is_memory (λ _. self.new.insns.items) result (with_insn_line self.old.insns.items line.now) }
+        ensures read { Gives is_memory (λ _. self.new.insns.items) result
+            (with_insn_line self.old.insns.items line.now) }
         ensures most { self.new.taken ≤ MAX_SLOTS }
         ensures fits { AllByRecursion Fits self.new.insns.items }
     {
@@ -123,26 +124,33 @@ pub fn one_spelling()
 /// A text is read as a program exactly where its lines that are neither empty nor remarks are the program's listing line
 /// by line.
 pub fn only_listings_are_read()
-    ensures { (text : List ℕ) (p : ProgramOf) → (program_of_text text ≡ Ok p) ↔ ((instruction_lines text ≡ map insn_text p.insns) × IsProgram p × AllByRecursion Fits p.insns) }
+    ensures { (text : List ℕ) (p : ProgramOf) → (program_of_text text ≡ Ok p)
+        ↔ ((instruction_lines text ≡ map insn_text p.insns) × IsProgram p × AllByRecursion Fits p.insns) }
 {}
 
 /// The fault that is told is that of the first line at fault, after lines that are read; or no line has an instruction.
 pub fn fault_is_first()
-    ensures { (text : List ℕ) (line told : ℕ) → program_of_text text ≡ Err (line, told) → IsFirstFault text line told ⊎ HasNone text line told }
+    ensures { (text : List ℕ) (line told : ℕ) → program_of_text text ≡ Err (line, told)
+        → IsFirstFault text line told ⊎ HasNone text line told }
 {}
 
 /// An unknown word is told exactly where what stands before the first blank, or the whole line where there is none, is no
 /// instruction's name; too many slots exactly where the line is a listing's and its instruction ends past the last slot that a program may have; and
 /// no instruction at all exactly where each line is empty or a remark.
 pub fn faults_are_told_where_they_are()
-    ensures word { (line : List ℕ) → (line_of line ≡ Err code.Word) ↔ ((w : Word) → before_first (λ b. b == 32) line ≢ name w) }
-    ensures too_long { (before : List Insn) (line : List ℕ) → (with_insn_line before line ≡ Err code.TooLong) ↔ ((i : Insn) × (line ≡ insn_text i) × Fits i × (MAX_SLOTS < slots (before ++ i ∷ []))) }
+    ensures word { (line : List ℕ) → (line_of line ≡ Err code.Word)
+        ↔ ((w : Word) → before_first (λ b. b == 32) line ≢ name w) }
+    ensures too_long { (before : List Insn) (line : List ℕ) → (with_insn_line before line ≡ Err code.TooLong)
+        ↔ ((i : Insn) × (line ≡ insn_text i) × Fits i × (MAX_SLOTS < slots (before ++ i ∷ []))) }
     ensures nothing { (text : List ℕ) → (program_of_text text ≡ Err (0, 84)) ↔ (instruction_lines text ≡ []) }
 {}
 
 /// Where a line is an instruction's up to a number that has its form and goes beyond its field, code 82 is told of it, whatever
 /// comes behind the number's word.
 pub fn numbers_out_of_range_are_told()
-    ensures read { (place : NumberPlace) (number rest : List ℕ) → FitsBefore place → IsBeyond place number → EndsWord rest → line_of (line_with place number rest) ≡ Err code.Range }
-    ensures told { (n : ℕ) (before : List Insn) (place : NumberPlace) (number rest : List ℕ) → FitsBefore place → IsBeyond place number → EndsWord rest → numbered asm_code n (with_insn_line before (line_with place number rest)) ≡ Err (n + 1, 82) }
+    ensures read { (place : NumberPlace) (number rest : List ℕ) → FitsBefore place → IsBeyond place number
+        → EndsWord rest → line_of (line_with place number rest) ≡ Err code.Range }
+    ensures told { (n : ℕ) (before : List Insn) (place : NumberPlace) (number rest : List ℕ) → FitsBefore place
+        → IsBeyond place number → EndsWord rest
+        → numbered asm_code n (with_insn_line before (line_with place number rest)) ≡ Err (n + 1, 82) }
 {}

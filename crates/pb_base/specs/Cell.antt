@@ -1,7 +1,6 @@
 -- Cells have one total order: by row, by column, data before acknowledgments, and these by observer.
-use Rattle.std.specs.Prelude.{◌≡◌, ℕ, ◌+◌, ◌⊎◌, Bool, true, false, refl}
-use Rattle.std.proofs.Common.{sym, inl, inr, arith}
-use Rattle.std.specs.Coded.{Coded, code_by, coded×, coded⊎, coded_ℕ}
+use Rattle.std.specs.Prelude.{◌≡◌, ℕ, ◌+◌, Bool, true, false, refl}
+use Rattle.std.proofs.Common.{sym, arith}
 use Rattle.std.specs.FinMap.{IsAntisymmetric, nat_cmp-IsAntisymmetric}
 use Rattle.std.specs.declared.cmp.Ordering.TheVariants.{Less, Equal, Greater}
 use Rattle.std.specs.declared.cmp.Ordering.{Ordering}
@@ -63,18 +62,3 @@ cell_cmp-IsAntisymmetric x y e =
     let rows = both_equal _ _ e in
     let columns = both_equal _ _ rows.1 in
     same_cells x y (nat_cmp-IsAntisymmetric _ _ rows.0) (nat_cmp-IsAntisymmetric _ _ columns.0) (nat_cmp-IsAntisymmetric _ _ columns.1)
-
-abbrev flat : Cell → (ℕ × (ℕ × ℕ)) ⊎ (ℕ × ℕ)
-flat (Data r c) = inr (r.0, c)
-flat (Ack o r c) = inl (o, (r.0, c))
-
-abbrev unflat : (ℕ × (ℕ × ℕ)) ⊎ (ℕ × ℕ) → Cell
-unflat (inr p) = Data (record { 0 = p.0 }) p.1
-unflat (inl p) = Ack p.0 (record { 0 = p.1.0 }) p.1.1
-
-pub unflat-flat : (c : Cell) → unflat (flat c) ≡ c
-unflat-flat (Data r c) = refl
-unflat-flat (Ack o r c) = refl
-
-abbrev pub coded_cell : Coded Cell
-coded_cell = code_by ((ℕ × (ℕ × ℕ)) ⊎ (ℕ × ℕ)) (coded⊎ (coded× coded_ℕ (coded× coded_ℕ coded_ℕ)) (coded× coded_ℕ coded_ℕ)) flat unflat unflat-flat

@@ -1,7 +1,7 @@
 -- The numbers by which refusals are told.
 use Rattle.std.specs.Prelude.{◌≡◌, ℕ, Option, Some, None}
 use Rattle.pb_base.specs.declared.refusal.Reason.{Reason}
-use Rattle.pb_base.specs.declared.refusal.Reason.TheVariants.{NoMemory, NoTablet, RowsDontRise, NotEmpty, OutOfTimestamps, NotOfSeat, WrongPhase, NotItsDeclaration, JournalFull, NotDeclared, AlreadyPrewritten, NoSuchObserver}
+use Rattle.pb_base.specs.declared.refusal.Reason.TheVariants.{NoMemory, NoTablet, RowsDontRise, NotEmpty, NoSuchPlace, OutOfTimestamps, NotOfSeat, WrongPhase, NotItsDeclaration, JournalFull, NotDeclared, AlreadyPrewritten, NoSuchObserver, LaterThanStart}
 use Rattle.pb_base.specs.declared.refusal.Refusal.{Refusal}
 
 abbrev pub reason_code : Reason → ℕ
@@ -9,6 +9,7 @@ reason_code NoMemory = 1
 reason_code NoTablet = 2
 reason_code RowsDontRise = 3
 reason_code NotEmpty = 4
+reason_code NoSuchPlace = 5
 reason_code OutOfTimestamps = 40
 reason_code NotOfSeat = 41
 reason_code WrongPhase = 42
@@ -17,6 +18,7 @@ reason_code JournalFull = 44
 reason_code NotDeclared = 45
 reason_code AlreadyPrewritten = 46
 reason_code NoSuchObserver = 47
+reason_code LaterThanStart = 49
 
 abbrev pub refusal_by : Reason → Refusal
 refusal_by r = record { 0 = reason_code r }

@@ -14,7 +14,7 @@ pub enum Content {
 
 /// A committed version of a cell: the start and the commit of the transaction that wrote it, and what it wrote.
 #[derive(Clone, Copy, Debug, PartialEq, Eq)]
-pub struct Version {
+pub struct Revision {
     pub start: Ts,
     pub commit: Ts,
     pub content: Content,

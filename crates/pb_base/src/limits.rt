@@ -1,4 +1,5 @@
 //! Limits, each by its one name.
+ghost use Rattle.std.specs.Prelude.{◌≡◌};
 
 /// How many cells a batch may write.
 pub const MAX_CELLS: usize = 16;
@@ -20,3 +21,14 @@ pub const MAX_CHANGES: usize = 10_000;
 
 /// How many events a schedule may have.
 pub const MAX_EVENTS: usize = 1_000_000;
+
+/// The limits have these values.
+pub fn limits_are_these()
+    ensures cells { MAX_CELLS ≡ 16 }
+    ensures columns { COLUMNS ≡ 16 }
+    ensures observers { MAX_OBSERVERS ≡ 32 }
+    ensures seats { MAX_SEATS ≡ 64 }
+    ensures entries { MAX_ENTRIES ≡ 1_000_000 }
+    ensures changes { MAX_CHANGES ≡ 10_000 }
+    ensures events { MAX_EVENTS ≡ 1_000_000 }
+{}

@@ -33,6 +33,8 @@ pub enum Reason {
     RowsDontRise,
     /// A table or a tablet isn't empty.
     NotEmpty,
+    /// The table has no such place.
+    NoSuchPlace,
     /// The clock is at its greatest.
     OutOfTimestamps,
     /// The table has no such seat, or the seat no such transaction.
@@ -49,6 +51,8 @@ pub enum Reason {
     AlreadyPrewritten,
     /// The table has no such observer.
     NoSuchObserver,
+    /// The snapshot that is asked for is later than the transaction's start.
+    LaterThanStart,
 }
 
 impl Reason {
@@ -61,6 +65,7 @@ impl Reason {
             Reason::NoTablet => 2,
             Reason::RowsDontRise => 3,
             Reason::NotEmpty => 4,
+            Reason::NoSuchPlace => 5,
             Reason::OutOfTimestamps => 40,
             Reason::NotOfSeat => 41,
             Reason::WrongPhase => 42,
@@ -69,6 +74,7 @@ impl Reason {
             Reason::NotDeclared => 45,
             Reason::AlreadyPrewritten => 46,
             Reason::NoSuchObserver => 47,
+            Reason::LaterThanStart => 49,
         }
     }
 

@@ -58,7 +58,8 @@ pub fn assemble_file<'a, P: Paths>(
     output: &'a str,
     paths: &mut P,
 ) -> Result<Verdict, Fault<'a>>
-    ensures { AsmLeaves (P.held paths.old) (P.held paths.new) (P.failed paths.old) (P.failed paths.new) input.now output.now result }
+    ensures { AsmLeaves (P.held paths.old) (P.held paths.new) (P.failed paths.old) (P.failed paths.new) input.now
+        output.now result }
 {
     let bytes = bytes_of_text(alloc, input, paths)?;
     match paths.write(output, &bytes) {
@@ -78,7 +79,8 @@ fn refusal_line(alloc: Global, refused: Refused) -> Result<String, AllocError>
 
 // A refusal, and the line that tells it.
 fn refusal_of<'a>(alloc: Global, refused: Refused) -> Result<Answer, Fault<'a>>
-    ensures told { IfOk result (λ a. (a.verdict ≡ verdicts.Refused) × (string_bytes a.text ≡ refusal_line refused.slot refused.code)) }
+    ensures told { IfOk result
+        (λ a. (a.verdict ≡ verdicts.Refused) × (string_bytes a.text ≡ refusal_line refused.slot refused.code)) }
     ensures fault { IfErr result IsMemoryFault }
 {
     let text = refusal_line(alloc, refused)?;
@@ -133,8 +135,10 @@ fn verdict_of<'a>(alloc: Global, bytes: &[u8]) -> Result<Answer, Fault<'a>>
 // Writes an answer.
 fn write_answer<'a, O: Sink>(answer: &Answer, out: &mut O) -> Result<Verdict, Fault<'a>>
     requires unfailed { O.failed out.old ≡ false }
-    ensures ok { IfOk result (λ v. (v ≡ answer.now.verdict) × (O.failed out.new ≡ false) × Appends (O.taken out.old) (O.taken out.new) (string_bytes answer.now.text)) }
-    ensures err { IfErr result (λ f. (f ≡ faults.Output) × (O.failed out.new ≡ true) × AppendsPart (O.taken out.old) (O.taken out.new) (string_bytes answer.now.text)) }
+    ensures ok { IfOk result (λ v. (v ≡ answer.now.verdict) × (O.failed out.new ≡ false)
+        × Appends (O.taken out.old) (O.taken out.new) (string_bytes answer.now.text)) }
+    ensures err { IfErr result (λ f. (f ≡ faults.Output) × (O.failed out.new ≡ true)
+        × AppendsPart (O.taken out.old) (O.taken out.new) (string_bytes answer.now.text)) }
 {
     match write_all(out, answer.text.as_bytes()) {
         Ok(()) => Ok(answer.verdict),
@@ -150,7 +154,8 @@ pub fn list_file<'a, P: Paths, O: Sink>(
     out: &mut O,
 ) -> Result<Verdict, Fault<'a>>
     requires unfailed { O.failed out.old ≡ false }
-    ensures told { AnswerLeaves Lists (P.held paths.old file.now) file.now (O.taken out.old) (O.taken out.new) (O.failed out.new) result }
+    ensures told { AnswerLeaves Lists (P.held paths.old file.now) file.now (O.taken out.old) (O.taken out.new)
+        (O.failed out.new) result }
     ensures same { P.held paths.new ≡ P.held paths.old }
     ensures quiet { P.failed paths.new ≡ P.failed paths.old }
 {
@@ -167,7 +172,8 @@ pub fn check_file<'a, P: Paths, O: Sink>(
     out: &mut O,
 ) -> Result<Verdict, Fault<'a>>
     requires unfailed { O.failed out.old ≡ false }
-    ensures told { AnswerLeaves Checks (P.held paths.old file.now) file.now (O.taken out.old) (O.taken out.new) (O.failed out.new) result }
+    ensures told { AnswerLeaves Checks (P.held paths.old file.now) file.now (O.taken out.old) (O.taken out.new)
+        (O.failed out.new) result }
     ensures same { P.held paths.new ≡ P.held paths.old }
     ensures quiet { P.failed paths.new ≡ P.failed paths.old }
 {

@@ -6,9 +6,9 @@ use crate::seat::{Book, Seat};
 use pb_base::{MAX_ENTRIES, MAX_OBSERVERS, MAX_SEATS, NoMemory, Reason, Refusal, Ts};
 use pb_history::{
     Entry, Received, behind_is_marked, commits_are_ordered, handled_at_most_once,
-    handled_when_quiet, histories_are_told, reads_are_told, reads_tell_snapshots, records_are_told,
-    runs_are_counted, runs_are_told, scripts_write_batches, steps_can_answer, timestamps_rise,
-    writers_are_apart,
+    handled_when_quiet, histories_are_told, quiet_is_counted, reads_are_told, reads_tell_snapshots,
+    records_are_told, runs_are_counted, runs_are_told, scripts_write_batches, steps_can_answer,
+    timestamps_rise, writers_are_apart,
 };
 use pb_state::State;
 use pb_steps::{Answer, Observer, Phase, Step};
@@ -131,6 +131,7 @@ fn empty_seats(alloc: Global, count: u32) -> Result<Vec<Seat>, NoMemory>
 impl<T: Tablet> Shared<T> {
     ghost use Rattle.std.specs.Prelude.{◌≡◌, ◌≤◌, ◌<◌, ◌↔◌, IfOk, IfErr, OnOk, OnErr, [], length, ℕ, Err, Some, None, true, false};
     ghost use Rattle.pb_store.specs.Contents.{nothing, is_nothing};
+    ghost use Rattle.pb_store.specs.Tiles.{TellsSwapReason};
     ghost use Rattle.std.specs.FinMap as map;
     ghost use Rattle.pb_base.specs.Reasons.{refusal_by};
     ghost use Rattle.pb_base.specs.declared.refusal.Reason.TheVariants as reasons;
@@ -138,6 +139,7 @@ impl<T: Tablet> Shared<T> {
     ghost use Rattle.pb_steps.specs.Readings.{lock_count};
     ghost use Rattle.pb_steps.specs.Answers.{CanAnswer};
     ghost use Rattle.pb_core.specs.Calls.{AreSeats, Calls, call_reason};
+    ghost use Rattle.pb_history.specs.Handled.{TellsQuiet};
     ghost use Rattle.pb_history.specs.History.{TellsHistory};
     ghost use Rattle.pb_history.specs.ReadsTold.{TellsReads};
     ghost use Rattle.pb_history.specs.RunCounts.{TellsRunCounts};
@@ -161,7 +163,8 @@ impl<T: Tablet> Shared<T> {
         requires few { seats ≤ MAX_SEATS }
         requires bounded { limit ≤ MAX_ENTRIES }
         requires numbered { length observers.items ≤ MAX_OBSERVERS }
-        ensures shared { IfOk result (λ s. s.0 ≡ record { journal = []; state = opening observers.items seats last.0; opened = last.0; limit = limit }) }
+        ensures shared { IfOk result (λ s. s.0 ≡ record
+            { journal = []; state = opening observers.items seats last.0; opened = last.0; limit = limit }) }
         ensures seats { IfOk result (λ s. AreSeats s.0 s.1.items) }
         ensures empty { OnOk result (is_nothing table.contents ≡ true) }
         ensures handed_back { IfErr result (λ e. e.table ≡ table) }
@@ -199,6 +202,21 @@ impl<T: Tablet> Shared<T> {
             limit,
         };
         Ok((shared, all))
+    }
+
+    /// Copies all that a tablet of the table contains into another, puts that in its place, and answers the old one, emptied.
+    /// It is no event: the journal and the state stay as they are.
+    ///
+    /// Refused it answers the new one, emptied: with 4 where that isn't empty, else 5 where there is no such place, or 1 where
+    /// memory is refused.
+    pub fn swap(&mut self, place: usize, tablet: T) -> Result<T, (T, Refusal)>
+        ensures same { self.new ≡ self.old }
+        ensures answered { IfOk result (λ old. T.contents old ≡ nothing) }
+        ensures accepted { OnOk result (is_nothing (T.contents tablet) ≡ true) }
+        ensures handed_back { IfErr result (λ e. T.contents e.0 ≡ nothing) }
+        ensures refused { IfErr result (λ e. TellsSwapReason (T.contents tablet) place e.1) }
+    {
+        self.state.swap(place, tablet)
     }
 
     /// Ends the table, with all that is in it.
@@ -296,10 +314,12 @@ impl<T: Tablet> Shared<T> {
         self.state.table()
     }
 
-    /// How many locks stand in the table.
+    /// How many locks stand in the table. Where it is none, and no cell is marked, the table is quiet.
     pub fn locks(&self) -> usize
-        ensures { result ≡ lock_count self.now.state.entries }
+        ensures count { result ≡ lock_count self.now.state.entries }
+        ensures quiet { TellsQuiet self.now.state }
     {
+        quiet_is_counted();
         self.state.locks()
     }
 
@@ -339,8 +359,10 @@ impl<T: Tablet> Shared<T> {
     /// The numbers 40 to 47 come before any growth; 1 comes only where a growth was refused. Refused, it leaves the
     /// table and the seat as they were.
     pub fn call(&mut self, seat: &mut Seat, step: &Step) -> Result<Answer, Refusal>
-        ensures refused { (r : _) → call_reason self.old seat.old.number step.now ≡ Some r → result ≡ Err (refusal_by r) }
-        ensures allowed { call_reason self.old seat.old.number step.now ≡ None → IfErr result (λ r. r ≡ refusal_by reasons.NoMemory) }
+        ensures refused { (r : _) → call_reason self.old seat.old.number step.now ≡ Some r
+            → result ≡ Err (refusal_by r) }
+        ensures allowed { call_reason self.old seat.old.number step.now ≡ None
+            → IfErr result (λ r. r ≡ refusal_by reasons.NoMemory) }
         ensures taken { IfOk result (λ a. Calls self.old seat.old step.now a self.new seat.new) }
         ensures can { IfOk result (λ a. CanAnswer step.now a) }
         ensures table { OnErr result (self.new ≡ self.old) }

@@ -190,7 +190,8 @@ pub fn decode(alloc: Global, bytes: &[u8]) -> Result<Program, DecodeFault>
     ensures ok { IfOk result (λ p. Encodes bytes.now p) }
     ensures err { IfErr result (IsRefusal bytes.now) }
     ensures program { (p : ProgramOf) → Encodes bytes.now p → IfOk result (λ q. q ≡ p) × IfErr result IsNoMemory }
-    ensures fault { (slot told : ℕ) → AreRefusedAs bytes.now slot told → IfOk result (λ _. ⊥) × IfErr result (IsNoMemoryOr slot told) }
+    ensures fault { (slot told : ℕ) → AreRefusedAs bytes.now slot told → IfOk result (λ _. ⊥)
+        × IfErr result (IsNoMemoryOr slot told) }
 {
     program_of(alloc, bytes)
 }
@@ -198,8 +199,10 @@ pub fn decode(alloc: Global, bytes: &[u8]) -> Result<Program, DecodeFault>
 /// A list of bytes is one program's, or has one fault, and not both. No code applies where an instruction stands.
 pub fn either_program_or_fault()
     ensures either { (bytes : List ℕ) → AreBytes bytes → HasProgram bytes ⊎ HasFault bytes }
-    ensures not_both { (bytes : List ℕ) (p : ProgramOf) (slot : ℕ) (code : Code) → Encodes bytes p → IsDecodeFault bytes slot code → ⊥ }
+    ensures not_both { (bytes : List ℕ) (p : ProgramOf) (slot : ℕ) (code : Code) → Encodes bytes p
+        → IsDecodeFault bytes slot code → ⊥ }
     ensures one_program { (bytes : List ℕ) (p q : ProgramOf) → Encodes bytes p → Encodes bytes q → p ≡ q }
-    ensures one_fault { (bytes : List ℕ) (s t : ℕ) (c d : Code) → IsDecodeFault bytes s c → IsDecodeFault bytes t d → (s ≡ t) × (c ≡ d) }
+    ensures one_fault { (bytes : List ℕ) (s t : ℕ) (c d : Code) → IsDecodeFault bytes s c → IsDecodeFault bytes t d
+        → (s ≡ t) × (c ≡ d) }
     ensures no_code { (i : Insn) (rest : List ℕ) (code : Code) → Fits i → Applies (insn_bytes i ++ rest) code → ⊥ }
 {}

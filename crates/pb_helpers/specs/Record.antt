@@ -6,7 +6,7 @@ use mir.Syntax.{w64}
 use Rattle.pb_base.specs.declared.cell.Cell.{Cell}
 use Rattle.pb_base.specs.declared.content.Content.{Content}
 use Rattle.pb_base.specs.declared.content.Content.TheVariants.{Value, Deleted, Stamp}
-use Rattle.pb_base.specs.declared.content.Version.{Version}
+use Rattle.pb_base.specs.declared.content.Revision.{Revision}
 use Rattle.pb_base.specs.Cell.{row_of, column_of}
 
 abbrev pub word_bytes : ℕ → List ℕ
@@ -24,7 +24,7 @@ value_bytes (Value v) = v
 value_bytes Deleted = replicate 32 0
 value_bytes (Stamp t) = replicate 32 0
 
-abbrev pub record_of : Cell → Version → ℕ → List ℕ
+abbrev pub record_of : Cell → Revision → ℕ → List ℕ
 record_of x found acknowledged =
     word_bytes (row_of x).0 ++ (word_bytes (column_of x) ++ (word_bytes found.start.0 ++ (word_bytes found.commit.0 ++
     (word_bytes (present found.content) ++ (word_bytes acknowledged ++ value_bytes found.content)))))

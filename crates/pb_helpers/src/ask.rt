@@ -1,7 +1,7 @@
 //! What a program asks, and what it is told.
-ghost use Rattle.std.specs.Prelude.{◌≡◌};
+ghost use Rattle.std.specs.Prelude.{◌≡◌, ◌↔◌, IsTrue};
 ghost use Rattle.pb_isa.specs.Machine.{IsReply};
-ghost use Rattle.pb_helpers.specs.Replies.{reply_of};
+ghost use Rattle.pb_helpers.specs.Replies.{ask_of, reply_of};
 
 use pb_base::{Column, Row, Value};
 
@@ -21,6 +21,15 @@ pub enum Reply {
     Absent,
 }
 
+impl Ask {
+    /// Whether it is of the same cell.
+    pub fn is_same(self, other: Ask) -> bool
+        ensures { IsTrue result ↔ (ask_of self ≡ ask_of other) }
+    {
+        self.row == other.row && self.column == other.column
+    }
+}
+
 impl Reply {
     /// The value, where there is one.
     pub fn value(self) -> Option<Value>
@@ -30,6 +39,16 @@ impl Reply {
         match self {
             Reply::Found(value) => Some(value),
             Reply::Absent => None,
+        }
+    }
+    /// Whether it tells the same.
+    pub fn is_same(self, other: Reply) -> bool
+        ensures { IsTrue result ↔ (reply_of self ≡ reply_of other) }
+    {
+        match (self, other) {
+            (Reply::Found(a), Reply::Found(b)) => a == b,
+            (Reply::Absent, Reply::Absent) => true,
+            _ => false,
         }
     }
 }

@@ -1,32 +1,51 @@
 //! The record of a change, which a program reads.
-ghost use Rattle.std.specs.Prelude.{◌≡◌, ◌<◌, ◌↔◌, IsTrue, length};
-ghost use Rattle.std.specs.Simd.{first_chunks};
+ghost use Rattle.std.specs.Prelude.{◌≡◌, ◌<◌, ◌≤◌, ◌↔◌, IsTrue, length, take, drop};
+ghost use Rattle.pb_isa.specs.Machine.{reply_bytes};
+ghost use Rattle.pb_helpers.specs.Bytes.{size_of, is_second, padded};
+ghost use Rattle.pb_helpers.specs.OldRecord.{is_value, record_with_old, record_by};
 ghost use Rattle.pb_helpers.specs.Record.{record_of, present, value_bytes, recorded_row, recorded_column};
 
-use pb_base::{COLUMNS, Cell, Column, Content, Row, Ts, Value, Version};
-use pb_isa::RECORD_BYTES;
+use pb_base::{COLUMNS, Cell, Column, Content, Revision, Row, Ts, Value};
+use pb_isa::{MAX_RECORD_BYTES, RECORD_BYTES};
 use std::marker::Model;
+
+/// Which record a program is told.
+#[derive(Clone, Copy, Debug, PartialEq, Eq)]
+pub enum Version {
+    First,
+    Second,
+}
 
 /// The change record: the bytes that tell a program which change it runs for. Row, column, the change's start and commit,
 /// 1 for a value or 0 for a deletion, and the acknowledged timestamp (0 for none) stand at 0, 8, 16, 24, 32 and 40, in
-/// 8 bytes each with the lowest first; at 48 stands the value, or zeros. It is a cell's: its column is 0 to 15.
+/// 8 bytes each with the lowest first; at 48 stands the value, or zeros. In version 2 there stand besides at 80 1 or 0 for
+/// whether the cell had a value at the acknowledged timestamp, and at 88 that value, or zeros. It is a cell's: its column is
+/// 0 to 15.
 #[derive(Drop)]
 pub struct Record {
-    bytes: [u8; RECORD_BYTES],
+    bytes: Bytes,
+}
+
+#[derive(Clone, Copy)]
+enum Bytes {
+    First([u8; RECORD_BYTES]),
+    Second([u8; MAX_RECORD_BYTES]),
 }
 
 impl Model for Record {
     ghost use Rattle.std.specs.Prelude.{ℕ, List};
+    ghost use Rattle.pb_helpers.specs.Bytes.{all_bytes};
 
     ghost Value = { List ℕ };
 
-    ghost view = { λ r. r.bytes };
+    ghost view = { λ r. all_bytes r.bytes };
 
     ghost use Rattle.std.specs.Prelude.{◌<◌};
     ghost use Rattle.pb_base.specs.declared.limits.TheConstants.{COLUMNS};
     ghost use Rattle.pb_helpers.specs.Record.{recorded_column};
+    ghost use Rattle.pb_helpers.specs.Bytes.{IsSized};
 
-    ghost invariant = { λ r. recorded_column r.bytes < COLUMNS };
+    ghost invariant = { λ r. (recorded_column (all_bytes r.bytes) < COLUMNS) × IsSized r.bytes };
 }
 
 fn present(content: Content) -> u64
@@ -47,36 +66,118 @@ fn value_of(content: Content) -> Value
     }
 }
 
+// The bytes of version 1.
+fn first_bytes(cell: Cell, found: &Revision, acknowledged: Ts) -> [u8; RECORD_BYTES]
+    ensures record { result ≡ record_of cell found.now acknowledged.0 }
+    ensures in_range { recorded_column result < COLUMNS }
+    ensures size { length result ≡ RECORD_BYTES }
+{
+    let mut bytes = [0; RECORD_BYTES];
+    bytes[..8].copy_from_slice(&cell.row().0.to_le_bytes());
+    bytes[8..16].copy_from_slice(&u64::from(cell.column().number()).to_le_bytes());
+    bytes[16..24].copy_from_slice(&found.start.0.to_le_bytes());
+    bytes[24..32].copy_from_slice(&found.commit.0.to_le_bytes());
+    bytes[32..40].copy_from_slice(&present(found.content).to_le_bytes());
+    bytes[40..48].copy_from_slice(&acknowledged.0.to_le_bytes());
+    bytes[48..].copy_from_slice(&value_of(found.content));
+    bytes
+}
+
+fn flag_of(old: Option<Value>) -> u64
+    ensures { result ≡ is_value old }
+{
+    match old {
+        Some(_) => 1,
+        None => 0,
+    }
+}
+
+fn old_value(old: Option<Value>) -> Value
+    ensures { result ≡ reply_bytes old }
+{
+    match old {
+        Some(value) => value,
+        None => [0; 32],
+    }
+}
+
+impl Version {
+    /// Whether it tells what the cell held at the acknowledged timestamp.
+    pub fn tells_old(self) -> bool
+        ensures { result ≡ is_second self }
+    {
+        matches!(self, Version::Second)
+    }
+}
+
 impl Record {
     /// The record of a cell's version, for a run whose observer has acknowledged the changes up to a timestamp.
-    pub fn new(cell: Cell, found: &Version, acknowledged: Ts) -> Record
-        ensures { result ≡ record_of cell found.now acknowledged.0 }
+    pub fn new(cell: Cell, found: &Revision, acknowledged: Ts) -> Record
+        ensures record { result ≡ record_of cell found.now acknowledged.0 }
+        ensures size { length result ≡ RECORD_BYTES }
     {
-        let mut bytes = [0; RECORD_BYTES];
-        bytes[..8].copy_from_slice(&cell.row().0.to_le_bytes());
-        bytes[8..16].copy_from_slice(&u64::from(cell.column().number()).to_le_bytes());
-        bytes[16..24].copy_from_slice(&found.start.0.to_le_bytes());
-        bytes[24..32].copy_from_slice(&found.commit.0.to_le_bytes());
-        bytes[32..40].copy_from_slice(&present(found.content).to_le_bytes());
+        Record {
+            bytes: Bytes::First(first_bytes(cell, found, acknowledged)),
+        }
+    }
+
+    /// The same of version 2, with the value that the cell had at the acknowledged timestamp, if it had one.
+    pub fn with_old(cell: Cell, found: &Revision, acknowledged: Ts, old: Option<Value>) -> Record
+        ensures record { result ≡ record_with_old cell found.now acknowledged.0 old }
+        ensures size { length result ≡ MAX_RECORD_BYTES }
+    {
+        // From the last to the first: the place of each part is then known, whatever stands behind it.
+        let mut bytes = [0; MAX_RECORD_BYTES];
+        bytes[88..].copy_from_slice(&old_value(old));
+        bytes[80..88].copy_from_slice(&flag_of(old).to_le_bytes());
+        bytes[48..80].copy_from_slice(&value_of(found.content));
         bytes[40..48].copy_from_slice(&acknowledged.0.to_le_bytes());
-        bytes[48..].copy_from_slice(&value_of(found.content));
-        Record { bytes }
+        bytes[32..40].copy_from_slice(&present(found.content).to_le_bytes());
+        bytes[24..32].copy_from_slice(&found.commit.0.to_le_bytes());
+        bytes[16..24].copy_from_slice(&found.start.0.to_le_bytes());
+        bytes[8..16].copy_from_slice(&u64::from(cell.column().number()).to_le_bytes());
+        bytes[..8].copy_from_slice(&cell.row().0.to_le_bytes());
+        Record {
+            bytes: Bytes::Second(bytes),
+        }
+    }
+
+    /// The record of a version: in version 1 without what the cell held at the acknowledged timestamp.
+    pub fn of_version(
+        version: Version,
+        cell: Cell,
+        found: &Revision,
+        acknowledged: Ts,
+        old: Option<Value>,
+    ) -> Record
+        ensures record { result ≡ record_by (is_second version) cell found.now acknowledged.0 old }
+        ensures size { length result ≡ size_of version }
+    {
+        match version {
+            Version::First => Record::new(cell, found, acknowledged),
+            Version::Second => Record::with_old(cell, found, acknowledged, old),
+        }
     }
 
     // The words of 8 bytes from the first byte on.
-    fn words(&self) -> &[[u8; 8]]
-        ensures words { result.now ≡ first_chunks 8 10 self.now }
+    fn first_words(&self) -> ([u8; 8], [u8; 8])
+        ensures row { result.0 ≡ take 8 self.now }
+        ensures column { result.1 ≡ take 8 (drop 8 self.now) }
         ensures in_range { recorded_column self.now < COLUMNS }
     {
-        let (words, _) = self.bytes.as_chunks::<8>();
-        words
+        let bytes = self.bytes();
+        let mut row = [0; 8];
+        row.copy_from_slice(&bytes[..8]);
+        let mut column = [0; 8];
+        column.copy_from_slice(&bytes[8..16]);
+        (row, column)
     }
 
     /// The row of its cell.
     pub fn row(&self) -> Row
         ensures { result.0 ≡ recorded_row self.now }
     {
-        Row(u64::from_le_bytes(self.words()[0]))
+        Row(u64::from_le_bytes(self.first_words().0))
     }
 
     /// The column of its cell.
@@ -84,24 +185,53 @@ impl Record {
         ensures column { result ≡ recorded_column self.now }
         ensures in_range { recorded_column self.now < COLUMNS }
     {
-        match Column::new(u64::from_le_bytes(self.words()[1]) as u8) {
+        match Column::new(u64::from_le_bytes(self.first_words().1) as u8) {
             Some(column) => column,
             None => unreachable!(),
         }
     }
 
-    /// Its bytes.
-    pub fn bytes(&self) -> &[u8; RECORD_BYTES]
-        ensures bytes { result.now ≡ self.now }
-        ensures size { length self.now ≡ RECORD_BYTES }
+    /// Of which version it is.
+    pub fn version(&self) -> Version
+        ensures { length self.now ≡ size_of result }
     {
-        &self.bytes
+        match self.bytes {
+            Bytes::First(_) => Version::First,
+            Bytes::Second(_) => Version::Second,
+        }
+    }
+
+    /// Its bytes.
+    pub fn bytes(&self) -> &[u8]
+        ensures bytes { result.now ≡ self.now }
+        ensures some { RECORD_BYTES ≤ length self.now }
+        ensures most { length self.now ≤ MAX_RECORD_BYTES }
+        ensures in_range { recorded_column self.now < COLUMNS }
+    {
+        match &self.bytes {
+            Bytes::First(bytes) => bytes,
+            Bytes::Second(bytes) => bytes,
+        }
+    }
+
+    /// Its bytes, with zeros up to the most that a record has.
+    pub fn padded(&self) -> [u8; MAX_RECORD_BYTES]
+        ensures { result ≡ padded self.now }
+    {
+        match &self.bytes {
+            Bytes::First(first) => {
+                let mut bytes = [0; MAX_RECORD_BYTES];
+                bytes[..80].copy_from_slice(first);
+                bytes
+            }
+            Bytes::Second(bytes) => *bytes,
+        }
     }
 
     /// Whether both have the same bytes.
     pub fn is_same(&self, other: &Record) -> bool
         ensures { IsTrue result ↔ (self.now ≡ other.now) }
     {
-        self.bytes == other.bytes
+        *self.bytes() == *other.bytes()
     }
 }

@@ -15,6 +15,6 @@ pub use arguments::{
     argument_code, argument_codes_rise, stack_read_code, stack_write_code, unset_code,
 };
 pub use ask::{Ask, Reply};
-pub use change::Record;
+pub use change::{Record, Version};
 pub use code::Code;
 pub use table::HelperTable;

@@ -6,7 +6,7 @@ use Rattle.std.specs.Ordering.{nat_cmp}
 use Rattle.std.specs.FinMap as map
 use Rattle.std.proofs.lemmas.Bool.{eqb-true}
 use Rattle.pb_steps.specs.declared.step.Step.{Step}
-use Rattle.pb_steps.specs.declared.step.Step.TheVariants.{Begin, Read, Declare, Prewrite, Stamp, CommitPrimary, CommitSecondary, Settle, Clear, NextMark, Sweep}
+use Rattle.pb_steps.specs.declared.step.Step.TheVariants.{Begin, Read, ReadAt, Declare, Prewrite, Stamp, CommitPrimary, CommitSecondary, Settle, Clear, NextMark, Sweep}
 use Rattle.pb_steps.specs.declared.step.Answer.{Answer}
 use Rattle.pb_steps.specs.declared.step.Answer.TheVariants.{At, Locked, Found, Absent, Done, Conflict, Committed, Lost, RolledBack, Waits, CommittedAt, Marked, NoMark, StillBehind}
 use Rattle.pb_steps.specs.Observers.{ObserverOf}
@@ -46,6 +46,9 @@ module _ (old : StateOf) (seat : ℕ) (new : StateOf) (s : ℕ) where
   named (Read n x) (Locked start primary) m e = inr (refl, there n.0 m.t e m.own)
   named (Read n x) (Found start commit content) m e = inr (refl, there n.0 m.t e m.own)
   named (Read n x) Absent m e = inr (refl, there n.0 m.t e m.own)
+  named (ReadAt n x at) (Locked start primary) m e = inr (refl, there n.0 m.t e m.own)
+  named (ReadAt n x at) (Found start commit content) m e = inr (refl, there n.0 m.t e m.own)
+  named (ReadAt n x at) Absent m e = inr (refl, there n.0 m.t e m.own)
   named (Declare n what) Done m e = inr (refl, there n.0 m.t e m.own)
   named (Prewrite n x) Done m e = inr (refl, there n.0 m.t e m.own)
   named (Prewrite n x) Conflict m e = inr (refl, there n.0 m.t e m.own)
@@ -83,6 +86,8 @@ stays : (observers : List ObserverOf) (seat : ℕ) (step : Step) (answer : Answe
 stays observers seat (Begin work) answer t b = absurd cc
 stays observers seat (Read s x) (Found start commit content) t b = (_, refl, refl)
 stays observers seat (Read s x) Absent t b = (_, refl, refl)
+stays observers seat (ReadAt s x at) (Found start commit content) t b = (_, refl, refl)
+stays observers seat (ReadAt s x at) Absent t b = (_, refl, refl)
 stays observers seat (Declare s what) Done t b = (_, refl, refl)
 stays observers seat (Prewrite s x) Done t b = (_, refl, refl)
 stays observers seat (Prewrite s x) Conflict t b = (_, refl, refl)

@@ -39,9 +39,6 @@ own_content x k ws = ap (λ b. cond b (Some k) (content_in ws x)) (same_cell_its
 same_stamps : (a b : ℕ) → Stamp (ts a) ≡ Stamp (ts b) → a ≡ b
 same_stamps a b e = let same : ts a ≡ ts b = cc in ap (λ (t : Ts). t.0) same
 
-same_contents : (j k : Content) → Some j ≡ Some k → j ≡ k
-same_contents j k e = cc
-
 module _ (journal : List Entry) (state : StateOf) (a : Agrees journal state) (i : IsSoundTable state) (cov : IsCovered state) where
   -- a run writes its acknowledgment, with its start
   writes_ack : (m : Member) → InHistory state.observers journal m → (o : ℕ) (row : Row) → m.work ≡ works.Run o row → WritesTo m (acknowledgment state.observers o row) (Stamp (ts m.start))

@@ -27,3 +27,9 @@ pub mod OneSeat
 pub mod TransactionsTold
 pub mod ScriptsTold
 pub mod StepsCanAnswer
+pub mod AcknowledgedTold
+pub mod ReasonsRise
+pub mod LastGiven
+pub mod Progress
+pub mod QuietCounted
+pub mod OneOutcome

@@ -1,4 +1,4 @@
--- The table stays sound where a cell is prewritten, a lock becomes a write record, and a lock is without_lock back.
+-- The table stays sound where a cell is prewritten, a lock becomes a write record, and a lock is rolled back.
 use Rattle.std.proofs.Common.{◌≡◌, ◌≢◌, ℕ, ◌<◌, ◌≤◌, Bool, true, false, ◌⊎◌, Some, None, refl, sym, ap, ◌∙◌, subst, inl, inr, arith}
 use Rattle.std.specs.Prelude.{◌||◌}
 use Rattle.pb_base.specs.declared.cell.Cell.{Cell}
@@ -6,6 +6,7 @@ use Rattle.pb_base.specs.declared.content.Content.{Content}
 use Rattle.pb_steps.specs.declared.phase.Phase.TheVariants.{Reading, Declared}
 use Rattle.pb_steps.specs.declared.seen.RecordedRead.{RecordedRead}
 use Rattle.pb_steps.specs.declared.step.Answer.{Answer}
+use Rattle.pb_steps.specs.Reads.{read_up_to}
 use Rattle.pb_steps.specs.declared.step.Answer.TheVariants.{Found, Absent}
 use Rattle.pb_history.specs.History.{Has}
 use Rattle.pb_history.specs.TableView.{TableView}
@@ -120,7 +121,7 @@ module _ (v : TableView) (i : IsSoundView v) (s : ℕ) (x p : Cell) (k : Content
     stands = λ u c y k' e g. elim (i.stands u c y k' e g) [ inl a ↦ inl a | inr b ↦ inr (b.0, lock_on y u b.0 b.1) ];
     primary_stands = i.primary_stands;
     read_begun = i.read_begun;
-    tells = λ u r e. tells_on v (with_prewrite v s x p k) u r.cell r.answer (λ a c f. f) (λ a c f. set2_there v.stored x s (Some k) r.cell a (complete_away a c r.cell (i.record_committed r.cell c a f))) (λ c w l f. f) (i.tells u r e);
+    tells = λ u r e. tells_on v (with_prewrite v s x p k) (read_up_to u r.at) r.cell r.answer (λ a c f. f) (λ a c f. set2_there v.stored x s (Some k) r.cell a (complete_away a c r.cell (i.record_committed r.cell c a f))) (λ c w l f. f) (i.tells u r e);
     settled = λ u r w c k' e f l g. elim (i.settled u r w c k' e f l g) [
       | inl a ↦ inl a
       | inr b ↦ inr (b.0, λ q z. set2_there v.lock x s (Some p) q w (stamp_away w c q f) ∙ b.1 q z)
@@ -170,7 +171,7 @@ module _ (v : TableView) (i : IsSoundView v) (s : ℕ) (x p : Cell) (locked : v.
     stands = λ u c y k e g. elim (i.stands u c y k e g) [ inl a ↦ inl a | inr b ↦ inr (b.0, set2_there v.lock x s None y u (complete_far u c y e) ∙ b.1) ];
     primary_stands = i.primary_stands;
     read_begun = i.read_begun;
-    tells = λ u r e. tells_on v (without_lock v s x) u r.cell r.answer (λ a c f. f) (λ a c f. set2_there v.stored x s None r.cell a (complete_far a c r.cell (i.record_committed r.cell c a f))) (λ c w l f. f) (i.tells u r e);
+    tells = λ u r e. tells_on v (without_lock v s x) (read_up_to u r.at) r.cell r.answer (λ a c f. f) (λ a c f. set2_there v.stored x s None r.cell a (complete_far a c r.cell (i.record_committed r.cell c a f))) (λ c w l f. f) (i.tells u r e);
     settled = λ u r w c k e f l g. elim (i.settled u r w c k e f l g) [
       | inl a ↦ inl a
       | inr b ↦ inr (b.0, λ q z. set2_none v.lock x s q w (b.1 q z))
@@ -228,7 +229,7 @@ module _ (v : TableView) (i : IsSoundView v) (s c : ℕ) (x p : Cell) (locked : 
   ]
 
   -- the commit comes after each recorded read of this cell
-  after_reads : (w : ℕ) (r : RecordedRead) → Has (v.reads w) r → r.cell ≡ x → c ≤ w → v.write x c ≡ Some s
+  after_reads : (w : ℕ) (r : RecordedRead) → Has (v.reads w) r → r.cell ≡ x → c ≤ read_up_to w r.at → v.write x c ≡ Some s
   after_reads w r e same low =
       let k = i.was_declared s x (i.lock_prewritten x s p locked).0 in
       elim (i.settled w r s c k.0 e stamp low (ap (v.content s) same ∙ k.1)) [
@@ -237,7 +238,7 @@ module _ (v : TableView) (i : IsSoundView v) (s c : ℕ) (x p : Cell) (locked : 
       ]
 
   -- and so there is none at or after it
-  no_read : (w : ℕ) (r : RecordedRead) → Has (v.reads w) r → r.cell ≡ x → c ≤ w → ⊥
+  no_read : (w : ℕ) (r : RecordedRead) → Has (v.reads w) r → r.cell ≡ x → c ≤ read_up_to w r.at → ⊥
   no_read w r e same low = let off = i.record_unlocked x c s (after_reads w r e same low) in cc
 
   held_on : (y : Cell) (k : Content) → v.content s y ≡ Some k → (v.write y c ≡ Some s) ⊎ ((q : Cell) × (v.lock y s ≡ Some q))
@@ -332,8 +333,8 @@ module _ (v : TableView) (i : IsSoundView v) (s c : ℕ) (x p : Cell) (locked : 
       | inr b ↦ write_on q d u (i.primary_stands u d q b g)
     ];
     read_begun = i.read_begun;
-    tells = λ w r e. tells_on v (with_record v s x c) w r.cell r.answer (λ a d f. write_on r.cell d a f) (λ a d f. refl) (λ d u l f. elim (write_back r.cell d u f) [
-      | inl a ↦ absurd (no_read w r e a.0 (subst (λ z. z ≤ w) a.1 l))
+    tells = λ w r e. tells_on v (with_record v s x c) (read_up_to w r.at) r.cell r.answer (λ a d f. write_on r.cell d a f) (λ a d f. refl) (λ d u l f. elim (write_back r.cell d u f) [
+      | inl a ↦ absurd (no_read w r e a.0 (subst (λ z. z ≤ read_up_to w r.at) a.1 l))
       | inr b ↦ b.0
     ]) (i.tells w r e);
     settled = λ w r u d k e f l g. elim (i.settled w r u d k e (stamp_was u d f) l g) [

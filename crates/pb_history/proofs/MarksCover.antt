@@ -9,13 +9,13 @@ use Rattle.pb_base.specs.declared.cell.Cell.{Cell}
 use Rattle.pb_base.specs.declared.cell.Cell.TheVariants.{Data, Ack}
 use Rattle.pb_base.specs.declared.names.Row.{Row}
 use Rattle.pb_base.specs.declared.content.Content.TheVariants.{Stamp}
-use Rattle.pb_base.specs.declared.content.Version.{Version}
+use Rattle.pb_base.specs.declared.content.Revision.{Revision}
 use Rattle.pb_base.specs.Cell.{cell_cmp, cell_cmp_total}
 use Rattle.pb_store.specs.declared.slot.Sort.TheVariants as sorts
 use Rattle.pb_store.specs.Slot.{slot_cmp}
 use Rattle.pb_store.specs.Contents.{Marks, slot_at}
 use Rattle.pb_steps.specs.declared.step.Step.{Step}
-use Rattle.pb_steps.specs.declared.step.Step.TheVariants.{Begin, Read, Declare, Prewrite, CommitPrimary, CommitSecondary, Settle, Clear, NextMark, Sweep}
+use Rattle.pb_steps.specs.declared.step.Step.TheVariants.{Begin, Read, ReadAt, Declare, Prewrite, CommitPrimary, CommitSecondary, Settle, Clear, NextMark, Sweep}
 use Rattle.pb_steps.specs.declared.step.Step.TheVariants as steps
 use Rattle.pb_steps.specs.declared.step.Answer.{Answer}
 use Rattle.pb_steps.specs.declared.step.Answer.TheVariants as answers
@@ -101,7 +101,7 @@ module _ (journal : List Entry) (old : StateOf) (a : Agrees journal old) (i : Is
   small x c s e = let b = (i.stamped s c (inr (i.record_committed x c s e))).1 in let k = i.small in omega (arith, b, k)
 
   -- the stamp of an acknowledgment's version is its start
-  stamp_is : (p : ℕ) (row : Row) (column s : ℕ) (v : Version) → IsVersion old.entries (Ack p row column) s v → stamp_in (Some v) ≡ v.start.0
+  stamp_is : (p : ℕ) (row : Row) (column s : ℕ) (v : Revision) → IsVersion old.entries (Ack p row column) s v → stamp_in (Some v) ≡ v.start.0
   stamp_is p row column s v n =
       let there = n.content in
       let stands = stamp_stands journal old a i p row column v.commit.0 v.start.0 n.written in
@@ -142,7 +142,7 @@ module _ (journal : List Entry) (old : StateOf) (a : Agrees journal old) (i : Is
       let k = all p observer there refl c (small (Data row observer.column) c u e) (ap is_some e) in
       by k.0 k.1 k.2 above
     where
-      by : (v : Option Version) → IsNewestVersion old.entries (Ack p row observer.column) v → c ≤ stamp_in v → u < c → (d : ℕ) × (s : ℕ) × (write_at old.entries (Ack p row observer.column) d ≡ Some s) × (c ≤ s)
+      by : (v : Option Revision) → IsNewestVersion old.entries (Ack p row observer.column) v → c ≤ stamp_in v → u < c → (d : ℕ) × (s : ℕ) × (write_at old.entries (Ack p row observer.column) d ≡ Some s) × (c ≤ s)
       by None n low above = absurd (omega (arith, low, above))
       by (Some v) n low above = let same = stamp_is p row observer.column last_timestamp v n in (v.commit.0, v.start.0, n.written, omega (arith, low, same))
 
@@ -174,6 +174,9 @@ module _ (journal : List Entry) (old : StateOf) (a : Agrees journal old) (i : Is
   case_covers seat (Read s x) (answers.Locked start primary) new m = same new m.new_is
   case_covers seat (Read s x) (answers.Found start commit content) new m = beside new _ m.new_is refl refl refl
   case_covers seat (Read s x) answers.Absent new m = beside new _ m.new_is refl refl refl
+  case_covers seat (ReadAt s x t) (answers.Locked start primary) new m = same new m.new_is
+  case_covers seat (ReadAt s x t) (answers.Found start commit content) new m = beside new _ m.new_is refl refl refl
+  case_covers seat (ReadAt s x t) answers.Absent new m = beside new _ m.new_is refl refl refl
   case_covers seat (Declare s what) answers.Done new m = beside new _ m.new_is refl refl refl
   case_covers seat (Prewrite s x) answers.Done new m = beside new _ m.new_is refl refl (write_after_put old.entries x s.0 m.content m.primary)
   case_covers seat (Prewrite s x) answers.Conflict new m = beside new _ m.new_is refl refl refl
@@ -231,7 +234,7 @@ module _ (journal : List Entry) (state : StateOf) (a : Agrees journal state) (i 
   ]
 
   -- an acknowledgment of a start at least c tells a stamp at least c
-  acknowledged_by_then : (p : ℕ) (row : Row) (column c d s : ℕ) (v : Option Version) → IsNewestVersion state.entries (Ack p row column) v → write_at state.entries (Ack p row column) d ≡ Some s → c ≤ s → c ≤ stamp_in v
+  acknowledged_by_then : (p : ℕ) (row : Row) (column c d s : ℕ) (v : Option Revision) → IsNewestVersion state.entries (Ack p row column) v → write_at state.entries (Ack p row column) d ≡ Some s → c ≤ s → c ≤ stamp_in v
   acknowledged_by_then p row column c d s None n e low = let none = n d (small journal state a i cov (Ack p row column) d s e) in absurd cc
   acknowledged_by_then p row column c d s (Some v) n e low =
       let same = stamp_is journal state a i cov p row column last_timestamp v n in

@@ -1,4 +1,4 @@
--- The table stays sound where a transaction gets a phase without a commit, where it with_declared, reads or is stamped.
+-- The table stays sound where a transaction gets a phase without a commit, where it declares, reads or is stamped.
 use Rattle.std.proofs.Common.{◌≡◌, ◌≢◌, ℕ, ◌+◌, ◌<◌, ◌≤◌, ◌^◌, true, ◌⊎◌, [], ◌∷◌, ◌++◌, Option, Some, None, refl, sym, ap, ◌∙◌, subst, inl, inr, arith}
 use Rattle.pb_base.specs.declared.cell.Cell.{Cell}
 use Rattle.pb_base.specs.declared.content.Content.{Content}
@@ -7,6 +7,7 @@ use Rattle.pb_steps.specs.declared.phase.Phase.{Phase}
 use Rattle.pb_steps.specs.declared.phase.Phase.TheVariants.{Reading, Declared, Stamped, Committed}
 use Rattle.pb_steps.specs.declared.seen.RecordedRead.{RecordedRead}
 use Rattle.pb_steps.specs.declared.step.Answer.{Answer}
+use Rattle.pb_steps.specs.Reads.{read_up_to}
 use Rattle.pb_history.specs.History.{Has}
 use Rattle.pb_history.specs.TableView.{TableView}
 use Rattle.pb_history.specs.Sound.{HasStamp, LacksPrimary, ReadTells, IsSoundView}
@@ -87,31 +88,31 @@ module _ (v : TableView) (i : IsSoundView v) (s : ℕ) (h : Phase) (plain : IsPl
 abbrev pub has_read : TableView → ℕ → RecordedRead → TableView
 has_read v s r = record v { reads = set1 v.reads s (v.reads s ++ r ∷ []) }
 
--- a read is recorded: it tells what stands, and no lock at most s was seen
-module _ (v : TableView) (i : IsSoundView v) (s : ℕ) (x : Cell) (answer : Answer) (begun : s ≤ v.clock) (unlocked : (u : ℕ) → u ≤ s → v.lock x u ≡ None) (tells : ReadTells v s x answer) where
-  read_back : (u : ℕ) (r : RecordedRead) → Has ((has_read v s (read_of s x answer)).reads u) r → ((u ≡ s) × (read_of s x answer ≡ r)) ⊎ Has (v.reads u) r
-  read_back u r e = elim (changed v.reads s (v.reads s ++ read_of s x answer ∷ []) u ((has_read v s (read_of s x answer)).reads u) refl) [
-    | inl p ↦ elim (has_more (v.reads s) (read_of s x answer) r (subst (λ l. Has l r) (sym p.1) e)) [ inl q ↦ inl (p.0, q) | inr q ↦ inr (subst (λ w. Has (v.reads w) r) (sym p.0) q) ]
+-- a read is recorded: it tells what stands, and no lock at most the timestamp read at was seen
+module _ (v : TableView) (i : IsSoundView v) (s : ℕ) (x : Cell) (at : Option Ts) (answer : Answer) (begun : read_up_to s at ≤ v.clock) (unlocked : (u : ℕ) → u ≤ read_up_to s at → v.lock x u ≡ None) (tells : ReadTells v (read_up_to s at) x answer) where
+  read_back : (u : ℕ) (r : RecordedRead) → Has ((has_read v s (read_of x at answer)).reads u) r → ((u ≡ s) × (read_of x at answer ≡ r)) ⊎ Has (v.reads u) r
+  read_back u r e = elim (changed v.reads s (v.reads s ++ read_of x at answer ∷ []) u ((has_read v s (read_of x at answer)).reads u) refl) [
+    | inl p ↦ elim (has_more (v.reads s) (read_of x at answer) r (subst (λ l. Has l r) (sym p.1) e)) [ inl q ↦ inl (p.0, q) | inr q ↦ inr (subst (λ w. Has (v.reads w) r) (sym p.0) q) ]
     | inr p ↦ inr (subst (λ l. Has l r) (sym p.0) e)
   ]
 
-  lacks_primary : (u c : ℕ) (k : Content) → v.phase u ≡ Some (stamped_at c) → c ≤ s → v.content u x ≡ Some k → LacksPrimary v u
+  lacks_primary : (u c : ℕ) (k : Content) → v.phase u ≡ Some (stamped_at c) → c ≤ read_up_to s at → v.content u x ≡ Some k → LacksPrimary v u
   lacks_primary u c k e l f p g =
-      let lower : u ≤ s = (let q = i.stamped u c (inl e) in omega arith) in
+      let lower : u ≤ read_up_to s at = (let q = i.stamped u c (inl e) in omega arith) in
       none_if (v.lock p u) (λ q h.
       let first : v.primary u ≡ Some q = (i.lock_prewritten p u q h).1 in
       let h' : v.lock p u ≡ Some p = cc in
       let on : v.lock x u ≡ Some p = i.all_locked u p x g h' (i.all_prewritten u c x k e f) in
       let off : v.lock x u ≡ None = unlocked u lower in cc)
 
-  seen : (u c : ℕ) (k : Content) → HasStamp v u c → c ≤ s → v.content u x ≡ Some k → (v.write x c ≡ Some u) ⊎ ((v.phase u ≢ Some (committed_at c)) × LacksPrimary v u)
+  seen : (u c : ℕ) (k : Content) → HasStamp v u c → c ≤ read_up_to s at → v.content u x ≡ Some k → (v.write x c ≡ Some u) ⊎ ((v.phase u ≢ Some (committed_at c)) × LacksPrimary v u)
   seen u c k (inl e) l f = inr (λ g. cc, lacks_primary u c k e l f)
   seen u c k (inr e) l f = elim (i.stands u c x k e f) [
     | inl w ↦ inl w
-    | inr p ↦ (let lower : u ≤ s = (let q = i.stamped u c (inr e) in omega arith) in let off : v.lock x u ≡ None = unlocked u lower in let on : v.lock x u ≡ Some p.0 = p.1 in cc)
+    | inr p ↦ (let lower : u ≤ read_up_to s at = (let q = i.stamped u c (inr e) in omega arith) in let off : v.lock x u ≡ None = unlocked u lower in let on : v.lock x u ≡ Some p.0 = p.1 in cc)
   ]
 
-  pub read_kept : IsSoundView (has_read v s (read_of s x answer))
+  pub read_kept : IsSoundView (has_read v s (read_of x at answer))
   read_kept = record {
     small = i.small;
     begun = i.begun;
@@ -133,10 +134,10 @@ module _ (v : TableView) (i : IsSoundView v) (s : ℕ) (x : Cell) (answer : Answ
     apart = i.apart;
     stands = i.stands;
     primary_stands = i.primary_stands;
-    read_begun = λ u r e. elim (read_back u r e) [ inl p ↦ subst (λ w. w ≤ v.clock) (sym p.0) begun | inr q ↦ i.read_begun u r q ];
-    tells = λ u r e. elim (read_back u r e) [ inl p ↦ subst (λ (z : RecordedRead). ReadTells v u z.cell z.answer) p.1 (subst (λ w. ReadTells v w x answer) (sym p.0) tells) | inr q ↦ i.tells u r q ];
+    read_begun = λ u r e. elim (read_back u r e) [ inl p ↦ subst (λ (z : RecordedRead). read_up_to u z.at ≤ v.clock) p.1 (subst (λ w. read_up_to w at ≤ v.clock) (sym p.0) begun) | inr q ↦ i.read_begun u r q ];
+    tells = λ u r e. elim (read_back u r e) [ inl p ↦ subst (λ (z : RecordedRead). ReadTells v (read_up_to u z.at) z.cell z.answer) p.1 (subst (λ w. ReadTells v (read_up_to w at) x answer) (sym p.0) tells) | inr q ↦ i.tells u r q ];
     settled = λ u r w c k e f l g. elim (read_back u r e) [
-      | inl p ↦ subst (λ (z : RecordedRead). v.content w z.cell ≡ Some k → (v.write z.cell c ≡ Some w) ⊎ ((v.phase w ≢ Some (committed_at c)) × LacksPrimary v w)) p.1 (seen w c k f (subst (λ z. c ≤ z) p.0 l)) g
+      | inl p ↦ subst (λ (z : RecordedRead). v.content w z.cell ≡ Some k → (v.write z.cell c ≡ Some w) ⊎ ((v.phase w ≢ Some (committed_at c)) × LacksPrimary v w)) p.1 (seen w c k f (subst (λ z. c ≤ read_up_to z at) p.0 (subst (λ (z : RecordedRead). c ≤ read_up_to u z.at) (sym p.1) l))) g
       | inr q ↦ i.settled u r w c k q f l g
     ];
   }
@@ -144,7 +145,7 @@ module _ (v : TableView) (i : IsSoundView v) (s : ℕ) (x : Cell) (answer : Answ
 abbrev pub with_declared : TableView → ℕ → (Cell → Option Content) → Option Cell → TableView
 with_declared v s f p = record v { content = set1 v.content s f; primary = set1 v.primary s p }
 
--- what a transaction with_declared, before its stamp and its first prewrite
+-- what a transaction declares, before its stamp and its first prewrite
 module _ (v : TableView) (i : IsSoundView v) (s : ℕ) (f : Cell → Option Content) (p : Option Cell) (early : (x : Cell) → v.prewritten s x ≢ true) (unstamped : (c : ℕ) → HasStamp v s c → ⊥) where
   other_pre : (u : ℕ) (x : Cell) → v.prewritten u x ≡ true → u ≢ s
   other_pre u x e q = early x (subst (λ w. v.prewritten w x ≡ true) q e)

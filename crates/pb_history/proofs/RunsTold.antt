@@ -1,29 +1,30 @@
 -- What the history of a legal journal tells of runs and of reads.
-use Rattle.std.proofs.Common.{◌≡◌, ℕ, inl, inr, false, List, [], ◌∷◌, Some, refl, sym, ap, subst, ◌∙◌}
+use Rattle.std.proofs.Common.{◌≡◌, ℕ, ◌==◌, not, cond, Bool, inl, inr, true, false, List, [], ◌∷◌, Option, Some, None, refl, sym, ap, subst, ◌∙◌, arith}
+use Rattle.std.proofs.lemmas.Bool.{eqb-true}
 use Rattle.pb_base.specs.declared.cell.Cell.{Cell}
 use Rattle.pb_base.specs.declared.content.Content.TheVariants.{Stamp}
-use Rattle.pb_base.specs.declared.content.Version.{Version}
+use Rattle.pb_base.specs.declared.content.Revision.{Revision}
 use Rattle.pb_base.specs.declared.names.Row.{Row}
 use Rattle.pb_base.specs.declared.names.Ts.{Ts}
-use Rattle.pb_isa.specs.Machine.{Ask, Reply}
+use Rattle.pb_isa.specs.Machine.{Reply}
 use Rattle.pb_isa.specs.Meaning.{Talk, Means}
 use Rattle.pb_isa.specs.Programs.{JudgedOf}
 use Rattle.pb_sound.specs.RunWrites.{AreRunWrites}
 use Rattle.pb_vm.specs.Finished.{Meant, IsMeant}
-use Rattle.pb_helpers.specs.Record.{record_of}
+use Rattle.pb_helpers.specs.OldRecord.{tells_old, record_by}
 use Rattle.pb_steps.specs.declared.seen.RecordedRead.{RecordedRead}
 use Rattle.pb_steps.specs.declared.step.Declared.{Declared}
 use Rattle.pb_steps.specs.declared.step.Declared.TheVariants as declared
 use Rattle.pb_steps.specs.declared.step.Work.TheVariants as works
 use Rattle.pb_steps.specs.declared.step.Step.{Step}
-use Rattle.pb_steps.specs.declared.step.Step.TheVariants.{Read}
+use Rattle.pb_steps.specs.declared.step.Step.TheVariants.{Read, ReadAt}
 use Rattle.pb_steps.specs.declared.step.Answer.{Answer}
 use Rattle.pb_steps.specs.declared.step.Answer.TheVariants.{Found, Absent}
 use Rattle.pb_steps.specs.State.{StateOf, opening, cells_of}
 use Rattle.pb_steps.specs.Observers.{ObserverOf, observed_cell, observed_column, acknowledgment}
-use Rattle.pb_steps.specs.Declarations.{IsKnown, AreReplies, IsItsRun, MayDeclare}
+use Rattle.pb_steps.specs.Declarations.{IsKnown, IsReadOf, old_at, WasOld, AreReplies, IsItsRun, MayDeclare}
 use Rattle.pb_steps.specs.Phases.{is_reading}
-use Rattle.pb_steps.specs.Reads.{asked_cell, stamp_of, value_in, found_answer, version_in, acknowledged_in}
+use Rattle.pb_steps.specs.Reads.{asked_cell, read_up_to, stamp_of, value_in, found_answer, version_in, acknowledged_in}
 use Rattle.pb_steps.specs.Steps.{StepCase}
 use Rattle.pb_history.specs.declared.entry.Entry.{Entry}
 use Rattle.pb_history.specs.Journals.{JournalLeads, IsLegal}
@@ -31,13 +32,13 @@ use Rattle.pb_history.specs.TableView.{reads_by}
 use Rattle.pb_history.specs.Sound.{IsSoundTable}
 use Rattle.pb_history.specs.History.{Has, Member, InHistory, IsSnapshot, NoSnapshot}
 use Rattle.pb_history.specs.ReadsTold.{TellsVersion, TellsReads}
-use Rattle.pb_history.specs.RunsTold.{IsAcknowledgedAt, IsReplyAt, AreRepliesAt, IsObserverRun, TellsRuns}
+use Rattle.pb_history.specs.RunsTold.{IsAcknowledgedAt, IsValueAt, AreRepliesAt, IsObserverRun, TellsRuns}
 use Rattle.pb_history.proofs.JournalParts.{split}
 use Rattle.pb_history.proofs.Agreement.{Agrees}
 use Rattle.pb_history.proofs.StepsAgree.{legal_agrees}
 use Rattle.pb_history.proofs.HistoryTold.{is_committed}
 use Rattle.pb_history.proofs.JournalsAreSound.{legal_sound}
-use Rattle.pb_history.proofs.SnapshotsTold.{TellsRecorded, recorded_tells}
+use Rattle.pb_history.proofs.SnapshotsTold.{TellsRecorded, phase_in_view, recorded_tells}
 use Rattle.pb_history.proofs.Acknowledgments.{acknowledged_by}
 
 -- ---- reads
@@ -45,6 +46,8 @@ use Rattle.pb_history.proofs.Acknowledgments.{acknowledged_by}
 case_tells : (old : StateOf) (seat : ℕ) (step : Step) (answer : Answer) (new : StateOf) → StepCase old seat step answer new → TellsVersion old step answer
 case_tells old seat (Read s x) (Found start commit content) new c = c.version
 case_tells old seat (Read s x) Absent new c = c.none
+case_tells old seat (ReadAt s x t) (Found start commit content) new c = c.version
+case_tells old seat (ReadAt s x t) Absent new c = c.none
 case_tells old seat _ _ new c = tt
 
 pub tells_reads : (observers : List ObserverOf) (seats clock : ℕ) (journal : List Entry) (state : StateOf) → IsLegal observers seats clock journal state → TellsReads observers seats clock journal
@@ -57,7 +60,7 @@ tells_reads observers seats clock journal state l = record {
 -- ---- runs
 
 -- the answer in which a version was found
-found_is : (a : Answer) (v : Version) → version_in a ≡ Some v → a ≡ found_answer v
+found_is : (a : Answer) (v : Revision) → version_in a ≡ Some v → a ≡ found_answer v
 found_is (Found start commit content) v e = let is : record { start = start; commit = commit; content = content } ≡ v = cc in ap found_answer is
 found_is _ v e = cc
 
@@ -69,7 +72,10 @@ run_declared observers o row s reads (declared.Run by f) may = (by, f, refl, may
 module _ (journal : List Entry) (state : StateOf) (a : Agrees journal state) (i : IsSoundTable state) where
   -- every read of a transaction of start s tells this of the history
   abbrev Tells : ℕ → RecordedRead → Type 0
-  Tells s r = TellsRecorded state.observers journal s r.cell r.answer
+  Tells s r = TellsRecorded state.observers journal (read_up_to s r.at) r.cell r.answer
+
+  told_of : (s : ℕ) (r : RecordedRead) (x : Cell) (named : Option Ts) → IsReadOf r x named → Tells s r → TellsRecorded state.observers journal (read_up_to s named) x r.answer
+  told_of s r x named is h = subst (λ z. TellsRecorded state.observers journal (read_up_to s z) x r.answer) is.at (subst (λ y. TellsRecorded state.observers journal (read_up_to s r.at) y r.answer) is.cell h)
 
   stamp_told : (s : ℕ) (o : ℕ) (row : Row) (answer : Answer) → TellsRecorded state.observers journal s (acknowledgment state.observers o row) answer → IsAcknowledgedAt state.observers journal s (acknowledgment state.observers o row) (acknowledged_in answer).0
   stamp_told s o row (Found start commit content) h =
@@ -79,16 +85,34 @@ module _ (journal : List Entry) (state : StateOf) (a : Agrees journal state) (i 
   stamp_told s o row Absent h = inl (h, refl)
   stamp_told s o row _ h = absurd h
 
-  reply_told : (s : ℕ) (x : Cell) (answer : Answer) (q : Ask × Reply) → x ≡ asked_cell q.0 → q.1 ≡ value_in answer → TellsRecorded state.observers journal s x answer → IsReplyAt state.observers journal s q
-  reply_told s x (Found start commit content) q is e h = inr (start.0, commit.0, content, subst (λ y. IsSnapshot state.observers journal s y start.0 commit.0 content) is h, e)
-  reply_told s x Absent q is e h = inl (subst (NoSnapshot state.observers journal s) is h, e)
-  reply_told s x _ q is e h = absurd h
+  value_told : (s : ℕ) (x : Cell) (answer : Answer) (value : Reply) → value ≡ value_in answer → TellsRecorded state.observers journal s x answer → IsValueAt state.observers journal s x value
+  value_told s x (Found start commit content) value e h = inr (start.0, commit.0, content, h, e)
+  value_told s x Absent value e h = inl (h, e)
+  value_told s x _ value e h = absurd h
 
   replies_told : (s : ℕ) (asked : List RecordedRead) (talk : Talk) → AreReplies asked talk → ((r : RecordedRead) → Has asked r → Tells s r) → AreRepliesAt state.observers journal s talk
   replies_told s [] [] h t = tt
-  replies_told s (r ∷ rs) (q ∷ talk) h t = (reply_told s r.cell r.answer q h.0 h.1 (t r (inl refl)), replies_told s rs talk h.2 (λ z g. t z (inr g)))
+  replies_told s (r ∷ rs) (q ∷ talk) h t = (value_told s (asked_cell q.0) r.answer q.1 h.1 (told_of s r (asked_cell q.0) None h.0 (t r (inl refl))), replies_told s rs talk h.2 (λ z g. t z (inr g)))
   replies_told s [] (q ∷ talk) h t = absurd h
   replies_told s (r ∷ rs) [] h t = absurd h
+
+  -- nothing is committed at 0
+  none_at_zero : (x : Cell) → NoSnapshot state.observers journal 0 x
+  none_at_zero x m k h w = let above = (i.stamped m.start m.commit (inr (phase_in_view journal state a i m h))).0 in omega arith
+
+  -- the reads of the asks are among those behind the first two
+  are_behind : (named : Option Ts) (x : Cell) (rest : List RecordedRead) (old : Reply) (asked : List RecordedRead) → WasOld named x rest old asked → (r : RecordedRead) → Has asked r → Has rest r
+  are_behind None x rest old asked was r h = subst (λ rs. Has rs r) (sym was.1) h
+  are_behind (Some t) x rest old asked was r h = subst (λ rs. Has rs r) (sym was.3) (inr h)
+
+  -- what was read at the acknowledged timestamp, or nothing is acknowledged
+  old_told : (s : ℕ) (x : Cell) (second : Bool) (stamp : Ts) (rest : List RecordedRead) (old : Reply) (asked : List RecordedRead) → WasOld (old_at second stamp) x rest old asked → ((r : RecordedRead) → Has rest r → Tells s r)
+      → second ≡ true → IsValueAt state.observers journal stamp.0 x old
+  old_told s x second stamp rest old asked was told is = by (stamp.0 == 0) refl (subst (λ b. WasOld (old_at b stamp) x rest old asked) is was)
+    where
+      by : (b : Bool) → (stamp.0 == 0) ≡ b → WasOld (cond (not b) (Some stamp) None) x rest old asked → IsValueAt state.observers journal stamp.0 x old
+      by true e w = inl (subst (λ n. NoSnapshot state.observers journal n x) (sym (eqb-true stamp.0 0 e)) (none_at_zero x), w.0)
+      by false e w = value_told stamp.0 x w.0.answer old w.2 (told_of s w.0 x (Some stamp) w.1 (told w.0 (subst (λ rs. Has rs w.0) (sym w.3) (inl refl))))
 
   -- a declared run of a transaction, in the words of the history
   run_is : (m : Member) (o : ℕ) (row : Row) (reads : List RecordedRead) (by : ℕ) (f : Meant) → ((r : RecordedRead) → Has reads r → Tells m.start r) → IsItsRun state.observers o row m.start reads f → IsMeant f × AreRunWrites f.writes
@@ -97,21 +121,23 @@ module _ (journal : List Entry) (state : StateOf) (a : Agrees journal state) (i 
       let was = own.was in
       let x = observed_cell state.observers o row in
       let ack = acknowledgment state.observers o row in
-      let all : (r : RecordedRead) → Has (was.first ∷ was.second ∷ own.asked) r → Tells m.start r = λ r h. told r (subst (λ rs. Has rs r) (sym was.reads_are) h) in
-      let stamp : own.seen.acknowledged ≡ acknowledged_in was.second.answer = was.acknowledged in
+      let all : (r : RecordedRead) → Has (was.found_by ∷ was.acknowledged_by ∷ was.rest) r → Tells m.start r = λ r h. told r (subst (λ rs. Has rs r) (sym was.reads_are) h) in
+      let stamp : own.seen.acknowledged ≡ acknowledged_in was.acknowledged_by.answer = was.acknowledged in
       record {
         observer = own.observer;
         observer_is = own.observer_is;
         version = own.seen.version;
-        found = subst (λ y. TellsRecorded state.observers journal m.start y (found_answer own.seen.version)) was.observed (subst (TellsRecorded state.observers journal m.start was.first.cell) (found_is was.first.answer own.seen.version was.found) (all was.first (inl refl)));
+        found = subst (TellsRecorded state.observers journal m.start x) (found_is was.found_by.answer own.seen.version was.found) (told_of m.start was.found_by x None was.observed (all was.found_by (inl refl)));
         acknowledged = own.seen.acknowledged.0;
-        acknowledges = subst (λ (t : Ts). IsAcknowledgedAt state.observers journal m.start ack t.0) (sym stamp) (stamp_told m.start o row was.second.answer (subst (λ y. TellsRecorded state.observers journal m.start y was.second.answer) was.acknowledgment (all was.second (inr (inl refl)))));
+        acknowledges = subst (λ (t : Ts). IsAcknowledgedAt state.observers journal m.start ack t.0) (sym stamp) (stamp_told m.start o row was.acknowledged_by.answer (told_of m.start was.acknowledged_by ack None was.acknowledgment (all was.acknowledged_by (inr (inl refl)))));
         newer = own.newer;
+        old = own.seen.old;
+        old_is = old_told m.start x (tells_old own.observer.program) own.seen.acknowledged was.rest own.seen.old own.asked was.old (λ r h. all r (inr (inr h)));
         talk = f.talk;
-        replied = replies_told m.start own.asked f.talk own.replied (λ r h. all r (inr (inr h)));
+        replied = replies_told m.start own.asked f.talk own.replied (λ r h. all r (inr (inr (are_behind (old_at (tells_old own.observer.program) own.seen.acknowledged) x was.rest own.seen.old own.asked was.old r h))));
         result = f.result;
         writes = f.writes;
-        meaning = means_by f own.observer.program (record_of x own.seen.version own.seen.acknowledged.0) m.start own.program own.bytes own.began known.0;
+        meaning = means_by f own.observer.program (record_by (tells_old own.observer.program) x own.seen.version own.seen.acknowledged.0 own.seen.old) m.start own.program own.bytes own.began known.0;
         few = known.1;
         writes_are = writes;
       }

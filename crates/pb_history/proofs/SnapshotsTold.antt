@@ -7,10 +7,11 @@ use Rattle.pb_base.specs.declared.names.Ts.{Ts}
 use Rattle.pb_base.specs.Batch.{content_in}
 use Rattle.pb_steps.specs.declared.phase.Phase.{Phase}
 use Rattle.pb_steps.specs.declared.seen.RecordedRead.{RecordedRead}
-use Rattle.pb_steps.specs.declared.step.Step.TheVariants.{Read}
+use Rattle.pb_steps.specs.declared.step.Step.TheVariants.{Read, ReadAt}
 use Rattle.pb_steps.specs.declared.step.Answer.{Answer}
 use Rattle.pb_steps.specs.declared.step.Answer.TheVariants.{Found, Absent}
 use Rattle.pb_steps.specs.Observers.{ObserverOf}
+use Rattle.pb_steps.specs.Reads.{read_up_to}
 use Rattle.pb_steps.specs.State.{StateOf, TransactionOf}
 use Rattle.pb_steps.specs.Readings.{lock_at, write_at}
 use Rattle.pb_history.specs.declared.entry.Entry.{Entry}
@@ -81,15 +82,15 @@ module _ (journal : List Entry) (state : StateOf) (a : Agrees journal state) (i 
 
   -- ---- reads
 
-  -- a transaction that writes x with a commit at most s has its write record, where s has read x
-  recorded : (s : ℕ) (r : RecordedRead) → Has ((view_of state).reads s) r → (m : Member) (k : Content) → InHistory state.observers journal m → WritesTo m r.cell k → m.commit ≤ s → write_at state.entries r.cell m.commit ≡ Some m.start
+  -- a transaction that writes x with a commit at most the timestamp that s has read x at has its write record
+  recorded : (s : ℕ) (r : RecordedRead) → Has ((view_of state).reads s) r → (m : Member) (k : Content) → InHistory state.observers journal m → WritesTo m r.cell k → m.commit ≤ read_up_to s r.at → write_at state.entries r.cell m.commit ≡ Some m.start
   recorded s r is m k h w l =
       elim (i.settled s r m.start m.commit k is (inr (phase_in_view m h)) l (content_in_view m h r.cell ∙ w)) [
         | inl q ↦ q
         | inr q ↦ absurd (q.0 (phase_in_view m h))
       ]
 
-  found_at : (s : ℕ) (x : Cell) (at : Ts) (start commit : Ts) (content : Content) → Has ((view_of state).reads s) (record { cell = x; at = at; answer = Found start commit content }) → IsSnapshot state.observers journal s x start.0 commit.0 content
+  found_at : (s : ℕ) (x : Cell) (at : Option Ts) (start commit : Ts) (content : Content) → Has ((view_of state).reads s) (record { cell = x; at = at; answer = Found start commit content }) → IsSnapshot state.observers journal (read_up_to s at) x start.0 commit.0 content
   found_at s x at start commit content is =
       let r : RecordedRead = record { cell = x; at = at; answer = Found start commit content } in
       let t = i.tells s r is in
@@ -105,29 +106,37 @@ module _ (journal : List Entry) (state : StateOf) (a : Agrees journal state) (i 
         greatest = λ n k h v l. t.3 n.commit n.start l (recorded s r is n k h v l);
       }
 
-  absent_at : (s : ℕ) (x : Cell) (at : Ts) → Has ((view_of state).reads s) (record { cell = x; at = at; answer = Absent }) → NoSnapshot state.observers journal s x
+  absent_at : (s : ℕ) (x : Cell) (at : Option Ts) → Has ((view_of state).reads s) (record { cell = x; at = at; answer = Absent }) → NoSnapshot state.observers journal (read_up_to s at) x
   absent_at s x at is n k h w =
       let r : RecordedRead = record { cell = x; at = at; answer = Absent } in
       let t = i.tells s r is in
-      elim (below n.commit s) [ inl l ↦ absurd (t n.commit n.start l (recorded s r is n k h w l)) | inr l ↦ l ]
+      elim (below n.commit (read_up_to s at)) [ inl l ↦ absurd (t n.commit n.start l (recorded s r is n k h w l)) | inr l ↦ l ]
     where
       below : (a b : ℕ) → (a ≤ b) ⊎ (b < a)
       below a b = grind arith
 
   -- a read that is recorded found a version, or none
-  pub recorded_tells : (s : ℕ) (x : Cell) (at : Ts) (answer : Answer) → Has ((view_of state).reads s) (record { cell = x; at = at; answer = answer }) → TellsRecorded state.observers journal s x answer
+  pub recorded_tells : (s : ℕ) (x : Cell) (at : Option Ts) (answer : Answer) → Has ((view_of state).reads s) (record { cell = x; at = at; answer = answer }) → TellsRecorded state.observers journal (read_up_to s at) x answer
   recorded_tells s x at (Found start commit content) is = found_at s x at start commit content is
   recorded_tells s x at Absent is = absent_at s x at is
   recorded_tells s x at answer is = i.tells s (record { cell = x; at = at; answer = answer }) is
 
   read_tells : (seat : ℕ) (s : Ts) (x : Cell) (answer : Answer) → IsEntry journal seat (Read s x) answer → TellsSnapshot state.observers journal s.0 x answer
-  read_tells seat s x (Found start commit content) e = let told = a.told _ e in found_at s.0 x s start commit content (subst (λ o. Has (reads_by o) (read_of s.0 x (Found start commit content))) (sym told.1) told.2)
-  read_tells seat s x Absent e = let told = a.told _ e in absent_at s.0 x s (subst (λ o. Has (reads_by o) (read_of s.0 x Absent)) (sym told.1) told.2)
+  read_tells seat s x (Found start commit content) e = let told = a.told _ e in found_at s.0 x None start commit content (subst (λ o. Has (reads_by o) (read_of x None (Found start commit content))) (sym told.1) told.2)
+  read_tells seat s x Absent e = let told = a.told _ e in absent_at s.0 x None (subst (λ o. Has (reads_by o) (read_of x None Absent)) (sym told.1) told.2)
   read_tells seat s x _ e = tt
+
+  read_at_tells : (seat : ℕ) (s : Ts) (x : Cell) (t : Ts) (answer : Answer) → IsEntry journal seat (ReadAt s x t) answer → TellsSnapshot state.observers journal t.0 x answer
+  read_at_tells seat s x t (Found start commit content) e = let told = a.told _ e in found_at s.0 x (Some t) start commit content (subst (λ o. Has (reads_by o) (read_of x (Some t) (Found start commit content))) (sym told.1) told.2)
+  read_at_tells seat s x t Absent e = let told = a.told _ e in absent_at s.0 x (Some t) (subst (λ o. Has (reads_by o) (read_of x (Some t) Absent)) (sym told.1) told.2)
+  read_at_tells seat s x t _ e = tt
 
 module _ (observers : List ObserverOf) (seats clock : ℕ) (journal : List Entry) (state : StateOf) (l : IsLegal observers seats clock journal state) where
   pub tells_snapshots : TellsSnapshots journal state
-  tells_snapshots = record { read = read_tells journal state (legal_agrees observers seats clock journal state l) (legal_sound observers seats clock journal state l) }
+  tells_snapshots = record {
+    read = read_tells journal state (legal_agrees observers seats clock journal state l) (legal_sound observers seats clock journal state l);
+    read_at = read_at_tells journal state (legal_agrees observers seats clock journal state l) (legal_sound observers seats clock journal state l);
+  }
 
   pub tells_writers : TellsWriters journal state
   tells_writers = record { apart = apart journal state (legal_agrees observers seats clock journal state l) (legal_sound observers seats clock journal state l) }

@@ -1,5 +1,5 @@
 -- Each step keeps journal and state in agreement.
-use Rattle.std.proofs.Common.{◌≡◌, ℕ, ◌⊎◌, inl, inr, true, false, List, [], ◌∷◌, ◌++◌, Some, None, refl, sym, ap, subst, ◌∙◌, arith}
+use Rattle.std.proofs.Common.{◌≡◌, ℕ, ◌⊎◌, inl, inr, true, false, List, [], ◌∷◌, ◌++◌, Option, Some, None, refl, sym, ap, subst, ◌∙◌, arith}
 use Rattle.std.specs.FinMap as map
 use Rattle.std.specs.Ordering.{nat_cmp}
 use Rattle.pb_base.specs.declared.cell.Cell.{Cell}
@@ -9,7 +9,7 @@ use Rattle.pb_steps.specs.declared.step.Work.TheVariants as works
 use Rattle.pb_steps.specs.declared.step.Declared.{Declared}
 use Rattle.pb_steps.specs.declared.step.Declared.TheVariants as declared
 use Rattle.pb_steps.specs.declared.step.Step.{Step}
-use Rattle.pb_steps.specs.declared.step.Step.TheVariants.{Begin, Read, Declare, Prewrite, Stamp, CommitPrimary, CommitSecondary, Settle, Clear, NextMark, Sweep}
+use Rattle.pb_steps.specs.declared.step.Step.TheVariants.{Begin, Read, ReadAt, Declare, Prewrite, Stamp, CommitPrimary, CommitSecondary, Settle, Clear, NextMark, Sweep}
 use Rattle.pb_steps.specs.declared.seen.RecordedRead.{RecordedRead}
 use Rattle.pb_steps.specs.declared.step.Answer.{Answer}
 use Rattle.pb_steps.specs.declared.step.Answer.TheVariants.{At, Locked, Found, Absent, Done, Conflict, Committed, Lost, RolledBack, Waits, CommittedAt, Marked, NoMark, StillBehind}
@@ -35,14 +35,14 @@ use Rattle.pb_history.specs.History.{Has, IsEntry, IsForWork}
 use Rattle.pb_history.proofs.OnlyEntries.{OnlyEntries, only_entries, secondary_keeps}
 use Rattle.pb_history.proofs.Updates.{none_if, has_front, has_last, has_more}
 use Rattle.pb_history.proofs.PhaseTests.{reading_is}
-use Rattle.pb_history.proofs.Agreement.{ts, read_of, got, PastStamp, Told, Agrees, agrees_change, agrees_new, agrees_same}
+use Rattle.pb_history.proofs.Agreement.{ts, read_of, step_by, got, PastStamp, Told, Agrees, agrees_change, agrees_new, agrees_same}
 
 abbrev entry : ℕ → Step → Answer → Entry
 entry seat step answer = record { seat = seat; step = step; answer = answer }
 
 for_work : (observers : List ObserverOf) (work : Work) (s : ℕ) (reads : List RecordedRead) (what : Declared) → MayDeclare observers work s reads what → IsForWork observers work what
 for_work observers works.Script s reads (declared.Script batch) may = tt
-for_work observers (works.Run p row) s reads (declared.Run o f) may = (may.0, may.1.seen.version, may.1.seen.acknowledged.0, may.1.bytes)
+for_work observers (works.Run p row) s reads (declared.Run o f) may = (may.0, _, may.1.seen.version, may.1.seen.acknowledged.0, may.1.seen.old, may.1.bytes)
 for_work observers works.Script s reads (declared.Run o f) may = absurd may
 for_work observers (works.Run p row) s reads (declared.Script batch) may = absurd may
 
@@ -81,22 +81,22 @@ module _ (journal : List Entry) (seat : ℕ) (old new : StateOf) (a : Agrees jou
       })
 
   -- a read is recorded
-  records : (s : Ts) (x : Cell) (b : Answer) (t : TransactionOf) → IsOwn old seat s.0 t → is_reading t.phase ≡ true → new ≡ record old { transactions = map.insert old.transactions s.0 (with_read t s.0 x b) }
-      → (got new s.0 ≡ Some (with_read t s.0 x b) → Told new seat (Read s x) b) → Agrees (journal ++ entry seat (Read s x) b ∷ []) new
-  records s x b t own reading new-is told =
-      let e = entry seat (Read s x) b in
+  records : (s : Ts) (x : Cell) (at : Option Ts) (b : Answer) (t : TransactionOf) → IsOwn old seat s.0 t → is_reading t.phase ≡ true → new ≡ record old { transactions = map.insert old.transactions s.0 (with_read t x at b) }
+      → (got new s.0 ≡ Some (with_read t x at b) → Told new seat (step_by s.0 x at) b) → Agrees (journal ++ entry seat (step_by s.0 x at) b ∷ []) new
+  records s x at b t own reading new-is told =
+      let e = entry seat (step_by s.0 x at) b in
       let was = own.there in
       let l = a.logged s.0 t was in
       let r = reading_is t.phase reading in
       let clock : new.clock ≡ old.clock = ap (λ (z : StateOf). z.clock) new-is in
       let low = a.early s.0 t was in
-      agrees_change journal e old new a s.0 (with_read t s.0 x b) (ap (λ (z : StateOf). z.transactions) new-is) (omega (arith, clock)) (omega (arith, clock, low)) (ap (λ (z : StateOf). z.observers) new-is) t was
-      (record { seat = refl; work = refl; past = λ h. cc; reads = λ q h. has_front t.reads (read_of s.0 x b) q h; stamped = λ c p. absurd (elim p [ inl q ↦ cc | inr z ↦ elim z [ inl q ↦ cc | inr q ↦ cc ] ]); committed = λ c q. cc })
+      agrees_change journal e old new a s.0 (with_read t x at b) (ap (λ (z : StateOf). z.transactions) new-is) (omega (arith, clock)) (omega (arith, clock, low)) (ap (λ (z : StateOf). z.observers) new-is) t was
+      (record { seat = refl; work = refl; past = λ h. cc; reads = λ q h. has_front t.reads (read_of x at b) q h; stamped = λ c p. absurd (elim p [ inl q ↦ cc | inr z ↦ elim z [ inl q ↦ cc | inr q ↦ cc ] ]); committed = λ c q. cc })
       told
       (record {
         begun = has_front journal e _ l.begun;
-        reads = λ q h. elim (has_more t.reads (record { cell = x; at = ts s.0; answer = b }) q h) [
-          | inl is ↦ subst (λ (w : RecordedRead). IsEntry (journal ++ e ∷ []) t.seat (Read s w.cell) w.answer) is (subst (λ n. IsEntry (journal ++ e ∷ []) n (Read s x) b) (sym own.mine) (has_last journal e))
+        reads = λ q h. elim (has_more t.reads (read_of x at b) q h) [
+          | inl is ↦ subst (λ (w : RecordedRead). IsEntry (journal ++ e ∷ []) t.seat (step_by s.0 w.cell w.at) w.answer) is (subst (λ n. IsEntry (journal ++ e ∷ []) n (step_by s.0 x at) b) (sym own.mine) (has_last journal e))
           | inr old-one ↦ has_front journal e _ (l.reads q old-one)
         ];
         declared = λ h. cc;
@@ -145,7 +145,7 @@ module _ (journal : List Entry) (seat : ℕ) (old new : StateOf) (a : Agrees jou
       (λ h. told)
       (record {
         begun = subst (λ n. IsEntry (journal ++ e ∷ []) n (Begin u.work) (At (ts s))) (sym same-seat) (subst (λ w. IsEntry (journal ++ e ∷ []) t.seat (Begin w) (At (ts s))) (sym same-work) (has_front journal e _ l.begun));
-        reads = λ r h. subst (λ n. IsEntry (journal ++ e ∷ []) n (Read (ts s) r.cell) r.answer) (sym same-seat) (has_front journal e _ (l.reads r (subst (λ rs. Has rs r) same-reads h)));
+        reads = λ r h. subst (λ n. IsEntry (journal ++ e ∷ []) n (step_by s r.cell r.at) r.answer) (sym same-seat) (has_front journal e _ (l.reads r (subst (λ rs. Has rs r) same-reads h)));
         declared = λ h. let d = l.declared past in (
           d.0,
           subst (λ n. IsEntry (journal ++ e ∷ []) n (Declare (ts s) d.0) Done) (sym same-seat) (has_front journal e _ d.1),
@@ -256,8 +256,11 @@ module _ (journal : List Entry) (seat : ℕ) (old new : StateOf) (a : Agrees jou
   case_agrees : (step : Step) (answer : Answer) → StepCase old seat step answer new → Agrees (journal ++ entry seat step answer ∷ []) new
   case_agrees (Begin work) (At s) m = begins work s.0 m
   case_agrees (Read s x) (Locked start primary) m = changes_entries (Read s x) (Locked start primary) old m.new_is nothing_changes tt
-  case_agrees (Read s x) (Found start commit content) m = records s x (Found start commit content) m.t m.own m.reading m.new_is (λ h. (with_read m.t s.0 x (Found start commit content), h, has_last m.t.reads (read_of s.0 x (Found start commit content))))
-  case_agrees (Read s x) Absent m = records s x Absent m.t m.own m.reading m.new_is (λ h. (with_read m.t s.0 x Absent, h, has_last m.t.reads (read_of s.0 x Absent)))
+  case_agrees (Read s x) (Found start commit content) m = records s x None (Found start commit content) m.t m.own m.reading m.new_is (λ h. (with_read m.t x None (Found start commit content), h, has_last m.t.reads (read_of x None (Found start commit content))))
+  case_agrees (Read s x) Absent m = records s x None Absent m.t m.own m.reading m.new_is (λ h. (with_read m.t x None Absent, h, has_last m.t.reads (read_of x None Absent)))
+  case_agrees (ReadAt s x at) (Locked start primary) m = changes_entries (ReadAt s x at) (Locked start primary) old m.new_is nothing_changes tt
+  case_agrees (ReadAt s x at) (Found start commit content) m = records s x (Some at) (Found start commit content) m.t m.own m.reading m.new_is (λ h. (with_read m.t x (Some at) (Found start commit content), h, has_last m.t.reads (read_of x (Some at) (Found start commit content))))
+  case_agrees (ReadAt s x at) Absent m = records s x (Some at) Absent m.t m.own m.reading m.new_is (λ h. (with_read m.t x (Some at) Absent, h, has_last m.t.reads (read_of x (Some at) Absent)))
   case_agrees (Declare s what) Done m = declared_now s what m
   case_agrees (Prewrite s x) Done m = prewrites s x m
   case_agrees (Prewrite s x) Conflict m = conflicts s x m

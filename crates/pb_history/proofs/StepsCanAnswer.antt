@@ -14,6 +14,9 @@ module _ (old : StateOf) (seat : ℕ) (new : StateOf) where
   case_answers (steps.Read s x) (answers.Locked start primary) c = tt
   case_answers (steps.Read s x) (answers.Found start commit content) c = tt
   case_answers (steps.Read s x) answers.Absent c = tt
+  case_answers (steps.ReadAt s x t) (answers.Locked start primary) c = tt
+  case_answers (steps.ReadAt s x t) (answers.Found start commit content) c = tt
+  case_answers (steps.ReadAt s x t) answers.Absent c = tt
   case_answers (steps.Declare s what) answers.Done c = tt
   case_answers (steps.Prewrite s x) answers.Done c = tt
   case_answers (steps.Prewrite s x) answers.Conflict c = tt

@@ -13,12 +13,13 @@ use Rattle.pb_base.specs.Cell.{cell_cmp}
 use Rattle.pb_base.specs.Batch.{Writes, content_in, primary_in}
 use Rattle.pb_steps.specs.declared.step.Work.{Work}
 use Rattle.pb_steps.specs.declared.step.Step.{Step}
-use Rattle.pb_steps.specs.declared.step.Step.TheVariants.{Begin, Read, Declare, Prewrite, Stamp, CommitPrimary, CommitSecondary, Settle, Clear, NextMark, Sweep}
+use Rattle.pb_steps.specs.declared.step.Step.TheVariants.{Begin, Read, ReadAt, Declare, Prewrite, Stamp, CommitPrimary, CommitSecondary, Settle, Clear, NextMark, Sweep}
 use Rattle.pb_steps.specs.declared.step.Answer.{Answer}
 use Rattle.pb_steps.specs.declared.step.Answer.TheVariants as answers
 use Rattle.pb_steps.specs.declared.phase.Phase.{Phase}
 use Rattle.pb_steps.specs.declared.phase.Phase.TheVariants as phases
 use Rattle.pb_steps.specs.State.{StateOf, TransactionOf, new_transaction, with_transaction, cells_of, is_in}
+use Rattle.pb_steps.specs.Reads.{read_up_to}
 use Rattle.pb_steps.specs.Readings.{lock_at, NoLockUpTo}
 use Rattle.pb_steps.specs.Reasons.{is_out}
 use Rattle.pb_steps.specs.Begin.{Begins}
@@ -172,30 +173,30 @@ module _ (old : StateOf) (i : IsSoundTable old) (seat : ℕ) (new : StateOf) whe
       }) (phase_kept (view_of old) i s phases.Reading plain_reading (λ c e. let z = ap phase_by unknown in cc) s (omega arith) (omega arith) (fresh_small s m.fresh m.left) (λ x e. absurd ((i.past_reading s x e).1 (ap phase_by unknown))))
 
   -- a read is recorded
-  read_keeps : (s : ℕ) (x : Cell) (answer : Answer) (was : TransactionOf) → map.get old.transactions s ≡ Some was → NoLockUpTo old.entries x s → ReadTells (view_of old) s x answer → new ≡ with_transaction old s (with_read was s x answer) → IsSoundTable new
-  read_keeps s x answer was is unlocked tells new_is =
-      let t : TransactionOf = with_read was s x answer in
-      to (has_read (view_of old) s (read_of s x answer)) (ap view_of new_is ∙ λ j. record {
+  read_keeps : (s : ℕ) (x : Cell) (at : Option Ts) (answer : Answer) (was : TransactionOf) → map.get old.transactions s ≡ Some was → read_up_to s at ≤ s → NoLockUpTo old.entries x (read_up_to s at) → ReadTells (view_of old) (read_up_to s at) x answer → new ≡ with_transaction old s (with_read was x at answer) → IsSoundTable new
+  read_keeps s x at answer was is in_time unlocked tells new_is =
+      let t : TransactionOf = with_read was x at answer in
+      to (has_read (view_of old) s (read_of x at answer)) (ap view_of new_is ∙ λ j. record {
         clock = old.clock;
         phase = field_same phase_by old.transactions s t (sym (ap phase_by is)) j;
         content = field_same content_by old.transactions s t (sym (ap content_by is)) j;
         primary = field_same primary_by old.transactions s t (sym (ap primary_by is)) j;
         prewritten = field_same cells_by old.transactions s t (sym (ap cells_by is)) j;
-        reads = (field_after reads_by old.transactions s t ∙ ap (λ l. set1 (view_of old).reads s (l ++ read_of s x answer ∷ [])) (sym (ap reads_by is))) j;
+        reads = (field_after reads_by old.transactions s t ∙ ap (λ l. set1 (view_of old).reads s (l ++ read_of x at answer ∷ [])) (sym (ap reads_by is))) j;
         lock = (view_of old).lock;
         stored = (view_of old).stored;
         write = (view_of old).write;
-      }) (read_kept (view_of old) i s x answer (i.begun s was.phase (ap phase_by is)) unlocked tells)
+      }) (read_kept (view_of old) i s x at answer (let low = i.begun s was.phase (ap phase_by is) in omega arith) unlocked tells)
 
-  found_keep : (s : ℕ) (x : Cell) (start commit : Ts) (content : Content) → ReadsFound old seat s x (record { start = start; commit = commit; content = content }) new → IsSoundTable new
-  found_keep s x start commit content m =
+  found_keep : (s : ℕ) (x : Cell) (at : Option Ts) (start commit : Ts) (content : Content) → ReadsFound old seat s x at (record { start = start; commit = commit; content = content }) new → IsSoundTable new
+  found_keep s x at start commit content m =
       let v = m.version in
-      read_keeps s x (answers.Found start commit content) m.t m.own.there m.unlocked
+      read_keeps s x at (answers.Found start commit content) m.t m.own.there m.in_time m.unlocked
       (v.low, v.written, v.content, λ c u l e. newest_at_most c commit.0 (λ above. let z = v.newest c above l in cc))
       m.new_is
 
-  absent_keep : (s : ℕ) (x : Cell) → ReadsAbsent old seat s x new → IsSoundTable new
-  absent_keep s x m = read_keeps s x answers.Absent m.t m.own.there m.unlocked (λ c u l e. let z = m.none c l in cc) m.new_is
+  absent_keep : (s : ℕ) (x : Cell) (at : Option Ts) → ReadsAbsent old seat s x at new → IsSoundTable new
+  absent_keep s x at m = read_keeps s x at answers.Absent m.t m.own.there m.in_time m.unlocked (λ c u l e. let z = m.none c l in cc) m.new_is
 
   -- a phase alone changes, and no commit comes
   fails_keep : (s : ℕ) (was : TransactionOf) → map.get old.transactions s ≡ Some was → ((c : ℕ) → was.phase ≢ committed_at c) → new ≡ with_transaction old s (record was { phase = phases.Failed }) → IsSoundTable new
@@ -354,8 +355,11 @@ module _ (old : StateOf) (i : IsSoundTable old) (seat : ℕ) (new : StateOf) whe
   case_keeps : (step : Step) (answer : Answer) → StepCase old seat step answer new → IsSoundTable new
   case_keeps (Begin work) (answers.At s) m = begins_keep work s.0 m
   case_keeps (Read s x) (answers.Locked start primary) m = same_keep m.new_is
-  case_keeps (Read s x) (answers.Found start commit content) m = found_keep s.0 x start commit content m
-  case_keeps (Read s x) answers.Absent m = absent_keep s.0 x m
+  case_keeps (Read s x) (answers.Found start commit content) m = found_keep s.0 x None start commit content m
+  case_keeps (Read s x) answers.Absent m = absent_keep s.0 x None m
+  case_keeps (ReadAt s x t) (answers.Locked start primary) m = same_keep m.new_is
+  case_keeps (ReadAt s x t) (answers.Found start commit content) m = found_keep s.0 x (Some t) start commit content m
+  case_keeps (ReadAt s x t) answers.Absent m = absent_keep s.0 x (Some t) m
   case_keeps (Declare s what) answers.Done m = declared_keep s.0 m.t (cells_of old.observers m.t.work s.0 what) m.own.there (reading_is m.t.phase m.reading) m.new_is
   case_keeps (Prewrite s x) answers.Done m = prewrites_keep s.0 x m
   case_keeps (Prewrite s x) answers.Conflict m = fails_keep s.0 m.t m.own.there (λ c e. let z = declared_is m.t.phase m.phase in cc) m.new_is

@@ -2,7 +2,7 @@
 use Rattle.std.proofs.Common.{inl, inr, ◌≡◌, ℕ, ◌<◌, ◌≤◌, List, [], ◌∷◌, ap, subst, arith}
 use Rattle.pb_base.specs.declared.names.Ts.{Ts}
 use Rattle.pb_steps.specs.declared.step.Step.{Step}
-use Rattle.pb_steps.specs.declared.step.Step.TheVariants.{Begin, Read, Declare, Prewrite, Stamp, CommitPrimary, CommitSecondary, Settle, Clear, NextMark, Sweep}
+use Rattle.pb_steps.specs.declared.step.Step.TheVariants.{Begin, Read, ReadAt, Declare, Prewrite, Stamp, CommitPrimary, CommitSecondary, Settle, Clear, NextMark, Sweep}
 use Rattle.pb_steps.specs.declared.step.Answer.{Answer}
 use Rattle.pb_steps.specs.declared.step.Answer.TheVariants.{At, Locked, Found, Absent, Done, Conflict, Committed, Lost, RolledBack, Waits, CommittedAt, Marked, NoMark, StillBehind}
 use Rattle.pb_steps.specs.State.{StateOf, opening}
@@ -14,44 +14,48 @@ use Rattle.pb_history.specs.History.{Has}
 use Rattle.pb_history.proofs.OnlyEntries.{secondary_keeps}
 use Rattle.pb_history.specs.Timestamps.{with_timestamp, timestamps, AreRising, TellsTimestamps}
 
-module _ (old : StateOf) (seat : ℕ) (new : StateOf) (high : ℕ) (ts : List ℕ) (rest : AreRising new.clock high ts) where
+-- what holds of the clock and the timestamps after a step, and of a fresh timestamp, holds before it
+module _ (old : StateOf) (seat : ℕ) (new : StateOf) (P : ℕ → List ℕ → Type 0) (ts : List ℕ) (rest : P new.clock ts) (next : (n : ℕ) → new.clock ≡ n → old.clock < n → P old.clock (n ∷ ts)) where
   -- a step that leaves the clock
-  same : new.clock ≡ old.clock → AreRising old.clock high ts
-  same clock = subst (λ n. AreRising n high ts) clock rest
+  same : new.clock ≡ old.clock → P old.clock ts
+  same clock = subst (λ n. P n ts) clock rest
 
-  -- a step that takes a fresh timestamp
-  next : (n : ℕ) → new.clock ≡ n → old.clock < n → AreRising old.clock high (n ∷ ts)
-  next n clock low = (low, subst (λ k. AreRising k high ts) clock rest)
-
-  case_rises : (step : Step) (answer : Answer) → StepCase old seat step answer new → AreRising old.clock high (with_timestamp step answer ts)
-  case_rises (Begin work) (At s) m = let fresh = m.fresh in next s.0 (ap (λ (z : StateOf). z.clock) m.new_is) (omega (arith, fresh))
-  case_rises (Read s x) (Locked start primary) m = same (ap (λ (z : StateOf). z.clock) m.new_is)
-  case_rises (Read s x) (Found start commit content) m = same (ap (λ (z : StateOf). z.clock) m.new_is)
-  case_rises (Read s x) Absent m = same (ap (λ (z : StateOf). z.clock) m.new_is)
-  case_rises (Declare s what) Done m = same (ap (λ (z : StateOf). z.clock) m.new_is)
-  case_rises (Prewrite s x) Done m = same (ap (λ (z : StateOf). z.clock) m.new_is)
-  case_rises (Prewrite s x) Conflict m = same (ap (λ (z : StateOf). z.clock) m.new_is)
-  case_rises (Stamp s) (At c) m = let fresh = m.fresh in next c.0 (ap (λ (z : StateOf). z.clock) m.new_is) (omega (arith, fresh))
-  case_rises (CommitPrimary s) Committed m = same (ap (λ (z : StateOf). z.clock) m.new_is)
-  case_rises (CommitPrimary s) Lost m = same (ap (λ (z : StateOf). z.clock) m.new_is)
-  case_rises (CommitSecondary s x) Done m = same (secondary_keeps old seat s.0 x new m).clock
-  case_rises (Settle x) Absent m = same (ap (λ (z : StateOf). z.clock) m.new_is)
-  case_rises (Settle x) (Locked start primary) m = same (ap (λ (z : StateOf). z.clock) m.new_is)
-  case_rises (Settle x) RolledBack m = same (ap (λ (z : StateOf). z.clock) m.new_is)
-  case_rises (Clear x) Absent m = same (ap (λ (z : StateOf). z.clock) m.new_is)
-  case_rises (Clear x) Waits m = same (ap (λ (z : StateOf). z.clock) m.new_is)
-  case_rises (Clear x) (CommittedAt c) m = same (ap (λ (z : StateOf). z.clock) m.new_is)
-  case_rises (Clear x) RolledBack m = same (ap (λ (z : StateOf). z.clock) m.new_is)
-  case_rises (NextMark after) (Marked x) m = same (ap (λ (z : StateOf). z.clock) m.new_is)
-  case_rises (NextMark after) NoMark m = same (ap (λ (z : StateOf). z.clock) m.new_is)
-  case_rises (Sweep x) NoMark m = same (ap (λ (z : StateOf). z.clock) m.new_is)
-  case_rises (Sweep x) StillBehind m = same (ap (λ (z : StateOf). z.clock) m.new_is)
-  case_rises (Sweep x) Done m = same (ap (λ (z : StateOf). z.clock) m.new_is)
-  case_rises _ _ m = absurd m
+  pub case_timestamps : (step : Step) (answer : Answer) → StepCase old seat step answer new → P old.clock (with_timestamp step answer ts)
+  case_timestamps (Begin work) (At s) m = let fresh = m.fresh in next s.0 (ap (λ (z : StateOf). z.clock) m.new_is) (omega (arith, fresh))
+  case_timestamps (Read s x) (Locked start primary) m = same (ap (λ (z : StateOf). z.clock) m.new_is)
+  case_timestamps (Read s x) (Found start commit content) m = same (ap (λ (z : StateOf). z.clock) m.new_is)
+  case_timestamps (Read s x) Absent m = same (ap (λ (z : StateOf). z.clock) m.new_is)
+  case_timestamps (ReadAt s x t) (Locked start primary) m = same (ap (λ (z : StateOf). z.clock) m.new_is)
+  case_timestamps (ReadAt s x t) (Found start commit content) m = same (ap (λ (z : StateOf). z.clock) m.new_is)
+  case_timestamps (ReadAt s x t) Absent m = same (ap (λ (z : StateOf). z.clock) m.new_is)
+  case_timestamps (Declare s what) Done m = same (ap (λ (z : StateOf). z.clock) m.new_is)
+  case_timestamps (Prewrite s x) Done m = same (ap (λ (z : StateOf). z.clock) m.new_is)
+  case_timestamps (Prewrite s x) Conflict m = same (ap (λ (z : StateOf). z.clock) m.new_is)
+  case_timestamps (Stamp s) (At c) m = let fresh = m.fresh in next c.0 (ap (λ (z : StateOf). z.clock) m.new_is) (omega (arith, fresh))
+  case_timestamps (CommitPrimary s) Committed m = same (ap (λ (z : StateOf). z.clock) m.new_is)
+  case_timestamps (CommitPrimary s) Lost m = same (ap (λ (z : StateOf). z.clock) m.new_is)
+  case_timestamps (CommitSecondary s x) Done m = same (secondary_keeps old seat s.0 x new m).clock
+  case_timestamps (Settle x) Absent m = same (ap (λ (z : StateOf). z.clock) m.new_is)
+  case_timestamps (Settle x) (Locked start primary) m = same (ap (λ (z : StateOf). z.clock) m.new_is)
+  case_timestamps (Settle x) RolledBack m = same (ap (λ (z : StateOf). z.clock) m.new_is)
+  case_timestamps (Clear x) Absent m = same (ap (λ (z : StateOf). z.clock) m.new_is)
+  case_timestamps (Clear x) Waits m = same (ap (λ (z : StateOf). z.clock) m.new_is)
+  case_timestamps (Clear x) (CommittedAt c) m = same (ap (λ (z : StateOf). z.clock) m.new_is)
+  case_timestamps (Clear x) RolledBack m = same (ap (λ (z : StateOf). z.clock) m.new_is)
+  case_timestamps (NextMark after) (Marked x) m = same (ap (λ (z : StateOf). z.clock) m.new_is)
+  case_timestamps (NextMark after) NoMark m = same (ap (λ (z : StateOf). z.clock) m.new_is)
+  case_timestamps (Sweep x) NoMark m = same (ap (λ (z : StateOf). z.clock) m.new_is)
+  case_timestamps (Sweep x) StillBehind m = same (ap (λ (z : StateOf). z.clock) m.new_is)
+  case_timestamps (Sweep x) Done m = same (ap (λ (z : StateOf). z.clock) m.new_is)
+  case_timestamps _ _ m = absurd m
 
 pub run_rises : (old : StateOf) (es : List Entry) (new : StateOf) → JournalLeads old es new → AreRising old.clock new.clock (timestamps es)
 run_rises old [] new r = let clock : new.clock ≡ old.clock = ap (λ (z : StateOf). z.clock) r in omega (arith, clock)
-run_rises old (e ∷ es) new r = case_rises old e.seat r.0 new.clock (timestamps es) (run_rises r.0 es new r.2) e.step e.answer r.1.taken
+run_rises old (e ∷ es) new r =
+    let rest = run_rises r.0 es new r.2 in
+    case_timestamps old e.seat r.0 (λ n. AreRising n new.clock) (timestamps es) rest
+    (λ n clock low. (low, subst (λ k. AreRising k new.clock (timestamps es)) clock rest))
+    e.step e.answer r.1.taken
 
 -- ---- what rising timestamps tell
 

@@ -1,12 +1,12 @@
 -- What a step leaves of each transaction.
-use Rattle.std.proofs.Common.{◌≡◌, ℕ, Bool, true, false, cond, List, [], ◌∷◌, ◌++◌, Option, Some, refl, sym, ap, ◌∙◌}
+use Rattle.std.proofs.Common.{◌≡◌, ℕ, Bool, true, false, cond, List, [], ◌∷◌, ◌++◌, Option, Some, None, refl, sym, ap, ◌∙◌}
 use Rattle.std.specs.Prelude.{◌==◌, option_map}
 use Rattle.std.specs.Cmp.{unsigned_tied, nat_cmp_total}
 use Rattle.std.specs.FinMap as map
 use Rattle.std.proofs.lemmas.Bool.{eqb-true}
 use Rattle.pb_steps.specs.declared.phase.Phase.TheVariants as phases
 use Rattle.pb_steps.specs.declared.step.Step.{Step}
-use Rattle.pb_steps.specs.declared.step.Step.TheVariants.{Begin, Read, Declare, Prewrite, Stamp, CommitPrimary, CommitSecondary, Settle, Clear, NextMark, Sweep}
+use Rattle.pb_steps.specs.declared.step.Step.TheVariants.{Begin, Read, ReadAt, Declare, Prewrite, Stamp, CommitPrimary, CommitSecondary, Settle, Clear, NextMark, Sweep}
 use Rattle.pb_steps.specs.declared.step.Answer.{Answer}
 use Rattle.pb_steps.specs.declared.step.Answer.TheVariants.{At, Locked, Found, Absent, Done, Conflict, Committed, Lost, RolledBack, Waits, CommittedAt, Marked, NoMark, StillBehind}
 use Rattle.pb_steps.specs.Observers.{ObserverOf}
@@ -44,8 +44,11 @@ module _ (old : StateOf) (seat : ℕ) (new : StateOf) (s : ℕ) where
   pub case_tells : (step : Step) (answer : Answer) → StepCase old seat step answer new → got new s ≡ told_after old.observers s seat step answer (got old s)
   case_tells (Begin work) (At n) m = changes n.0 (new_transaction seat work) (transactions_of m.new_is) (λ t. Some (new_transaction seat work)) refl
   case_tells (Read n x) (Locked start primary) m = keeps (transactions_of m.new_is) ∙ same_both (s == n.0) (got old s)
-  case_tells (Read n x) (Found start commit content) m = changes n.0 (with_read m.t n.0 x (Found start commit content)) (transactions_of m.new_is) (option_map (λ u. with_read u n.0 x (Found start commit content))) (ap (option_map (λ u. with_read u n.0 x (Found start commit content))) m.own.there)
-  case_tells (Read n x) Absent m = changes n.0 (with_read m.t n.0 x Absent) (transactions_of m.new_is) (option_map (λ u. with_read u n.0 x Absent)) (ap (option_map (λ u. with_read u n.0 x Absent)) m.own.there)
+  case_tells (Read n x) (Found start commit content) m = changes n.0 (with_read m.t x None (Found start commit content)) (transactions_of m.new_is) (option_map (λ u. with_read u x None (Found start commit content))) (ap (option_map (λ u. with_read u x None (Found start commit content))) m.own.there)
+  case_tells (Read n x) Absent m = changes n.0 (with_read m.t x None Absent) (transactions_of m.new_is) (option_map (λ u. with_read u x None Absent)) (ap (option_map (λ u. with_read u x None Absent)) m.own.there)
+  case_tells (ReadAt n x at) (Locked start primary) m = keeps (transactions_of m.new_is) ∙ same_both (s == n.0) (got old s)
+  case_tells (ReadAt n x at) (Found start commit content) m = changes n.0 (with_read m.t x (Some at) (Found start commit content)) (transactions_of m.new_is) (option_map (λ u. with_read u x (Some at) (Found start commit content))) (ap (option_map (λ u. with_read u x (Some at) (Found start commit content))) m.own.there)
+  case_tells (ReadAt n x at) Absent m = changes n.0 (with_read m.t x (Some at) Absent) (transactions_of m.new_is) (option_map (λ u. with_read u x (Some at) Absent)) (ap (option_map (λ u. with_read u x (Some at) Absent)) m.own.there)
   case_tells (Declare n what) Done m =
       let f : TransactionOf → TransactionOf = λ u. record u { phase = phases.Declared; declared = cells_of old.observers u.work n.0 what } in
       changes n.0 (f m.t) (transactions_of m.new_is) (option_map f) (ap (option_map f) m.own.there)
@@ -90,6 +93,9 @@ module _ (old : StateOf) (seat : ℕ) (new : StateOf) (s : ℕ) where
   case_observers (Read n x) (Locked start primary) m = observers_of m.new_is
   case_observers (Read n x) (Found start commit content) m = observers_of m.new_is
   case_observers (Read n x) Absent m = observers_of m.new_is
+  case_observers (ReadAt n x at) (Locked start primary) m = observers_of m.new_is
+  case_observers (ReadAt n x at) (Found start commit content) m = observers_of m.new_is
+  case_observers (ReadAt n x at) Absent m = observers_of m.new_is
   case_observers (Declare n what) Done m = observers_of m.new_is
   case_observers (Prewrite n x) Done m = observers_of m.new_is
   case_observers (Prewrite n x) Conflict m = observers_of m.new_is

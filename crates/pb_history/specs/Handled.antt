@@ -1,5 +1,6 @@
 -- Which changes a run handles, and that each change is handled once (OSDI 2010, section 2.4).
 use Rattle.std.specs.Prelude.{◌≡◌, ℕ, ◌<◌, ◌≤◌, false, List, Some, slice_get}
+use Rattle.std.specs.FinMap as map
 use Rattle.pb_base.specs.declared.cell.Cell.{Cell}
 use Rattle.pb_base.specs.declared.names.Row.{Row}
 use Rattle.pb_base.specs.declared.content.Content.{Content}
@@ -7,7 +8,7 @@ use Rattle.pb_steps.specs.declared.step.Work.TheVariants as works
 use Rattle.pb_steps.specs.State.{StateOf}
 use Rattle.pb_steps.specs.Observers.{ObserverOf, observed_cell, acknowledgment}
 use Rattle.pb_steps.specs.Marks.{is_marked}
-use Rattle.pb_steps.specs.Readings.{NoLock}
+use Rattle.pb_steps.specs.Readings.{NoLock, lock_count}
 use Rattle.pb_history.specs.declared.entry.Entry.{Entry}
 use Rattle.pb_history.specs.History.{Member, InHistory, WritesTo}
 use Rattle.pb_history.specs.RunsTold.{IsAcknowledgedAt}
@@ -30,6 +31,12 @@ TellsOneHandler journal state =
 pub record IsQuiet (state : StateOf) : Type 0 where
   pub unmarked : (x : Cell) → is_marked state.marks x ≡ false
   pub unlocked : (x : Cell) → NoLock state.entries x
+
+-- it is quiet exactly where no mark and no lock is counted
+pub record TellsQuiet (state : StateOf) : Type 0 where
+  pub quiet : map.len state.marks ≡ 0 → lock_count state.entries ≡ 0 → IsQuiet state
+  pub unmarked : IsQuiet state → map.len state.marks ≡ 0
+  pub unlocked : IsQuiet state → lock_count state.entries ≡ 0
 
 -- where the table is quiet, each committed change of a cell, by a script or by a run, is handled by a committed run of each
 -- of its observers

@@ -1,11 +1,12 @@
 -- The committed transactions of a journal, and the snapshots that they make (OSDI 2010, sections 2.2 and 2.3).
-use Rattle.std.specs.Prelude.{◌≡◌, ℕ, ◌<◌, ◌≤◌, ◌⊎◌, true, List, [], ◌∷◌, Some}
+use Rattle.std.specs.Prelude.{◌≡◌, ℕ, ◌<◌, ◌≤◌, ◌⊎◌, Bool, true, List, [], ◌∷◌, Some}
 use Rattle.std.specs.FinMap as map
 use Rattle.pb_base.specs.declared.cell.Cell.{Cell}
 use Rattle.pb_base.specs.declared.content.Content.{Content}
-use Rattle.pb_base.specs.declared.content.Version.{Version}
+use Rattle.pb_base.specs.declared.content.Revision.{Revision}
 use Rattle.pb_base.specs.Batch.{Writes, content_in, are_distinct}
-use Rattle.pb_helpers.specs.Record.{record_of}
+use Rattle.pb_isa.specs.Machine.{Reply}
+use Rattle.pb_helpers.specs.OldRecord.{record_by}
 use Rattle.pb_steps.specs.declared.step.Work.{Work}
 use Rattle.pb_steps.specs.declared.step.Work.TheVariants as works
 use Rattle.pb_steps.specs.declared.step.Declared.{Declared}
@@ -76,7 +77,7 @@ pub record IsCommitted (state : StateOf) (m : Member) : Type 0 where
 -- the declaration is one for this work: a script's batch, or a run of its observer on a record of the cell that it observes
 abbrev pub IsForWork : List ObserverOf → Work → Declared → Type 0
 IsForWork observers works.Script (declared.Script batch) = Unit {0}
-IsForWork observers (works.Run p row) (declared.Run o f) = (o ≡ p) × (v : Version) × (acknowledged : ℕ) × (f.bytes ≡ record_of (observed_cell observers p row) v acknowledged)
+IsForWork observers (works.Run p row) (declared.Run o f) = (o ≡ p) × (second : Bool) × (v : Revision) × (acknowledged : ℕ) × (old : Reply) × (f.bytes ≡ record_by second (observed_cell observers p row) v acknowledged old)
 IsForWork observers _ _ = ⊥
 
 -- the state has what a declaration named, each cell once, and that is known, and for its transaction's work

@@ -5,24 +5,29 @@ use Rattle.pb_steps.specs.declared.step.Step.{Step}
 use Rattle.pb_steps.specs.declared.step.Answer.{Answer}
 use Rattle.pb_steps.specs.State.{StateOf, opening}
 use Rattle.pb_steps.specs.Answers.{CanAnswer}
-use Rattle.pb_steps.specs.Steps.{TableStep}
+use Rattle.pb_steps.specs.Steps.{TableStep, step_reasons}
 use Rattle.pb_history.specs.declared.entry.Entry.{Entry}
 use Rattle.pb_history.specs.Journals.{IsLegal}
 use Rattle.pb_history.specs.History.{TellsHistory}
 use Rattle.pb_history.specs.Sound.{IsSoundTable, KeepsData}
 use Rattle.pb_history.specs.ReadsTold.{TellsReads}
 use Rattle.pb_history.specs.RunsTold.{TellsRuns}
-use Rattle.pb_history.specs.Timestamps.{TellsTimestamps}
+use Rattle.pb_history.specs.Timestamps.{timestamps, TellsTimestamps}
 use Rattle.pb_history.specs.SoundJournals.{TellsSoundness}
 use Rattle.pb_history.specs.CommitOrder.{TellsCommitOrder}
 use Rattle.pb_history.specs.SnapshotsTold.{TellsSnapshots}
+use Rattle.pb_history.specs.AcknowledgedTold.{TellsAcknowledged}
 use Rattle.pb_history.specs.WritersTold.{TellsWriters}
 use Rattle.pb_history.specs.ScriptsTold.{TellsScripts}
 use Rattle.pb_history.specs.RecordsTold.{TellsRecords}
 use Rattle.pb_history.specs.TransactionsTold.{TellsTransactions}
 use Rattle.pb_history.specs.RunCounts.{TellsRunCounts}
 use Rattle.pb_history.specs.MarksTold.{TellsMarks}
-use Rattle.pb_history.specs.Handled.{TellsOneHandler, TellsHandlers}
+use Rattle.pb_history.specs.Handled.{TellsOneHandler, TellsHandlers, TellsQuiet}
+use Rattle.pb_history.specs.LastGiven.{IsLastGiven}
+use Rattle.pb_history.specs.Outcomes.{AreSame}
+use Rattle.pb_history.specs.Progress.{TellsFirstMark, TellsUnmarked}
+use Rattle.pb_history.specs.Refusals.{RiseAbove}
 
 abbrev pub StepsKeepSound : Type 0
 StepsKeepSound = (old : StateOf) (seat : ℕ) (step : Step) (answer : Answer) (new : StateOf) → IsSoundTable old → TableStep old seat step answer new → IsSoundTable new
@@ -57,6 +62,9 @@ CommitsAreOrdered = (observers : List ObserverOf) (seats clock : ℕ) (journal :
 abbrev pub ReadsTellSnapshots : Type 0
 ReadsTellSnapshots = (observers : List ObserverOf) (seats clock : ℕ) (journal : List Entry) (state : StateOf) → IsLegal observers seats clock journal state → TellsSnapshots journal state
 
+abbrev pub AcknowledgedIsEarlier : Type 0
+AcknowledgedIsEarlier = (observers : List ObserverOf) (seats clock : ℕ) (journal : List Entry) (state : StateOf) → IsLegal observers seats clock journal state → TellsAcknowledged journal
+
 abbrev pub WritersAreApart : Type 0
 WritersAreApart = (observers : List ObserverOf) (seats clock : ℕ) (journal : List Entry) (state : StateOf) → IsLegal observers seats clock journal state → TellsWriters journal state
 
@@ -80,3 +88,24 @@ HandledAtMostOnce = (observers : List ObserverOf) (seats clock : ℕ) (journal :
 
 abbrev pub HandledWhenQuiet : Type 0
 HandledWhenQuiet = (observers : List ObserverOf) (seats clock : ℕ) (journal : List Entry) (state : StateOf) → IsLegal observers seats clock journal state → TellsHandlers journal state
+
+-- of each step, in each state, the reasons to refuse it are listed by rising numbers, so that the first is the lowest
+abbrev pub ReasonsRise : Type 0
+ReasonsRise = (state : StateOf) (seat : ℕ) (step : Step) → RiseAbove 0 (step_reasons state seat step)
+
+abbrev pub ClockIsLastGiven : Type 0
+ClockIsLastGiven = (observers : List ObserverOf) (seats clock : ℕ) (journal : List Entry) (state : StateOf) → IsLegal observers seats clock journal state → IsLastGiven clock (timestamps journal) state.clock
+
+abbrev pub FirstMarksAreFound : Type 0
+FirstMarksAreFound = (old : StateOf) (seat : ℕ) (step : Step) (answer : Answer) (new : StateOf) → TableStep old seat step answer new → TellsFirstMark old step answer
+
+abbrev pub SweepsUnmark : Type 0
+SweepsUnmark = (old : StateOf) (seat : ℕ) (step : Step) (answer : Answer) (new : StateOf) → TableStep old seat step answer new → TellsUnmarked old step new
+
+abbrev pub QuietIsCounted : Type 0
+QuietIsCounted = (observers : List ObserverOf) (seats clock : ℕ) (journal : List Entry) (state : StateOf) → IsLegal observers seats clock journal state → TellsQuiet state
+
+abbrev pub StepsHaveOneOutcome : Type 0
+StepsHaveOneOutcome =
+    (old : StateOf) (seat : ℕ) (step : Step) (a : Answer) (new : StateOf) (b : Answer) (other : StateOf)
+    → IsSoundTable old → TableStep old seat step a new → TableStep old seat step b other → AreSame a new b other

@@ -10,6 +10,7 @@ pub mod RunCounts
 pub mod SoundJournals
 pub mod CommitOrder
 pub mod SnapshotsTold
+pub mod AcknowledgedTold
 pub mod WritersTold
 pub mod ScriptsTold
 pub mod RecordsTold
@@ -17,3 +18,7 @@ pub mod TransactionsTold
 pub mod MarksTold
 pub mod Handled
 pub mod Laws
+pub mod LastGiven
+pub mod Progress
+pub mod Refusals
+pub mod Outcomes

@@ -1,15 +1,15 @@
 -- What the history of a legal journal tells of the runs of observers (OSDI 2010, section 2.4).
-use Rattle.std.specs.Prelude.{◌≡◌, ℕ, ◌<◌, ◌⊎◌, List, [], ◌∷◌, Some, None, slice_get}
+use Rattle.std.specs.Prelude.{◌≡◌, ℕ, ◌<◌, ◌⊎◌, true, List, [], ◌∷◌, Some, None, slice_get}
 use Rattle.pb_base.specs.declared.cell.Cell.{Cell}
 use Rattle.pb_base.specs.declared.names.Row.{Row}
 use Rattle.pb_base.specs.declared.content.Content.{Content}
 use Rattle.pb_base.specs.declared.content.Content.TheVariants as contents
-use Rattle.pb_base.specs.declared.content.Version.{Version}
+use Rattle.pb_base.specs.declared.content.Revision.{Revision}
 use Rattle.pb_base.specs.Batch.{Writes}
 use Rattle.pb_isa.specs.Machine.{Ask, Reply}
 use Rattle.pb_isa.specs.Meaning.{Talk, Means}
 use Rattle.pb_sound.specs.RunWrites.{AreRunWrites}
-use Rattle.pb_helpers.specs.Record.{record_of}
+use Rattle.pb_helpers.specs.OldRecord.{tells_old, record_by}
 use Rattle.pb_steps.specs.declared.step.Work.TheVariants as works
 use Rattle.pb_steps.specs.State.{StateOf}
 use Rattle.pb_steps.specs.Observers.{ObserverOf, observed_cell, acknowledgment}
@@ -23,11 +23,15 @@ IsAcknowledgedAt observers journal s ack a =
     (NoSnapshot observers journal s ack × (a ≡ 0))
     ⊎ ((start : ℕ) × (commit : ℕ) × IsSnapshot observers journal s ack start commit (contents.Stamp (record { 0 = a })))
 
--- the reply to an ask is the value of its cell in the snapshot at s, and none where that is deleted or absent
+-- the value of a cell in the snapshot at s, and none where it is deleted or absent there
+abbrev pub IsValueAt : List ObserverOf → List Entry → ℕ → Cell → Reply → Type 0
+IsValueAt observers journal s x value =
+    (NoSnapshot observers journal s x × (value ≡ None))
+    ⊎ ((start : ℕ) × (commit : ℕ) × (content : Content) × IsSnapshot observers journal s x start commit content × (value ≡ value_of content))
+
+-- the reply to an ask is the value of its cell in the snapshot at s
 abbrev pub IsReplyAt : List ObserverOf → List Entry → ℕ → Ask × Reply → Type 0
-IsReplyAt observers journal s a =
-    (NoSnapshot observers journal s (asked_cell a.0) × (a.1 ≡ None))
-    ⊎ ((start : ℕ) × (commit : ℕ) × (content : Content) × IsSnapshot observers journal s (asked_cell a.0) start commit content × (a.1 ≡ value_of content))
+IsReplyAt observers journal s a = IsValueAt observers journal s (asked_cell a.0) a.1
 
 abbrev pub AreRepliesAt : List ObserverOf → List Entry → ℕ → Talk → Type 0
 AreRepliesAt observers journal s [] = Unit {0}
@@ -39,16 +43,19 @@ AreRepliesAt observers journal s (a ∷ talk) = IsReplyAt observers journal s a 
 pub record IsObserverRun (observers : List ObserverOf) (journal : List Entry) (m : Member) (o : ℕ) (row : Row) : Type 0 where
   pub observer : ObserverOf
   pub observer_is : slice_get observers o ≡ Some observer
-  pub version : Version
+  pub version : Revision
   pub found : IsSnapshot observers journal m.start (observed_cell observers o row) version.start.0 version.commit.0 version.content
   pub acknowledged : ℕ
   pub acknowledges : IsAcknowledgedAt observers journal m.start (acknowledgment observers o row) acknowledged
   pub newer : acknowledged < version.commit.0
+  -- what the program is told of the acknowledged timestamp, if its record is of version 2
+  pub old : Reply
+  pub old_is : tells_old observer.program ≡ true → IsValueAt observers journal acknowledged (observed_cell observers o row) old
   pub talk : Talk
   pub replied : AreRepliesAt observers journal m.start talk
   pub result : ℕ
   pub writes : Writes
-  pub meaning : Means observer.program (record_of (observed_cell observers o row) version acknowledged) m.start talk result writes
+  pub meaning : Means observer.program (record_by (tells_old observer.program) (observed_cell observers o row) version acknowledged old) m.start talk result writes
   pub few : AreRunWrites writes
   pub writes_are : m.writes ≡ (acknowledgment observers o row, contents.Stamp (record { 0 = m.start })) ∷ writes
 

@@ -2,7 +2,7 @@
 use Rattle.std.specs.Prelude.{ℕ, List}
 use Rattle.pb_base.specs.declared.cell.Cell.{Cell}
 use Rattle.pb_base.specs.declared.names.Ts.{Ts}
-use Rattle.pb_steps.specs.declared.step.Step.TheVariants.{Read}
+use Rattle.pb_steps.specs.declared.step.Step.TheVariants.{Read, ReadAt}
 use Rattle.pb_steps.specs.declared.step.Answer.{Answer}
 use Rattle.pb_steps.specs.declared.step.Answer.TheVariants.{Found, Absent}
 use Rattle.pb_steps.specs.Observers.{ObserverOf}
@@ -20,3 +20,5 @@ TellsSnapshot observers journal s x _ = Unit {0}
 -- transactions that were committed after the read among them.
 pub record TellsSnapshots (journal : List Entry) (state : StateOf) : Type 0 where
   pub read : (seat : ℕ) (s : Ts) (x : Cell) (answer : Answer) → IsEntry journal seat (Read s x) answer → TellsSnapshot state.observers journal s.0 x answer
+  -- and so does every read at a timestamp
+  pub read_at : (seat : ℕ) (s : Ts) (x : Cell) (t : Ts) (answer : Answer) → IsEntry journal seat (ReadAt s x t) answer → TellsSnapshot state.observers journal t.0 x answer

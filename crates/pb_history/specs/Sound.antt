@@ -10,6 +10,7 @@ use Rattle.pb_steps.specs.declared.phase.Phase.TheVariants.{Reading, Stamped, Co
 use Rattle.pb_steps.specs.declared.seen.RecordedRead.{RecordedRead}
 use Rattle.pb_steps.specs.declared.step.Answer.{Answer}
 use Rattle.pb_steps.specs.declared.step.Answer.TheVariants.{Found, Absent}
+use Rattle.pb_steps.specs.Reads.{read_up_to}
 use Rattle.pb_steps.specs.State.{StateOf, TransactionOf}
 use Rattle.pb_steps.specs.Readings.{data_at, lock_at, write_at}
 use Rattle.pb_history.specs.History.{Has}
@@ -99,13 +100,13 @@ pub record IsSoundView (v : TableView) : Type 0 where
   pub primary_stands : (s c : ℕ) (p : Cell) → IsCommittedAt v s c → v.primary s ≡ Some p → HasRecord v p c s
   -- ---- recorded reads
 
-  -- no transaction with a start above the clock has read
-  pub read_begun : (s : ℕ) (r : RecordedRead) → Has (v.reads s) r → s ≤ v.clock
+  -- nothing was read up to a timestamp above the clock
+  pub read_begun : (s : ℕ) (r : RecordedRead) → Has (v.reads s) r → read_up_to s r.at ≤ v.clock
   -- each read still tells the newest write record of its snapshot
-  pub tells : (s : ℕ) (r : RecordedRead) → Has (v.reads s) r → ReadTells v s r.cell r.answer
+  pub tells : (s : ℕ) (r : RecordedRead) → Has (v.reads s) r → ReadTells v (read_up_to s r.at) r.cell r.answer
   -- and none will come to that snapshot: who writes the cell with a commit in it has its write record there, or is not
   -- committed and never will be, since the lock on its primary is gone
-  pub settled : (s : ℕ) (r : RecordedRead) (u c : ℕ) (k : Content) → Has (v.reads s) r → HasStamp v u c → c ≤ s → v.content u r.cell ≡ Some k → HasRecord v r.cell c u ⊎ ((IsCommittedAt v u c → ⊥) × LacksPrimary v u)
+  pub settled : (s : ℕ) (r : RecordedRead) (u c : ℕ) (k : Content) → Has (v.reads s) r → HasStamp v u c → c ≤ read_up_to s r.at → v.content u r.cell ≡ Some k → HasRecord v r.cell c u ⊎ ((IsCommittedAt v u c → ⊥) × LacksPrimary v u)
 
 abbrev pub IsSoundTable : StateOf → Type 0
 IsSoundTable state = IsSoundView (view_of state)

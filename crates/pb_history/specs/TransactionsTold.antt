@@ -6,7 +6,7 @@ use Rattle.std.specs.FinMap as map
 use Rattle.pb_steps.specs.declared.phase.Phase.{Phase}
 use Rattle.pb_steps.specs.declared.phase.Phase.TheVariants as phases
 use Rattle.pb_steps.specs.declared.step.Step.{Step}
-use Rattle.pb_steps.specs.declared.step.Step.TheVariants.{Begin, Read, Declare, Prewrite, Stamp, CommitPrimary, CommitSecondary}
+use Rattle.pb_steps.specs.declared.step.Step.TheVariants.{Begin, Read, ReadAt, Declare, Prewrite, Stamp, CommitPrimary, CommitSecondary}
 use Rattle.pb_steps.specs.declared.step.Answer.{Answer}
 use Rattle.pb_steps.specs.declared.step.Answer.TheVariants.{At, Found, Absent, Done, Conflict, Committed, Lost}
 use Rattle.pb_steps.specs.Observers.{ObserverOf}
@@ -19,6 +19,7 @@ use Rattle.pb_history.specs.History.{Has}
 abbrev pub names_start : ℕ → Step → Answer → Bool
 names_start s (Begin work) (At start) = s == start.0
 names_start s (Read start x) answer = s == start.0
+names_start s (ReadAt start x t) answer = s == start.0
 names_start s (Declare start what) answer = s == start.0
 names_start s (Prewrite start x) answer = s == start.0
 names_start s (Stamp start) answer = s == start.0
@@ -38,8 +39,10 @@ committed_phase phase = phase
 -- what a transaction is after an entry that names its start
 abbrev pub transaction_after : List ObserverOf → ℕ → Step → Answer → Option TransactionOf → Option TransactionOf
 transaction_after observers seat (Begin work) (At s) t = Some (new_transaction seat work)
-transaction_after observers seat (Read s x) (Found start commit content) t = option_map (λ (u : TransactionOf). with_read u s.0 x (Found start commit content)) t
-transaction_after observers seat (Read s x) Absent t = option_map (λ (u : TransactionOf). with_read u s.0 x Absent) t
+transaction_after observers seat (Read s x) (Found start commit content) t = option_map (λ (u : TransactionOf). with_read u x None (Found start commit content)) t
+transaction_after observers seat (Read s x) Absent t = option_map (λ (u : TransactionOf). with_read u x None Absent) t
+transaction_after observers seat (ReadAt s x at) (Found start commit content) t = option_map (λ (u : TransactionOf). with_read u x (Some at) (Found start commit content)) t
+transaction_after observers seat (ReadAt s x at) Absent t = option_map (λ (u : TransactionOf). with_read u x (Some at) Absent) t
 transaction_after observers seat (Declare s what) Done t = option_map (λ (u : TransactionOf). record u { phase = phases.Declared; declared = cells_of observers u.work s.0 what }) t
 transaction_after observers seat (Prewrite s x) Done t = option_map (λ (u : TransactionOf). record u { prewritten = u.prewritten ++ x ∷ [] }) t
 transaction_after observers seat (Prewrite s x) Conflict t = option_map (λ (u : TransactionOf). record u { phase = phases.Failed }) t

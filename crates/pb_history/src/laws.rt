@@ -1,8 +1,10 @@
 //! What every step keeps, and what every legal journal tells.
 ghost use Rattle.pb_history.specs.Laws.{StepsKeepSound, OpeningIsSound, SoundHasData, JournalsAreSound};
 ghost use Rattle.pb_history.specs.Laws.{TransactionsAreTold, StepsCanAnswer};
+ghost use Rattle.pb_history.specs.Laws.{ReasonsRise, ClockIsLastGiven, FirstMarksAreFound, SweepsUnmark, QuietIsCounted};
+ghost use Rattle.pb_history.specs.Laws.{StepsHaveOneOutcome};
 ghost use Rattle.pb_history.specs.Laws.{HistoriesAreTold, ReadsAreTold, RunsAreCounted, RunsAreTold, ScriptsWriteBatches};
-ghost use Rattle.pb_history.specs.Laws.{BehindIsMarked, HandledAtMostOnce, HandledWhenQuiet};
+ghost use Rattle.pb_history.specs.Laws.{AcknowledgedIsEarlier, BehindIsMarked, HandledAtMostOnce, HandledWhenQuiet};
 ghost use Rattle.pb_history.specs.Laws.{TimestampsRise, CommitsAreOrdered, ReadsTellSnapshots, WritersAreApart, RecordsAreTold};
 
 /// The table is sound as it is opened, and every step keeps it so.
@@ -66,6 +68,11 @@ pub fn reads_tell_snapshots()
     ensures { ReadsTellSnapshots }
 {}
 
+/// The acknowledged timestamp that a read of a legal journal tells is at most the start of its transaction.
+pub fn acknowledged_is_earlier()
+    ensures { AcknowledgedIsEarlier }
+{}
+
 /// Of two committed transactions of a legal journal that write one cell, one was committed before the other began.
 pub fn writers_are_apart()
     ensures { WritersAreApart }
@@ -101,4 +108,35 @@ pub fn handled_at_most_once()
 /// observer of its column.
 pub fn handled_when_quiet()
     ensures { HandledWhenQuiet }
+{}
+
+/// The reasons to refuse a step are listed lowest number first.
+pub fn reasons_rise()
+    ensures { ReasonsRise }
+{}
+
+/// The clock of a legal journal's state is the greatest timestamp that the journal gave out, or the clock as opened where it
+/// gave out none.
+pub fn clock_is_last_given()
+    ensures { ClockIsLastGiven }
+{}
+
+/// `NextMark` answers the first marked cell after the given one, wherever there is one.
+pub fn first_marks_are_found()
+    ensures { FirstMarksAreFound }
+{}
+
+/// `Sweep` leaves no mark where no observer of the cell's column is behind on it.
+pub fn sweeps_unmark()
+    ensures { SweepsUnmark }
+{}
+
+/// After a legal journal neither mark nor lock is counted exactly where neither stands.
+pub fn quiet_is_counted()
+    ensures { QuietIsCounted }
+{}
+
+/// A step of a sound table has one answer, and leaves one state.
+pub fn steps_have_one_outcome()
+    ensures { StepsHaveOneOutcome }
 {}

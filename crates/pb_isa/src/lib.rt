@@ -9,5 +9,7 @@ mod same;
 
 pub use arithmetic::{alu, holds};
 pub use insn::{AluOp, Cmp, Insn, Operand, Reg, Size, Width};
-pub use limits::{MAX_SLOTS, RECORD_BYTES, STACK_BYTES};
+pub use limits::{
+    MAX_RECORD_BYTES, MAX_SLOTS, RECORD_BYTES, STACK_BYTES, program_limits_are_these,
+};
 pub use program::{NoProgram, Program, next_slots_are_first};

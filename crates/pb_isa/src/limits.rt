@@ -1,4 +1,5 @@
 //! How much a program may take, and how much memory it is given. These are the project's own profile.
+ghost use Rattle.std.specs.Prelude.{◌≡◌};
 
 /// The most slots that a program takes.
 pub const MAX_SLOTS: usize = 512;
@@ -6,5 +7,16 @@ pub const MAX_SLOTS: usize = 512;
 /// The bytes of the stack.
 pub const STACK_BYTES: usize = 512;
 
-/// The bytes of the change record.
+/// The bytes of a change record of version 1.
 pub const RECORD_BYTES: usize = 80;
+
+/// The bytes of a change record of version 2, and so the most that a change record has.
+pub const MAX_RECORD_BYTES: usize = 120;
+
+/// A program's limits have these values.
+pub fn program_limits_are_these()
+    ensures slots { MAX_SLOTS ≡ 512 }
+    ensures stack { STACK_BYTES ≡ 512 }
+    ensures record { RECORD_BYTES ≡ 80 }
+    ensures largest_record { MAX_RECORD_BYTES ≡ 120 }
+{}

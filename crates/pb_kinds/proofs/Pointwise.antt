@@ -9,9 +9,3 @@ both_more f (x ∷ a) (y ∷ b) (suc i) d h e = ap (λ t. f x y ∷ t) (both_mor
 
 pub both_step : {A : Type 0} (f : A → A → A) (a b c : List A) (i : ℕ) (d v : A) → c ≡ pointwise f (take i a) (take i b) ++ drop i a → v ≡ f (get_or a i d) (get_or b i d) → i < length a → length a ≡ length b → set c i v ≡ pointwise f (take (i + 1) a) (take (i + 1) b) ++ drop (i + 1) a
 both_step f a b c i d v e w h l = rw (add-one, e, w) (both_more f a b i d h l)
-
-pub both_all : {A : Type 0} (f : A → A → A) (a b : List A) (n : ℕ) → n ≡ length a → n ≡ length b → pointwise f (take n a) (take n b) ++ drop n a ≡ pointwise f a b
-both_all f [] b n e l = grind arith
-both_all f (x ∷ a) [] n e l = absurd (omega arith)
-both_all f (x ∷ a) (y ∷ b) zero e l = absurd (omega arith)
-both_all f (x ∷ a) (y ∷ b) (suc n) e l = ap (λ t. f x y ∷ t) (both_all f a b n (omega arith) (omega arith))

@@ -1,5 +1,5 @@
 -- What sorted lists answer is what they contain.
-use Rattle.std.proofs.Common.{◌≡◌, ◌==◌, ◌&&◌, cond, [], ◌∷◌, Some, IfSome, refl, sym, ap, ◌∙◌, subst, length}
+use Rattle.std.proofs.Common.{◌≡◌, ◌==◌, ◌&&◌, ℕ, cond, [], ◌∷◌, Some, IfSome, refl, sym, ap, ◌∙◌, subst, length, slice_get, zero, suc}
 use Rattle.std.specs.declared.cmp.Ordering.TheVariants.{Less, Equal, Greater}
 use Rattle.std.specs.Ordering.{is_eq}
 use Rattle.std.specs.FinMap as map
@@ -18,6 +18,11 @@ of_sort_found (e ∷ es) q all =
       | Equal ↦ λ p. subst (λ (s : Slot). IsOfSort s.sort e.1) (sym (slot_cmp-IsAntisymmetric q e.0 p)) all.0
       | Greater ↦ λ p. of_sort_found es q all.1
     ] refl
+
+pub of_sort_there : (es : EntryList) (i : ℕ) → AllOfSort es → IfSome (slice_get es i) (λ e. IsOfSort e.0.sort e.1)
+of_sort_there [] i all = tt
+of_sort_there (e ∷ es) zero all = all.0
+of_sort_there (e ∷ es) (suc i) all = of_sort_there es i all.1
 
 module _ (es : EntryList) (ms : MarkList) (l : AreLists es ms) where
   pub get-listed : (q : Slot) → map.get (contents_of es ms).entries q ≡ map.find slot_cmp q es

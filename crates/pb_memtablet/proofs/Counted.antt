@@ -39,9 +39,6 @@ module _ {E A : Type 0} where
       sym (get_later (chunk_entries (take BLOCK cs)) (chunk_entries (drop BLOCK cs)) i (i - n) (omega (arith, e, le)))
       ∙ ap (λ es. slice_get es i) (sym (blocks_apart cs))
 
-  pub nothing_left : (cs : List (Vec E A)) (i : ℕ) → AreCounts [] cs → None ≡ slice_get (chunk_entries cs) i
-  nothing_left cs i e = sym (ap (λ l. slice_get (chunk_entries l) i) e ∙ refl)
-
   pub first_count : (ns : List ℕ) (cs : List (Vec E A)) (i d : ℕ) → AreCounts (drop i ns) cs → i < length ns → (get_or ns i d ≡ length (chunk_entries (take BLOCK cs))) × AreCounts (drop (i + 1) ns) (drop BLOCK cs)
   first_count ns cs i d a lt =
       let next : i + 1 ≡ suc i = omega arith in

@@ -5,5 +5,6 @@ pub mod Counted
 pub mod Cuts
 pub mod Nearest
 pub mod Edits
+pub mod Kept
 pub mod Answered
 pub mod Pairs

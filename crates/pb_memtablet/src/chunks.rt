@@ -279,7 +279,8 @@ pub(crate) fn put_among<K: Ord + Drop, V: Drop>(
     requires counts { AreCounts counts.old.items chunks.old.items }
     requires counts_room { vec_len chunks.old + vec_len spares.old ≤ vec_capacity counts.old }
     ensures entries { chunk_entries chunks.new.items ≡ put K.cmp key value (chunk_entries chunks.old.items) }
-    ensures grown { length (chunk_entries chunks.new.items) ≡ length (chunk_entries chunks.old.items) + cond result 1 0 }
+    ensures grown { length (chunk_entries chunks.new.items) ≡ length (chunk_entries chunks.old.items) + cond result
+        1 0 }
     ensures chunks { AreChunks K.cmp chunks.new.items }
     ensures spares { All IsSpare spares.new.items }
     ensures len { vec_len chunks.new + vec_len spares.new ≡ vec_len chunks.old + vec_len spares.old }
@@ -313,8 +314,11 @@ pub(crate) fn put_both_among<K: Ord + Copy + Drop, V: Copy + Drop>(
 ) -> bool
     requires chunks { AreChunks K.cmp chunks.old.items }
     requires counts { AreCounts counts.old.items chunks.old.items }
-    ensures entries { chunk_entries chunks.new.items ≡ cond result (put K.cmp next next_value (put K.cmp key value (chunk_entries chunks.old.items))) (chunk_entries chunks.old.items) }
-    ensures grown { length (chunk_entries chunks.new.items) ≡ length (chunk_entries chunks.old.items) + cond result 2 0 }
+    ensures entries { chunk_entries chunks.new.items ≡ cond result
+        (put K.cmp next next_value (put K.cmp key value (chunk_entries chunks.old.items)))
+        (chunk_entries chunks.old.items) }
+    ensures grown { length (chunk_entries chunks.new.items) ≡ length (chunk_entries chunks.old.items) + cond result
+        2 0 }
     ensures chunks { AreChunks K.cmp chunks.new.items }
     ensures len { vec_len chunks.new ≡ vec_len chunks.old }
     ensures capacity { vec_capacity chunks.old ≤ vec_capacity chunks.new }
@@ -351,7 +355,9 @@ pub(crate) fn replace_among<K: Ord + Drop, V: Drop>(
     value: V,
 ) -> bool
     requires { AreChunks K.cmp chunks.old.items }
-    ensures entries { chunk_entries chunks.new.items ≡ cond result (put K.cmp key value (where_key K.cmp (λ k. not (eq_by_cmp K.cmp gone.now k)) (chunk_entries chunks.old.items))) (chunk_entries chunks.old.items) }
+    ensures entries { chunk_entries chunks.new.items ≡ cond result (put K.cmp key value
+        (where_key K.cmp (λ k. not (eq_by_cmp K.cmp gone.now k)) (chunk_entries chunks.old.items))) (chunk_entries
+        chunks.old.items) }
     ensures as_many { length (chunk_entries chunks.new.items) ≡ length (chunk_entries chunks.old.items) }
     ensures chunks { AreChunks K.cmp chunks.new.items }
     ensures len { vec_len chunks.new ≡ vec_len chunks.old }
@@ -397,8 +403,10 @@ pub(crate) fn take_among<K: Ord + Drop, V: Drop>(
     requires spares { All IsSpare spares.old.items }
     requires counts { AreCounts counts.old.items chunks.old.items }
     requires counts_room { vec_len chunks.old + vec_len spares.old ≤ vec_capacity counts.old }
-    ensures entries { chunk_entries chunks.new.items ≡ where_key K.cmp (λ k. not (eq_by_cmp K.cmp key.now k)) (chunk_entries chunks.old.items) }
-    ensures shrunk { length (chunk_entries chunks.new.items) + cond result 1 0 ≡ length (chunk_entries chunks.old.items) }
+    ensures entries { chunk_entries chunks.new.items ≡ where_key K.cmp (λ k. not (eq_by_cmp K.cmp key.now k))
+        (chunk_entries chunks.old.items) }
+    ensures shrunk { length (chunk_entries chunks.new.items) + cond result 1 0 ≡ length
+        (chunk_entries chunks.old.items) }
     ensures chunks { AreChunks K.cmp chunks.new.items }
     ensures spares { All IsSpare spares.new.items }
     ensures len { vec_len chunks.new + vec_len spares.new ≤ vec_len chunks.old + vec_len spares.old }

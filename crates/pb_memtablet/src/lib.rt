@@ -4,8 +4,10 @@
 mod chunks;
 mod counts;
 mod list;
+mod slab_tablet;
 mod sorted;
 mod sorted_list;
 
 pub use list::ListTablet;
+pub use slab_tablet::SlabTablet;
 pub use sorted_list::SortedList;

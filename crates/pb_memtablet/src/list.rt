@@ -46,7 +46,7 @@ impl ListTablet {
 }
 
 // Whether two slots are of one cell and one sort.
-fn is_beside(slot: &Slot, other: &Slot) -> bool
+pub(crate) fn is_beside(slot: &Slot, other: &Slot) -> bool
     ensures { IsTrue result ↔ ((slot.now.cell ≡ other.now.cell) × (slot.now.sort ≡ other.now.sort)) }
 {
     slot.cell == other.cell && slot.sort == other.sort
@@ -85,7 +85,7 @@ fn marked_cell(mark: Option<(Cell, ())>) -> Option<Cell>
 }
 
 // The first mark after the cell, or of all.
-fn next_in(marks: &SortedList<Cell, ()>, after: Option<Cell>) -> Option<Cell>
+pub(crate) fn next_in(marks: &SortedList<Cell, ()>, after: Option<Cell>) -> Option<Cell>
     requires { IsTrue (map.is_sorted cell_cmp marks.now.entries) }
     ensures { IsNextMark (map.from_sorted marks.now.entries) after result }
 {
@@ -96,7 +96,7 @@ fn next_in(marks: &SortedList<Cell, ()>, after: Option<Cell>) -> Option<Cell>
 }
 
 // How many entries the edits put.
-fn puts_in(edits: &[Edit]) -> usize
+pub(crate) fn puts_in(edits: &[Edit]) -> usize
     ensures { result ≡ count_by is_put edits.now }
 {
     edits
@@ -106,7 +106,7 @@ fn puts_in(edits: &[Edit]) -> usize
 }
 
 // How many marks the edits make.
-fn marks_in(edits: &[Edit]) -> usize
+pub(crate) fn marks_in(edits: &[Edit]) -> usize
     ensures { result ≡ count_by is_mark edits.now }
 {
     edits
@@ -122,7 +122,8 @@ fn change(entries: &mut SortedList<Slot, Item>, marks: &mut SortedList<Cell, ()>
     requires room { cond (is_put edit.now) 1 0 ≤ entries.old.room }
     requires mark_room { cond (is_mark edit.now) 1 0 ≤ marks.old.room }
     ensures lists { AreLists entries.new.entries marks.new.entries }
-    ensures contents { contents_of entries.new.entries marks.new.entries ≡ after_edit edit.now (contents_of entries.old.entries marks.old.entries) }
+    ensures contents { contents_of entries.new.entries marks.new.entries ≡ after_edit edit.now
+        (contents_of entries.old.entries marks.old.entries) }
     ensures room { entries.old.room ≤ entries.new.room + cond (is_put edit.now) 1 0 }
     ensures mark_room { marks.old.room ≤ marks.new.room + cond (is_mark edit.now) 1 0 }
 {
@@ -146,7 +147,8 @@ fn change_pair(
     ensures some { result ≤ length edits.now }
     ensures lists { AreLists entries.new.entries marks.now.entries }
     ensures of_sort { AllPutOfSort (drop result edits.now) }
-    ensures contents { after_edits (drop result edits.now) (contents_of entries.new.entries marks.now.entries) ≡ after_edits edits.now (contents_of entries.old.entries marks.now.entries) }
+    ensures contents { after_edits (drop result edits.now) (contents_of entries.new.entries marks.now.entries)
+        ≡ after_edits edits.now (contents_of entries.old.entries marks.now.entries) }
     ensures room { count_by is_put (drop result edits.now) ≤ entries.new.room }
     ensures marked { count_by is_mark (drop result edits.now) ≡ count_by is_mark edits.now }
 {
@@ -177,7 +179,8 @@ fn change_each(
     requires room { count_by is_put edits.now ≤ entries.old.room }
     requires mark_room { count_by is_mark edits.now ≤ marks.old.room }
     ensures lists { AreLists entries.new.entries marks.new.entries }
-    ensures contents { contents_of entries.new.entries marks.new.entries ≡ after_edits edits.now (contents_of entries.old.entries marks.old.entries) }
+    ensures contents { contents_of entries.new.entries marks.new.entries ≡ after_edits edits.now
+        (contents_of entries.old.entries marks.old.entries) }
 {
     for edit in edits {
         change(entries, marks, edit);
@@ -195,7 +198,8 @@ fn change_all(
     requires room { count_by is_put edits.now ≤ entries.old.room }
     requires mark_room { count_by is_mark edits.now ≤ marks.old.room }
     ensures lists { AreLists entries.new.entries marks.new.entries }
-    ensures contents { contents_of entries.new.entries marks.new.entries ≡ after_edits edits.now (contents_of entries.old.entries marks.old.entries) }
+    ensures contents { contents_of entries.new.entries marks.new.entries ≡ after_edits edits.now
+        (contents_of entries.old.entries marks.old.entries) }
 {
     let done = change_pair(entries, marks, edits);
     change_each(entries, marks, &edits[done..]);

@@ -175,7 +175,9 @@ pub(crate) fn replace_in<K: Ord + Drop, V: Drop>(
     likely: &Cell<usize>,
 ) -> bool
     requires { IsTrue (is_sorted K.cmp entries.old.items) }
-    ensures items { entries.new.items ≡ cond result (put K.cmp key value (where_key K.cmp (λ k. not (eq_by_cmp K.cmp gone.now k)) entries.old.items)) entries.old.items }
+    ensures items { entries.new.items ≡ cond result
+        (put K.cmp key value (where_key K.cmp (λ k. not (eq_by_cmp K.cmp gone.now k)) entries.old.items))
+        entries.old.items }
     ensures capacity { vec_capacity entries.old ≤ vec_capacity entries.new }
     ensures len { vec_len entries.new ≡ vec_len entries.old }
 {
@@ -231,7 +233,8 @@ pub(crate) fn put_both_in<K: Ord + Copy + Drop, V: Copy + Drop>(
 ) -> bool
     requires sorted { IsTrue (is_sorted K.cmp entries.old.items) }
     requires room { vec_len entries.old + 2 ≤ vec_capacity entries.old }
-    ensures items { entries.new.items ≡ cond result (put K.cmp next next_value (put K.cmp key value entries.old.items)) entries.old.items }
+    ensures items { entries.new.items ≡ cond result
+        (put K.cmp next next_value (put K.cmp key value entries.old.items)) entries.old.items }
     ensures capacity { vec_capacity entries.old ≤ vec_capacity entries.new }
     ensures len { vec_len entries.new ≡ vec_len entries.old + cond result 2 0 }
 {

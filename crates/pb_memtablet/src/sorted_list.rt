@@ -226,7 +226,8 @@ impl<K: Ord + Copy + Drop, V: Copy + Drop> SortedList<K, V> {
     /// entry changes where it stands.
     pub fn replace(&mut self, gone: &K, key: K, value: V)
         requires { 0 < self.old.room }
-        ensures entries { self.new.entries ≡ put K.cmp key value (where_key K.cmp (λ k. not (eq_by_cmp K.cmp gone.now k)) self.old.entries) }
+        ensures entries { self.new.entries ≡ put K.cmp key value
+            (where_key K.cmp (λ k. not (eq_by_cmp K.cmp gone.now k)) self.old.entries) }
         ensures room { self.old.room ≤ self.new.room + 1 }
     {
         if replace_among(

@@ -1,5 +1,6 @@
 -- No step of a job comes at a wrong time, or declares what isn't its run.
-use Rattle.std.proofs.Common.{◌≡◌, ℕ, ◌<◌, ◌^◌, List, [], Option, Some, None, slice_get, refl, sym, ap, subst, ◌∙◌, true}
+use Rattle.std.proofs.Common.{◌≡◌, ℕ, ◌<◌, ◌≤◌, ◌^◌, inl, inr, Bool, false, cond, List, [], ◌∷◌, ◌++◌, Option, Some, None, slice_get, refl, sym, ap, subst, ◌∙◌, true, arith}
+use Rattle.std.specs.List.{filter}
 use Rattle.std.specs.FinMap as finite
 use Rattle.pb_base.specs.declared.refusal.Reason.{Reason}
 use Rattle.pb_base.specs.declared.refusal.Reason.TheVariants.{OutOfTimestamps}
@@ -7,15 +8,17 @@ use Rattle.pb_base.specs.declared.cell.Cell.{Cell}
 use Rattle.pb_base.specs.declared.cell.Cell.TheVariants.{Data, Ack}
 use Rattle.pb_base.specs.declared.names.Row.{Row}
 use Rattle.pb_base.specs.declared.names.Ts.{Ts}
-use Rattle.pb_helpers.specs.Record.{record_of}
+use Rattle.pb_helpers.specs.OldRecord.{tells_old, record_by}
 use Rattle.pb_steps.specs.declared.seen.RecordedRead.{RecordedRead}
 use Rattle.pb_steps.specs.declared.step.Work.TheVariants as works
 use Rattle.pb_steps.specs.declared.step.Declared.{Declared}
 use Rattle.pb_steps.specs.declared.step.Declared.TheVariants as declared
 use Rattle.pb_steps.specs.declared.step.Step.{Step}
-use Rattle.pb_steps.specs.declared.step.Step.TheVariants.{Begin, Declare, Sweep}
+use Rattle.pb_steps.specs.declared.step.Step.TheVariants.{Begin, Read, Declare, Sweep}
 use Rattle.pb_steps.specs.declared.step.Answer.TheVariants.{At}
-use Rattle.pb_steps.specs.Declarations.{AreReplies, is_its}
+use Rattle.pb_steps.specs.Declarations.{old_at, WasOld, AreReplies, is_its}
+use Rattle.pb_steps.specs.Reads.{read_up_to}
+use Rattle.pb_steps.specs.declared.seen.Seen.{Seen}
 use Rattle.pb_steps.specs.Observers.{ObserverOf, column_or_zero, observed_column}
 use Rattle.pb_steps.specs.State.{StateOf, TransactionOf}
 use Rattle.pb_steps.specs.Reasons.{IsOwn}
@@ -23,9 +26,10 @@ use Rattle.pb_steps.specs.Steps.{step_reason}
 use Rattle.pb_history.specs.declared.entry.Entry.{Entry}
 use Rattle.pb_history.specs.declared.entry.Received.{Received}
 use Rattle.pb_history.specs.Journals.{IsLegal}
-use Rattle.pb_history.specs.History.{Has}
-use Rattle.pb_history.specs.Laws.{TransactionsAreTold, JournalsAreSound}
-use Rattle.pb_history.specs.TransactionsTold.{entries_naming, transaction_by, TellsTransactions}
+use Rattle.pb_history.specs.History.{Has, IsEntry}
+use Rattle.pb_history.specs.AcknowledgedTold.{TellsAcknowledged}
+use Rattle.pb_history.specs.Laws.{TransactionsAreTold, JournalsAreSound, AcknowledgedIsEarlier}
+use Rattle.pb_history.specs.TransactionsTold.{names_start, entries_naming, transaction_by, TellsTransactions}
 use Rattle.pb_txn.specs.declared.place.Place.TheVariants as orders
 use Rattle.pb_txn.specs.declared.place.Place as order
 use Rattle.pb_txn.specs.Places as steps
@@ -36,12 +40,13 @@ use Rattle.pb_txn.specs.Allowed.{IsInRange, IsTimely, PlansAreAllowed}
 use Rattle.pb_txn.specs.Forms.{PlansTalk, PlansEnd}
 use Rattle.pb_notify.specs.declared.look.Look.{Look}
 use Rattle.pb_notify.specs.declared.place.Place.{Place}
-use Rattle.pb_notify.specs.declared.place.Place.TheVariants.{Beginning, Observing, Acknowledging, Starting, Computing, Asking, Planning, Sweeping, Over}
+use Rattle.pb_notify.specs.declared.place.Place.TheVariants.{Beginning, Observing, Acknowledging, Recalling, Starting, Computing, Asking, Planning, Sweeping, Over}
+use Rattle.pb_notify.specs.Forms.{IsAcknowledged}
 use Rattle.pb_notify.specs.Looks.{look_step}
 use Rattle.pb_notify.specs.Places.{step_at}
 use Rattle.pb_notify.specs.Allowed.{entries_by, HasRun, JobsAreAllowed}
 use Rattle.pb_notify.proofs.RunTalk as talk
-use Rattle.pb_notify.proofs.RecordedReads.{after, after_is, after_append, has_append, with_reads, IsRecorded, HasRead, in_look, cell_begins, observed, has_read, is_newer}
+use Rattle.pb_notify.proofs.RecordedReads.{after, after_is, after_append, has_append, with_reads, IsRecorded, HasRead, in_look, cell_begins, observed, acknowledged, has_read, is_newer, itself}
 use Rattle.pb_notify.proofs.ItsRun.{its_run}
 use Rattle.pb_notify.proofs.PlanEntries.{has_said}
 use Rattle.pb_notify.proofs.PlanSteps.{keeps, declaring_said_nothing, plan_step, plan_keeps}
@@ -56,8 +61,36 @@ none_some t e = cc
 same_transaction : (o : Option TransactionOf) (t v : TransactionOf) → o ≡ Some t → o ≡ Some v → t ≡ v
 same_transaction o t v p q = cc
 
+has_last : (xs : List Received) (x : Received) → Has (xs ++ x ∷ []) x
+has_last [] x = inl refl
+has_last (y ∷ ys) x = inr (has_last ys x)
+
+if_has : (b : Bool) (e d : Entry) (es : List Entry) → Has (cond b (e ∷ es) es) d → Has (e ∷ es) d
+if_has true e d es h = h
+if_has false e d es h = inr h
+
+more_has : (e d : Entry) (xs ys : List Entry) → (Has xs d → Has ys d) → Has (e ∷ xs) d → Has (e ∷ ys) d
+more_has e d xs ys f (inl is) = inl is
+more_has e d xs ys f (inr h) = inr (f h)
+
+has_unfiltered : (p : Entry → Bool) (es : List Entry) (d : Entry) → Has (filter p es) d → Has es d
+has_unfiltered p [] d h = absurd h
+has_unfiltered p (e ∷ es) d h = more_has e d (filter p es) es (has_unfiltered p es d) (if_has (p e) e d (filter p es) h)
+
+keeps_has : (b : Bool) (e d : Entry) (es : List Entry) → Has es d → Has (cond b (e ∷ es) es) d
+keeps_has true e d es h = inr h
+keeps_has false e d es h = h
+
+has_filtered : (s : Ts) (seat : ℕ) (said : List Received) (r : Received) → Has said r → names_start s.0 r.step r.answer ≡ true
+    → Has (entries_naming s.0 (entries_by seat said)) (record { seat = seat; step = r.step; answer = r.answer })
+has_filtered s seat [] r h names = absurd h
+has_filtered s seat (x ∷ xs) r (inl is) names =
+    subst (λ (z : Received). Has (entries_naming s.0 (entries_by seat (z ∷ xs))) (record { seat = seat; step = r.step; answer = r.answer })) (sym is)
+    (subst (λ b. Has (cond b (record { seat = seat; step = r.step; answer = r.answer } ∷ entries_naming s.0 (entries_by seat xs)) (entries_naming s.0 (entries_by seat xs))) (record { seat = seat; step = r.step; answer = r.answer })) (sym names) (inl refl))
+has_filtered s seat (x ∷ xs) r (inr h) names = keeps_has (names_start s.0 x.step x.answer) _ _ _ (has_filtered s seat xs r h names)
+
 module _ (observers : List ObserverOf) (seats clock : ℕ) (journal : List Entry) (state : StateOf) (legal : IsLegal observers seats clock journal state) (allowed : PlansAreAllowed)
-    (tells : TellsTransactions journal state) (seat o : ℕ) (row : Row) (observer : ObserverOf) (first_there : slice_get observers o ≡ Some observer) (there : slice_get state.observers o ≡ Some observer)
+    (tells : TellsTransactions journal state) (earlier : TellsAcknowledged journal) (seat o : ℕ) (row : Row) (observer : ObserverOf) (first_there : slice_get observers o ≡ Some observer) (there : slice_get state.observers o ≡ Some observer)
     (row_fits : row.0 < 2 ^ 64) (column_fits : observer.column < 2 ^ 64) (seated : seat < state.seats) (said : List Received) (has : HasRun journal seat o row said) where
   column_is : observed_column state.observers o ≡ observer.column
   column_is = ap column_or_zero there
@@ -69,17 +102,36 @@ module _ (observers : List ObserverOf) (seats clock : ℕ) (journal : List Entry
   own_read : (s : Ts) (reads : List RecordedRead) → IsRecorded state.observers seat s o row said reads → IsOwn state seat s.0 (with_reads state.observers seat s o row reads)
   own_read s reads i = record { there = got s i.begun ∙ i.there; mine = refl }
 
+  abbrev second : Bool
+  second = tells_old observer.program
+
+  -- what was said is in the journal
+  had : (s : Ts) (r : Received) → Has said (told (Begin (works.Run o row)) (At s)) → Has said r → names_start s.0 r.step r.answer ≡ true → IsEntry journal seat r.step r.answer
+  had s r begun h names =
+      has_unfiltered (λ (e : Entry). names_start s.0 e.step e.answer) journal _
+      (subst (λ l. Has l (record { seat = seat; step = r.step; answer = r.answer })) (sym (has s begun)) (has_filtered s seat said r h names))
+
+  -- the acknowledged timestamp is at most the start
+  in_time : (s : Ts) (seen : Seen) (n : ℕ) (base rest : List Received) (reads : List RecordedRead) → IsRecorded state.observers seat s o row base reads → said ≡ base ++ rest
+      → IsAcknowledged o row observer.column s seen n base → seen.acknowledged.0 ≤ s.0
+  in_time s seen n base rest reads recorded is i =
+      let r = told (Read s (Ack o row observer.column)) i.answer in
+      let begun = subst (λ l. Has l (told (Begin (works.Run o row)) (At s))) (sym is) (has_append base rest _ recorded.begun) in
+      let there = subst (λ l. Has l r) (sym is) (has_append base rest r (subst (λ l. Has l r) (sym i.look.said_is) (has_last i.look.before r))) in
+      let low = earlier seat s o row observer.column i.answer (had s r begun there (itself s.0)) in
+      subst (λ (t : Ts). t.0 ≤ s.0) (sym i.acknowledged) low
+
   module _ (step : Step) (why : Reason) (refused : step_reason state seat step ≡ Some why) where
-    at_look : (s : Ts) (x : Cell) (look : Look) (reads : List RecordedRead) → IsRecorded state.observers seat s o row said reads → Some (look_step s x look) ≡ Some step → why ≡ OutOfTimestamps
-    at_look s x look reads i next =
-        absurd (looks_in_time state seat why seated s.0 (with_reads state.observers seat s o row reads) (own_read s reads i) s x look step refl refl next refused)
+    at_look : (s : Ts) (x : Cell) (at : Option Ts) (look : Look) (reads : List RecordedRead) → IsRecorded state.observers seat s o row said reads → read_up_to s.0 at ≤ s.0 → Some (look_step s x at look) ≡ Some step → why ≡ OutOfTimestamps
+    at_look s x at look reads i in_time next =
+        absurd (looks_in_time state seat why seated s.0 (with_reads state.observers seat s o row reads) (own_read s reads i) s x at look step refl refl in_time next refused)
 
     module _ (n r : ℕ) (p : PlanOf) (i : talk.IsPlanned o observer.program row observer.column n r p said) where
       abbrev what : Declared
       what = declared.Run o i.run
 
-      read : HasRead state.observers seat i.s o row observer.column i.seen i.talk i.base
-      read = has_read state.observers seat i.s o row observer.column i.seen i.talk n i.base i.asked
+      read : HasRead state.observers seat i.s o row second observer.column i.seen i.talk i.base
+      read = has_read state.observers seat i.s o row second observer.column i.seen i.talk n i.base i.asked
 
       abbrev u : TransactionOf
       u = with_reads state.observers seat i.s o row read.reads
@@ -104,17 +156,19 @@ module _ (observers : List ObserverOf) (seats clock : ℕ) (journal : List Entry
             seen = i.seen;
             asked = read.asked;
             was = record {
-              first = w.first;
-              second = w.second;
+              found_by = w.found_by;
+              acknowledged_by = w.acknowledged_by;
+              rest = w.rest;
               reads_are = w.reads_are;
-              observed = w.observed ∙ ap (Data row) (sym column_is);
+              observed = record { cell = w.observed.cell ∙ ap (Data row) (sym column_is); at = w.observed.at };
               found = w.found;
-              acknowledgment = w.acknowledgment ∙ ap (Ack o row) (sym column_is);
+              acknowledgment = record { cell = w.acknowledgment.cell ∙ ap (Ack o row) (sym column_is); at = w.acknowledgment.at };
               acknowledged = w.acknowledged;
+              old = subst (λ c. WasOld (old_at second i.seen.acknowledged) (Data row c) w.rest i.seen.old read.asked) (sym column_is) w.old;
             };
-            newer = is_newer i.s o row observer.column i.seen i.talk n i.base i.asked;
+            newer = is_newer i.s o second row observer.column i.seen i.talk n i.base i.asked;
             program = i.run_on.program;
-            bytes = i.run_on.bytes ∙ ap (λ c. record_of (Data row c) i.seen.version i.seen.acknowledged.0) (sym column_is);
+            bytes = i.run_on.bytes ∙ ap (λ c. record_by second (Data row c) i.seen.version i.seen.acknowledged.0 i.seen.old) (sym column_is);
             began = i.run_on.began;
             replied = subst (AreReplies read.asked) (sym i.run_on.talk_is) read.replied;
           })
@@ -153,23 +207,28 @@ module _ (observers : List ObserverOf) (seats clock : ℕ) (journal : List Entry
     at_place : (n : ℕ) (place : Place) → talk.SoFar o observer.program row observer.column n place said → step_at o row observer.column place ≡ Some step → why ≡ OutOfTimestamps
     at_place n Beginning so next =
         begins_in_time state seat why seated o row observer there (subst (λ z. step_reason state seat z ≡ Some why) (sym (same_step (Begin (works.Run o row)) step next)) refused)
-    at_place n (Observing s look) so next = at_look s _ look [] (cell_begins state.observers seat s o row observer.column look n said so) next
+    at_place n (Observing s look) so next = at_look s _ None look [] (cell_begins state.observers seat s o row second observer.column look n said so) (omega arith) next
     at_place n (Acknowledging s found look) so next =
-        at_look s _ look _ (in_look state.observers seat s o row (Ack o row observer.column) so.0 so.1 look n said _ (observed state.observers seat s o row observer.column found so.0 so.1 so.2) so.3) next
+        at_look s _ None look _ (in_look state.observers seat s o row (Ack o row observer.column) None so.0 so.1 look n said _ (observed state.observers seat s o row second observer.column found so.0 so.1 so.2) so.3) (omega arith) next
+    at_place n (Recalling s seen look) so next =
+        let recorded = acknowledged state.observers seat s o row second observer.column seen so.0 so.1 so.2 in
+        let from = talk.look_goes_on s (Data row observer.column) (Some seen.acknowledged) so.0 so.1 look n said so.5 in
+        at_look s _ (Some seen.acknowledged) look _ (in_look state.observers seat s o row (Data row observer.column) (Some seen.acknowledged) so.0 so.1 look n said _ recorded so.5)
+        (in_time s seen so.0 so.1 from.0 _ recorded from.1 so.2) next
     at_place n (Starting s seen) so next = absurd (none_some step next)
     at_place n (Computing s v) so next = absurd (none_some step next)
     at_place n (Asking s v q look) so next =
-        let r = has_read state.observers seat s o row observer.column so.0 v.talk so.1 so.2 so.4 in
-        at_look s _ look r.reads (in_look state.observers seat s o row (Data q.row q.column) so.1 so.2 look n said r.reads r.recorded so.5) next
+        let r = has_read state.observers seat s o row second observer.column so.0 v.talk so.1 so.2 so.4 in
+        at_look s _ None look r.reads (in_look state.observers seat s o row (Data q.row q.column) None so.1 so.2 look n said r.reads r.recorded so.5) (omega arith) next
     at_place n (Planning r p) so next = at_plan n r p so next
     at_place n (Sweeping end) so next =
         absurd (no_transaction state seat why seated (subst (λ z. step_reason state seat z ≡ Some why) (sym (same_step (Sweep (Data row observer.column)) step next)) refused))
     at_place n (Over end) so next = absurd (none_some step next)
 
-pub jobs_allowed : PlansTalk → PlansEnd → PlansAreAllowed → TransactionsAreTold → JournalsAreSound → JobsAreAllowed
-jobs_allowed pt pe allowed told_by sound observers seats clock journal state legal seat o observer row said k step why seated there row_fits column_fits reaches has next refused =
+pub jobs_allowed : PlansTalk → PlansEnd → PlansAreAllowed → TransactionsAreTold → JournalsAreSound → AcknowledgedIsEarlier → JobsAreAllowed
+jobs_allowed pt pe allowed told_by sound earlier observers seats clock journal state legal seat o observer row said k step why seated there row_fits column_fits reaches has next refused =
     let h = talk.holds o observer.program row observer.column pt pe said k reaches in
     let os_is = (sound observers seats clock journal state legal).observers_stay in
     let here : step_at o row observer.column k.place ≡ Some step = (λ i. step_at (sym h.observer i) (sym h.in_row i) (sym h.in_column i) k.place) ∙ next in
-    at_place observers seats clock journal state legal allowed (told_by observers seats clock journal state legal) seat o row observer there (ap (λ os. slice_get os o) os_is ∙ there)
+    at_place observers seats clock journal state legal allowed (told_by observers seats clock journal state legal) (earlier observers seats clock journal state legal) seat o row observer there (ap (λ os. slice_get os o) os_is ∙ there)
     row_fits column_fits seated said has step why refused k.locked k.place h.so here

@@ -1,11 +1,14 @@
 -- A run of its observer's program on what it read is one that its transaction may declare.
-use Rattle.std.proofs.Common.{◌≡◌, ℕ, true, cond, ◌&&◌, List, [], ◌∷◌, Some, None, refl, sym, ap, ◌∙◌}
+use Rattle.std.proofs.Common.{◌≡◌, ℕ, Bool, true, cond, ◌&&◌, List, [], ◌∷◌, Option, Some, None, refl, sym, ap, ◌∙◌}
 use Rattle.std.specs.Ordering.{eq_by_cmp, is_eq}
 use Rattle.std.specs.Cmp.{tied_itself}
 use Rattle.std.specs.Coded.{coded_ℕ, coded_list}
 use Rattle.std.proofs.lemmas.Bool.{eq-eqb, lt-ltb}
 use Rattle.pb_base.specs.declared.cell.Cell.{Cell}
 use Rattle.pb_base.specs.declared.names.Row.{Row}
+use Rattle.pb_base.specs.declared.names.Ts.{Ts}
+use Rattle.pb_isa.specs.Machine.{Reply}
+use Rattle.pb_helpers.specs.OldRecord.{tells_old}
 use Rattle.pb_base.specs.Cell.{cell_cmp, cell_cmp_total}
 use Rattle.pb_base.specs.Same.{is_same}
 use Rattle.pb_isa.specs.Programs.{judged_code}
@@ -15,23 +18,43 @@ use Rattle.pb_steps.specs.declared.seen.RecordedRead.{RecordedRead}
 use Rattle.pb_steps.specs.declared.seen.Seen.{Seen}
 use Rattle.pb_steps.specs.declared.step.Work.TheVariants as works
 use Rattle.pb_steps.specs.declared.step.Declared.TheVariants as declared
-use Rattle.pb_steps.specs.Reads.{version_in, value_in, value_code, asked_cell}
+use Rattle.pb_steps.specs.Reads.{version_in, acknowledged_in, value_in, value_code, asked_cell}
 use Rattle.pb_steps.specs.Observers.{ObserverOf, observed_cell, acknowledgment}
-use Rattle.pb_steps.specs.Declarations.{WasSeen, AreReplies, IsItsRun, seen_by, seen_in, asked_in, are_replies, is_run, is_its}
+use Rattle.pb_steps.specs.Declarations.{IsReadOf, old_at, WasOld, WasSeen, AreReplies, IsItsRun, is_at, is_read_of, with_old, seen_by, seen_in, asked_in, are_replies, is_run, is_run_by, is_its}
 
 same_cells : (x y : Cell) → x ≡ y → eq_by_cmp cell_cmp x y ≡ true
 same_cells x y e = ap (eq_by_cmp cell_cmp x) (sym e) ∙ ap is_eq (tied_itself cell_cmp_total x)
 
-seen_is : (x ack : Cell) (reads asked : List RecordedRead) (seen : Seen) → WasSeen x ack reads seen asked → seen_in x ack reads ≡ Some seen
-seen_is x ack reads asked seen w =
-    ap (seen_in x ack) w.reads_are
-    ∙ (λ i. cond (same_cells w.first.cell x w.observed i && same_cells w.second.cell ack w.acknowledgment i) (seen_by (version_in w.first.answer) w.second.answer) None)
-    ∙ ap (λ v. seen_by v w.second.answer) w.found
-    ∙ ap (λ a. Some (record { version = seen.version; acknowledged = a })) (sym w.acknowledged)
+at_itself : (at : Option Ts) → is_at at at ≡ true
+at_itself None = refl
+at_itself (Some t) = eq-eqb t.0 t.0 refl
+
+is_read : (r : RecordedRead) (x : Cell) (named : Option Ts) → IsReadOf r x named → is_read_of r x named ≡ true
+is_read r x named h = λ i. same_cells r.cell x h.cell i && (ap (is_at r.at) (sym h.at) ∙ at_itself r.at) i
+
+old_is : (at : Option Ts) (x : Cell) (seen : Seen) (rest asked : List RecordedRead) → WasOld at x rest seen.old asked
+    → with_old at x (record { version = seen.version; acknowledged = seen.acknowledged; old = None }) rest ≡ Some seen
+old_is None x seen rest asked w = ap (λ o. Some (record { version = seen.version; acknowledged = seen.acknowledged; old = o })) (sym w.0)
+old_is (Some t) x seen rest asked w =
+    ap (with_old (Some t) x (record { version = seen.version; acknowledged = seen.acknowledged; old = None })) w.3
+    ∙ (λ i. cond (is_read w.0 x (Some t) w.1 i) (Some (record { version = seen.version; acknowledged = seen.acknowledged; old = value_in w.0.answer })) None)
+    ∙ ap (λ o. Some (record { version = seen.version; acknowledged = seen.acknowledged; old = o })) (sym w.2)
+
+asked_is : (at : Option Ts) (x : Cell) (r q : RecordedRead) (old : Reply) (rest asked : List RecordedRead) → WasOld at x rest old asked → asked_in at (r ∷ q ∷ rest) ≡ asked
+asked_is None x r q old rest asked w = w.1
+asked_is (Some t) x r q old rest asked w = ap (λ l. asked_in (Some t) (r ∷ q ∷ l)) w.3
+
+seen_is : (x ack : Cell) (second : Bool) (reads asked : List RecordedRead) (seen : Seen) → WasSeen x ack second reads seen asked → seen_in x ack second reads ≡ Some seen
+seen_is x ack second reads asked seen w =
+    ap (seen_in x ack second) w.reads_are
+    ∙ (λ i. cond (is_read w.found_by x None w.observed i && is_read w.acknowledged_by ack None w.acknowledgment i) (seen_by second x (version_in w.found_by.answer) (acknowledged_in w.acknowledged_by.answer) w.rest) None)
+    ∙ ap (λ v. seen_by second x v (acknowledged_in w.acknowledged_by.answer) w.rest) w.found
+    ∙ ap (λ a. seen_by second x (Some seen.version) a w.rest) (sym w.acknowledged)
+    ∙ old_is (old_at second seen.acknowledged) x seen w.rest asked w.old
 
 replies_are : (asked : List RecordedRead) (talk : Talk) → AreReplies asked talk → are_replies asked talk ≡ true
 replies_are [] [] h = refl
-replies_are (r ∷ rs) (a ∷ talk) h = λ i. (same_cells r.cell (asked_cell a.0) h.0 i && is_same value_code a.1 (value_in r.answer) h.1 i) && replies_are rs talk h.2 i
+replies_are (r ∷ rs) (a ∷ talk) h = λ i. (is_read r (asked_cell a.0) None h.0 i && is_same value_code a.1 (value_in r.answer) h.1 i) && replies_are rs talk h.2 i
 replies_are [] (a ∷ talk) h = absurd h
 replies_are (r ∷ rs) [] h = absurd h
 
@@ -40,5 +63,10 @@ pub its_run : (observers : List ObserverOf) (o : ℕ) (row : Row) (s : ℕ) (rea
 its_run observers o row s reads f i =
     let x = observed_cell observers o row in
     let ack = acknowledgment observers o row in
-    (λ j. eq-eqb o o refl j && (is_run (i.observer_is j) x s f (seen_is x ack reads i.asked i.seen i.was j) && are_replies (ap asked_in i.was.reads_are j) f.talk))
-    ∙ (λ j. (lt-ltb _ _ i.newer j && (is_same judged_code f.judged i.observer.program i.program j && is_same (coded_list coded_ℕ) f.bytes _ i.bytes j && eq-eqb f.began s i.began j)) && replies_are i.asked f.talk i.replied j)
+    let second = tells_old i.observer.program in
+    let asked : asked_in (old_at second i.seen.acknowledged) reads ≡ i.asked =
+    ap (asked_in (old_at second i.seen.acknowledged)) i.was.reads_are ∙ asked_is (old_at second i.seen.acknowledged) x i.was.found_by i.was.acknowledged_by i.seen.old i.was.rest i.asked i.was.old in
+    (λ j. eq-eqb o o refl j && is_run_by (i.observer_is j) x ack s reads f)
+    ∙ ap (is_run i.observer.program x s reads f) (seen_is x ack second reads i.asked i.seen i.was)
+    ∙ (λ j. (lt-ltb _ _ i.newer j && (is_same judged_code f.judged i.observer.program i.program j && is_same (coded_list coded_ℕ) f.bytes _ i.bytes j && eq-eqb f.began s i.began j)) && are_replies (asked j) f.talk)
+    ∙ replies_are i.asked f.talk i.replied

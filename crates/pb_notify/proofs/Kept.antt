@@ -4,8 +4,10 @@ use Rattle.std.specs.Prelude.{nat_lt}
 use Rattle.pb_base.specs.declared.cell.Cell.{Cell}
 use Rattle.pb_base.specs.declared.names.Row.{Row}
 use Rattle.pb_base.specs.declared.names.Ts.{Ts}
-use Rattle.pb_base.specs.declared.content.Version.{Version}
+use Rattle.pb_base.specs.declared.content.Revision.{Revision}
 use Rattle.pb_isa.specs.Programs.{JudgedOf}
+use Rattle.pb_helpers.specs.OldRecord.{tells_old}
+use Rattle.pb_steps.specs.Declarations.{old_at}
 use Rattle.pb_helpers.specs.declared.ask.Ask.{Ask}
 use Rattle.pb_vm.specs.declared.moved.Phase.TheVariants as phases
 use Rattle.pb_vm.specs.Position.{Position}
@@ -28,10 +30,10 @@ use Rattle.pb_notify.specs.declared.machine.stepped.Stepped.{Stepped}
 use Rattle.pb_notify.specs.declared.machine.stepped.Stepped.TheVariants as did
 use Rattle.pb_notify.specs.declared.need.JobEnd.TheVariants as ends
 use Rattle.pb_notify.specs.declared.place.Place.{Place}
-use Rattle.pb_notify.specs.declared.place.Place.TheVariants.{Beginning, Observing, Acknowledging, Starting, Computing, Asking, Planning, Sweeping, Over}
+use Rattle.pb_notify.specs.declared.place.Place.TheVariants.{Beginning, Observing, Acknowledging, Recalling, Starting, Computing, Asking, Planning, Sweeping, Over}
 use Rattle.pb_notify.specs.Looks.{look_after, locked_after}
 use Rattle.pb_notify.specs.Steps.{Steps}
-use Rattle.pb_notify.specs.Places.{place_after, locked_at, after_begin, if_found, after_cell, after_acknowledgment, after_ask, by_outcome, place_of, Comes, ComesFrom, AtPlace, step_at}
+use Rattle.pb_notify.specs.Places.{place_after, locked_at, after_begin, if_found, after_cell, if_recalled, seen_so_far, after_acknowledgment, after_recall, after_ask, by_outcome, place_of, Comes, ComesFrom, AtPlace, step_at}
 use Rattle.pb_notify.specs.Runs.{RunOf, answered, need_at}
 use Rattle.pb_notify.specs.declared.need.Need.TheVariants as needs
 use Rattle.pb_notify.proofs.PlansFit.{fits_after, next_is}
@@ -63,7 +65,7 @@ at_begun : (n : ℕ) (a : Answer) → n < MAX_LOCKED → AtPlace n (after_begin 
 at_begun n (At s) few = few
 at_begun n _ few = few
 
-at_found : (n : ℕ) (s : Ts) (found : Option Version) → n < MAX_LOCKED → AtPlace n (if_found s found)
+at_found : (n : ℕ) (s : Ts) (found : Option Revision) → n < MAX_LOCKED → AtPlace n (if_found s found)
 at_found n s None few = tt
 at_found n s (Some v) few = few
 
@@ -72,15 +74,24 @@ at_observed n s (On look) few = few
 at_observed n s (Tells a) few = at_found n s (version_in a) few
 at_observed n s Blocks few = tt
 
-at_dirty : (n : ℕ) (b : Bool) (s : Ts) (seen : Seen) → n < MAX_LOCKED → AtPlace n (cond b (Starting s seen) (Sweeping ends.Clean))
-at_dirty n true s seen few = few
-at_dirty n false s seen few = tt
+at_recalled : (n : ℕ) (s : Ts) (seen : Seen) (at : Option Ts) → n < MAX_LOCKED → AtPlace n (if_recalled s seen at)
+at_recalled n s seen None few = few
+at_recalled n s seen (Some t) few = few
 
-at_acknowledged : (n : ℕ) (s : Ts) (found : Version) (looked : Looked) → IsFew looked n → AtPlace n (after_acknowledgment s found looked)
-at_acknowledged n s found (On look) few = few
-at_acknowledged n s found (Tells a) few =
-    at_dirty n (nat_lt (acknowledged_in a).0 found.commit.0) s (record { version = found; acknowledged = acknowledged_in a }) few
-at_acknowledged n s found Blocks few = tt
+at_dirty : (n : ℕ) (b : Bool) (s : Ts) (seen : Seen) (at : Option Ts) → n < MAX_LOCKED → AtPlace n (cond b (if_recalled s seen at) (Sweeping ends.Clean))
+at_dirty n true s seen at few = at_recalled n s seen at few
+at_dirty n false s seen at few = tt
+
+at_acknowledged : (n : ℕ) (second : Bool) (s : Ts) (found : Revision) (looked : Looked) → IsFew looked n → AtPlace n (after_acknowledgment second s found looked)
+at_acknowledged n second s found (On look) few = few
+at_acknowledged n second s found (Tells a) few =
+    at_dirty n (nat_lt (acknowledged_in a).0 found.commit.0) s (seen_so_far found (acknowledged_in a)) (old_at second (acknowledged_in a)) few
+at_acknowledged n second s found Blocks few = tt
+
+at_recalling : (n : ℕ) (s : Ts) (seen : Seen) (looked : Looked) → IsFew looked n → AtPlace n (after_recall s seen looked)
+at_recalling n s seen (On look) few = few
+at_recalling n s seen (Tells a) few = few
+at_recalling n s seen Blocks few = tt
 
 at_asked : (n : ℕ) (s : Ts) (v : Position) (q : Ask) (looked : Looked) → v.phase ≡ phases.Asking q → IsFew looked n → AtPlace n (after_ask s v q looked)
 at_asked n s v q (On look) asks few = (few, asks)
@@ -93,16 +104,17 @@ at_outcome n r p (Some (outcomes.Committed c)) is fits = tt
 at_outcome n r p (Some outcomes.Conflicted) is fits = tt
 at_outcome n r p (Some outcomes.Lost) is fits = tt
 
-pub at_after : (locked : ℕ) (place : Place) (a : Answer) → AtPlace locked place → AtPlace (locked_at locked place a) (place_after locked place a)
-at_after locked Beginning a at = at_begun locked a at
-at_after locked (Observing s look) a at = at_observed _ s (look_after locked look a) (look_few locked look a at)
-at_after locked (Acknowledging s found look) a at = at_acknowledged _ s found (look_after locked look a) (look_few locked look a at)
-at_after locked (Starting s seen) a at = at
-at_after locked (Computing s v) a at = at
-at_after locked (Asking s v q look) a at = at_asked _ s v q (look_after locked look a) at.1 (look_few locked look a at.0)
-at_after locked (Planning r p) a at = at_outcome locked r (plans.answered p a) (outcome_of (plans.answered p a)) refl (fits_after _ p.place a at.1)
-at_after locked (Sweeping end) a at = tt
-at_after locked (Over end) a at = tt
+pub at_after : (second : Bool) (locked : ℕ) (place : Place) (a : Answer) → AtPlace locked place → AtPlace (locked_at locked place a) (place_after second locked place a)
+at_after second locked Beginning a at = at_begun locked a at
+at_after second locked (Observing s look) a at = at_observed _ s (look_after locked look a) (look_few locked look a at)
+at_after second locked (Acknowledging s found look) a at = at_acknowledged _ second s found (look_after locked look a) (look_few locked look a at)
+at_after second locked (Recalling s seen look) a at = at_recalling _ s seen (look_after locked look a) (look_few locked look a at)
+at_after second locked (Starting s seen) a at = at
+at_after second locked (Computing s v) a at = at
+at_after second locked (Asking s v q look) a at = at_asked _ s v q (look_after locked look a) at.1 (look_few locked look a at.0)
+at_after second locked (Planning r p) a at = at_outcome locked r (plans.answered p a) (outcome_of (plans.answered p a)) refl (fits_after _ p.place a at.1)
+at_after second locked (Sweeping end) a at = tt
+at_after second locked (Over end) a at = tt
 
 -- ---- instructions
 
@@ -121,7 +133,7 @@ at_computed locked o judged x _ next comes at = absurd comes
 
 -- ---- the whole job
 
-pub answered_is : (j : RunOf) (a : Answer) (n : ℕ) (place : Place) → n ≡ locked_at j.locked j.place a → place ≡ place_after j.locked j.place a
+pub answered_is : (j : RunOf) (a : Answer) (n : ℕ) (place : Place) → n ≡ locked_at j.locked j.place a → place ≡ place_after (tells_old j.judged) j.locked j.place a
     → record j { locked = n; place = place } ≡ answered j a
 answered_is j a n place n-is place-is = λ i. record j { locked = n-is i; place = place-is i }
 
@@ -130,6 +142,7 @@ pub call_has_next : (o : ℕ) (row : Row) (column locked : ℕ) (place : Place) 
 call_has_next o row column locked Beginning at e = (_, refl)
 call_has_next o row column locked (Observing s look) at e = (_, refl)
 call_has_next o row column locked (Acknowledging s found look) at e = (_, refl)
+call_has_next o row column locked (Recalling s seen look) at e = (_, refl)
 call_has_next o row column locked (Starting s seen) at e = absurd cc
 call_has_next o row column locked (Computing s v) at e = absurd cc
 call_has_next o row column locked (Asking s v q look) at e = (_, refl)

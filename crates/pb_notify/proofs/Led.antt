@@ -1,21 +1,28 @@
 -- The machine of a job was led from entry to where it stands.
-use Rattle.std.proofs.Common.{◌≡◌, ℕ, Bool, true, false, cond, List, [], length, Option, Some, None, refl, sym, ap, subst, ◌∙◌, append-nil}
+use Rattle.std.proofs.Common.{◌≡◌, ℕ, Bool, true, false, cond, List, [], ◌∷◌, length, Option, Some, None, refl, sym, ap, subst, ◌∙◌}
 use Rattle.std.specs.Prelude.{nat_lt}
 use Rattle.pb_base.specs.declared.cell.Cell.{Cell}
 use Rattle.pb_base.specs.declared.cell.Cell.TheVariants.{Data}
 use Rattle.pb_base.specs.declared.names.Row.{Row}
 use Rattle.pb_base.specs.declared.names.Ts.{Ts}
-use Rattle.pb_base.specs.declared.content.Version.{Version}
-use Rattle.pb_isa.specs.declared.limits.TheConstants.{RECORD_BYTES}
+use Rattle.pb_base.specs.declared.content.Revision.{Revision}
+use Rattle.pb_helpers.specs.OldRecord.{tells_old}
+use Rattle.pb_steps.specs.Declarations.{old_at}
 use Rattle.pb_isa.specs.Programs.{JudgedOf}
-use Rattle.pb_isa.specs.Machine.{Placement, IsPlacement, Environment, State, start}
-use Rattle.pb_isa.specs.Meaning.{Leads, point_after, environment_of}
+use Rattle.pb_isa.specs.Machine.{Placement, IsPlacement, Environment, State}
+use Rattle.pb_isa.specs.Meaning.{Leads, environment_of}
 use Rattle.pb_helpers.specs.declared.ask.Ask.{Ask}
 use Rattle.pb_vm.specs.Position.{Position}
-use Rattle.pb_vm.specs.Moves.{IsAtState, SameGiven, Went, AskedFor}
+use Rattle.pb_vm.specs.Moves.{IsAtState, SameGiven, Went, AskedFor, AsksAt, environment_at}
+use Rattle.pb_isa.specs.Machine.{act, Asks}
+use Rattle.pb_helpers.specs.Replies.{ask_of}
+use Rattle.pb_vm.specs.Finished.{Meant}
+use Rattle.pb_steps.specs.declared.step.Declared.{Declared}
+use Rattle.pb_steps.specs.declared.step.Declared.TheVariants as declared
+use Rattle.pb_txn.specs.Talks as plan_talks
 use Rattle.pb_steps.specs.declared.seen.Seen.{Seen}
 use Rattle.pb_steps.specs.declared.step.Answer.{Answer}
-use Rattle.pb_steps.specs.declared.step.Answer.TheVariants.{At}
+use Rattle.pb_steps.specs.declared.step.Answer.TheVariants.{At, Absent}
 use Rattle.pb_steps.specs.Reads.{version_in, acknowledged_in}
 use Rattle.pb_history.specs.declared.entry.Received.{Received}
 use Rattle.pb_txn.specs.declared.place.Outcome.{Outcome}
@@ -29,24 +36,18 @@ use Rattle.pb_notify.specs.declared.machine.stepped.Stepped.{Stepped}
 use Rattle.pb_notify.specs.declared.machine.stepped.Stepped.TheVariants as did
 use Rattle.pb_notify.specs.declared.need.JobEnd.TheVariants as ends
 use Rattle.pb_notify.specs.declared.place.Place.{Place}
-use Rattle.pb_notify.specs.declared.place.Place.TheVariants.{Beginning, Observing, Acknowledging, Starting, Computing, Asking, Planning, Sweeping, Over}
+use Rattle.pb_notify.specs.declared.place.Place.TheVariants.{Beginning, Observing, Acknowledging, Recalling, Starting, Computing, Asking, Planning, Sweeping, Over}
 use Rattle.pb_notify.specs.Looks.{look_after}
-use Rattle.pb_notify.specs.Machines.{first_position}
 use Rattle.pb_notify.specs.Steps.{Steps}
-use Rattle.pb_notify.specs.Places.{place_after, after_begin, if_found, after_cell, after_acknowledgment, after_ask, by_outcome, place_of, Comes, ComesFrom, IsToldBy, IsToldAt}
+use Rattle.pb_notify.specs.Places.{place_after, after_begin, if_found, after_cell, if_recalled, seen_so_far, after_acknowledgment, after_recall, after_ask, by_outcome, place_of, Comes, ComesFrom, IsToldBy, IsToldAt}
 use Rattle.pb_notify.specs.Runs.{RunOf, fresh}
 use Rattle.pb_notify.specs.Talks.{Reaches, made, took, computed}
-use Rattle.pb_notify.specs.Led.{MachineStandsAt, IsLed, IsMachineOf, MachinesAreLed}
+use Rattle.pb_notify.specs.Forms.{IsLooking}
+use Rattle.pb_notify.specs.Led.{MachineStandsAt, IsLed, IsMachineOf, MachinesAreLed, IsAskingAt, HasEnded, IsEndedRun, AsksAreOpen, EndedRunsMean}
+use Rattle.pb_notify.proofs.LookTalk as looks
 use Rattle.pb_notify.proofs.RunTalk as talk
 
 -- ---- the machine alone
-
-first : (e : Environment) → Leads e [] 0 (start e)
-unfolding point_after
-first e = refl
-
-at_entry : (judged : JudgedOf) (bytes : List ℕ) (began : ℕ) → IsLed (first_position judged bytes began)
-at_entry judged bytes began a p = (start (environment_of judged bytes began a), first (environment_of judged bytes began a))
 
 -- the same placement of the same record
 same_bytes : (v w : Position) (a : Placement) → w.bytes ≡ v.bytes → IsPlacement (length w.bytes) a → IsPlacement (length v.bytes) a
@@ -65,24 +66,38 @@ asks_led v q w asks a p =
     let at = asks.at a (same_bytes v w a asks.given.bytes p) in
     (at.here, same_state v w a at.here asks.given asks.talk asks.taken at.was)
 
+-- and its next instruction asks for the cell
+asks_open : (v : Position) (q : Ask) (w : Position) → AskedFor v q w → (a : Placement) → IsPlacement (length w.bytes) a → AsksAt w q a
+asks_open v q w asks a p =
+    let at = asks.at a (same_bytes v w a asks.given.bytes p) in
+    record {
+      here = at.here;
+      goes = at.goes;
+      was = same_state v w a at.here asks.given asks.talk asks.taken at.was;
+      acts = subst (λ (e : Environment). act e at.here ≡ Asks (ask_of q) at.goes) (λ i. environment_of (sym asks.given.judged i) (sym asks.given.bytes i) (sym asks.given.began i) a) at.acts;
+    }
+
 -- ---- at a place
 
 abbrev HasSize : Position → Type 0
-HasSize v = length v.bytes ≡ RECORD_BYTES
+HasSize v = length v.bytes ≡ v.judged.record_size
 
 sized : (v w : Position) → SameGiven v w → HasSize v → HasSize w
-sized v w given size = ap length given.bytes ∙ size
+sized v w given size = ap length given.bytes ∙ size ∙ ap (λ (j : JudgedOf). j.record_size) (sym given.judged)
+
+abbrev IsAsked : Position → Ask → Type 0
+IsAsked v q = (a : Placement) → IsPlacement (length v.bytes) a → AsksAt v q a
 
 abbrev AtLed : Place → Type 0
 AtLed (Computing s v) = IsLed v × HasSize v
-AtLed (Asking s v q look) = IsLed v × HasSize v
+AtLed (Asking s v q look) = IsLed v × HasSize v × IsAsked v q
 AtLed place = Unit {0}
 
 begun_led : (a : Answer) → AtLed (after_begin a)
 begun_led (At s) = tt
 begun_led _ = tt
 
-found_led : (s : Ts) (found : Option Version) → AtLed (if_found s found)
+found_led : (s : Ts) (found : Option Revision) → AtLed (if_found s found)
 found_led s None = tt
 found_led s (Some v) = tt
 
@@ -91,16 +106,25 @@ observed_led s (On look) = tt
 observed_led s (Tells a) = found_led s (version_in a)
 observed_led s Blocks = tt
 
-dirty_led : (b : Bool) (s : Ts) (seen : Seen) → AtLed (cond b (Starting s seen) (Sweeping ends.Clean))
-dirty_led true s seen = tt
-dirty_led false s seen = tt
+if_recalled_led : (s : Ts) (seen : Seen) (at : Option Ts) → AtLed (if_recalled s seen at)
+if_recalled_led s seen None = tt
+if_recalled_led s seen (Some t) = tt
 
-acknowledged_led : (s : Ts) (found : Version) (looked : Looked) → AtLed (after_acknowledgment s found looked)
-acknowledged_led s found (On look) = tt
-acknowledged_led s found (Tells a) = dirty_led (nat_lt (acknowledged_in a).0 found.commit.0) s (record { version = found; acknowledged = acknowledged_in a })
-acknowledged_led s found Blocks = tt
+dirty_led : (b : Bool) (s : Ts) (seen : Seen) (at : Option Ts) → AtLed (cond b (if_recalled s seen at) (Sweeping ends.Clean))
+dirty_led true s seen at = if_recalled_led s seen at
+dirty_led false s seen at = tt
 
-asked_led : (s : Ts) (v : Position) (q : Ask) (looked : Looked) → IsLed v × HasSize v → IsToldBy v q looked (after_ask s v q looked) → AtLed (after_ask s v q looked)
+acknowledged_led : (second : Bool) (s : Ts) (found : Revision) (looked : Looked) → AtLed (after_acknowledgment second s found looked)
+acknowledged_led second s found (On look) = tt
+acknowledged_led second s found (Tells a) = dirty_led (nat_lt (acknowledged_in a).0 found.commit.0) s (seen_so_far found (acknowledged_in a)) (old_at second (acknowledged_in a))
+acknowledged_led second s found Blocks = tt
+
+recalled_led : (s : Ts) (seen : Seen) (looked : Looked) → AtLed (after_recall s seen looked)
+recalled_led s seen (On look) = tt
+recalled_led s seen (Tells a) = tt
+recalled_led s seen Blocks = tt
+
+asked_led : (s : Ts) (v : Position) (q : Ask) (looked : Looked) → IsLed v × HasSize v × IsAsked v q → IsToldBy v q looked (after_ask s v q looked) → AtLed (after_ask s v q looked)
 asked_led s v q (On look) led is = led
 asked_led s v q (Tells b) led is = (λ a p. (_, (is.told.at a p).now), led.1)
 asked_led s v q Blocks led is = tt
@@ -111,20 +135,21 @@ outcome_led r p (Some (outcomes.Committed c)) = tt
 outcome_led r p (Some outcomes.Conflicted) = tt
 outcome_led r p (Some outcomes.Lost) = tt
 
-answered_led : (locked : ℕ) (place : Place) (a : Answer) → AtLed place → IsToldAt locked place a (place_after locked place a) → AtLed (place_after locked place a)
-answered_led locked Beginning a led is = begun_led a
-answered_led locked (Observing s look) a led is = observed_led s (look_after locked look a)
-answered_led locked (Acknowledging s found look) a led is = acknowledged_led s found (look_after locked look a)
-answered_led locked (Starting s seen) a led is = tt
-answered_led locked (Computing s v) a led is = led
-answered_led locked (Asking s v q look) a led is = asked_led s v q (look_after locked look a) led is
-answered_led locked (Planning r p) a led is = outcome_led r (plans.answered p a) (outcome_of (plans.answered p a))
-answered_led locked (Sweeping end) a led is = tt
-answered_led locked (Over end) a led is = tt
+answered_led : (second : Bool) (locked : ℕ) (place : Place) (a : Answer) → AtLed place → IsToldAt locked place a (place_after second locked place a) → AtLed (place_after second locked place a)
+answered_led second locked Beginning a led is = begun_led a
+answered_led second locked (Observing s look) a led is = observed_led s (look_after locked look a)
+answered_led second locked (Acknowledging s found look) a led is = acknowledged_led second s found (look_after locked look a)
+answered_led second locked (Recalling s seen look) a led is = recalled_led s seen (look_after locked look a)
+answered_led second locked (Starting s seen) a led is = tt
+answered_led second locked (Computing s v) a led is = led
+answered_led second locked (Asking s v q look) a led is = asked_led s v q (look_after locked look a) led is
+answered_led second locked (Planning r p) a led is = outcome_led r (plans.answered p a) (outcome_of (plans.answered p a))
+answered_led second locked (Sweeping end) a led is = tt
+answered_led second locked (Over end) a led is = tt
 
 stepped_led : (o : ℕ) (s : Ts) (v : Position) (stepped : Stepped) → HasSize v → Steps o v stepped → AtLed (place_of s stepped)
 stepped_led o s v (did.Went w) size st = (went_led v w st.went, sized v w st.went.given size)
-stepped_led o s v (did.Asks w q) size st = (asks_led v q w st, sized v w st.given size)
+stepped_led o s v (did.Asks w q) size st = (asks_led v q w st, sized v w st.given size, asks_open v q w st)
 stepped_led o s v (did.Ended r what) size st = tt
 
 comes_led : (o : ℕ) (s : Ts) (v : Position) (place : Place) → HasSize v → Comes o s v place → AtLed place
@@ -139,26 +164,65 @@ reached_led : (j : RunOf) (said : List Received) (k : RunOf) → AtLed j.place �
 reached_led j said k led made = led
 reached_led j said k led (took before from r to reaches next can is told) =
     let told-at = subst (λ (z : RunOf). IsToldAt from.locked from.place r.answer z.place) is told in
-    subst (λ (z : RunOf). AtLed z.place) (sym is) (answered_led from.locked from.place r.answer (reached_led j before from led reaches) told-at)
+    subst (λ (z : RunOf). AtLed z.place) (sym is) (answered_led (tells_old from.judged) from.locked from.place r.answer (reached_led j before from led reaches) told-at)
 reached_led j said k led (computed before from to reaches need c) = computed_led from.observer from.judged (Data from.row from.column) from.place to.place (reached_led j said from led reaches) c.comes
 
 -- ---- with what was said
 
 module _ (o : ℕ) (judged : JudgedOf) (row : Row) (column : ℕ) where
   -- a look goes on from what was said before it
-  machine_at : (said : List Received) (n : ℕ) (place : Place) (s : Ts) (v : Position) → MachineStandsAt place s v → talk.SoFar o judged row column n place said → AtLed place → IsMachineOf o judged row column s v said
+  machine_at : (said : List Received) (n : ℕ) (place : Place) (s : Ts) (v : Position) → MachineStandsAt place s v → talk.SoFar o judged row column n place said → AtLed place → IsMachineOf o judged row column place s v said
   machine_at said n (Computing t w) s v stands so led =
-      subst (λ (z : Position). IsMachineOf o judged row column s z said) stands.1
-      (subst (λ (z : Ts). IsMachineOf o judged row column z w said) stands.0
-      (record { seen = so.0; program = so.1.program; bytes = so.1.bytes; began = so.1.began; met = n; base = said; rest = []; said_is = sym (append-nil said); asked = so.2; size = led.1; led = led.0 }))
+      subst (λ (z : Position). IsMachineOf o judged row column (Computing t w) s z said) stands.1
+      (subst (λ (z : Ts). IsMachineOf o judged row column (Computing t w) z w said) stands.0
+      (record { seen = so.0; program = so.1.program; bytes = so.1.bytes; began = so.1.began; met = n; base = said; asked = so.2; since = refl; size = led.1 ∙ ap (λ (j : JudgedOf). j.record_size) so.1.program; led = led.0 }))
   machine_at said n (Asking t w q look) s v stands so led =
-      let from = talk.look_goes_on t (Data q.row q.column) so.1 so.2 look n said so.5 in
-      subst (λ (z : Position). IsMachineOf o judged row column s z said) stands.1
-      (subst (λ (z : Ts). IsMachineOf o judged row column z w said) stands.0
-      (record { seen = so.0; program = so.3.program; bytes = so.3.bytes; began = so.3.began; met = so.1; base = so.2; rest = from.0; said_is = from.1; asked = so.4; size = led.1; led = led.0 }))
+      let from = talk.look_goes_on t (Data q.row q.column) None so.1 so.2 look n said so.5 in
+      let end = looks.ends t (Data q.row q.column) None so.1 so.2 look n said so.5 in
+      let open_look : IsLooking t (Data q.row q.column) None so.1 so.2 said = record { since = from.0; said_is = from.1; next = end.next; rest = end.rest; n = n; answer = Absent; look = end.look } in
+      subst (λ (z : Position). IsMachineOf o judged row column (Asking t w q look) s z said) stands.1
+      (subst (λ (z : Ts). IsMachineOf o judged row column (Asking t w q look) z w said) stands.0
+      (record { seen = so.0; program = so.3.program; bytes = so.3.bytes; began = so.3.began; met = so.1; base = so.2; asked = so.4; since = open_look; size = led.1 ∙ ap (λ (j : JudgedOf). j.record_size) so.3.program; led = led.0 }))
   machine_at said n _ s v stands so led = absurd stands
 
 pub machines_are_led : PlansTalk → PlansEnd → MachinesAreLed
 machines_are_led pt pe o judged row column said k s v reaches stands =
     let h = talk.holds o judged row column pt pe said k reaches in
     machine_at o judged row column said k.locked k.place s v stands h.so (reached_led (fresh o judged row column) said k tt reaches)
+
+asking_led : (place : Place) → AtLed place → IsAskingAt place
+asking_led (Asking s v q look) led = led.2
+asking_led place led = tt
+
+pub asks_are_open : AsksAreOpen
+asks_are_open o judged row column said k reaches = asking_led k.place (reached_led (fresh o judged row column) said k tt reaches)
+
+-- a plan declares what it was made for
+keeps_what : (p : PlanOf) (said : List Received) (q : PlanOf) → plan_talks.Talks p said q → q.what ≡ p.what
+keeps_what p [] q t = ap (λ (z : PlanOf). z.what) t
+keeps_what p (r ∷ rs) q t = keeps_what (plans.answered p r.answer) rs q t.2
+
+module _ (o : ℕ) (judged : JudgedOf) (row : Row) (column : ℕ) where
+  ended_at : (n : ℕ) (place : Place) (said : List Received) → talk.SoFar o judged row column n place said → HasEnded o judged row column place said
+  ended_at n (Planning r p) said so = record {
+    s = so.s;
+    seen = so.seen;
+    talk = so.talk;
+    met = n;
+    base = so.base;
+    since = so.plan;
+    said_is = so.said_is;
+    asked = so.asked;
+    run = so.run;
+    run_on = so.run_on;
+    meant = so.meant;
+    result = so.result;
+    declares = keeps_what _ so.plan p so.talks_are;
+    followed = subst (λ w. plan_talks.Talks (plans.fresh so.s.0 w) so.plan p) (sym (keeps_what _ so.plan p so.talks_are)) so.talks_are;
+  }
+  ended_at n place said so = tt
+
+pub ended_runs_mean : PlansTalk → PlansEnd → EndedRunsMean
+ended_runs_mean pt pe o judged row column said k reaches =
+    let h = talk.holds o judged row column pt pe said k reaches in
+    ended_at o judged row column k.locked k.place said h.so

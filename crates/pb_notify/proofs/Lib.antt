@@ -12,3 +12,4 @@ pub mod PlanEntries
 pub mod OwnSteps
 pub mod Allowed
 pub mod RunsKept
+pub mod Versions

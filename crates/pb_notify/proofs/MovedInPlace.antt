@@ -11,7 +11,7 @@ use Rattle.pb_notify.specs.declared.machine.stepped.Stepped.TheVariants as did
 use Rattle.pb_notify.specs.declared.place.Place.{Place}
 use Rattle.pb_notify.specs.declared.place.Place.TheVariants.{Computing, Asking}
 use Rattle.pb_notify.specs.Steps.{MovesOn}
-use Rattle.pb_notify.specs.Places.{ComesFrom, MovesAt, GoesAt, waiting}
+use Rattle.pb_notify.specs.Places.{ComesFrom, MovesAt, GoesAt, AtPlace, waiting}
 
 -- a machine that is before its exit again stands where it stood
 pub back_at : (old : Place) (r : ℕ) (s : Ts) (w z : Position) → MovesAt old (moved.Ended r) (Computing s w) → ((v : Position) → MovesOn v (moved.Ended r) w → z ≡ v) → Computing s z ≡ old
@@ -21,6 +21,10 @@ back_at _ r s w z m b = absurd m
 pub went_comes : (o : ℕ) (judged : JudgedOf) (x : Cell) (old new : Place) → GoesAt old moved.Went new → ComesFrom o judged x old new
 went_comes o judged x (Computing s v) (Computing t w) g = record { stepped = did.Went w; steps = g.1; place_is = ap (λ u. Computing u w) g.0 }
 went_comes o judged x _ _ g = absurd g
+
+pub asks_at : (locked : ℕ) (old new : Place) (q : Ask) → AtPlace locked old → GoesAt old (moved.Asks q) new → AtPlace locked (waiting new q)
+asks_at locked (Computing s v) (Computing t w) q at g = (at.0, g.1.phase)
+asks_at locked _ _ q at g = absurd g
 
 pub asks_comes : (o : ℕ) (judged : JudgedOf) (x : Cell) (old new : Place) (q : Ask) → GoesAt old (moved.Asks q) new → ComesFrom o judged x old (waiting new q)
 asks_comes o judged x (Computing s v) (Computing t w) q g = record { stepped = did.Asks w q; steps = g.1; place_is = ap (λ u. Asking u w q Reading) g.0 }

@@ -1,12 +1,13 @@
 -- Why a step of a transaction that the table has is refused.
-use Rattle.std.proofs.Common.{◌≡◌, ℕ, ◌<◌, Bool, true, false, cond, not, length, Option, Some, None, slice_get, refl, sym, ap, subst, ◌∙◌}
-use Rattle.std.proofs.lemmas.Bool.{eq-eqb, lt-ltb}
+use Rattle.std.proofs.Common.{◌≡◌, ℕ, ◌<◌, ◌≤◌, Bool, true, false, cond, not, length, Option, Some, None, slice_get, refl, sym, ap, subst, ◌∙◌, arith}
+use Rattle.std.specs.Prelude.{nat_lt}
+use Rattle.std.proofs.lemmas.Bool.{eq-eqb, lt-ltb, ltb-true}
 use Rattle.std.proofs.lemmas.Option.{slice_get_within}
 use Rattle.pb_base.specs.declared.cell.Cell.{Cell}
 use Rattle.pb_base.specs.declared.names.Row.{Row}
 use Rattle.pb_base.specs.declared.names.Ts.{Ts}
 use Rattle.pb_base.specs.declared.refusal.Reason.{Reason}
-use Rattle.pb_base.specs.declared.refusal.Reason.TheVariants.{OutOfTimestamps, NotOfSeat, NoSuchObserver, WrongPhase, NotItsDeclaration, NotDeclared, AlreadyPrewritten}
+use Rattle.pb_base.specs.declared.refusal.Reason.TheVariants.{OutOfTimestamps, NotOfSeat, NoSuchObserver, WrongPhase, NotItsDeclaration, NotDeclared, AlreadyPrewritten, LaterThanStart}
 use Rattle.pb_steps.specs.declared.step.Work.TheVariants as works
 use Rattle.pb_steps.specs.declared.step.Declared.{Declared}
 use Rattle.pb_steps.specs.declared.step.Step.{Step}
@@ -15,7 +16,8 @@ use Rattle.pb_steps.specs.Phases.{is_reading}
 use Rattle.pb_steps.specs.Observers.{ObserverOf}
 use Rattle.pb_steps.specs.State.{StateOf, TransactionOf}
 use Rattle.pb_steps.specs.Declarations.{is_its}
-use Rattle.pb_steps.specs.Read.{read_reasons}
+use Rattle.pb_steps.specs.Reads.{read_up_to}
+use Rattle.pb_steps.specs.Read.{read_step, read_reasons, read_at_reasons}
 use Rattle.pb_steps.specs.Declare.{declare_reasons}
 use Rattle.pb_steps.specs.Prewrite.{prewrite_reasons}
 use Rattle.pb_steps.specs.Stamp.{unstamped_reasons}
@@ -72,14 +74,29 @@ module _ (state : StateOf) (seat : ℕ) (why : Reason) (seated : seat < state.se
         ((λ i. cond (has_seat i) None (if_of_seat seat (own.there i))) ∙ ap (λ b. cond b (Some t) None) (eq-eqb t.seat seat own.mine))
 
     -- a look of one that reads
-    pub looks_in_time : (start : Ts) (x : Cell) (look : Look) (step : Step) → start.0 ≡ s → is_reading t.phase ≡ true → Some (look_step start x look) ≡ Some step → step_reason state seat step ≡ Some why → ⊥
-    looks_in_time start x look step is reads at e = by look (subst (λ z. step_reason state seat z ≡ Some why) (sym (same_step (look_step start x look) step at)) e) where
+    pub looks_in_time : (start : Ts) (x : Cell) (at : Option Ts) (look : Look) (step : Step) → start.0 ≡ s → is_reading t.phase ≡ true → read_up_to start.0 at ≤ start.0 → Some (look_step start x at look) ≡ Some step → step_reason state seat step ≡ Some why → ⊥
+    looks_in_time start x at look step is reads in_time next e = by look (subst (λ z. step_reason state seat z ≡ Some why) (sym (same_step (look_step start x at look) step next)) e) where
       same_step : (a b : Step) → Some a ≡ Some b → a ≡ b
       same_step a b h = cc
 
-      by : (l : Look) → step_reason state seat (look_step start x l) ≡ Some why → ⊥
-      by Reading h =
+      not_later : (a b : ℕ) → b ≤ a → nat_lt a b ≡ false
+      not_later a b le = elim (nat_lt a b) as (λ c. nat_lt a b ≡ c → nat_lt a b ≡ false) [
+        | true ↦ λ h. (let lt = ltb-true a b h in absurd (omega arith))
+        | false ↦ λ h. h
+      ] refl
+
+      reads_in_time : (z : Option Ts) → read_up_to start.0 z ≤ start.0 → step_reason state seat (read_step start x z) ≡ Some why → ⊥
+      reads_in_time (Some u) low h =
+          none_why why
+          ((λ i. cond (not (sym reads i)) (Some WrongPhase) (cond (sym (not_later start.0 u.0 low) i) (Some LaterThanStart) None))
+          ∙ sym (by_own (read_at_reasons start.0 u.0))
+          ∙ ap (λ n. first_reason (own_reasons state seat n (read_at_reasons start.0 u.0))) (sym is)
+          ∙ h)
+      reads_in_time None low h =
           none_why why (ap (λ b. cond (not b) (Some WrongPhase) None) (sym reads) ∙ sym (by_own read_reasons) ∙ ap (λ n. first_reason (own_reasons state seat n read_reasons)) (sym is) ∙ h)
+
+      by : (l : Look) → step_reason state seat (look_step start x at l) ≡ Some why → ⊥
+      by Reading h = reads_in_time at in_time h
       by (Clearing primary) h = no_transaction h
       by (Settling primary) h = no_transaction h
       by ClearingAgain h = no_transaction h

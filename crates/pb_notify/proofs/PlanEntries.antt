@@ -4,7 +4,7 @@ use Rattle.std.proofs.lemmas.List.Elements.{filter-append}
 use Rattle.std.specs.List.{filter}
 use Rattle.pb_base.specs.declared.names.Ts.{Ts}
 use Rattle.pb_steps.specs.declared.step.Step.{Step}
-use Rattle.pb_steps.specs.declared.step.Step.TheVariants.{Begin, Read, Declare, Prewrite, Stamp, CommitPrimary, CommitSecondary, Settle, Clear, NextMark, Sweep}
+use Rattle.pb_steps.specs.declared.step.Step.TheVariants.{Begin, Read, ReadAt, Declare, Prewrite, Stamp, CommitPrimary, CommitSecondary, Settle, Clear, NextMark, Sweep}
 use Rattle.pb_steps.specs.declared.step.Answer.{Answer}
 use Rattle.pb_history.specs.declared.entry.Entry.{Entry}
 use Rattle.pb_history.specs.declared.entry.Received.{Received}
@@ -17,6 +17,7 @@ use Rattle.pb_notify.proofs.RecordedReads.{bare_of}
 named_no : (s : ℕ) (step : Step) (answer : Answer) → names_start s step answer ≡ false → names s step ≡ false
 named_no s (Begin work) answer n = refl
 named_no s (Read m x) answer n = refl
+named_no s (ReadAt m x t) answer n = refl
 named_no s (Declare m what) answer n = n
 named_no s (Prewrite m x) answer n = n
 named_no s (Stamp m) answer n = n

@@ -5,7 +5,7 @@ use Rattle.pb_base.specs.declared.cell.Cell.{Cell}
 use Rattle.pb_base.specs.declared.names.Ts.{Ts}
 use Rattle.pb_steps.specs.declared.step.Declared.{Declared}
 use Rattle.pb_steps.specs.declared.step.Step.{Step}
-use Rattle.pb_steps.specs.declared.step.Step.TheVariants.{Begin, Read, Declare, Prewrite, Stamp, CommitPrimary, CommitSecondary, Settle, Clear}
+use Rattle.pb_steps.specs.declared.step.Step.TheVariants.{Begin, Read, ReadAt, Declare, Prewrite, Stamp, CommitPrimary, CommitSecondary, Settle, Clear}
 use Rattle.pb_steps.specs.declared.step.Answer.{Answer}
 use Rattle.pb_steps.specs.declared.step.Answer.TheVariants.{At, Found, Absent, Done, Conflict, Committed, Lost}
 use Rattle.pb_steps.specs.Observers.{ObserverOf}
@@ -113,6 +113,8 @@ module _ (observers : List ObserverOf) (seat : ℕ) where
   after_one (Begin work) a u n = absurd cc
   after_one (Read m x) (Found start commit content) u n = (_, refl, record { seat = refl; work = refl })
   after_one (Read m x) Absent u n = (_, refl, record { seat = refl; work = refl })
+  after_one (ReadAt m x t) (Found start commit content) u n = (_, refl, record { seat = refl; work = refl })
+  after_one (ReadAt m x t) Absent u n = (_, refl, record { seat = refl; work = refl })
   after_one (Declare m what) Done u n = (_, refl, record { seat = refl; work = refl })
   after_one (Prewrite m x) Done u n = (_, refl, record { seat = refl; work = refl })
   after_one (Prewrite m x) Conflict u n = (_, refl, record { seat = refl; work = refl })

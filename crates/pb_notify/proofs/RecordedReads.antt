@@ -8,18 +8,18 @@ use Rattle.pb_base.specs.declared.cell.Cell.{Cell}
 use Rattle.pb_base.specs.declared.cell.Cell.TheVariants.{Data, Ack}
 use Rattle.pb_base.specs.declared.names.Row.{Row}
 use Rattle.pb_base.specs.declared.names.Ts.{Ts}
-use Rattle.pb_base.specs.declared.content.Version.{Version}
+use Rattle.pb_base.specs.declared.content.Revision.{Revision}
 use Rattle.pb_isa.specs.Machine as machine
 use Rattle.pb_isa.specs.Meaning.{Talk}
 use Rattle.pb_steps.specs.declared.seen.RecordedRead.{RecordedRead}
 use Rattle.pb_steps.specs.declared.seen.Seen.{Seen}
 use Rattle.pb_steps.specs.declared.step.Work.TheVariants as works
-use Rattle.pb_steps.specs.declared.step.Step.TheVariants.{Begin, Read}
+use Rattle.pb_steps.specs.declared.step.Step.TheVariants.{Begin, Settle, Clear}
 use Rattle.pb_steps.specs.declared.step.Answer.{Answer}
-use Rattle.pb_steps.specs.declared.step.Answer.TheVariants.{At, Found, Absent}
-use Rattle.pb_steps.specs.Declarations.{WasSeen, AreReplies}
+use Rattle.pb_steps.specs.declared.step.Answer.TheVariants.{At, Locked, Found, Absent, Waits}
+use Rattle.pb_steps.specs.Declarations.{IsReadOf, old_at, WasOld, WasSeen, AreReplies}
 use Rattle.pb_steps.specs.Observers.{ObserverOf}
-use Rattle.pb_steps.specs.Read.{with_read}
+use Rattle.pb_steps.specs.Read.{read_step, with_read}
 use Rattle.pb_steps.specs.Reads.{asked_cell, value_in}
 use Rattle.pb_steps.specs.State.{TransactionOf, new_transaction}
 use Rattle.pb_history.specs.declared.entry.Entry.{Entry}
@@ -30,7 +30,7 @@ use Rattle.pb_txn.specs.Allowed.{names}
 use Rattle.pb_txn.specs.Talks.{told}
 use Rattle.pb_notify.specs.declared.look.Look.{Look}
 use Rattle.pb_notify.specs.declared.look.Look.TheVariants.{Reading, Clearing, Settling, ClearingAgain}
-use Rattle.pb_notify.specs.Forms.{IsRound, cleared, settled, AreRounds, at_first, one_more, IsHeld, IsLooked, its_begin, IsObserved, IsAcknowledged, AreAsked, dirty, asked as asked_more}
+use Rattle.pb_notify.specs.Forms.{IsRound, cleared, settled, AreRounds, at_first, one_more, IsHeld, IsLooked, its_begin, IsObserved, IsAcknowledged, IsRecalled, AreAsked, dirty, asked as asked_more}
 use Rattle.pb_notify.specs.Allowed.{entries_by}
 use Rattle.pb_notify.proofs.LookTalk.{IsIn, InLook}
 
@@ -50,7 +50,7 @@ has_append (x ∷ xs) more r (inr h) = inr (has_append xs more r h)
 abbrev pub bare_of : Ts → List Received → List Received
 bare_of s said = filter (λ (r : Received). names s.0 r.step) said
 
-replies_more : (rs : List RecordedRead) (talk : Talk) (r : RecordedRead) (q : machine.Ask) (a : machine.Reply) → AreReplies rs talk → r.cell ≡ asked_cell q → a ≡ value_in r.answer
+replies_more : (rs : List RecordedRead) (talk : Talk) (r : RecordedRead) (q : machine.Ask) (a : machine.Reply) → AreReplies rs talk → IsReadOf r (asked_cell q) None → a ≡ value_in r.answer
     → AreReplies (rs ++ r ∷ []) (talk ++ (q, a) ∷ [])
 replies_more [] [] r q a h e f = (e, f, tt)
 replies_more (x ∷ rs) (y ∷ talk) r q a h e f = (h.0, h.1, replies_more rs talk r q a h.2 e f)
@@ -58,9 +58,9 @@ replies_more [] (y ∷ talk) r q a h e f = absurd h
 replies_more (x ∷ rs) [] r q a h e f = absurd h
 
 -- what was found is newer than its acknowledgment
-pub is_newer : (s : Ts) (o : ℕ) (row : Row) (column : ℕ) (seen : Seen) (talk : Talk) (n : ℕ) (said : List Received) → AreAsked o row column s seen talk n said → seen.acknowledged.0 < seen.version.commit.0
-is_newer s o row column seen talk n said (dirty k now i newer) = newer
-is_newer s o row column seen talk n said (asked_more before m base q a k now was look) = is_newer s o row column seen before m base was
+pub is_newer : (s : Ts) (o : ℕ) (second : Bool) (row : Row) (column : ℕ) (seen : Seen) (talk : Talk) (n : ℕ) (said : List Received) → AreAsked o second row column s seen talk n said → seen.acknowledged.0 < seen.version.commit.0
+is_newer s o second row column seen talk n said (dirty k now i newer) = newer
+is_newer s o second row column seen talk n said (asked_more before m base q a k now was look) = is_newer s o second row column seen before m base was
 
 module _ (observers : List ObserverOf) (seat : ℕ) (s : Ts) where
   -- ---- the transaction of this start after what was said
@@ -86,10 +86,17 @@ module _ (observers : List ObserverOf) (seat : ℕ) (s : Ts) where
   after_append [] more t = refl
   after_append (r ∷ rs) more t = after_append rs more (one r t)
 
-  told_read : (x : Cell) (a : Answer) (u : TransactionOf) → IsHeld a → after (told (Read s x) a ∷ []) (Some u) ≡ Some (with_read u s.0 x a)
-  told_read x (Found start commit content) u held = rw (itself s.0) refl
-  told_read x Absent u held = rw (itself s.0) refl
-  told_read x _ u held = absurd held
+  told_read : (x : Cell) (at : Option Ts) (a : Answer) (u : TransactionOf) → IsHeld a → after (told (read_step s x at) a ∷ []) (Some u) ≡ Some (with_read u x at a)
+  told_read x None (Found start commit content) u held = rw (itself s.0) refl
+  told_read x None Absent u held = rw (itself s.0) refl
+  told_read x (Some t) (Found start commit content) u held = rw (itself s.0) refl
+  told_read x (Some t) Absent u held = rw (itself s.0) refl
+  told_read x _ _ u held = absurd held
+
+  -- a read is no step of a plan
+  read_bare : (x : Cell) (at : Option Ts) (a : Answer) → bare_of s (told (read_step s x at) a ∷ []) ≡ []
+  read_bare x None a = refl
+  read_bare x (Some t) a = refl
 
   module _ (o : ℕ) (row : Row) where
     abbrev pub with_reads : List RecordedRead → TransactionOf
@@ -116,86 +123,141 @@ module _ (observers : List ObserverOf) (seat : ℕ) (s : Ts) where
       there = after_append said more None ∙ m.leaves (after said None) ∙ i.there;
     }
 
-    round_aside : (x : Cell) (said : List Received) → IsRound s x said → IsAside said
-    round_aside x said (cleared t primary a can not) = record { bare = refl; leaves = λ u. same_either (s.0 == s.0) u }
-    round_aside x said (settled t primary a b can also) = record { bare = refl; leaves = λ u. same_either (s.0 == s.0) u }
+    met_aside : (x : Cell) (at : Option Ts) (t : Ts) (primary : Cell) → IsAside (told (read_step s x at) (Locked t primary) ∷ [])
+    met_aside x None t primary = record { bare = refl; leaves = λ u. same_either (s.0 == s.0) u }
+    met_aside x (Some at) t primary = record { bare = refl; leaves = λ u. same_either (s.0 == s.0) u }
 
-    rounds : (x : Cell) (m : ℕ) (base : List Received) (n : ℕ) (said : List Received) (reads : List RecordedRead) → IsRecorded base reads → AreRounds s x m base n said → IsRecorded said reads
-    rounds x m base n said reads i at_first = i
-    rounds x m base n said reads i (one_more k before round r is) = aside before round reads (rounds x m base k before reads i r) (round_aside x round is)
+    cleared_aside : (x : Cell) (at : Option Ts) (t : Ts) (primary : Cell) (a : Answer) → IsAside (told (read_step s x at) (Locked t primary) ∷ told (Clear x) a ∷ [])
+    cleared_aside x None t primary a = record { bare = refl; leaves = λ u. same_either (s.0 == s.0) u }
+    cleared_aside x (Some at) t primary a = record { bare = refl; leaves = λ u. same_either (s.0 == s.0) u }
+
+    settled_aside : (x : Cell) (at : Option Ts) (t : Ts) (primary : Cell) (a b : Answer) → IsAside (told (read_step s x at) (Locked t primary) ∷ told (Clear x) a ∷ told (Settle primary) b ∷ [])
+    settled_aside x None t primary a b = record { bare = refl; leaves = λ u. same_either (s.0 == s.0) u }
+    settled_aside x (Some at) t primary a b = record { bare = refl; leaves = λ u. same_either (s.0 == s.0) u }
+
+    again_aside : (x : Cell) (at : Option Ts) (t : Ts) (primary : Cell) (a b d : Answer) → IsAside (told (read_step s x at) (Locked t primary) ∷ told (Clear x) a ∷ told (Settle primary) b ∷ told (Clear x) d ∷ [])
+    again_aside x None t primary a b d = record { bare = refl; leaves = λ u. same_either (s.0 == s.0) u }
+    again_aside x (Some at) t primary a b d = record { bare = refl; leaves = λ u. same_either (s.0 == s.0) u }
+
+    round_aside : (x : Cell) (at : Option Ts) (said : List Received) → IsRound s x at said → IsAside said
+    round_aside x at said (cleared t primary a can not) = cleared_aside x at t primary a
+    round_aside x at said (settled t primary a b can also) = again_aside x at t primary Waits a b
+
+    rounds : (x : Cell) (at : Option Ts) (m : ℕ) (base : List Received) (n : ℕ) (said : List Received) (reads : List RecordedRead) → IsRecorded base reads → AreRounds s x at m base n said → IsRecorded said reads
+    rounds x at m base n said reads i at_first = i
+    rounds x at m base n said reads i (one_more k before round r is) = aside before round reads (rounds x at m base k before reads i r) (round_aside x at round is)
 
     -- at a step of a look
-    in_round : (x : Cell) (m : ℕ) (base : List Received) (n : ℕ) (said part : List Received) (reads : List RecordedRead) → IsRecorded base reads → IsIn s x m base n said part → IsAside part → IsRecorded said reads
-    in_round x m base n said part reads i is a = subst (λ l. IsRecorded l reads) (sym is.said_is) (aside is.before part reads (rounds x m base is.met is.before reads i is.rounds) a)
+    in_round : (x : Cell) (at : Option Ts) (m : ℕ) (base : List Received) (n : ℕ) (said part : List Received) (reads : List RecordedRead) → IsRecorded base reads → IsIn s x at m base n said part → IsAside part → IsRecorded said reads
+    in_round x at m base n said part reads i is a = subst (λ l. IsRecorded l reads) (sym is.said_is) (aside is.before part reads (rounds x at m base is.met is.before reads i is.rounds) a)
 
-    pub in_look : (x : Cell) (m : ℕ) (base : List Received) (look : Look) (n : ℕ) (said : List Received) (reads : List RecordedRead) → IsRecorded base reads → InLook s x m base look n said → IsRecorded said reads
-    in_look x m base Reading n said reads i is = rounds x m base n said reads i is
-    in_look x m base (Clearing primary) n said reads i is = in_round x m base n said _ reads i is.1 (record { bare = refl; leaves = λ u. same_either (s.0 == s.0) u })
-    in_look x m base (Settling primary) n said reads i is = in_round x m base n said _ reads i is.1 (record { bare = refl; leaves = λ u. same_either (s.0 == s.0) u })
-    in_look x m base ClearingAgain n said reads i is = in_round x m base n said _ reads i is.4 (record { bare = refl; leaves = λ u. same_either (s.0 == s.0) u })
+    pub in_look : (x : Cell) (at : Option Ts) (m : ℕ) (base : List Received) (look : Look) (n : ℕ) (said : List Received) (reads : List RecordedRead) → IsRecorded base reads → InLook s x at m base look n said → IsRecorded said reads
+    in_look x at m base Reading n said reads i is = rounds x at m base n said reads i is
+    in_look x at m base (Clearing primary) n said reads i is = in_round x at m base n said _ reads i is.1 (met_aside x at is.0 primary)
+    in_look x at m base (Settling primary) n said reads i is = in_round x at m base n said _ reads i is.1 (cleared_aside x at is.0 primary Waits)
+    in_look x at m base ClearingAgain n said reads i is = in_round x at m base n said _ reads i is.4 (settled_aside x at is.0 is.1 Waits is.2)
 
     -- after a whole one
-    abbrev read_of : Cell → Answer → RecordedRead
-    read_of x a = record { cell = x; at = s; answer = a }
+    abbrev read_of : Cell → Option Ts → Answer → RecordedRead
+    read_of x at a = record { cell = x; at = at; answer = a }
 
-    looked : (x : Cell) (m : ℕ) (base : List Received) (n : ℕ) (said : List Received) (a : Answer) (reads : List RecordedRead) → IsRecorded base reads → IsLooked s x m base n said a
-        → IsRecorded said (reads ++ read_of x a ∷ [])
-    looked x m base n said a reads i is =
-        let before = rounds x m base n is.before reads i is.rounds in
-        let read = told (Read s x) a ∷ [] in
-        subst (λ l. IsRecorded l (reads ++ read_of x a ∷ [])) (sym is.said_is) (record {
+    looked : (x : Cell) (at : Option Ts) (m : ℕ) (base : List Received) (n : ℕ) (said : List Received) (a : Answer) (reads : List RecordedRead) → IsRecorded base reads → IsLooked s x at m base n said a
+        → IsRecorded said (reads ++ read_of x at a ∷ [])
+    looked x at m base n said a reads i is =
+        let before = rounds x at m base n is.before reads i is.rounds in
+        let read = told (read_step s x at) a ∷ [] in
+        subst (λ l. IsRecorded l (reads ++ read_of x at a ∷ [])) (sym is.said_is) (record {
           begun = has_append is.before read _ before.begun;
-          bare = filter-append (λ (r : Received). names s.0 r.step) is.before read ∙ ap (λ l. l ++ []) before.bare;
-          there = after_append is.before read None ∙ ap (after read) before.there ∙ told_read x a (with_reads reads) is.held;
+          bare = filter-append (λ (r : Received). names s.0 r.step) is.before read ∙ (λ j. before.bare j ++ read_bare x at a j);
+          there = after_append is.before read None ∙ ap (after read) before.there ∙ told_read x at a (with_reads reads) is.held;
         })
+
+    -- one more read of an ask
+    old_more : (at : Option Ts) (x : Cell) (rest : List RecordedRead) (old : machine.Reply) (asked : List RecordedRead) (r : RecordedRead) → WasOld at x rest old asked → WasOld at x (rest ++ r ∷ []) old (asked ++ r ∷ [])
+    old_more None x rest old asked r w = (w.0, ap (λ l. l ++ r ∷ []) w.1)
+    old_more (Some t) x rest old asked r w = (w.0, w.1, w.2, ap (λ l. l ++ r ∷ []) w.3)
 
     -- ---- the parts of a run
 
-    module _ (column : ℕ) where
-      -- the reads are those of the cell, its acknowledgment and the asks
+    module _ (second : Bool) (column : ℕ) where
+      -- the reads are those of the cell, its acknowledgment, the cell as of that if it was read so, and the asks
       pub record HasRead (seen : Seen) (talk : Talk) (said : List Received) : Type 0 where
         pub reads : List RecordedRead
         pub asked : List RecordedRead
         pub recorded : IsRecorded said reads
-        pub was : WasSeen (Data row column) (Ack o row column) reads seen asked
+        pub was : WasSeen (Data row column) (Ack o row column) second reads seen asked
         pub replied : AreReplies asked talk
 
-      pub cell_begins : (look : Look) (n : ℕ) (said : List Received) → InLook s (Data row column) 0 (its_begin o row s) look n said → IsRecorded said []
-      cell_begins look n said is = in_look (Data row column) 0 (its_begin o row s) look n said [] begins is
+      pub cell_begins : (look : Look) (n : ℕ) (said : List Received) → InLook s (Data row column) None 0 (its_begin o row s) look n said → IsRecorded said []
+      cell_begins look n said is = in_look (Data row column) None 0 (its_begin o row s) look n said [] begins is
 
-      pub observed : (found : Version) (n : ℕ) (said : List Received) (i : IsObserved o row column s found n said) → IsRecorded said (read_of (Data row column) i.answer ∷ [])
-      observed found n said i = looked (Data row column) 0 (its_begin o row s) n said i.answer [] begins i.look
+      pub observed : (found : Revision) (n : ℕ) (said : List Received) (i : IsObserved o row column s found n said) → IsRecorded said (read_of (Data row column) None i.answer ∷ [])
+      observed found n said i = looked (Data row column) None 0 (its_begin o row s) n said i.answer [] begins i.look
 
-      acknowledged : (seen : Seen) (n : ℕ) (said : List Received) → IsAcknowledged o row column s seen n said → HasRead seen [] said
-      acknowledged seen n said i =
-          let first = read_of (Data row column) i.observed.answer in
-          let second = read_of (Ack o row column) i.answer in
+      pub acknowledged : (seen : Seen) (n : ℕ) (said : List Received) (i : IsAcknowledged o row column s seen n said) → IsRecorded said (read_of (Data row column) None i.observed.answer ∷ read_of (Ack o row column) None i.answer ∷ [])
+      acknowledged seen n said i = looked (Ack o row column) None i.met i.base n said i.answer (read_of (Data row column) None i.observed.answer ∷ []) (observed seen.version i.met i.base i.observed) i.look
+
+      recalled : (seen : Seen) (n : ℕ) (said : List Received) (at : Option Ts) → old_at second seen.acknowledged ≡ at → IsRecalled o row column s seen at n said → HasRead seen [] said
+      recalled seen n said None is r =
+          let i = r.1 in
           record {
-            reads = first ∷ second ∷ [];
+            reads = read_of (Data row column) None i.observed.answer ∷ read_of (Ack o row column) None i.answer ∷ [];
             asked = [];
-            recorded = looked (Ack o row column) i.met i.base n said i.answer (first ∷ []) (observed seen.version i.met i.base i.observed) i.look;
-            was = record { first = first; second = second; reads_are = refl; observed = refl; found = i.observed.found_is; acknowledgment = refl; acknowledged = i.acknowledged };
+            recorded = acknowledged seen n said i;
+            was = record {
+              found_by = read_of (Data row column) None i.observed.answer;
+              acknowledged_by = read_of (Ack o row column) None i.answer;
+              rest = [];
+              reads_are = refl;
+              observed = record { cell = refl; at = refl };
+              found = i.observed.found_is;
+              acknowledgment = record { cell = refl; at = refl };
+              acknowledged = i.acknowledged;
+              old = subst (λ z. WasOld z (Data row column) [] seen.old []) (sym is) (r.0, refl);
+            };
+            replied = tt;
+          }
+      recalled seen n said (Some t) is r =
+          let i = r.3 in
+          let third = read_of (Data row column) (Some t) r.2 in
+          record {
+            reads = read_of (Data row column) None i.observed.answer ∷ read_of (Ack o row column) None i.answer ∷ third ∷ [];
+            asked = [];
+            recorded = looked (Data row column) (Some t) r.0 r.1 n said r.2 _ (acknowledged seen r.0 r.1 i) r.4;
+            was = record {
+              found_by = read_of (Data row column) None i.observed.answer;
+              acknowledged_by = read_of (Ack o row column) None i.answer;
+              rest = third ∷ [];
+              reads_are = refl;
+              observed = record { cell = refl; at = refl };
+              found = i.observed.found_is;
+              acknowledgment = record { cell = refl; at = refl };
+              acknowledged = i.acknowledged;
+              old = subst (λ z. WasOld z (Data row column) (third ∷ []) seen.old []) (sym is) (third, record { cell = refl; at = refl }, r.5, refl);
+            };
             replied = tt;
           }
 
-      pub has_read : (seen : Seen) (talk : Talk) (n : ℕ) (said : List Received) → AreAsked o row column s seen talk n said → HasRead seen talk said
-      has_read seen talk n said (dirty k now i newer) = acknowledged seen k now i
+      pub has_read : (seen : Seen) (talk : Talk) (n : ℕ) (said : List Received) → AreAsked o second row column s seen talk n said → HasRead seen talk said
+      has_read seen talk n said (dirty k now i newer) = recalled seen k now (old_at second seen.acknowledged) refl i
       has_read seen talk n said (asked_more before m base q a k now was look) =
           let h = has_read seen before m base was in
           let w = h.was in
-          let one_more_read = read_of (asked_cell q) a in
+          let one_more_read = read_of (asked_cell q) None a in
           record {
             reads = h.reads ++ one_more_read ∷ [];
             asked = h.asked ++ one_more_read ∷ [];
-            recorded = looked (asked_cell q) m base k now a h.reads h.recorded look;
+            recorded = looked (asked_cell q) None m base k now a h.reads h.recorded look;
             was = record {
-              first = w.first;
-              second = w.second;
+              found_by = w.found_by;
+              acknowledged_by = w.acknowledged_by;
+              rest = w.rest ++ one_more_read ∷ [];
               reads_are = ap (λ l. l ++ one_more_read ∷ []) w.reads_are;
               observed = w.observed;
               found = w.found;
               acknowledgment = w.acknowledgment;
               acknowledged = w.acknowledged;
+              old = old_more (old_at second seen.acknowledged) (Data row column) w.rest seen.old h.asked one_more_read w.old;
             };
-            replied = replies_more h.asked before one_more_read q (value_in a) h.replied refl refl;
+            replied = replies_more h.asked before one_more_read q (value_in a) h.replied (record { cell = refl; at = refl }) refl;
           }

@@ -1,14 +1,14 @@
 -- What a job has asked at each place, and that it is a beginning of a whole conversation.
 use Rattle.std.proofs.Common.{◌≡◌, ℕ, ◌+◌, ◌<◌, ◌≤◌, Bool, true, false, cond, List, [], ◌∷◌, ◌++◌, Option, Some, None, refl, sym, ap, subst, ◌∙◌, arith, append_assoc, append-nil}
-use Rattle.std.specs.Prelude.{nat_lt}
+use Rattle.std.specs.Prelude.{nat_lt, not, ◌&&◌, ◌==◌}
 use Rattle.pb_base.specs.declared.cell.Cell.{Cell}
 use Rattle.pb_base.specs.declared.cell.Cell.TheVariants.{Data, Ack}
 use Rattle.pb_base.specs.declared.names.Row.{Row}
 use Rattle.pb_base.specs.declared.names.Ts.{Ts}
-use Rattle.pb_base.specs.declared.content.Version.{Version}
+use Rattle.pb_base.specs.declared.content.Revision.{Revision}
 use Rattle.pb_isa.specs.Programs.{JudgedOf}
 use Rattle.pb_isa.specs.Meaning.{Talk}
-use Rattle.pb_helpers.specs.Record.{record_of}
+use Rattle.pb_helpers.specs.OldRecord.{tells_old, record_by}
 use Rattle.pb_helpers.specs.declared.ask.Ask.{Ask}
 use Rattle.pb_helpers.specs.Replies.{ask_of}
 use Rattle.pb_vm.specs.Position.{Position}
@@ -21,7 +21,8 @@ use Rattle.pb_steps.specs.declared.step.Step.TheVariants.{Begin, Sweep}
 use Rattle.pb_steps.specs.declared.step.Answer.{Answer}
 use Rattle.pb_steps.specs.declared.step.Answer.TheVariants.{At, Locked, Absent, Done}
 use Rattle.pb_steps.specs.Answers.{CanAnswer}
-use Rattle.pb_steps.specs.Reads.{version_in, acknowledged_in}
+use Rattle.pb_steps.specs.Declarations.{old_at}
+use Rattle.pb_steps.specs.Reads.{version_in, acknowledged_in, value_in}
 use Rattle.pb_history.specs.declared.entry.Received.{Received}
 use Rattle.pb_txn.specs.declared.place.Outcome.{Outcome}
 use Rattle.pb_txn.specs.declared.place.Outcome.TheVariants as outcomes
@@ -42,13 +43,13 @@ use Rattle.pb_notify.specs.declared.need.JobEnd.{JobEnd}
 use Rattle.pb_notify.specs.declared.need.JobEnd.TheVariants as ends
 use Rattle.pb_notify.specs.declared.need.Need.TheVariants as needs
 use Rattle.pb_notify.specs.declared.place.Place.{Place}
-use Rattle.pb_notify.specs.declared.place.Place.TheVariants.{Beginning, Observing, Acknowledging, Starting, Computing, Asking, Planning, Sweeping, Over}
+use Rattle.pb_notify.specs.declared.place.Place.TheVariants.{Beginning, Observing, Acknowledging, Recalling, Starting, Computing, Asking, Planning, Sweeping, Over}
 use Rattle.pb_notify.specs.Looks.{look_after, locked_after}
 use Rattle.pb_notify.specs.Steps.{Steps}
-use Rattle.pb_notify.specs.Places.{place_after, locked_at, after_begin, if_found, after_cell, after_acknowledgment, after_ask, by_outcome, place_of, Comes, ComesFrom, AtPlace, step_at}
+use Rattle.pb_notify.specs.Places.{place_after, locked_at, after_begin, if_found, after_cell, if_recalled, seen_so_far, after_acknowledgment, after_recall, after_ask, by_outcome, place_of, Comes, ComesFrom, AtPlace, step_at}
 use Rattle.pb_notify.specs.Runs.{RunOf, fresh, answered, need_at}
 use Rattle.pb_notify.specs.Talks.{Reaches, made, took, computed}
-use Rattle.pb_notify.specs.Forms.{AreRounds, one_more, IsLooked, at_first, its_begin, IsObserved, IsAcknowledged, AreAsked, dirty, asked as asked_more, IsRunOn, LooksFrom, at_cell, at_acknowledgment, at_ask, IsRunTalk, absent, clean, ran, conflicted, lost, blocked, WasMeant, JobsTalk, JobsEnd}
+use Rattle.pb_notify.specs.Forms.{AreRounds, one_more, IsLooked, at_first, its_begin, IsObserved, IsAcknowledged, IsRecalled, AreAsked, dirty, asked as asked_more, IsRunOn, LooksFrom, at_cell, at_acknowledgment, at_old, at_ask, IsRunTalk, absent, clean, ran, conflicted, lost, blocked, WasMeant, JobsTalk, JobsEnd}
 use Rattle.pb_notify.proofs.Kept.{at_after, at_computed}
 use Rattle.pb_notify.proofs.LookTalk.{IsIn, InLook, AfterLook, IsBlocked, look_more}
 use Rattle.pb_notify.proofs.LookTalk as looks
@@ -77,23 +78,23 @@ tells_few n (Clearing primary) b a few e = few
 tells_few n (Settling primary) b a few e = few
 tells_few n ClearingAgain b a few e = few
 
-rounds_go_on : (s : Ts) (x : Cell) (m : ℕ) (base : List Received) (n : ℕ) (said : List Received) → AreRounds s x m base n said → (rest : List Received) × (said ≡ base ++ rest)
-rounds_go_on s x m base n said at_first = ([], sym (append-nil base))
-rounds_go_on s x m base n said (one_more k before round r is) =
-    let from = rounds_go_on s x m base k before r in
+rounds_go_on : (s : Ts) (x : Cell) (at : Option Ts) (m : ℕ) (base : List Received) (n : ℕ) (said : List Received) → AreRounds s x at m base n said → (rest : List Received) × (said ≡ base ++ rest)
+rounds_go_on s x at m base n said at_first = ([], sym (append-nil base))
+rounds_go_on s x at m base n said (one_more k before round r is) =
+    let from = rounds_go_on s x at m base k before r in
     (from.0 ++ round, ap (λ l. l ++ round) from.1 ∙ append_assoc base from.0 round)
 
-in_goes_on : (s : Ts) (x : Cell) (m : ℕ) (base : List Received) (n : ℕ) (said part : List Received) → IsIn s x m base n said part → (rest : List Received) × (said ≡ base ++ rest)
-in_goes_on s x m base n said part i =
-    let from = rounds_go_on s x m base i.met i.before i.rounds in
+in_goes_on : (s : Ts) (x : Cell) (at : Option Ts) (m : ℕ) (base : List Received) (n : ℕ) (said part : List Received) → IsIn s x at m base n said part → (rest : List Received) × (said ≡ base ++ rest)
+in_goes_on s x at m base n said part i =
+    let from = rounds_go_on s x at m base i.met i.before i.rounds in
     (from.0 ++ part, i.said_is ∙ ap (λ l. l ++ part) from.1 ∙ append_assoc base from.0 part)
 
 -- a look goes on from what was said before it
-pub look_goes_on : (s : Ts) (x : Cell) (m : ℕ) (base : List Received) (look : Look) (n : ℕ) (said : List Received) → InLook s x m base look n said → (rest : List Received) × (said ≡ base ++ rest)
-look_goes_on s x m base Reading n said i = rounds_go_on s x m base n said i
-look_goes_on s x m base (Clearing primary) n said i = in_goes_on s x m base n said _ i.1
-look_goes_on s x m base (Settling primary) n said i = in_goes_on s x m base n said _ i.1
-look_goes_on s x m base ClearingAgain n said i = in_goes_on s x m base n said _ i.4
+pub look_goes_on : (s : Ts) (x : Cell) (at : Option Ts) (m : ℕ) (base : List Received) (look : Look) (n : ℕ) (said : List Received) → InLook s x at m base look n said → (rest : List Received) × (said ≡ base ++ rest)
+look_goes_on s x at m base Reading n said i = rounds_go_on s x at m base n said i
+look_goes_on s x at m base (Clearing primary) n said i = in_goes_on s x at m base n said _ i.1
+look_goes_on s x at m base (Settling primary) n said i = in_goes_on s x at m base n said _ i.1
+look_goes_on s x at m base ClearingAgain n said i = in_goes_on s x at m base n said _ i.4
 
 module _ (o : ℕ) (judged : JudgedOf) (row : Row) (column : ℕ) where
   abbrev cell : Cell
@@ -102,8 +103,11 @@ module _ (o : ℕ) (judged : JudgedOf) (row : Row) (column : ℕ) where
   abbrev ack : Cell
   ack = Ack o row column
 
+  abbrev second : Bool
+  second = tells_old judged
+
   abbrev bytes_of : Seen → List ℕ
-  bytes_of seen = record_of cell seen.version seen.acknowledged.0
+  bytes_of seen = record_by second cell seen.version seen.acknowledged.0 seen.old
 
   -- what a machine was given
   pub record IsGiven (s : Ts) (seen : Seen) (v : Position) : Type 0 where
@@ -117,7 +121,7 @@ module _ (o : ℕ) (judged : JudgedOf) (row : Row) (column : ℕ) where
     pub seen : Seen
     pub talk : Talk
     pub base : List Received
-    pub asked : AreAsked o row column s seen talk n base
+    pub asked : AreAsked o second row column s seen talk n base
     pub run : Meant
     pub run_on : IsRunOn judged row column s seen talk run
     pub meant : IsMeant run
@@ -140,12 +144,15 @@ module _ (o : ℕ) (judged : JudgedOf) (row : Row) (column : ℕ) where
   -- what has been said at a place, with so many locks met
   abbrev pub SoFar : ℕ → Place → List Received → Type 0
   SoFar n Beginning said = (n ≡ 0) × (said ≡ [])
-  SoFar n (Observing s look) said = InLook s cell 0 (its_begin o row s) look n said
-  SoFar n (Acknowledging s found look) said = (m : ℕ) × (base : List Received) × IsObserved o row column s found m base × InLook s ack m base look n said
-  SoFar n (Starting s seen) said = AreAsked o row column s seen [] n said
-  SoFar n (Computing s v) said = (seen : Seen) × IsGiven s seen v × AreAsked o row column s seen v.talk n said
+  SoFar n (Observing s look) said = InLook s cell None 0 (its_begin o row s) look n said
+  SoFar n (Acknowledging s found look) said = (m : ℕ) × (base : List Received) × IsObserved o row column s found m base × InLook s ack None m base look n said
+  SoFar n (Recalling s seen look) said =
+      (m : ℕ) × (base : List Received) × IsAcknowledged o row column s seen m base × (seen.acknowledged.0 < seen.version.commit.0) × (old_at second seen.acknowledged ≡ Some seen.acknowledged)
+      × InLook s cell (Some seen.acknowledged) m base look n said
+  SoFar n (Starting s seen) said = AreAsked o second row column s seen [] n said
+  SoFar n (Computing s v) said = (seen : Seen) × IsGiven s seen v × AreAsked o second row column s seen v.talk n said
   SoFar n (Asking s v q look) said =
-      (seen : Seen) × (m : ℕ) × (base : List Received) × IsGiven s seen v × AreAsked o row column s seen v.talk m base × InLook s (Data q.row q.column) m base look n said
+      (seen : Seen) × (m : ℕ) × (base : List Received) × IsGiven s seen v × AreAsked o second row column s seen v.talk m base × InLook s (Data q.row q.column) None m base look n said
   SoFar n (Planning r p) said = IsPlanned n r p said
   SoFar n (Sweeping end) said = IsSwept end said
   SoFar n (Over end) said = IsEnded end said
@@ -156,46 +163,69 @@ module _ (o : ℕ) (judged : JudgedOf) (row : Row) (column : ℕ) where
   at_begin (At s) can = at_first
   at_begin _ can = absurd can
 
-  blocks : (s : Ts) (x : Cell) (m : ℕ) (base : List Received) (n : ℕ) (said : List Received) → LooksFrom o row column s x m base → IsBlocked s x m base n said → IsEnded ends.Blocked said
-  blocks s x m base n said from b =
-      record { run = None; meant = tt; whole = subst (λ l. IsRunTalk o judged row column l ends.Blocked None) (sym b.said_is) (blocked s x m base b.met b.before b.t b.primary from b.rounds b.last) }
+  blocks : (s : Ts) (x : Cell) (at : Option Ts) (m : ℕ) (base : List Received) (n : ℕ) (said : List Received) → LooksFrom o second row column s x at m base → IsBlocked s x at m base n said → IsEnded ends.Blocked said
+  blocks s x at m base n said from b =
+      record { run = None; meant = tt; whole = subst (λ l. IsRunTalk o judged row column l ends.Blocked None) (sym b.said_is) (blocked s x at m base b.met b.before b.t b.primary from b.rounds b.last) }
 
-  found_more : (s : Ts) (n : ℕ) (said : List Received) (a : Answer) (found : Option Version) → version_in a ≡ found → IsLooked s cell 0 (its_begin o row s) n said a → n < MAX_LOCKED
+  found_more : (s : Ts) (n : ℕ) (said : List Received) (a : Answer) (found : Option Revision) → version_in a ≡ found → IsLooked s cell None 0 (its_begin o row s) n said a → n < MAX_LOCKED
       → SoFar n (if_found s found) said
   found_more s n said a None is look few = record { run = None; meant = tt; ends = λ w can. absent s n said a w look is few can }
   found_more s n said a (Some found) is look few = (n, said, record { answer = a; look = look; found_is = is }, at_first)
 
-  observed_more : (s : Ts) (n : ℕ) (said : List Received) (looked : Looked) → AfterLook s cell 0 (its_begin o row s) looked n said → ((a : Answer) → looked ≡ Tells a → n < MAX_LOCKED)
+  observed_more : (s : Ts) (n : ℕ) (said : List Received) (looked : Looked) → AfterLook s cell None 0 (its_begin o row s) looked n said → ((a : Answer) → looked ≡ Tells a → n < MAX_LOCKED)
       → SoFar n (after_cell s looked) said
   observed_more s n said (On look) i few = i
   observed_more s n said (Tells a) i few = found_more s n said a (version_in a) refl i (few a refl)
-  observed_more s n said Blocks i few = blocks s cell 0 (its_begin o row s) n said at_cell i
+  observed_more s n said Blocks i few = blocks s cell None 0 (its_begin o row s) n said at_cell i
 
-  dirty_more : (s : Ts) (found : Version) (n : ℕ) (said : List Received) (t : Ts) (b : Bool) → nat_lt t.0 found.commit.0 ≡ b → IsAcknowledged o row column s (record { version = found; acknowledged = t }) n said → n < MAX_LOCKED
-      → SoFar n (cond b (Starting s (record { version = found; acknowledged = t })) (Sweeping ends.Clean)) said
-  dirty_more s found n said t true e i few = dirty n said i (newer t.0 found.commit.0 e) where
+  -- a look at the cell as of the acknowledged timestamp begins, or the machine does
+  if_some : (b : Bool) (a t : Ts) → cond b (Some a) None ≡ Some t → t ≡ a
+  if_some true a t e = cc
+  if_some false a t e = cc
+
+  recalled_more : (s : Ts) (seen : Seen) (n : ℕ) (said : List Received) (at : Option Ts) → old_at second seen.acknowledged ≡ at → seen.old ≡ None → IsAcknowledged o row column s seen n said
+      → seen.acknowledged.0 < seen.version.commit.0 → SoFar n (if_recalled s seen at) said
+  recalled_more s seen n said None is none i newer = dirty n said (subst (λ z. IsRecalled o row column s seen z n said) (sym is) (none, i)) newer
+  recalled_more s seen n said (Some t) is none i newer =
+      let same : t ≡ seen.acknowledged = if_some (second && not (seen.acknowledged.0 == 0)) seen.acknowledged t is in
+      (n, said, i, newer, is ∙ ap Some same, at_first)
+
+  dirty_more : (s : Ts) (found : Revision) (n : ℕ) (said : List Received) (t : Ts) (b : Bool) → nat_lt t.0 found.commit.0 ≡ b → IsAcknowledged o row column s (seen_so_far found t) n said → n < MAX_LOCKED
+      → SoFar n (cond b (if_recalled s (seen_so_far found t) (old_at second t)) (Sweeping ends.Clean)) said
+  dirty_more s found n said t true e i few = recalled_more s (seen_so_far found t) n said (old_at second t) refl refl i (newer t.0 found.commit.0 e) where
     newer : (a b : ℕ) → nat_lt a b ≡ true → a < b
     newer a b h = grind (arith, h)
   dirty_more s found n said t false e i few =
-      record { run = None; meant = tt; ends = λ w can. clean s (record { version = found; acknowledged = t }) n said w i (older t.0 found.commit.0 e) few can }
+      record { run = None; meant = tt; ends = λ w can. clean s (seen_so_far found t) n said w i (older t.0 found.commit.0 e) few can }
     where
       older : (a b : ℕ) → nat_lt a b ≡ false → b ≤ a
       older a b h = grind (arith, h)
 
-  acknowledged_more : (s : Ts) (found : Version) (m : ℕ) (base : List Received) (n : ℕ) (said : List Received) (looked : Looked) → IsObserved o row column s found m base
-      → AfterLook s ack m base looked n said → ((a : Answer) → looked ≡ Tells a → n < MAX_LOCKED) → SoFar n (after_acknowledgment s found looked) said
+  acknowledged_more : (s : Ts) (found : Revision) (m : ℕ) (base : List Received) (n : ℕ) (said : List Received) (looked : Looked) → IsObserved o row column s found m base
+      → AfterLook s ack None m base looked n said → ((a : Answer) → looked ≡ Tells a → n < MAX_LOCKED) → SoFar n (after_acknowledgment second s found looked) said
   acknowledged_more s found m base n said (On look) was i few = (m, base, was, i)
   acknowledged_more s found m base n said (Tells a) was i few =
       dirty_more s found n said (acknowledged_in a) (nat_lt (acknowledged_in a).0 found.commit.0) refl
       (record { met = m; base = base; observed = was; answer = a; look = i; acknowledged = refl }) (few a refl)
-  acknowledged_more s found m base n said Blocks was i few = blocks s ack m base n said (at_acknowledgment found m base was) i
+  acknowledged_more s found m base n said Blocks was i few = blocks s ack None m base n said (at_acknowledgment found m base was) i
+
+  recalled_one : (s : Ts) (seen : Seen) (m : ℕ) (base : List Received) (n : ℕ) (said : List Received) (looked : Looked) → IsAcknowledged o row column s seen m base
+      → seen.acknowledged.0 < seen.version.commit.0 → old_at second seen.acknowledged ≡ Some seen.acknowledged → AfterLook s cell (Some seen.acknowledged) m base looked n said
+      → SoFar n (after_recall s seen looked) said
+  recalled_one s seen m base n said (On look) i newer is l = (m, base, i, newer, is, l)
+  recalled_one s seen m base n said (Tells a) i newer is l =
+      dirty n said
+      (subst (λ z. IsRecalled o row column s (record seen { old = value_in a }) z n said) (sym is)
+      (m, base, a, record { met = i.met; base = i.base; observed = i.observed; answer = i.answer; look = i.look; acknowledged = i.acknowledged }, l, refl))
+      newer
+  recalled_one s seen m base n said Blocks i newer is l = blocks s cell (Some seen.acknowledged) m base n said (at_old seen seen.acknowledged m base i newer is) l
 
   asked_one : (s : Ts) (v : Position) (q : Ask) (seen : Seen) (m : ℕ) (base : List Received) (n : ℕ) (said : List Received) (looked : Looked) → IsGiven s seen v
-      → AreAsked o row column s seen v.talk m base → AfterLook s (Data q.row q.column) m base looked n said → SoFar n (after_ask s v q looked) said
+      → AreAsked o second row column s seen v.talk m base → AfterLook s (Data q.row q.column) None m base looked n said → SoFar n (after_ask s v q looked) said
   asked_one s v q seen m base n said (On look) given was i = (seen, m, base, given, was, i)
   asked_one s v q seen m base n said (Tells a) given was i =
       (seen, record { program = given.program; bytes = given.bytes; began = given.began }, asked_more v.talk m base (ask_of q) a n said was i)
-  asked_one s v q seen m base n said Blocks given was i = blocks s (Data q.row q.column) m base n said (at_ask seen v.talk m base (ask_of q) was) i
+  asked_one s v q seen m base n said Blocks given was i = blocks s (Data q.row q.column) None m base n said (at_ask seen v.talk m base (ask_of q) was) i
 
   module _ (plans_talk : PlansTalk) (plans_end : PlansEnd) where
     planned_more : (n r : ℕ) (p : PlanOf) (said : List Received) (out : Option Outcome) → outcome_of p ≡ out → IsPlanned n r p said → SoFar n (by_outcome r p out) said
@@ -239,18 +269,20 @@ module _ (o : ℕ) (judged : JudgedOf) (row : Row) (column : ℕ) where
     }
 
     said_more : (n : ℕ) (place : Place) (said : List Received) (t : Step) (a : Answer) → AtPlace n place → SoFar n place said → step_at o row column place ≡ Some t → CanAnswer t a
-        → SoFar (locked_at n place a) (place_after n place a) (said ++ told t a ∷ [])
+        → SoFar (locked_at n place a) (place_after second n place a) (said ++ told t a ∷ [])
     said_more n Beginning said t a at i e can =
         subst (λ u. CanAnswer u a → SoFar n (after_begin a) (said ++ told u a ∷ [])) (same_step (Begin (works.Run o row)) t e)
         (λ c. subst (λ l. SoFar n (after_begin a) (l ++ told (Begin (works.Run o row)) a ∷ [])) (sym i.1) (subst (λ k. SoFar k (after_begin a) (told (Begin (works.Run o row)) a ∷ [])) (sym i.0) (at_begin a c))) can
     said_more n (Observing s look) said t a at i e can =
-        observed_more s _ _ (look_after n look a) (look_more s cell 0 (its_begin o row s) look n said t a i (same_step _ t e) can at) (λ b is. tells_few n look a b at is)
+        observed_more s _ _ (look_after n look a) (look_more s cell None 0 (its_begin o row s) look n said t a i (same_step _ t e) can at) (λ b is. tells_few n look a b at is)
     said_more n (Acknowledging s found look) said t a at i e can =
-        acknowledged_more s found i.0 i.1 _ _ (look_after n look a) i.2 (look_more s ack i.0 i.1 look n said t a i.3 (same_step _ t e) can at) (λ b is. tells_few n look a b at is)
+        acknowledged_more s found i.0 i.1 _ _ (look_after n look a) i.2 (look_more s ack None i.0 i.1 look n said t a i.3 (same_step _ t e) can at) (λ b is. tells_few n look a b at is)
+    said_more n (Recalling s seen look) said t a at i e can =
+        recalled_one s seen i.0 i.1 _ _ (look_after n look a) i.2 i.3 i.4 (look_more s cell (Some seen.acknowledged) i.0 i.1 look n said t a i.5 (same_step _ t e) can at)
     said_more n (Starting s seen) said t a at i e can = absurd (none_some t e)
     said_more n (Computing s v) said t a at i e can = absurd (none_some t e)
     said_more n (Asking s v q look) said t a at i e can =
-        asked_one s v q i.0 i.1 i.2 _ _ (look_after n look a) i.3 i.4 (look_more s (Data q.row q.column) i.1 i.2 look n said t a i.5 (same_step _ t e) can at.0)
+        asked_one s v q i.0 i.1 i.2 _ _ (look_after n look a) i.3 i.4 (look_more s (Data q.row q.column) None i.1 i.2 look n said t a i.5 (same_step _ t e) can at.0)
     said_more n (Planning r p) said t a at i e can = planned_more n r (plans.answered p a) _ (outcome_of (plans.answered p a)) refl (plan_step n r p said t a i e can)
     said_more n (Sweeping end) said t a at i e can =
         subst (λ u. CanAnswer u a → IsEnded end (said ++ told u a ∷ [])) (same_step (Sweep cell) t e) (λ c. record { run = i.run; meant = i.meant; whole = i.ends a c }) can
@@ -258,20 +290,20 @@ module _ (o : ℕ) (judged : JudgedOf) (row : Row) (column : ℕ) where
 
     -- ---- one instruction
 
-    stepped_more : (n : ℕ) (s : Ts) (v : Position) (seen : Seen) (stepped : Stepped) (said : List Received) → n < MAX_LOCKED → IsGiven s seen v → AreAsked o row column s seen v.talk n said
+    stepped_more : (n : ℕ) (s : Ts) (v : Position) (seen : Seen) (stepped : Stepped) (said : List Received) → n < MAX_LOCKED → IsGiven s seen v → AreAsked o second row column s seen v.talk n said
         → Steps o v stepped → SoFar n (place_of s stepped) said
     stepped_more n s v seen (did.Went w) said few given was st =
         let w-is = st.went in (
           seen,
           record { program = w-is.given.judged ∙ given.program; bytes = w-is.given.bytes ∙ given.bytes; began = w-is.given.began ∙ given.began },
-          subst (λ talk. AreAsked o row column s seen talk n said) (sym w-is.talk) was,
+          subst (λ talk. AreAsked o second row column s seen talk n said) (sym w-is.talk) was,
         )
     stepped_more n s v seen (did.Asks w q) said few given was st = (
       seen,
       n,
       said,
       record { program = st.given.judged ∙ given.program; bytes = st.given.bytes ∙ given.bytes; began = st.given.began ∙ given.began },
-      subst (λ talk. AreAsked o row column s seen talk n said) (sym st.talk) was,
+      subst (λ talk. AreAsked o second row column s seen talk n said) (sym st.talk) was,
       at_first,
     )
     stepped_more n s v seen (did.Ended r what) said few given was st =
@@ -292,7 +324,7 @@ module _ (o : ℕ) (judged : JudgedOf) (row : Row) (column : ℕ) where
           few = few;
         }
 
-    comes_more : (n : ℕ) (s : Ts) (v : Position) (seen : Seen) (place : Place) (said : List Received) → n < MAX_LOCKED → IsGiven s seen v → AreAsked o row column s seen v.talk n said
+    comes_more : (n : ℕ) (s : Ts) (v : Position) (seen : Seen) (place : Place) (said : List Received) → n < MAX_LOCKED → IsGiven s seen v → AreAsked o second row column s seen v.talk n said
         → Comes o s v place → SoFar n place said
     comes_more n s v seen place said few given was c = subst (λ p. SoFar n p said) (sym c.place_is) (stepped_more n s v seen c.stepped said few given was c.steps)
 
@@ -312,7 +344,7 @@ module _ (o : ℕ) (judged : JudgedOf) (row : Row) (column : ℕ) where
     after : (said more : List Received) → CanEnd (said ++ more) → CanEnd said
     after said more c = record { rest = more ++ c.rest; end = c.end; run = c.run; whole = subst (λ l. IsRunTalk o judged row column l c.end c.run) (append_assoc said more c.rest) c.whole }
 
-    by_plan : (n : ℕ) (s : Ts) (seen : Seen) (talk : Talk) (base plan rest : List Received) (f : Meant) (out : Outcome) → n < MAX_LOCKED → AreAsked o row column s seen talk n base
+    by_plan : (n : ℕ) (s : Ts) (seen : Seen) (talk : Talk) (base plan rest : List Received) (f : Meant) (out : Outcome) → n < MAX_LOCKED → AreAsked o second row column s seen talk n base
         → IsRunOn judged row column s seen talk f → IsWhole s (declared.Run o f) (declared_cells (declared.Run o f)) (plan ++ rest) out → CanEnd (base ++ plan)
     by_plan n s seen talk base plan rest f (outcomes.Committed c) few was on w = record {
       rest = rest ++ told (Sweep cell) Done ∷ [];
@@ -335,49 +367,61 @@ module _ (o : ℕ) (judged : JudgedOf) (row : Row) (column : ℕ) where
       whole = subst (λ l. IsRunTalk o judged row column l ends.Lost (Some f)) (sym (append_assoc base plan rest)) (lost s seen talk n base (plan ++ rest) f was few on w);
     }
 
-    from_plan : (n : ℕ) (s : Ts) (seen : Seen) (talk : Talk) (base plan : List Received) (f : Meant) (p : PlanOf) → n < MAX_LOCKED → AreAsked o row column s seen talk n base
+    from_plan : (n : ℕ) (s : Ts) (seen : Seen) (talk : Talk) (base plan : List Received) (f : Meant) (p : PlanOf) → n < MAX_LOCKED → AreAsked o second row column s seen talk n base
         → IsRunOn judged row column s seen talk f → talks.Talks (plans.fresh s.0 (declared.Run o f)) plan p → CanEnd (base ++ plan)
     from_plan n s seen talk base plan f p few was on t =
         let w = plans_talk s.0 (declared.Run o f) _ _ plan p refl t in
         by_plan n s seen talk base plan w.0 f w.1 few was on w.2
 
     -- some run, whatever it means
-    from_asked : (n : ℕ) (s : Ts) (seen : Seen) (talk : Talk) (said : List Received) → n < MAX_LOCKED → AreAsked o row column s seen talk n said → CanEnd said
+    from_asked : (n : ℕ) (s : Ts) (seen : Seen) (talk : Talk) (said : List Received) → n < MAX_LOCKED → AreAsked o second row column s seen talk n said → CanEnd said
     from_asked n s seen talk said few was =
         let f : Meant = record { judged = judged; bytes = bytes_of seen; began = s.0; talk = talk; result = 0; writes = [] } in
         after said [] (from_plan n s seen talk said [] f _ few was (record { program = refl; bytes = refl; began = refl; talk_is = refl }) refl)
 
-    from_acknowledged : (n : ℕ) (s : Ts) (seen : Seen) (said : List Received) (b : Bool) → nat_lt seen.acknowledged.0 seen.version.commit.0 ≡ b → n < MAX_LOCKED
+    from_recalling : (n : ℕ) (s : Ts) (seen : Seen) (look : Look) (said : List Received) → n < MAX_LOCKED → SoFar n (Recalling s seen look) said → CanEnd said
+    from_recalling n s seen look said few i =
+        let l = looks.ends s cell (Some seen.acknowledged) i.0 i.1 look n said i.5 in
+        after said (l.next ∷ l.rest) (from_asked n s (record seen { old = None }) [] (said ++ l.next ∷ l.rest) few (recalled_one s seen i.0 i.1 n (said ++ l.next ∷ l.rest) (Tells Absent) i.2 i.3 i.4 l.look))
+
+    from_dirty : (n : ℕ) (s : Ts) (seen : Seen) (at : Option Ts) (said : List Received) → n < MAX_LOCKED → SoFar n (if_recalled s seen at) said → CanEnd said
+    from_dirty n s seen None said few i = from_asked n s seen [] said few i
+    from_dirty n s seen (Some t) said few i = from_recalling n s seen Reading said few i
+
+    from_acknowledged : (n : ℕ) (s : Ts) (seen : Seen) (said : List Received) (b : Bool) → nat_lt seen.acknowledged.0 seen.version.commit.0 ≡ b → n < MAX_LOCKED → seen.old ≡ None
         → IsAcknowledged o row column s seen n said → CanEnd said
-    from_acknowledged n s seen said true e few was = from_asked n s seen [] said few (dirty n said was (newer _ _ e)) where
-      newer : (a b : ℕ) → nat_lt a b ≡ true → a < b
-      newer a b h = grind (arith, h)
-    from_acknowledged n s seen said false e few was =
+    from_acknowledged n s seen said true e few none was =
+        from_dirty n s seen (old_at second seen.acknowledged) said few (recalled_more s seen n said (old_at second seen.acknowledged) refl none was (newer _ _ e))
+      where
+        newer : (a b : ℕ) → nat_lt a b ≡ true → a < b
+        newer a b h = grind (arith, h)
+    from_acknowledged n s seen said false e few none was =
         record { rest = told (Sweep cell) Done ∷ []; end = ends.Clean; run = None; whole = clean s seen n said Done was (older _ _ e) few tt }
       where
         older : (a b : ℕ) → nat_lt a b ≡ false → b ≤ a
         older a b h = grind (arith, h)
 
-    from_cell : (n : ℕ) (s : Ts) (said : List Received) → n < MAX_LOCKED → IsLooked s cell 0 (its_begin o row s) n said Absent → CanEnd said
+    from_cell : (n : ℕ) (s : Ts) (said : List Received) → n < MAX_LOCKED → IsLooked s cell None 0 (its_begin o row s) n said Absent → CanEnd said
     from_cell n s said few look = record { rest = told (Sweep cell) Done ∷ []; end = ends.Clean; run = None; whole = absent s n said Absent Done look refl few tt }
 
     can_end : (n : ℕ) (place : Place) (said : List Received) → AtPlace n place → SoFar n place said → CanEnd said
     can_end n Beginning said at i =
         let s : Ts = record { 0 = 0 } in
-        let l = looks.ends s cell 0 (its_begin o row s) Reading 0 (its_begin o row s) at_first in
-        subst CanEnd (sym i.1) (after [] (its_begin o row s ++ l.rest) (from_cell 0 s (its_begin o row s ++ l.rest) (omega arith) l.look))
+        let l = looks.ends s cell None 0 (its_begin o row s) Reading 0 (its_begin o row s) at_first in
+        subst CanEnd (sym i.1) (after [] (its_begin o row s ++ l.next ∷ l.rest) (from_cell 0 s (its_begin o row s ++ l.next ∷ l.rest) (omega arith) l.look))
     can_end n (Observing s look) said at i =
-        let l = looks.ends s cell 0 (its_begin o row s) look n said i in
-        after said l.rest (from_cell n s (said ++ l.rest) at l.look)
+        let l = looks.ends s cell None 0 (its_begin o row s) look n said i in
+        after said (l.next ∷ l.rest) (from_cell n s (said ++ l.next ∷ l.rest) at l.look)
     can_end n (Acknowledging s found look) said at i =
-        let l = looks.ends s ack i.0 i.1 look n said i.3 in
-        let seen : Seen = record { version = found; acknowledged = acknowledged_in Absent } in
-        after said l.rest (from_acknowledged n s seen (said ++ l.rest) (nat_lt seen.acknowledged.0 found.commit.0) refl at (record { met = i.0; base = i.1; observed = i.2; answer = Absent; look = l.look; acknowledged = refl }))
+        let l = looks.ends s ack None i.0 i.1 look n said i.3 in
+        let seen : Seen = seen_so_far found (acknowledged_in Absent) in
+        after said (l.next ∷ l.rest) (from_acknowledged n s seen (said ++ l.next ∷ l.rest) (nat_lt seen.acknowledged.0 found.commit.0) refl at refl (record { met = i.0; base = i.1; observed = i.2; answer = Absent; look = l.look; acknowledged = refl }))
+    can_end n (Recalling s seen look) said at i = from_recalling n s seen look said at i
     can_end n (Starting s seen) said at i = from_asked n s seen [] said at i
     can_end n (Computing s v) said at i = from_asked n s i.0 v.talk said at.0 i.2
     can_end n (Asking s v q look) said at i =
-        let l = looks.ends s (Data q.row q.column) i.1 i.2 look n said i.5 in
-        after said l.rest (from_asked n s i.0 _ (said ++ l.rest) at.0 (asked_more v.talk i.1 i.2 (ask_of q) Absent n (said ++ l.rest) i.4 l.look))
+        let l = looks.ends s (Data q.row q.column) None i.1 i.2 look n said i.5 in
+        after said (l.next ∷ l.rest) (from_asked n s i.0 _ (said ++ l.next ∷ l.rest) at.0 (asked_more v.talk i.1 i.2 (ask_of q) Absent n (said ++ l.next ∷ l.rest) i.4 l.look))
     can_end n (Planning r p) said at i = subst CanEnd (sym i.said_is) (from_plan n i.s i.seen i.talk i.base i.plan i.run p i.few i.asked i.run_on i.talks_are)
     can_end n (Sweeping end) said at i = record { rest = told (Sweep cell) Done ∷ []; end = end; run = i.run; whole = i.ends Done tt }
     can_end n (Over end) said at i = record { rest = []; end = end; run = i.run; whole = subst (λ l. IsRunTalk o judged row column l end i.run) (sym (append-nil said)) i.whole }
@@ -398,8 +442,9 @@ module _ (o : ℕ) (judged : JudgedOf) (row : Row) (column : ℕ) where
       program = h.program;
       in_row = h.in_row;
       in_column = h.in_column;
-      at = at_after k.locked k.place r.answer h.at;
-      so = said_more k.locked k.place said r.step r.answer h.at h.so ((λ i. step_at (sym h.observer i) (sym h.in_row i) (sym h.in_column i) k.place) ∙ next) can;
+      at = at_after (tells_old k.judged) k.locked k.place r.answer h.at;
+      so = subst (λ j. SoFar (locked_at k.locked k.place r.answer) (place_after (tells_old j) k.locked k.place r.answer) (said ++ r ∷ [])) (sym h.program)
+          (said_more k.locked k.place said r.step r.answer h.at h.so ((λ i. step_at (sym h.observer i) (sym h.in_row i) (sym h.in_column i) k.place) ∙ next) can);
     }
 
     holds_computed : (said : List Received) (k : RunOf) (place : Place) → Holds said k → ComesFrom k.observer k.judged (Data k.row k.column) k.place place → Holds said (record k { place = place })

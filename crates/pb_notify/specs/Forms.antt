@@ -1,23 +1,24 @@
 -- The conversations of a run of an observer on a cell (OSDI 2010, section 2.4). Each goes on from an earlier part, and counts
 -- the reads that met a lock.
-use Rattle.std.specs.Prelude.{◌≡◌, ◌≢◌, ℕ, suc, ◌<◌, ◌≤◌, List, [], ◌∷◌, ◌++◌, Option, Some, None}
+use Rattle.std.specs.Prelude.{◌≡◌, ◌≢◌, ℕ, suc, ◌<◌, ◌≤◌, Bool, List, [], ◌∷◌, ◌++◌, Option, Some, None}
 use Rattle.pb_base.specs.declared.cell.Cell.{Cell}
 use Rattle.pb_base.specs.declared.cell.Cell.TheVariants.{Data, Ack}
 use Rattle.pb_base.specs.declared.names.Row.{Row}
 use Rattle.pb_base.specs.declared.names.Ts.{Ts}
-use Rattle.pb_base.specs.declared.content.Version.{Version}
+use Rattle.pb_base.specs.declared.content.Revision.{Revision}
 use Rattle.pb_isa.specs.Programs.{JudgedOf}
 use Rattle.pb_isa.specs.Machine as machine
 use Rattle.pb_isa.specs.Meaning.{Talk}
-use Rattle.pb_helpers.specs.Record.{record_of}
+use Rattle.pb_helpers.specs.OldRecord.{tells_old, record_by}
 use Rattle.pb_vm.specs.Finished.{Meant, IsMeant}
 use Rattle.pb_steps.specs.declared.seen.Seen.{Seen}
 use Rattle.pb_steps.specs.declared.step.Work.TheVariants as works
 use Rattle.pb_steps.specs.declared.step.Declared.TheVariants as declared
-use Rattle.pb_steps.specs.declared.step.Step.TheVariants.{Begin, Read, Settle, Clear, Sweep}
+use Rattle.pb_steps.specs.declared.step.Step.TheVariants.{Begin, Settle, Clear, Sweep}
 use Rattle.pb_steps.specs.declared.step.Answer.{Answer}
 use Rattle.pb_steps.specs.declared.step.Answer.TheVariants.{At, Locked, Found, Absent, Waits}
 use Rattle.pb_steps.specs.Answers.{CanAnswer}
+use Rattle.pb_steps.specs.Declarations.{old_at}
 use Rattle.pb_steps.specs.Reads.{version_in, acknowledged_in, asked_cell, value_in}
 use Rattle.pb_history.specs.declared.entry.Received.{Received}
 use Rattle.pb_txn.specs.declared.place.Outcome.TheVariants as outcomes
@@ -27,6 +28,7 @@ use Rattle.pb_txn.specs.Forms.{IsWhole}
 use Rattle.pb_notify.specs.declared.look.TheConstants.{MAX_LOCKED}
 use Rattle.pb_notify.specs.declared.need.JobEnd.{JobEnd}
 use Rattle.pb_notify.specs.declared.need.JobEnd.TheVariants as ends
+use Rattle.pb_steps.specs.Read.{read_step}
 use Rattle.pb_notify.specs.Runs.{RunOf, fresh, need_of}
 use Rattle.pb_notify.specs.declared.need.Need.TheVariants.{Over}
 use Rattle.pb_notify.specs.Talks.{Reaches}
@@ -34,15 +36,15 @@ use Rattle.pb_notify.specs.Talks.{Reaches}
 -- ---- looks
 
 -- a read that met a lock, and how the lock was cleared
-pub data IsRound (s : Ts) (x : Cell) : List Received → Type 0 where
-  cleared : (t : Ts) (primary : Cell) (a : Answer) → CanAnswer (Clear x) a → a ≢ Waits → IsRound s x (told (Read s x) (Locked t primary) ∷ told (Clear x) a ∷ [])
+pub data IsRound (s : Ts) (x : Cell) (at : Option Ts) : List Received → Type 0 where
+  cleared : (t : Ts) (primary : Cell) (a : Answer) → CanAnswer (Clear x) a → a ≢ Waits → IsRound s x at (told (read_step s x at) (Locked t primary) ∷ told (Clear x) a ∷ [])
   settled : (t : Ts) (primary : Cell) (a b : Answer) → CanAnswer (Settle primary) a → CanAnswer (Clear x) b
-      → IsRound s x (told (Read s x) (Locked t primary) ∷ told (Clear x) Waits ∷ told (Settle primary) a ∷ told (Clear x) b ∷ [])
+      → IsRound s x at (told (read_step s x at) (Locked t primary) ∷ told (Clear x) Waits ∷ told (Settle primary) a ∷ told (Clear x) b ∷ [])
 
 -- any number of them, after what was said with so many locks met
-pub data AreRounds (s : Ts) (x : Cell) (m : ℕ) (base : List Received) : ℕ → List Received → Type 0 where
-  at_first : AreRounds s x m base m base
-  one_more : (n : ℕ) (said round : List Received) → AreRounds s x m base n said → IsRound s x round → AreRounds s x m base (suc n) (said ++ round)
+pub data AreRounds (s : Ts) (x : Cell) (at : Option Ts) (m : ℕ) (base : List Received) : ℕ → List Received → Type 0 where
+  at_first : AreRounds s x at m base m base
+  one_more : (n : ℕ) (said round : List Received) → AreRounds s x at m base n said → IsRound s x at round → AreRounds s x at m base (suc n) (said ++ round)
 
 abbrev pub IsHeld : Answer → Type 0
 IsHeld (Found start commit content) = Unit {0}
@@ -50,11 +52,21 @@ IsHeld Absent = Unit {0}
 IsHeld _ = ⊥
 
 -- a look at a cell: rounds, and a read that was answered with what the cell holds
-pub record IsLooked (s : Ts) (x : Cell) (m : ℕ) (base : List Received) (n : ℕ) (said : List Received) (a : Answer) : Type 0 where
+pub record IsLooked (s : Ts) (x : Cell) (at : Option Ts) (m : ℕ) (base : List Received) (n : ℕ) (said : List Received) (a : Answer) : Type 0 where
   pub before : List Received
-  pub rounds : AreRounds s x m base n before
+  pub rounds : AreRounds s x at m base n before
   pub held : IsHeld a
-  pub said_is : said ≡ before ++ told (Read s x) a ∷ []
+  pub said_is : said ≡ before ++ told (read_step s x at) a ∷ []
+
+-- a look at a cell that isn't at its end: what was said since is a beginning of one, and no more
+pub record IsLooking (s : Ts) (x : Cell) (at : Option Ts) (m : ℕ) (base said : List Received) : Type 0 where
+  pub since : List Received
+  pub said_is : said ≡ base ++ since
+  pub next : Received
+  pub rest : List Received
+  pub n : ℕ
+  pub answer : Answer
+  pub look : IsLooked s x at m base n (said ++ next ∷ rest) answer
 
 -- ---- the parts of a run of this observer on the cell of this row and column
 
@@ -62,9 +74,9 @@ abbrev pub its_begin : ℕ → Row → Ts → List Received
 its_begin o row s = told (Begin (works.Run o row)) (At s) ∷ []
 
 -- the cell was looked at, and holds this version
-pub record IsObserved (o : ℕ) (row : Row) (column : ℕ) (s : Ts) (found : Version) (n : ℕ) (said : List Received) : Type 0 where
+pub record IsObserved (o : ℕ) (row : Row) (column : ℕ) (s : Ts) (found : Revision) (n : ℕ) (said : List Received) : Type 0 where
   pub answer : Answer
-  pub look : IsLooked s (Data row column) 0 (its_begin o row s) n said answer
+  pub look : IsLooked s (Data row column) None 0 (its_begin o row s) n said answer
   pub found_is : version_in answer ≡ Some found
 
 -- then its acknowledgment
@@ -73,50 +85,59 @@ pub record IsAcknowledged (o : ℕ) (row : Row) (column : ℕ) (s : Ts) (seen : 
   pub base : List Received
   pub observed : IsObserved o row column s seen.version met base
   pub answer : Answer
-  pub look : IsLooked s (Ack o row column) met base n said answer
+  pub look : IsLooked s (Ack o row column) None met base n said answer
   pub acknowledged : seen.acknowledged ≡ acknowledged_in answer
 
--- where the version is newer, a look at each cell that its machine asked for, with these asks and replies
-pub data AreAsked (o : ℕ) (row : Row) (column : ℕ) (s : Ts) (seen : Seen) : Talk → ℕ → List Received → Type 0 where
-  dirty : (n : ℕ) (said : List Received) → IsAcknowledged o row column s seen n said → seen.acknowledged.0 < seen.version.commit.0 → AreAsked o row column s seen [] n said
-  asked : (talk : Talk) (m : ℕ) (base : List Received) (q : machine.Ask) (a : Answer) (n : ℕ) (said : List Received) → AreAsked o row column s seen talk m base
-      → IsLooked s (asked_cell q) m base n said a → AreAsked o row column s seen (talk ++ (q, value_in a) ∷ []) n said
+-- then the cell as of a timestamp, if it is looked at so
+abbrev pub IsRecalled : ℕ → Row → ℕ → Ts → Seen → Option Ts → ℕ → List Received → Type 0
+IsRecalled o row column s seen None n said = (seen.old ≡ None) × IsAcknowledged o row column s seen n said
+IsRecalled o row column s seen (Some t) n said =
+    (m : ℕ) × (base : List Received) × (a : Answer) × IsAcknowledged o row column s seen m base × IsLooked s (Data row column) (Some t) m base n said a × (seen.old ≡ value_in a)
+
+-- where the version is newer: the cell as of the acknowledged timestamp, if the program is told that, and a look at each cell
+-- that its machine asked for, with these asks and replies
+pub data AreAsked (o : ℕ) (second : Bool) (row : Row) (column : ℕ) (s : Ts) (seen : Seen) : Talk → ℕ → List Received → Type 0 where
+  dirty : (n : ℕ) (said : List Received) → IsRecalled o row column s seen (old_at second seen.acknowledged) n said → seen.acknowledged.0 < seen.version.commit.0 → AreAsked o second row column s seen [] n said
+  asked : (talk : Talk) (m : ℕ) (base : List Received) (q : machine.Ask) (a : Answer) (n : ℕ) (said : List Received) → AreAsked o second row column s seen talk m base
+      → IsLooked s (asked_cell q) None m base n said a → AreAsked o second row column s seen (talk ++ (q, value_in a) ∷ []) n said
 
 -- a run of the program on the record of what was seen, with these asks and replies
 pub record IsRunOn (judged : JudgedOf) (row : Row) (column : ℕ) (s : Ts) (seen : Seen) (talk : Talk) (f : Meant) : Type 0 where
   pub program : f.judged ≡ judged
-  pub bytes : f.bytes ≡ record_of (Data row column) seen.version seen.acknowledged.0
+  pub bytes : f.bytes ≡ record_by (tells_old judged) (Data row column) seen.version seen.acknowledged.0 seen.old
   pub began : f.began ≡ s.0
   pub talk_is : f.talk ≡ talk
 
 -- where a look at a cell begins
-pub data LooksFrom (o : ℕ) (row : Row) (column : ℕ) (s : Ts) : Cell → ℕ → List Received → Type 0 where
-  at_cell : LooksFrom o row column s (Data row column) 0 (its_begin o row s)
-  at_acknowledgment : (found : Version) (n : ℕ) (said : List Received) → IsObserved o row column s found n said → LooksFrom o row column s (Ack o row column) n said
-  at_ask : (seen : Seen) (talk : Talk) (n : ℕ) (said : List Received) (q : machine.Ask) → AreAsked o row column s seen talk n said → LooksFrom o row column s (asked_cell q) n said
+pub data LooksFrom (o : ℕ) (second : Bool) (row : Row) (column : ℕ) (s : Ts) : Cell → Option Ts → ℕ → List Received → Type 0 where
+  at_cell : LooksFrom o second row column s (Data row column) None 0 (its_begin o row s)
+  at_acknowledgment : (found : Revision) (n : ℕ) (said : List Received) → IsObserved o row column s found n said → LooksFrom o second row column s (Ack o row column) None n said
+  at_old : (seen : Seen) (t : Ts) (n : ℕ) (said : List Received) → IsAcknowledged o row column s seen n said → seen.acknowledged.0 < seen.version.commit.0 → old_at second seen.acknowledged ≡ Some t
+      → LooksFrom o second row column s (Data row column) (Some t) n said
+  at_ask : (seen : Seen) (talk : Talk) (n : ℕ) (said : List Received) (q : machine.Ask) → AreAsked o second row column s seen talk n said → LooksFrom o second row column s (asked_cell q) None n said
 
 -- ---- whole conversations, with their ends and the run that they declared
 
 pub data IsRunTalk (o : ℕ) (judged : JudgedOf) (row : Row) (column : ℕ) : List Received → JobEnd → Option Meant → Type 0 where
   -- the cell was absent
-  absent : (s : Ts) (n : ℕ) (said : List Received) (a w : Answer) → IsLooked s (Data row column) 0 (its_begin o row s) n said a → version_in a ≡ None → n < MAX_LOCKED
+  absent : (s : Ts) (n : ℕ) (said : List Received) (a w : Answer) → IsLooked s (Data row column) None 0 (its_begin o row s) n said a → version_in a ≡ None → n < MAX_LOCKED
       → CanAnswer (Sweep (Data row column)) w → IsRunTalk o judged row column (said ++ told (Sweep (Data row column)) w ∷ []) ends.Clean None
   -- its version is acknowledged
   clean : (s : Ts) (seen : Seen) (n : ℕ) (said : List Received) (w : Answer) → IsAcknowledged o row column s seen n said → seen.version.commit.0 ≤ seen.acknowledged.0 → n < MAX_LOCKED
       → CanAnswer (Sweep (Data row column)) w → IsRunTalk o judged row column (said ++ told (Sweep (Data row column)) w ∷ []) ends.Clean None
   -- the run was declared, and committed
-  ran : (s : Ts) (seen : Seen) (talk : Talk) (n : ℕ) (said plan : List Received) (f : Meant) (c : Ts) (w : Answer) → AreAsked o row column s seen talk n said → n < MAX_LOCKED
+  ran : (s : Ts) (seen : Seen) (talk : Talk) (n : ℕ) (said plan : List Received) (f : Meant) (c : Ts) (w : Answer) → AreAsked o (tells_old judged) row column s seen talk n said → n < MAX_LOCKED
       → IsRunOn judged row column s seen talk f → IsWhole s (declared.Run o f) (declared_cells (declared.Run o f)) plan (outcomes.Committed c)
       → CanAnswer (Sweep (Data row column)) w → IsRunTalk o judged row column ((said ++ plan) ++ told (Sweep (Data row column)) w ∷ []) (ends.Ran f.result) (Some f)
-  conflicted : (s : Ts) (seen : Seen) (talk : Talk) (n : ℕ) (said plan : List Received) (f : Meant) → AreAsked o row column s seen talk n said → n < MAX_LOCKED
+  conflicted : (s : Ts) (seen : Seen) (talk : Talk) (n : ℕ) (said plan : List Received) (f : Meant) → AreAsked o (tells_old judged) row column s seen talk n said → n < MAX_LOCKED
       → IsRunOn judged row column s seen talk f → IsWhole s (declared.Run o f) (declared_cells (declared.Run o f)) plan outcomes.Conflicted
       → IsRunTalk o judged row column (said ++ plan) ends.Conflicted (Some f)
-  lost : (s : Ts) (seen : Seen) (talk : Talk) (n : ℕ) (said plan : List Received) (f : Meant) → AreAsked o row column s seen talk n said → n < MAX_LOCKED
+  lost : (s : Ts) (seen : Seen) (talk : Talk) (n : ℕ) (said plan : List Received) (f : Meant) → AreAsked o (tells_old judged) row column s seen talk n said → n < MAX_LOCKED
       → IsRunOn judged row column s seen talk f → IsWhole s (declared.Run o f) (declared_cells (declared.Run o f)) plan outcomes.Lost
       → IsRunTalk o judged row column (said ++ plan) ends.Lost (Some f)
   -- a look met the last lock that its reads may meet
-  blocked : (s : Ts) (x : Cell) (m : ℕ) (base : List Received) (n : ℕ) (said : List Received) (t : Ts) (primary : Cell) → LooksFrom o row column s x m base
-      → AreRounds s x m base n said → suc n ≡ MAX_LOCKED → IsRunTalk o judged row column (said ++ told (Read s x) (Locked t primary) ∷ []) ends.Blocked None
+  blocked : (s : Ts) (x : Cell) (at : Option Ts) (m : ℕ) (base : List Received) (n : ℕ) (said : List Received) (t : Ts) (primary : Cell) → LooksFrom o (tells_old judged) row column s x at m base
+      → AreRounds s x at m base n said → suc n ≡ MAX_LOCKED → IsRunTalk o judged row column (said ++ told (read_step s x at) (Locked t primary) ∷ []) ends.Blocked None
 
 -- what a job has asked so far is a beginning of such a conversation
 abbrev pub JobsTalk : Type 0

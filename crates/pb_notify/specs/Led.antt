@@ -1,22 +1,27 @@
 -- Where the machine of a job stands: its program led it there from entry, on the record of what the job read and with the
 -- replies that it read.
-use Rattle.std.specs.Prelude.{◌≡◌, ℕ, List, ◌++◌, length}
+use Rattle.std.specs.Prelude.{◌≡◌, ℕ, List, ◌++◌, length, None}
 use Rattle.pb_base.specs.declared.cell.Cell.TheVariants.{Data}
 use Rattle.pb_base.specs.declared.names.Row.{Row}
 use Rattle.pb_base.specs.declared.names.Ts.{Ts}
-use Rattle.pb_isa.specs.declared.limits.TheConstants.{RECORD_BYTES}
 use Rattle.pb_isa.specs.Programs.{JudgedOf}
 use Rattle.pb_isa.specs.Machine.{Placement, IsPlacement, State}
-use Rattle.pb_helpers.specs.Record.{record_of}
+use Rattle.pb_helpers.specs.OldRecord.{tells_old, record_by}
 use Rattle.pb_vm.specs.Position.{Position}
-use Rattle.pb_vm.specs.Moves.{IsAtState}
+use Rattle.pb_vm.specs.Moves.{IsAtState, AsksAt}
+use Rattle.pb_vm.specs.Finished.{Meant, IsMeant}
+use Rattle.pb_isa.specs.Meaning.{Talk}
+use Rattle.pb_steps.specs.declared.step.Declared.TheVariants as declared
+use Rattle.pb_txn.specs.Plans.{PlanOf}
+use Rattle.pb_txn.specs.Plans as plans
+use Rattle.pb_txn.specs.Talks.{Talks}
 use Rattle.pb_steps.specs.declared.seen.Seen.{Seen}
 use Rattle.pb_history.specs.declared.entry.Received.{Received}
 use Rattle.pb_notify.specs.declared.place.Place.{Place}
-use Rattle.pb_notify.specs.declared.place.Place.TheVariants.{Computing, Asking}
+use Rattle.pb_notify.specs.declared.place.Place.TheVariants.{Computing, Asking, Planning}
 use Rattle.pb_notify.specs.Runs.{RunOf, fresh}
 use Rattle.pb_notify.specs.Talks.{Reaches}
-use Rattle.pb_notify.specs.Forms.{AreAsked}
+use Rattle.pb_notify.specs.Forms.{IsLooking, AreAsked, IsRunOn}
 
 -- the machine of a place stands at this position, begun at this start
 abbrev pub MachineStandsAt : Place → Ts → Position → Type 0
@@ -28,20 +33,58 @@ MachineStandsAt place s v = ⊥
 abbrev pub IsLed : Position → Type 0
 IsLed v = (a : Placement) → IsPlacement (length v.bytes) a → (here : State) × IsAtState v a here
 
+-- what was said since the machine had its last reply: nothing while it computes, and of one look at the cell while it asks
+abbrev pub IsSaidSince : Place → ℕ → List Received → List Received → Type 0
+IsSaidSince (Computing s v) met base said = said ≡ base
+IsSaidSince (Asking s v q look) met base said = IsLooking s (Data q.row q.column) None met base said
+IsSaidSince place met base said = Unit {0}
+
 -- the program on the record of what was seen, from the start, with the replies that were read
-pub record IsMachineOf (o : ℕ) (judged : JudgedOf) (row : Row) (column : ℕ) (s : Ts) (v : Position) (said : List Received) : Type 0 where
+pub record IsMachineOf (o : ℕ) (judged : JudgedOf) (row : Row) (column : ℕ) (place : Place) (s : Ts) (v : Position) (said : List Received) : Type 0 where
   pub seen : Seen
   pub program : v.judged ≡ judged
-  pub bytes : v.bytes ≡ record_of (Data row column) seen.version seen.acknowledged.0
-  pub size : length v.bytes ≡ RECORD_BYTES
+  pub bytes : v.bytes ≡ record_by (tells_old judged) (Data row column) seen.version seen.acknowledged.0 seen.old
+  pub size : length v.bytes ≡ judged.record_size
   pub began : v.began ≡ s.0
   pub met : ℕ
   pub base : List Received
-  pub rest : List Received
-  pub said_is : said ≡ base ++ rest
-  pub asked : AreAsked o row column s seen v.talk met base
+  pub asked : AreAsked o (tells_old judged) row column s seen v.talk met base
+  pub since : IsSaidSince place met base said
   pub led : IsLed v
+
+-- while it looks at a cell for its machine, the next instruction asks for that cell, at every placement
+abbrev pub IsAskingAt : Place → Type 0
+IsAskingAt (Asking s v q look) = (a : Placement) → IsPlacement (length v.bytes) a → AsksAt v q a
+IsAskingAt place = Unit {0}
+
+-- the plan that is followed declares a run of the program on the record of what was seen, with the replies that were read, and
+-- this is what the program means by them; what was said since is the plan's
+pub record IsEndedRun (o : ℕ) (judged : JudgedOf) (row : Row) (column r : ℕ) (p : PlanOf) (said : List Received) : Type 0 where
+  pub s : Ts
+  pub seen : Seen
+  pub talk : Talk
+  pub met : ℕ
+  pub base : List Received
+  pub since : List Received
+  pub said_is : said ≡ base ++ since
+  pub asked : AreAsked o (tells_old judged) row column s seen talk met base
+  pub run : Meant
+  pub run_on : IsRunOn judged row column s seen talk run
+  pub meant : IsMeant run
+  pub result : r ≡ run.result
+  pub declares : p.what ≡ declared.Run o run
+  pub followed : Talks (plans.fresh s.0 p.what) since p
+
+abbrev pub HasEnded : ℕ → JudgedOf → Row → ℕ → Place → List Received → Type 0
+HasEnded o judged row column (Planning r p) said = IsEndedRun o judged row column r p said
+HasEnded o judged row column place said = Unit {0}
+
+abbrev pub AsksAreOpen : Type 0
+AsksAreOpen = (o : ℕ) (judged : JudgedOf) (row : Row) (column : ℕ) (said : List Received) (k : RunOf) → Reaches (fresh o judged row column) said k → IsAskingAt k.place
+
+abbrev pub EndedRunsMean : Type 0
+EndedRunsMean = (o : ℕ) (judged : JudgedOf) (row : Row) (column : ℕ) (said : List Received) (k : RunOf) → Reaches (fresh o judged row column) said k → HasEnded o judged row column k.place said
 
 abbrev pub MachinesAreLed : Type 0
 MachinesAreLed = (o : ℕ) (judged : JudgedOf) (row : Row) (column : ℕ) (said : List Received) (k : RunOf) (s : Ts) (v : Position) → Reaches (fresh o judged row column) said k
-    → MachineStandsAt k.place s v → IsMachineOf o judged row column s v said
+    → MachineStandsAt k.place s v → IsMachineOf o judged row column k.place s v said

@@ -1,10 +1,11 @@
--- Looks at a cell (OSDI 2010, section 2.2): it is read; a lock in the way is cleared, after its primary was settled where it
+-- Looks at a cell, as of a start or of an earlier timestamp (OSDI 2010, section 2.2): it is read; a lock in the way is cleared, after its primary was settled where it
 -- waits for that; and the cell is read again.
-use Rattle.std.specs.Prelude.{ℕ, ◌+◌, nat_lt, if◌then◌else◌}
+use Rattle.std.specs.Prelude.{ℕ, ◌+◌, nat_lt, if◌then◌else◌, Option}
 use Rattle.pb_base.specs.declared.cell.Cell.{Cell}
 use Rattle.pb_base.specs.declared.names.Ts.{Ts}
 use Rattle.pb_steps.specs.declared.step.Step.{Step}
-use Rattle.pb_steps.specs.declared.step.Step.TheVariants.{Read, Settle, Clear}
+use Rattle.pb_steps.specs.declared.step.Step.TheVariants.{Settle, Clear}
+use Rattle.pb_steps.specs.Read.{read_step}
 use Rattle.pb_steps.specs.declared.step.Answer.{Answer}
 use Rattle.pb_steps.specs.declared.step.Answer.TheVariants.{Locked, Waits}
 use Rattle.pb_notify.specs.declared.look.TheConstants.{MAX_LOCKED}
@@ -14,11 +15,11 @@ use Rattle.pb_notify.specs.declared.look.Looked.{Looked}
 use Rattle.pb_notify.specs.declared.look.Looked.TheVariants.{On, Tells, Blocks}
 
 -- the next step of a look at a cell
-abbrev pub look_step : Ts → Cell → Look → Step
-look_step s x Reading = Read s x
-look_step s x (Clearing primary) = Clear x
-look_step s x (Settling primary) = Settle primary
-look_step s x ClearingAgain = Clear x
+abbrev pub look_step : Ts → Cell → Option Ts → Look → Step
+look_step s x at Reading = read_step s x at
+look_step s x at (Clearing primary) = Clear x
+look_step s x at (Settling primary) = Settle primary
+look_step s x at ClearingAgain = Clear x
 
 -- ---- where an answer leads, after so many reads of the job that met a lock
 

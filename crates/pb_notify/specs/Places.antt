@@ -1,14 +1,13 @@
 -- Where a job stands: the step at each place, and where each answer and each instruction leads.
-use Rattle.std.specs.Prelude.{◌≡◌, ℕ, ◌<◌, nat_lt, if◌then◌else◌, length, Option, Some, None}
+use Rattle.std.specs.Prelude.{◌≡◌, ℕ, ◌<◌, Bool, nat_lt, if◌then◌else◌, length, Option, Some, None}
 use Rattle.pb_base.specs.declared.cell.Cell.{Cell}
 use Rattle.pb_base.specs.declared.cell.Cell.TheVariants.{Data, Ack}
 use Rattle.pb_base.specs.declared.names.Row.{Row}
 use Rattle.pb_base.specs.declared.names.Ts.{Ts}
-use Rattle.pb_base.specs.declared.content.Version.{Version}
-use Rattle.pb_isa.specs.declared.limits.TheConstants.{RECORD_BYTES}
+use Rattle.pb_base.specs.declared.content.Revision.{Revision}
 use Rattle.pb_isa.specs.Programs.{JudgedOf}
 use Rattle.pb_helpers.specs.declared.ask.Ask.{Ask}
-use Rattle.pb_helpers.specs.Record.{record_of}
+use Rattle.pb_helpers.specs.OldRecord.{tells_old, record_by}
 use Rattle.pb_vm.specs.declared.moved.Phase.TheVariants as phases
 use Rattle.pb_vm.specs.Position.{Position}
 use Rattle.pb_steps.specs.declared.seen.Seen.{Seen}
@@ -17,6 +16,7 @@ use Rattle.pb_steps.specs.declared.step.Step.{Step}
 use Rattle.pb_steps.specs.declared.step.Step.TheVariants as steps
 use Rattle.pb_steps.specs.declared.step.Answer.{Answer}
 use Rattle.pb_steps.specs.declared.step.Answer.TheVariants as answers
+use Rattle.pb_steps.specs.Declarations.{old_at}
 use Rattle.pb_steps.specs.Reads.{version_in, acknowledged_in, value_in}
 use Rattle.pb_txn.specs.declared.place.Outcome.{Outcome}
 use Rattle.pb_txn.specs.declared.place.Outcome.TheVariants as outcomes
@@ -31,7 +31,7 @@ use Rattle.pb_notify.specs.declared.machine.stepped.Stepped.{Stepped}
 use Rattle.pb_notify.specs.declared.machine.stepped.Stepped.TheVariants as did
 use Rattle.pb_notify.specs.declared.need.JobEnd.TheVariants as ends
 use Rattle.pb_notify.specs.declared.place.Place.{Place}
-use Rattle.pb_notify.specs.declared.place.Place.TheVariants.{Beginning, Observing, Acknowledging, Starting, Computing, Asking, Planning, Sweeping, Over}
+use Rattle.pb_notify.specs.declared.place.Place.TheVariants.{Beginning, Observing, Acknowledging, Recalling, Starting, Computing, Asking, Planning, Sweeping, Over}
 use Rattle.pb_notify.specs.Looks.{look_step, look_after, locked_after}
 use Rattle.pb_notify.specs.Machines.{first_position, after_reply, HearsReply}
 use Rattle.pb_notify.specs.Steps.{Steps, WentOn, MovesOn}
@@ -44,9 +44,10 @@ use Rattle.pb_vm.specs.Moves.{AskedFor}
 -- but for those of a plan
 abbrev pub stored_step : ℕ → Row → ℕ → Place → Option Step
 stored_step o row column Beginning = Some (steps.Begin (works.Run o row))
-stored_step o row column (Observing s look) = Some (look_step s (Data row column) look)
-stored_step o row column (Acknowledging s found look) = Some (look_step s (Ack o row column) look)
-stored_step o row column (Asking s v q look) = Some (look_step s (Data q.row q.column) look)
+stored_step o row column (Observing s look) = Some (look_step s (Data row column) None look)
+stored_step o row column (Acknowledging s found look) = Some (look_step s (Ack o row column) None look)
+stored_step o row column (Recalling s seen look) = Some (look_step s (Data row column) (Some seen.acknowledged) look)
+stored_step o row column (Asking s v q look) = Some (look_step s (Data q.row q.column) None look)
 stored_step o row column (Sweeping end) = Some (steps.Sweep (Data row column))
 stored_step o row column _ = None
 
@@ -62,7 +63,7 @@ after_begin (answers.At s) = Observing s Reading
 after_begin _ = Beginning
 
 -- a cell without a version is clean, whatever is acknowledged
-abbrev pub if_found : Ts → Option Version → Place
+abbrev pub if_found : Ts → Option Revision → Place
 if_found s None = Sweeping ends.Clean
 if_found s (Some found) = Acknowledging s found Reading
 
@@ -71,14 +72,28 @@ after_cell s (On look) = Observing s look
 after_cell s (Tells a) = if_found s (version_in a)
 after_cell s Blocks = Over ends.Blocked
 
--- a cell is dirty where its commit is greater than the acknowledged timestamp
-abbrev pub if_dirty : Ts → Version → Ts → Place
-if_dirty s found acknowledged = if nat_lt acknowledged.0 found.commit.0 then Starting s (record { version = found; acknowledged = acknowledged }) else Sweeping ends.Clean
+-- the machine's turn, after a look at the cell as of a timestamp if there is one
+abbrev pub if_recalled : Ts → Seen → Option Ts → Place
+if_recalled s seen None = Starting s seen
+if_recalled s seen (Some t) = Recalling s seen Reading
 
-abbrev pub after_acknowledgment : Ts → Version → Looked → Place
-after_acknowledgment s found (On look) = Acknowledging s found look
-after_acknowledgment s found (Tells a) = if_dirty s found (acknowledged_in a)
-after_acknowledgment s found Blocks = Over ends.Blocked
+-- what was seen of the cell so far
+abbrev pub seen_so_far : Revision → Ts → Seen
+seen_so_far found acknowledged = record { version = found; acknowledged = acknowledged; old = None }
+
+-- a cell is dirty where its commit is greater than the acknowledged timestamp
+abbrev pub if_dirty : Bool → Ts → Revision → Ts → Place
+if_dirty second s found acknowledged = if nat_lt acknowledged.0 found.commit.0 then if_recalled s (seen_so_far found acknowledged) (old_at second acknowledged) else Sweeping ends.Clean
+
+abbrev pub after_acknowledgment : Bool → Ts → Revision → Looked → Place
+after_acknowledgment second s found (On look) = Acknowledging s found look
+after_acknowledgment second s found (Tells a) = if_dirty second s found (acknowledged_in a)
+after_acknowledgment second s found Blocks = Over ends.Blocked
+
+abbrev pub after_recall : Ts → Seen → Looked → Place
+after_recall s seen (On look) = Recalling s seen look
+after_recall s seen (Tells a) = Starting s (record seen { old = value_in a })
+after_recall s seen Blocks = Over ends.Blocked
 
 abbrev pub after_ask : Ts → Position → Ask → Looked → Place
 after_ask s v q (On look) = Asking s v q look
@@ -95,17 +110,18 @@ by_outcome r p (Some outcomes.Lost) = Over ends.Lost
 abbrev pub after_plan : ℕ → PlanOf → Place
 after_plan r p = by_outcome r p (outcome_of p)
 
--- after so many reads that met a lock
-abbrev pub place_after : ℕ → Place → Answer → Place
-place_after locked Beginning a = after_begin a
-place_after locked (Observing s look) a = after_cell s (look_after locked look a)
-place_after locked (Acknowledging s found look) a = after_acknowledgment s found (look_after locked look a)
-place_after locked (Starting s seen) a = Starting s seen
-place_after locked (Computing s v) a = Computing s v
-place_after locked (Asking s v q look) a = after_ask s v q (look_after locked look a)
-place_after locked (Planning r p) a = after_plan r (plans.answered p a)
-place_after locked (Sweeping end) a = Over end
-place_after locked (Over end) a = Over end
+-- after so many reads that met a lock, of a program that is told what its cell held at the acknowledged timestamp, or isn't
+abbrev pub place_after : Bool → ℕ → Place → Answer → Place
+place_after second locked Beginning a = after_begin a
+place_after second locked (Observing s look) a = after_cell s (look_after locked look a)
+place_after second locked (Acknowledging s found look) a = after_acknowledgment second s found (look_after locked look a)
+place_after second locked (Recalling s seen look) a = after_recall s seen (look_after locked look a)
+place_after second locked (Starting s seen) a = Starting s seen
+place_after second locked (Computing s v) a = Computing s v
+place_after second locked (Asking s v q look) a = after_ask s v q (look_after locked look a)
+place_after second locked (Planning r p) a = after_plan r (plans.answered p a)
+place_after second locked (Sweeping end) a = Over end
+place_after second locked (Over end) a = Over end
 
 -- where a look for the machine comes to its end, the machine is told
 abbrev pub IsToldBy : Position → Ask → Looked → Place → Type 0
@@ -120,6 +136,7 @@ IsToldAt locked before a place = Unit {0}
 abbrev pub locked_at : ℕ → Place → Answer → ℕ
 locked_at locked (Observing s look) a = locked_after locked look a
 locked_at locked (Acknowledging s found look) a = locked_after locked look a
+locked_at locked (Recalling s seen look) a = locked_after locked look a
 locked_at locked (Asking s v q look) a = locked_after locked look a
 locked_at locked _ a = locked
 
@@ -138,8 +155,8 @@ pub record Comes (o : ℕ) (s : Ts) (v : Position) (place : Place) : Type 0 wher
 
 -- the machine begins on the record of what was seen of the cell
 pub record Starts (o : ℕ) (judged : JudgedOf) (x : Cell) (s : Ts) (seen : Seen) (place : Place) : Type 0 where
-  pub size : length (record_of x seen.version seen.acknowledged.0) ≡ RECORD_BYTES
-  pub comes : Comes o s (first_position judged (record_of x seen.version seen.acknowledged.0) s.0) place
+  pub size : length (record_by (tells_old judged) x seen.version seen.acknowledged.0 seen.old) ≡ judged.record_size
+  pub comes : Comes o s (first_position judged (record_by (tells_old judged) x seen.version seen.acknowledged.0 seen.old) s.0) place
 
 -- from a place: the machine begins, or goes on where it stands
 abbrev pub ComesFrom : ℕ → JudgedOf → Cell → Place → Place → Type 0
@@ -169,6 +186,7 @@ abbrev pub AtPlace : ℕ → Place → Type 0
 AtPlace locked Beginning = locked < MAX_LOCKED
 AtPlace locked (Observing s look) = locked < MAX_LOCKED
 AtPlace locked (Acknowledging s found look) = locked < MAX_LOCKED
+AtPlace locked (Recalling s seen look) = locked < MAX_LOCKED
 AtPlace locked (Starting s seen) = locked < MAX_LOCKED
 AtPlace locked (Computing s v) = (locked < MAX_LOCKED) × (v.phase ≡ phases.Going)
 AtPlace locked (Asking s v q look) = (locked < MAX_LOCKED) × (v.phase ≡ phases.Asking q)

@@ -3,6 +3,7 @@ use Rattle.std.specs.Prelude.{◌≡◌, ℕ, Option, Some}
 use Rattle.pb_base.specs.declared.cell.Cell.TheVariants.{Data}
 use Rattle.pb_base.specs.declared.names.Row.{Row}
 use Rattle.pb_isa.specs.Programs.{JudgedOf}
+use Rattle.pb_helpers.specs.OldRecord.{tells_old}
 use Rattle.pb_steps.specs.declared.step.Step.{Step}
 use Rattle.pb_steps.specs.declared.step.Answer.{Answer}
 use Rattle.pb_txn.specs.Plans as plans
@@ -42,7 +43,7 @@ need_of j = need_at j.place
 
 -- after its next step was answered
 abbrev pub answered : RunOf → Answer → RunOf
-answered j a = record j { locked = locked_at j.locked j.place a; place = place_after j.locked j.place a }
+answered j a = record j { locked = locked_at j.locked j.place a; place = place_after (tells_old j.judged) j.locked j.place a }
 
 -- its machine was told what a look for it found
 abbrev pub HearsLook : RunOf → Answer → RunOf → Type 0

@@ -1,6 +1,6 @@
 //! Jobs of observers.
 use crate::need::Need;
-use crate::place::{Place, compute, locked_at, move_on, place_after, step_at, waiting};
+use crate::place::{Place, compute, locked_at, move_on, place_after, step_at, tells_old, waiting};
 use pb_base::{Cell, Column, NoMemory, ObserverNo, Row};
 use pb_steps::{Answer, Step, Work};
 use pb_verify::Accepted;
@@ -93,7 +93,8 @@ impl ObserverJob {
     {
         let place = mem::replace(&mut self.place, Place::Beginning);
         let locked = locked_at(self.locked, &place, &answer);
-        let place = place_after(self.locked, place, answer);
+        let second = tells_old(&self.accepted);
+        let place = place_after(second, self.locked, place, answer);
         self.next = step_at(self.observer, self.row, self.column, &place);
         self.locked = locked;
         self.place = place;

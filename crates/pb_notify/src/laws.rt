@@ -1,9 +1,9 @@
 //! What the steps of a run are, and that the table takes them.
 ghost use Rattle.pb_notify.specs.Forms.{JobsTalk, JobsEnd};
-ghost use Rattle.pb_notify.specs.Led.{MachinesAreLed};
+ghost use Rattle.pb_notify.specs.Led.{MachinesAreLed, AsksAreOpen, EndedRunsMean};
 ghost use Rattle.pb_notify.specs.Allowed.{JobsAreAllowed, RunsAreKept};
 
-use pb_history::{journals_are_sound, transactions_are_told};
+use pb_history::{acknowledged_is_earlier, journals_are_sound, transactions_are_told};
 use pb_txn::{plans_are_allowed, plans_talk};
 
 /// What a job has asked is a beginning of a run's conversation, and at its end a whole one, whose declared run is what its
@@ -18,7 +18,9 @@ pub fn jobs_talk()
 /// The machine of a job stands where its program led it from entry, at every placement, on the record of what the job read
 /// and with the replies that it read.
 pub fn machines_are_led()
-    ensures { MachinesAreLed }
+    ensures led { MachinesAreLed }
+    ensures open { AsksAreOpen }
+    ensures ended { EndedRunsMean }
 {
     plans_talk();
 }
@@ -33,4 +35,5 @@ pub fn jobs_are_allowed()
     plans_are_allowed();
     transactions_are_told();
     journals_are_sound();
+    acknowledged_is_earlier();
 }

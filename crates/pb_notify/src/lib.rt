@@ -10,5 +10,5 @@ mod place;
 
 pub use job::ObserverJob;
 pub use laws::{jobs_are_allowed, jobs_talk, machines_are_led};
-pub use look::MAX_LOCKED;
+pub use look::{MAX_LOCKED, locked_limit_is_this};
 pub use need::{JobEnd, Need};

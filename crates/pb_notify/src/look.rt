@@ -1,5 +1,6 @@
 //! Looks at a cell: it is read, and a lock in the way is cleared before it is read again (OSDI 2010, section 2.2).
 ghost use Rattle.std.specs.Prelude.{◌≡◌, ◌<◌};
+ghost use Rattle.pb_steps.specs.Read.{read_step};
 ghost use Rattle.pb_notify.specs.Looks.{look_step, look_after, locked_after};
 
 use pb_base::{Cell, Ts};
@@ -7,6 +8,11 @@ use pb_steps::{Answer, Step};
 
 /// How many reads of one job may meet a lock: at the last it ends.
 pub const MAX_LOCKED: u8 = 64;
+
+/// The limit of a job has this value.
+pub fn locked_limit_is_this()
+    ensures { MAX_LOCKED ≡ 64 }
+{}
 
 /// Which step of a look is next.
 #[derive(Clone, Copy)]
@@ -30,12 +36,21 @@ pub enum Looked {
     Blocks,
 }
 
-/// The next step of a look at a cell.
-pub fn look_step(start: Ts, cell: Cell, look: Look) -> Step
-    ensures { result ≡ look_step start cell look }
+fn read_step(start: Ts, cell: Cell, at: Option<Ts>) -> Step
+    ensures { result ≡ read_step start cell at }
+{
+    match at {
+        None => Step::Read(start, cell),
+        Some(at) => Step::ReadAt(start, cell, at),
+    }
+}
+
+/// The next step of a look at a cell, as of the start or of this timestamp.
+pub fn look_step(start: Ts, cell: Cell, at: Option<Ts>, look: Look) -> Step
+    ensures { result ≡ look_step start cell at look }
 {
     match look {
-        Look::Reading => Step::Read(start, cell),
+        Look::Reading => read_step(start, cell, at),
         Look::Clearing(_) => Step::Clear(cell),
         Look::Settling(primary) => Step::Settle(primary),
         Look::ClearingAgain => Step::Clear(cell),

@@ -1,5 +1,5 @@
 //! The machine of a run, which tries its exit again where memory was refused to declare what it leaves.
-ghost use Rattle.std.specs.Prelude.{◌≡◌, IfOk};
+ghost use Rattle.std.specs.Prelude.{◌≡◌, length, IfOk};
 ghost use Rattle.pb_steps.specs.Reads.{value_in};
 ghost use Rattle.pb_notify.specs.Machines.{first_position, after_reply, HearsReply};
 ghost use Rattle.pb_vm.specs.declared.moved.Phase.TheVariants.{Asking};
@@ -49,6 +49,7 @@ impl Machine {
         change: Record,
         run: Ts,
     ) -> Result<Machine, NoMemory>
+        requires { length change ≡ accepted.now.value.record_size }
         ensures { IfOk result (λ m. m ≡ first_position accepted.now.value change run.0) }
     {
         let vm = Vm::start(alloc, accepted, change, run)?;

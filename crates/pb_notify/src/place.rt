@@ -1,5 +1,6 @@
 //! Where a job stands, and where an answer or an instruction leads.
-ghost use Rattle.std.specs.Prelude.{◌≡◌, ◌<◌, ℕ, IfOk, IfErr, MatchOption};
+ghost use Rattle.std.specs.Prelude.{◌≡◌, ◌<◌, ℕ, length, IfOk, IfErr, MatchOption};
+ghost use Rattle.pb_helpers.specs.OldRecord as versions;
 ghost use Rattle.pb_txn.specs.Plans as plans;
 ghost use Rattle.pb_notify.specs.declared.place.Place.TheVariants as places;
 ghost use Rattle.pb_notify.specs.Places.{stored_step, place_after, locked_at, place_of, CanTakeAt, AtPlace, IsLocal, IsToldBy, IsToldAt, Starts, Comes, ComesFrom, MovesAt, GoesAt, waiting};
@@ -10,9 +11,9 @@ ghost use Rattle.pb_vm.specs.declared.moved.Phase.TheVariants.{Going, Asking};
 use crate::look::{Look, Looked, locked_after, look_after, look_step};
 use crate::machine::{Machine, Stepped};
 use crate::need::JobEnd;
-use pb_base::{Cell, Column, ObserverNo, Row, Ts, Version};
+use pb_base::{Cell, Column, ObserverNo, Revision, Row, Ts};
 use pb_helpers::{Ask, Record};
-use pb_steps::{Answer, Seen, Step, Work, acknowledged_in, version_in};
+use pb_steps::{Answer, Seen, Step, Work, acknowledged_in, old_at, reply_in, version_in};
 use pb_txn::{Outcome, Plan};
 use pb_verify::Accepted;
 use pb_vm::Moved;
@@ -27,7 +28,9 @@ pub enum Place {
     /// Its look at the cell.
     Observing(Ts, Look),
     /// Its look at the acknowledgment, with what the cell holds.
-    Acknowledging(Ts, Version, Look),
+    Acknowledging(Ts, Revision, Look),
+    /// Its look at the cell as of the acknowledged timestamp, with what it saw so far.
+    Recalling(Ts, Seen, Look),
     /// The first instruction of its machine, which isn't started.
     Starting(Ts, Seen),
     Computing(Ts, Machine),
@@ -46,12 +49,23 @@ pub fn step_at(observer: ObserverNo, row: Row, column: Column, place: &Place) ->
 {
     match place {
         Place::Beginning => Some(Step::Begin(Work::Run(observer, row))),
-        Place::Observing(start, look) => Some(look_step(*start, Cell::Data(row, column), *look)),
+        Place::Observing(start, look) => Some(look_step(
+            *start,
+            Cell::Data(row, column),
+            None,
+            *look,
+        )),
         Place::Acknowledging(start, _, look) => {
-            Some(look_step(*start, Cell::Ack(observer, row, column), *look))
+            Some(look_step(*start, Cell::Ack(observer, row, column), None, *look))
         }
+        Place::Recalling(start, seen, look) => Some(look_step(
+            *start,
+            Cell::Data(row, column),
+            Some(seen.acknowledged),
+            *look,
+        )),
         Place::Asking(start, _, ask, look) => {
-            Some(look_step(*start, Cell::Data(ask.row, ask.column), *look))
+            Some(look_step(*start, Cell::Data(ask.row, ask.column), None, *look))
         }
         Place::Sweeping(_) => Some(Step::Sweep(Cell::Data(row, column))),
         Place::Starting(..) | Place::Computing(..) | Place::Planning(..) | Place::Over(_) => None,
@@ -66,6 +80,7 @@ pub fn locked_at(locked: u8, place: &Place, answer: &Answer) -> u8
     match place {
         Place::Observing(_, look) => locked_after(locked, *look, answer),
         Place::Acknowledging(_, _, look) => locked_after(locked, *look, answer),
+        Place::Recalling(_, _, look) => locked_after(locked, *look, answer),
         Place::Asking(_, _, _, look) => locked_after(locked, *look, answer),
         _ => locked,
     }
@@ -86,29 +101,45 @@ fn after_cell(start: Ts, looked: Looked) -> Place
 }
 
 // The machine's turn, if the cell is dirty: changed since the acknowledged change.
-fn if_dirty(start: Ts, version: Version, acknowledged: Ts) -> Place
-    ensures { result ≡ Rattle.pb_notify.specs.Places.if_dirty start version acknowledged }
+fn if_dirty(second: bool, start: Ts, version: Revision, acknowledged: Ts) -> Place
+    ensures { result ≡ Rattle.pb_notify.specs.Places.if_dirty second start version acknowledged }
 {
     if acknowledged < version.commit {
-        Place::Starting(
-            start,
-            Seen {
-                version,
-                acknowledged,
-            },
-        )
+        let seen = Seen {
+            version,
+            acknowledged,
+            old: None,
+        };
+        match old_at(second, acknowledged) {
+            None => Place::Starting(start, seen),
+            Some(_) => Place::Recalling(start, seen, Look::Reading),
+        }
     } else {
         Place::Sweeping(JobEnd::Clean)
     }
 }
 
 // What was found of the acknowledgment.
-fn after_acknowledgment(start: Ts, version: Version, looked: Looked) -> Place
-    ensures { result ≡ Rattle.pb_notify.specs.Places.after_acknowledgment start version looked }
+fn after_acknowledgment(second: bool, start: Ts, version: Revision, looked: Looked) -> Place
+    ensures { result ≡ Rattle.pb_notify.specs.Places.after_acknowledgment second start version looked }
 {
     match looked {
         Looked::On(look) => Place::Acknowledging(start, version, look),
-        Looked::Tells(answer) => if_dirty(start, version, acknowledged_in(answer)),
+        Looked::Tells(answer) => if_dirty(second, start, version, acknowledged_in(answer)),
+        Looked::Blocks => Place::Over(JobEnd::Blocked),
+    }
+}
+
+// What was found of the cell as of the acknowledged timestamp.
+fn after_recall(start: Ts, seen: Seen, looked: Looked) -> Place
+    ensures { result ≡ Rattle.pb_notify.specs.Places.after_recall start seen looked }
+{
+    match looked {
+        Looked::On(look) => Place::Recalling(start, seen, look),
+        Looked::Tells(answer) => {
+            let old = reply_in(answer).value();
+            Place::Starting(start, Seen { old, ..seen })
+        }
         Looked::Blocks => Place::Over(JobEnd::Blocked),
     }
 }
@@ -141,10 +172,10 @@ fn after_plan(end: u64, mut plan: Plan, answer: Answer) -> Place
 }
 
 /// Where the answer of the next step leads.
-pub fn place_after(locked: u8, place: Place, answer: Answer) -> Place
+pub fn place_after(second: bool, locked: u8, place: Place, answer: Answer) -> Place
     requires at { AtPlace locked place }
     requires can { CanTakeAt place answer }
-    ensures place { result ≡ place_after locked place answer }
+    ensures place { result ≡ place_after second locked place answer }
     ensures told { IsToldAt locked place answer result }
 {
     match place {
@@ -154,7 +185,10 @@ pub fn place_after(locked: u8, place: Place, answer: Answer) -> Place
         },
         Place::Observing(start, look) => after_cell(start, look_after(locked, look, answer)),
         Place::Acknowledging(start, version, look) => {
-            after_acknowledgment(start, version, look_after(locked, look, answer))
+            after_acknowledgment(second, start, version, look_after(locked, look, answer))
+        }
+        Place::Recalling(start, seen, look) => {
+            after_recall(start, seen, look_after(locked, look, answer))
         }
         Place::Starting(start, seen) => Place::Starting(start, seen),
         Place::Computing(start, machine) => Place::Computing(start, machine),
@@ -165,6 +199,13 @@ pub fn place_after(locked: u8, place: Place, answer: Answer) -> Place
         Place::Sweeping(end) => Place::Over(end),
         Place::Over(end) => Place::Over(end),
     }
+}
+
+/// Whether a program is told what its cell held at the acknowledged timestamp.
+pub fn tells_old(accepted: &Arc<Accepted>) -> bool
+    ensures { result ≡ versions.tells_old accepted.now.value }
+{
+    accepted.version().tells_old()
 }
 
 // Where an instruction leads.
@@ -190,6 +231,16 @@ fn go_on(alloc: Global, observer: ObserverNo, start: Ts, machine: Machine) -> Re
     }
 }
 
+// The record of what was seen of a cell, of the version that the program is accepted for.
+fn record_by(accepted: &Arc<Accepted>, cell: Cell, seen: &Seen) -> Record
+    ensures record { result ≡ versions.record_by (versions.tells_old accepted.now.value) cell seen.now.version
+        seen.now.acknowledged.0 seen.now.old }
+    ensures size { length result ≡ accepted.now.value.record_size }
+{
+    let version = accepted.version();
+    Record::of_version(version, cell, &seen.version, seen.acknowledged, seen.old)
+}
+
 // The first instruction of a machine on the record of what was seen of a cell.
 fn begin(
     alloc: Global,
@@ -202,9 +253,7 @@ fn begin(
     ensures ok { IfOk result (Starts observer accepted.now.value cell start seen) }
     ensures same { IfErr result (λ p. p ≡ places.Starting start seen) }
 {
-    let record = Record::new(cell, &seen.version, seen.acknowledged);
-    // For the proof: the record's size.
-    let _ = record.bytes();
+    let record = record_by(accepted, cell, &seen);
     let Ok(machine) = Machine::start(alloc, accepted, record, start) else {
         return Err(Place::Starting(start, seen));
     };

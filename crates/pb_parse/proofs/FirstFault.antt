@@ -1,7 +1,16 @@
 -- The fault of things taken in turn is that of the first at fault.
-use Rattle.std.proofs.Common.{◌≡◌, ℕ, ◌+◌, List, [], ◌∷◌, length, Result, Ok, Err, refl, ap, ◌∙◌, arith}
+use Rattle.std.proofs.Common.{◌≡◌, ℕ, ◌+◌, List, [], ◌∷◌, ◌++◌, length, Result, Ok, Err, refl, ap, ◌∙◌, arith}
 use Rattle.pb_base.specs.Reading.{◌>>=◌, in_turn}
-use Rattle.pb_parse.specs.FirstFault.{IsFirst}
+
+-- the things in front are read, as before, and the next is at fault after them
+pub record IsFirst {S A E : Type 0} (step : ℕ → S → A → Result S E) (n : ℕ) (s : S) (xs : List A) (e : E) : Type 0 where
+  pub front : List A
+  pub here : A
+  pub after : List A
+  pub before : S
+  pub parts : xs ≡ front ++ here ∷ after
+  pub read : in_turn step n s front ≡ Ok before
+  pub fault : step (n + length front) before here ≡ Err e
 
 -- the first step, and what holds of those after it
 onward : {S A E : Type 0} (step : ℕ → S → A → Result S E) (n : ℕ) (s : S) (x : A) (xs : List A) (e : E) (r : Result S E) → ((t : S) → in_turn step (n + 1) t xs ≡ Err e → IsFirst step (n + 1) t xs e)

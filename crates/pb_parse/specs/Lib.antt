@@ -1,4 +1,3 @@
-pub mod FirstFault
 pub mod Codes
 pub mod Left
 pub mod ScriptWords

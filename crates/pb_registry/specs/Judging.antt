@@ -67,7 +67,7 @@ pub record IsFirstElementFault (ds : List Data) (place : ℕ) (code : Code) : Ty
   pub there : slice_get ds place ≡ Some element
   pub fault : IsLowestAfter (names_of before) element code
 
--- how a code is fault_with, of the whole or of the observer at a place
+-- how a code is told, of the whole or of the observer at a place
 abbrev pub fault_with : Option ℕ → Code → RegistryFault
 fault_with place c = record { observer = place; code = number_of c; program = refusal_of c }
 

@@ -26,15 +26,17 @@ fn is_used(observers: &IndexMap<String, Held>, element: &Value) -> bool
     }
 }
 
-// Reads one observer more. A name that was used before is fault_with first, as its code is the lowest.
+// Reads one observer more. A name that was used before is told first, as its code is the lowest.
 fn add_observer(
     alloc: Global,
     observers: &mut IndexMap<String, Held>,
     element: &Value,
 ) -> Result<(), Code>
-    ensures more { OnOk result (HasOneMore (view element.now) (observers_of observers.old.entries) (observers_of observers.new.entries)) }
+    ensures more { OnOk result
+        (HasOneMore (view element.now) (observers_of observers.old.entries) (observers_of observers.new.entries)) }
     ensures apart { OnOk result (IsDistinct bytes_eq (names_of (observers_of observers.new.entries))) }
-    ensures err { IfErr result (λ c. c ≢ Memory → IsLowestAfter (names_of (observers_of observers.old.entries)) (view element.now) c) }
+    ensures err { IfErr result
+        (λ c. c ≢ Memory → IsLowestAfter (names_of (observers_of observers.old.entries)) (view element.now) c) }
 {
     if is_used(observers, element) {
         return Err(Code::Name);
@@ -50,7 +52,7 @@ fn add_observer(
     }
 }
 
-/// Reads the observers of a manifest, in its order. The first at fault is fault_with, with its lowest code.
+/// Reads the observers of a manifest, in its order. The first at fault is told, with its lowest code.
 pub fn observers_in(
     alloc: Global,
     elements: &[Value],

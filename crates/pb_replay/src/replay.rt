@@ -73,7 +73,8 @@ fn run_on<T: Tablet, S: Sink>(
 ) -> Result<(), ReplayFault>
     requires seated { AreSeats shared seats.items }
     requires unfailed { S.failed sink.old ≡ false }
-    ensures { Replays shared seats.items batches.items events.now (S.taken sink.old) (S.taken sink.new) (S.failed sink.new) result }
+    ensures { Replays shared seats.items batches.items events.now (S.taken sink.old) (S.taken sink.new)
+        (S.failed sink.new) result }
 {
     match World::open(alloc, shared, seats, batches) {
         Ok(world) => {
@@ -106,7 +107,8 @@ pub fn replay_texts<T: Tablet, S: Sink>(
 ) -> Result<(), ReplayFault>
     requires empty { table.contents ≡ nothing }
     requires unfailed { S.failed sink.old ≡ false }
-    ensures { ReplaysTexts manifest.now script.now schedule.now last.0 (S.taken sink.old) (S.taken sink.new) (S.failed sink.new) result }
+    ensures { ReplaysTexts manifest.now script.now schedule.now last.0 (S.taken sink.old) (S.taken sink.new)
+        (S.failed sink.new) result }
 {
     let (observers, batches, events) = match read(alloc, manifest, script, schedule) {
         Ok(texts) => texts,

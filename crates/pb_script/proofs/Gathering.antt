@@ -29,7 +29,11 @@ use Rattle.pb_history.specs.declared.entry.Entry.{Entry}
 use Rattle.pb_history.specs.History.{Has, Member, TellsHistory}
 use Rattle.pb_script.specs.declared.reports.newest.Put.{Put}
 use Rattle.pb_script.specs.Committed.{IsWrite, Gathers}
-use Rattle.pb_script.specs.Puts.{put_by, if_committed, written_in, writes_by, puts_by, all_puts}
+use Rattle.pb_script.specs.Puts.{put_by, if_committed, written_in, writes_by, puts_by}
+
+-- the writes that these entries declared, if they are committed
+abbrev pub all_puts : StateOf → List Entry → List Put
+all_puts state es = flat_map (puts_by state) es
 
 one_more : {A : Type 0} (xs : List A) (i : ℕ) (x : A) → slice_get xs i ≡ Some x → take (suc i) xs ≡ take i xs ++ x ∷ []
 one_more [] zero x e = cc

@@ -45,11 +45,6 @@ lower puts p (Some n) later h =
     let le : p.commit.0 ≤ n.commit.0 = ltb-false _ _ later in
     (Contains-append_left puts (p ∷ []) _ h.0, λ q k e. elim (Contains-push_cases puts p q k) [ inl m ↦ h.1 q m e | inr s ↦ let c : p.commit.0 ≡ q.commit.0 = ap (λ (y : Put). y.commit.0) s in omega arith ])
 
--- what is newest is a matter of which writes there are
-pub newest_by : (ps qs : List Put) → ((p : Put) → Contains ps p → Contains qs p) → ((p : Put) → Contains qs p → Contains ps p) → (x : Cell) (r : Option Newest) → IsNewestPut ps x r → IsNewestPut qs x r
-newest_by ps qs f g x None h = λ p c. h p (g p c)
-newest_by ps qs f g x (Some n) h = (f _ h.0, λ p c e. h.1 p (g p c) e)
-
 -- what is told goes by what is newest, and of old data cell nothing is told
 pub told_by : (M N : Cell → Option Newest → Type 0) (x : Cell) (r : Option Newest) → (M x r → N x r) → IsTold M x r → IsTold N x r
 told_by M N (Data row column) r f h = f h

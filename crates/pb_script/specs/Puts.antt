@@ -1,6 +1,5 @@
 -- The committed writes of a table, as they are gathered.
 use Rattle.std.specs.Prelude.{List, [], map, Option, Some}
-use Rattle.std.specs.List.{flat_map}
 use Rattle.pb_base.specs.Batch.{Writes}
 use Rattle.pb_base.specs.declared.names.Ts.{Ts}
 use Rattle.pb_base.specs.declared.cell.Cell.{Cell}
@@ -37,7 +36,3 @@ writes_by state _ _ = []
 
 abbrev pub puts_by : StateOf → Entry → List Put
 puts_by state e = writes_by state e.step e.answer
-
--- the writes that these entries declared, if they are committed
-abbrev pub all_puts : StateOf → List Entry → List Put
-all_puts state es = flat_map (puts_by state) es

@@ -18,7 +18,8 @@ use std::collections::BTreeMap;
 
 // Notes what a committed script transaction wrote.
 fn note_batch(table: &mut BTreeMap<Cell, Newest>, batch: &Batch, commit: Ts) -> Result<(), NoMemory>
-    ensures { OnOk result ((puts : List Put) → AreNewest puts table.old → AreNewest (puts ++ map (put_by commit) batch.now) table.new) }
+    ensures { OnOk result
+        ((puts : List Put) → AreNewest puts table.old → AreNewest (puts ++ map (put_by commit) batch.now) table.new) }
 {
     for place in 0..batch.len() {
         let (cell, content) = batch.at(place);
@@ -40,7 +41,8 @@ fn note_writes(
     writes: &[(Cell, Content)],
     commit: Ts,
 ) -> Result<(), NoMemory>
-    ensures { OnOk result ((puts : List Put) → AreNewest puts table.old → AreNewest (puts ++ map (put_by commit) writes.now) table.new) }
+    ensures { OnOk result ((puts : List Put) → AreNewest puts table.old
+        → AreNewest (puts ++ map (put_by commit) writes.now) table.new) }
 {
     for write in writes {
         note(
@@ -61,7 +63,8 @@ fn note_entry<T: Tablet>(
     shared: &Shared<T>,
     entry: &Entry,
 ) -> Result<(), NoMemory>
-    ensures { OnOk result ((puts : List Put) → AreNewest puts table.old → AreNewest (puts ++ puts_by shared.now.state entry.now) table.new) }
+    ensures { OnOk result ((puts : List Put) → AreNewest puts table.old
+        → AreNewest (puts ++ puts_by shared.now.state entry.now) table.new) }
 {
     if entry.answer != Answer::Done {
         return Ok(());

@@ -26,7 +26,8 @@ pub fn report_of(
     marks: usize,
     locks: usize,
 ) -> Result<String, NoMemory>
-    ensures { (puts : List Put) → AreNewest puts table.now → IfOk result (λ s. IsReport puts tallies.now marks locks (string_bytes s)) }
+    ensures { (puts : List Put) → AreNewest puts table.now
+        → IfOk result (λ s. IsReport puts tallies.now marks locks (string_bytes s)) }
 {
     let mut text = cell_lines(alloc, table)?;
     let runs = run_lines(alloc, tallies)?;
@@ -38,5 +39,6 @@ pub fn report_of(
 
 /// Where no cell has two writes of one commit, there is only one report.
 pub fn one_report()
-    ensures { (puts : List Put) (runs : Tallies) (marks locks : ℕ) (s t : List ℕ) → AreApart puts → IsReport puts runs marks locks s → IsReport puts runs marks locks t → s ≡ t }
+    ensures { (puts : List Put) (runs : Tallies) (marks locks : ℕ) (s t : List ℕ) → AreApart puts
+        → IsReport puts runs marks locks s → IsReport puts runs marks locks t → s ≡ t }
 {}

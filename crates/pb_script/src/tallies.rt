@@ -58,7 +58,8 @@ pub(crate) fn tallies_of<T: Tablet>(
     alloc: Global,
     shared: &Shared<T>,
 ) -> Result<Vec<Tally>, NoMemory>
-    ensures { IfOk result (λ v. AreTallies shared.now.state.observers shared.now.journal 0 shared.now.state.observers v.items) }
+    ensures { IfOk result
+        (λ v. AreTallies shared.now.state.observers shared.now.journal 0 shared.now.state.observers v.items) }
 {
     let mut tallies = Vec::new(alloc);
     let observers = shared.observers();

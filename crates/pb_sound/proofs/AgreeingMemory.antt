@@ -2,6 +2,7 @@
 use Rattle.std.proofs.Common.{◌≡◌, ℕ, zero, suc, ◌+◌, ◌-◌, ◌<◌, inl, inr, ℤ, ◌+ℤ◌, Bool, true, false, cond, List, [], ◌++◌, length, get_or, Some, IsTrue, is_some, nat_abs, refl, sym, ◌∙◌, arith}
 use Rattle.std.proofs.lemmas.Bool.{cases_lt}
 use Rattle.std.specs.Int.{from_le_bytes, to_le_bytes}
+use Rattle.pb_isa.specs.declared.limits.TheConstants.{STACK_BYTES}
 use Rattle.pb_isa.specs.declared.insn.Insn.{Insn}
 use Rattle.pb_isa.specs.declared.insn.Insn.TheVariants.{Load, StoreImm, Store, Jump, JumpIf, Exit}
 use Rattle.pb_isa.specs.declared.insn.Width.{Width}
@@ -26,7 +27,7 @@ use Rattle.pb_verify.specs.Rules as rules
 use Rattle.pb_verify.specs.Rules.{at, reads, reads_operand, sets, numeric_rules, on_pointer, points, loads, bytes_of, falls, jump_rules, insn_rules}
 use Rattle.pb_verify.specs.Following.{after, with_store}
 use Rattle.pb_sound.specs.Fits.{Holds}
-use Rattle.pb_sound.specs.Alike.{Alike, Agree}
+use Rattle.pb_sound.proofs.Alike.{Alike, Agree}
 use Rattle.pb_sound.proofs.Lists.{empty_parts, when_not, not_false, or_not, cond_when, true_at, flag_from, with_list_below, with_list_above, with_list_in}
 use Rattle.pb_sound.proofs.Offsets.{moved_word}
 use Rattle.pb_sound.proofs.Registers.{value_of, read_value, follows}
@@ -65,11 +66,11 @@ fetched_same x a b f s t Unset o v w n some u h ha hb two = cc
 fetched_same x a b f s t Number o v w n some u h ha hb two = cc
 fetched_same x a b f s t (Stack k) o v w n some u h ha hb two =
     let z = k +ℤ o in
-    let at_a : v ≡ address (a.stack + 512) k = cc in
-    let at_b : w ≡ address (b.stack + 512) k = cc in
+    let at_a : v ≡ address (a.stack + STACK_BYTES) k = cc in
+    let at_b : w ≡ address (b.stack + STACK_BYTES) k = cc in
     let pa = stack_part (run x a) s z n (stretch (run x a) f s z n some two.place_a two.fits_a h) in
     let pb = stack_part (run x b) t z n (stretch (run x b) f t z n some two.place_b two.fits_b h) in
-    rw (at_a, at_b, moved_word (a.stack + 512) k o, moved_word (b.stack + 512) k o) (pa ∙ stack_same x a b f s t z n some h two ∙ sym pb)
+    rw (at_a, at_b, moved_word (a.stack + STACK_BYTES) k o, moved_word (b.stack + STACK_BYTES) k o) (pa ∙ stack_same x a b f s t z n some h two ∙ sym pb)
 fetched_same x a b f s t (Record k) o v w n some u h ha hb two =
     let z = k +ℤ o in
     let ok : in_record x.judged.record_size z n ≡ true = not_false _ (when_not _ _ h) in

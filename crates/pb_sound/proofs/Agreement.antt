@@ -3,6 +3,7 @@ use Rattle.std.proofs.Common.{◌≡◌, ℕ, zero, suc, ◌+◌, ℤ, pos, ◌+
 use Rattle.pb_base.specs.Batch.{Writes}
 use Rattle.pb_base.specs.declared.content.Content.{Content}
 use Rattle.pb_base.specs.declared.content.Content.TheVariants.{Value as Bytes32, Deleted}
+use Rattle.pb_isa.specs.declared.limits.TheConstants.{STACK_BYTES}
 use Rattle.pb_isa.specs.declared.insn.Insn.{Insn}
 use Rattle.pb_isa.specs.declared.insn.Insn.TheVariants.{Alu, Neg, LoadImm, Load, StoreImm, Store, Jump, JumpIf, Call, Exit}
 use Rattle.pb_isa.specs.Helpers.{Helper, Read, Write, Delete, Start, helper_of, declared_helper}
@@ -20,7 +21,7 @@ use Rattle.pb_helpers.specs.Arguments.{unset, filled_bytes, taken_bytes, is_cell
 use Rattle.pb_verify.specs.Rules.{falls, insn_rules}
 use Rattle.pb_verify.specs.Following.{after, after_call, clobber}
 use Rattle.pb_sound.specs.Fits.{Holds}
-use Rattle.pb_sound.specs.Alike.{SameNumber, Alike, Agree}
+use Rattle.pb_sound.proofs.Alike.{SameNumber, Alike, Agree}
 use Rattle.pb_sound.proofs.Lists.{empty_parts, when_not, not_false, and_true}
 use Rattle.pb_sound.proofs.Offsets.{moved_word, plus_zero}
 use Rattle.pb_sound.proofs.Registers.{follows, IsFollowed}
@@ -82,8 +83,8 @@ filled_two x a b f s t (Stack k) p h ha hb q two =
     record {
       at_a = xa;
       at_b = xb;
-      is_a = ha ∙ ap Some (here_is (a.stack + 512) k xa ra.there);
-      is_b = hb ∙ ap Some (here_is (b.stack + 512) k xb rb.there);
+      is_a = ha ∙ ap Some (here_is (a.stack + STACK_BYTES) k xa ra.there);
+      is_b = hb ∙ ap Some (here_is (b.stack + STACK_BYTES) k xb rb.there);
       inside_a = ra.inside;
       inside_b = rb.inside;
       alike = λ bs v l.

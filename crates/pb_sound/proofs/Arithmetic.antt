@@ -1,5 +1,6 @@
 -- Operations with two operands, the negative, and the 64-bit immediate.
 use Rattle.std.proofs.Common.{◌≡◌, ℕ, ◌+◌, ℤ, pos, neg_ℤ, [], ◌++◌, Some, refl, ap}
+use Rattle.pb_isa.specs.declared.limits.TheConstants.{STACK_BYTES}
 use Rattle.pb_isa.specs.declared.insn.Insn.TheVariants.{Alu, Neg, LoadImm}
 use Rattle.pb_isa.specs.declared.insn.AluOp.{AluOp}
 use Rattle.pb_isa.specs.declared.insn.AluOp.TheVariants.{Add, Sub, Mov}
@@ -59,7 +60,7 @@ both e f s d x h t =
 moved_holds : (e : Environment) (k : Kind) (x : ℕ) (z : ℤ) → Holds e k (Some x) → Holds e (move_pointer k z) (Some (address x z))
 moved_holds e Unset x z h = (address x z, refl)
 moved_holds e Number x z h = (address x z, refl)
-moved_holds e (Stack k) x z h = let same : x ≡ address (e.place.stack + 512) k = cc in ap Some (rw same (moved_word (e.place.stack + 512) k z))
+moved_holds e (Stack k) x z h = let same : x ≡ address (e.place.stack + STACK_BYTES) k = cc in ap Some (rw same (moved_word (e.place.stack + STACK_BYTES) k z))
 moved_holds e (Record k) x z h = let same : x ≡ address e.place.record_at k = cc in ap Some (rw same (moved_word e.place.record_at k z))
 
 add_holds : (e : Environment) (f : Frame) (s : State) (d : registers.Reg) (k : ℤ) → reads f d ++ sets d ≡ [] → FitsFrame e f s → Operands e f s Add Bits64 d (Imm k)

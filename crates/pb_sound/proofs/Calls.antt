@@ -4,6 +4,7 @@ use Rattle.std.proofs.lemmas.Bool.Decides.{nat_tests}
 use Rattle.pb_base.specs.Batch.{Writes}
 use Rattle.pb_base.specs.declared.content.Content.{Content}
 use Rattle.pb_base.specs.declared.content.Content.TheVariants.{Value as Bytes32, Deleted}
+use Rattle.pb_isa.specs.declared.limits.TheConstants.{STACK_BYTES}
 use Rattle.pb_isa.specs.declared.insn.Insn.TheVariants.{Call}
 use Rattle.pb_isa.specs.Helpers.{Helper, HelperSet, Read, Write, Delete, Start, helper_of, declared_helper, if_declared, has_helper}
 use Rattle.pb_isa.specs.Slots.{insn_at}
@@ -86,7 +87,7 @@ filled_at e f s (Stack k) pl p b h q t =
     let same = plus_zero k in
     let here_on : stack_writes (k +ℤ pos 0) 32 ≡ [] = rw same b in
     let room = stack_room e f k (pos 0) 32 (omega arith) pl here_on in
-    let base = e.place.stack + 512 in
+    let base = e.place.stack + STACK_BYTES in
     let x = e.place.stack + from_low (spot (Stack k) (pos 0)) in
     let here : address base k ≡ x = ap (λ z. address base z) (sym same) ∙ sym (moved_word base k (pos 0)) ∙ room.there in
     record {

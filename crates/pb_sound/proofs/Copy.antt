@@ -7,6 +7,7 @@ use Rattle.std.specs.Int.{from_le_bytes, to_le_bytes, byte_len}
 use Rattle.pb_base.specs.Batch.{Writes}
 use Rattle.pb_base.specs.declared.content.Content.{Content}
 use Rattle.pb_base.specs.declared.content.Content.TheVariants.{Value, Deleted}
+use Rattle.pb_isa.specs.declared.limits.TheConstants.{MAX_RECORD_BYTES, STACK_BYTES}
 use Rattle.pb_isa.specs.declared.insn.Insn.TheVariants.{Alu, Neg, LoadImm, Load, StoreImm, Store, Jump, JumpIf, Call, Exit}
 use Rattle.pb_isa.specs.declared.insn.AluOp.{AluOp}
 use Rattle.pb_isa.specs.declared.insn.AluOp.TheVariants.{Sub, Mov}
@@ -27,7 +28,8 @@ use Rattle.pb_isa.specs.Machine as m
 use Rattle.pb_isa.specs.Machine.{Placement, Map, Environment, State, Outcome, Goes, Asks, Ends, Stuck, Reply, address, width, fetch, does, entries, push_front, with_entry, with_list, lies_in}
 use Rattle.pb_sound.specs.Cells as cell
 use Rattle.pb_sound.specs.Cells.{Cells, IsLong, CellsOutcome, CellsGo, IsSafe, cells_act}
-use Rattle.pb_sound.specs.Mirrors.{Mirrors, Copies, IsHere, CellsCopy}
+use Rattle.pb_sound.specs.Mirrors.{Mirrors, IsHere}
+use Rattle.pb_sound.proofs.Copies.{Copies, CellsCopy}
 use Rattle.pb_sound.proofs.Lists.{and_true, with_at, with_other, with_list_below, with_list_above, with_list_in}
 use Rattle.pb_sound.proofs.Calls.{called_is, reply_long}
 
@@ -144,20 +146,20 @@ record_byte e i b z h = let q : i - e.place.record_at ≡ i = omega arith in rw 
 
 pub record Got (c : Cells) (x n : ℕ) (bs : List ℕ) : Type 0 where
   pub are : cell.bytes_at c x n ≡ bs
-  pub room : x + n ≤ 592
+  pub room : x + n ≤ cell.memory_bytes
 
 stack_got : (e : Environment) (c : Cells) (s : State) (x n : ℕ) (bs : List ℕ) → IsHere e → Mirrors e c s → m.stack_has e x n ≡ true → entries s.stack x n ≡ Some bs → Got c x n bs
 stack_got e c s x n bs pl t h q =
-    let i = inside e.place.stack 512 x n h in
-    let low : 80 ≤ x = let z = ap (λ (a : Placement). a.stack) pl.place in let l = i.low in omega arith in
-    let high : x + n ≤ 592 = let z = ap (λ (a : Placement). a.stack) pl.place in let l = i.high in omega arith in
+    let i = inside e.place.stack STACK_BYTES x n h in
+    let low : MAX_RECORD_BYTES ≤ x = let z = ap (λ (a : Placement). a.stack) pl.place in let l = i.low in omega arith in
+    let high : x + n ≤ cell.memory_bytes = let z = ap (λ (a : Placement). a.stack) pl.place in let l = i.high in omega arith in
     let long = t.long.memory in
     record { are = entries_copy s.stack x n c.memory bs (λ j b k1 k2. t.byte j b (omega arith) (omega arith)) (omega arith) q; room = high }
 
 record_got : (e : Environment) (c : Cells) (s : State) (x n : ℕ) (bs : List ℕ) → IsHere e → Mirrors e c s → m.record_has e x n ≡ true → entries (m.record_map e) x n ≡ Some bs → Got c x n bs
 record_got e c s x n bs pl t h q =
     let i = inside e.place.record_at (length e.bytes) x n h in
-    let high : x + n ≤ 80 = let z = ap (λ (a : Placement). a.record_at) pl.place in let l = i.high in let size = pl.size in omega arith in
+    let high : x + n ≤ MAX_RECORD_BYTES = let z = ap (λ (a : Placement). a.record_at) pl.place in let l = i.high in let size = pl.size in omega arith in
     let long = t.long.memory in
     record { are = entries_copy (m.record_map e) x n c.memory bs (λ j b k1 k2 w. t.given j b (omega arith) (record_byte e j b (ap (λ (a : Placement). a.record_at) pl.place) w)) (omega arith) q; room = omega arith }
 
@@ -220,9 +222,9 @@ byte_put mem g x vs room y b h q = elim (cases_lt y x) [
 ]
 
 -- bytes put on the stack
-mirrors_put : (e : Environment) (c d : Cells) (s t : State) (x : ℕ) (vs : List ℕ) → Mirrors e c s → 80 ≤ x → x + length vs ≤ 592 → d.slot ≡ t.slot → d.writes ≡ t.writes → d.regs ≡ c.regs → t.regs ≡ s.regs → d.memory ≡ cell.put_at c.memory x vs → t.stack ≡ with_list s.stack x vs → Mirrors e d t
+mirrors_put : (e : Environment) (c d : Cells) (s t : State) (x : ℕ) (vs : List ℕ) → Mirrors e c s → MAX_RECORD_BYTES ≤ x → x + length vs ≤ cell.memory_bytes → d.slot ≡ t.slot → d.writes ≡ t.writes → d.regs ≡ c.regs → t.regs ≡ s.regs → d.memory ≡ cell.put_at c.memory x vs → t.stack ≡ with_list s.stack x vs → Mirrors e d t
 mirrors_put e c d s t x vs h low high eslot ewrites er es em ek =
-    let long : length c.memory ≡ 592 = h.long.memory in
+    let long : length c.memory ≡ cell.memory_bytes = h.long.memory in
     let room : x + length vs ≤ length c.memory = omega arith in
     record {
       slot = eslot;
@@ -233,12 +235,12 @@ mirrors_put e c d s t x vs h low high eslot ewrites er es em ek =
       given = λ y b k q. rw em (over_before c.memory x vs room y (omega arith) ∙ h.given y b k q);
     }
 
-store_copy : (e : Environment) (p : Type 0) (c : Cells) (s : State) (x y : ℕ) (vs ws : List ℕ) → IsHere e → Mirrors e c s → (80 ≤ x → x + length vs ≤ 592 → p) → y ≡ x → ws ≡ vs → Copies e p (m.stores_bytes e s x vs) (CellsGo (cell.put_bytes c y ws))
+store_copy : (e : Environment) (p : Type 0) (c : Cells) (s : State) (x y : ℕ) (vs ws : List ℕ) → IsHere e → Mirrors e c s → (MAX_RECORD_BYTES ≤ x → x + length vs ≤ cell.memory_bytes → p) → y ≡ x → ws ≡ vs → Copies e p (m.stores_bytes e s x vs) (CellsGo (cell.put_bytes c y ws))
 store_copy e p c s x y vs ws pl t safe ex ev =
     if_copy e p (m.stack_has e x (length vs)) _ _ (λ h. if_copy e p (is_some (insn_at e.judged.program.insns (s.slot + 1))) _ _ (λ _.
-    let i = inside e.place.stack 512 x (length vs) h in
-    let low : 80 ≤ x = let z = ap (λ (a : Placement). a.stack) pl.place in let l = i.low in omega arith in
-    let high : x + length vs ≤ 592 = let z = ap (λ (a : Placement). a.stack) pl.place in let l = i.high in omega arith in (
+    let i = inside e.place.stack STACK_BYTES x (length vs) h in
+    let low : MAX_RECORD_BYTES ≤ x = let z = ap (λ (a : Placement). a.stack) pl.place in let l = i.low in omega arith in
+    let high : x + length vs ≤ cell.memory_bytes = let z = ap (λ (a : Placement). a.stack) pl.place in let l = i.high in omega arith in (
       safe low high,
       mirrors_put e c _ s _ x vs t low high (ap (λ n. n + 1) t.slot) t.writes refl refl (rw (ex, ev) refl) refl,
     )))
@@ -317,7 +319,7 @@ returned_copy e c s ws us v w t ew ev = record {
   given = t.given;
 }
 
-filled_copy : (e : Environment) (c : Cells) (s : State) (x y : ℕ) (bs : List ℕ) (v : ℕ) → Mirrors e c s → 80 ≤ x → x + length bs ≤ 592 → y ≡ x → Mirrors e (cell.cells_after_read c y bs v) (m.state_after_read s x bs v)
+filled_copy : (e : Environment) (c : Cells) (s : State) (x y : ℕ) (bs : List ℕ) (v : ℕ) → Mirrors e c s → MAX_RECORD_BYTES ≤ x → x + length bs ≤ cell.memory_bytes → y ≡ x → Mirrors e (cell.cells_after_read c y bs v) (m.state_after_read s x bs v)
 filled_copy e c s x y bs v t low high ex =
     let mid : State = record { slot = s.slot; regs = s.regs; stack = with_list s.stack x bs; writes = s.writes } in
     let half : Cells = record { slot = c.slot; regs = c.regs; memory = cell.put_at c.memory x bs; writes = c.writes } in
@@ -327,12 +329,12 @@ filled_copy e c s x y bs v t low high ex =
 -- the stack bytes at R3
 pub record Room (c : Cells) (x : ℕ) : Type 0 where
   pub is : cell.argument c 3 ≡ x
-  pub low : 80 ≤ x
-  pub high : x + 32 ≤ 592
+  pub low : MAX_RECORD_BYTES ≤ x
+  pub high : x + 32 ≤ cell.memory_bytes
 
 room_at : (e : Environment) (c : Cells) (s : State) (x : ℕ) → IsHere e → Mirrors e c s → s.regs 3 ≡ Some x → m.stack_has e x 32 ≡ true → Room c x
 room_at e c s x pl t hx h =
-    let i = inside e.place.stack 512 x 32 h in
+    let i = inside e.place.stack STACK_BYTES x 32 h in
     record {
       is = t.reg 3 x (omega arith) hx;
       low = (let z = ap (λ (a : Placement). a.stack) pl.place in let l = i.low in omega arith);

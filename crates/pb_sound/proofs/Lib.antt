@@ -1,3 +1,5 @@
+pub mod Alike
+pub mod Copies
 pub mod Lists
 pub mod Offsets
 pub mod Registers

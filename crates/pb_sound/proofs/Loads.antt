@@ -2,6 +2,7 @@
 use Rattle.std.proofs.Common.{◌∙◌, ◌≡◌, ℕ, ◌+◌, ◌-◌, ◌<◌, ◌≤◌, inl, inr, ℤ, pos, negsuc, ◌+ℤ◌, true, false, List, [], ◌++◌, length, Some, refl, arith, nat_abs, slice_get, get_or}
 use Rattle.std.proofs.lemmas.Option.{slice_get-get_or}
 use Rattle.std.specs.Int.{from_le_bytes}
+use Rattle.pb_isa.specs.declared.limits.TheConstants.{STACK_BYTES}
 use Rattle.pb_isa.specs.declared.insn.Insn.TheVariants.{Load}
 use Rattle.pb_isa.specs.declared.insn.Reg.{Reg}
 use Rattle.pb_isa.specs.declared.insn.Size.{Size}
@@ -29,8 +30,8 @@ pub record Found (e : Environment) (s : State) (x n : ℕ) : Type 0 where
 
 -- n stack bytes at a distance from the stack's end, all written
 pub record Stretch (e : Environment) (s : State) (z : ℤ) (n : ℕ) : Type 0 where
-  pub there : address (e.place.stack + 512) z ≡ e.place.stack + from_low z
-  pub room : from_low z + n ≤ 512
+  pub there : address (e.place.stack + STACK_BYTES) z ≡ e.place.stack + from_low z
+  pub room : from_low z + n ≤ STACK_BYTES
   pub inside : m.stack_has e (e.place.stack + from_low z) n ≡ true
   pub read : Bytes s.stack (e.place.stack + from_low z) n
 
@@ -42,17 +43,17 @@ stretch e f s z n some pl t h =
     let high = le_from (z +ℤ pos n) (pos 0) range.1 in
     let there = stack_at e.place.stack n z some low high pl.place.stack_fits in
     let lo = from_low z in
-    let room : lo + n ≤ 512 = there.1 in
+    let room : lo + n ≤ STACK_BYTES = there.1 in
     record {
       there = there.0;
       room = room;
-      inside = lies e.place.stack 512 (e.place.stack + lo) n (omega arith) (omega arith);
+      inside = lies e.place.stack STACK_BYTES (e.place.stack + lo) n (omega arith) (omega arith);
       read = entries_are s.stack (e.place.stack + lo) n (λ i k.
           let e1 : e.place.stack + lo + i ≡ e.place.stack + (lo + i) = omega arith in
           rw e1 (t.byte (lo + i) (true_at n f lo ok.1 i k)));
     }
 
-stack_found : (e : Environment) (f : Frame) (s : State) (z : ℤ) (n : ℕ) → 0 < n → IsPlaced e → FitsFrame e f s → stack_reads f z n ≡ [] → Found e s (address (e.place.stack + 512) z) n
+stack_found : (e : Environment) (f : Frame) (s : State) (z : ℤ) (n : ℕ) → 0 < n → IsPlaced e → FitsFrame e f s → stack_reads f z n ≡ [] → Found e s (address (e.place.stack + STACK_BYTES) z) n
 unfolding fetch
 stack_found e f s z n some pl t h =
     let st = stretch e f s z n some pl t h in
@@ -76,12 +77,12 @@ part e s z n some pl k =
     let there = record_at (length e.bytes) e.place.record_at n z low high pl.place.record_fits in
     let j = nat_abs z in
     let room : j + n ≤ length e.bytes = there.1 in
-    let is_out : m.stack_has e (e.place.record_at + j) n ≡ false = lies_not e.place.stack 512 (e.place.record_at + j) n (elim pl.place.apart [ inl q ↦ inr (omega arith) | inr q ↦ inl (omega arith) ]) some in
+    let is_out : m.stack_has e (e.place.record_at + j) n ≡ false = lies_not e.place.stack STACK_BYTES (e.place.record_at + j) n (elim pl.place.apart [ inl q ↦ inr (omega arith) | inr q ↦ inl (omega arith) ]) some in
     let is_in : m.record_has e (e.place.record_at + j) n ≡ true = lies e.place.record_at (length e.bytes) (e.place.record_at + j) n (omega arith) (omega arith) in
     record { room = room; are = rw (there.0, is_out, is_in) refl }
 
 -- where a stretch of the stack is fetched
-pub stack_part : (e : Environment) (s : State) (z : ℤ) (n : ℕ) → Stretch e s z n → fetch e s (address (e.place.stack + 512) z) n ≡ entries s.stack (e.place.stack + from_low z) n
+pub stack_part : (e : Environment) (s : State) (z : ℤ) (n : ℕ) → Stretch e s z n → fetch e s (address (e.place.stack + STACK_BYTES) z) n ≡ entries s.stack (e.place.stack + from_low z) n
 unfolding fetch
 stack_part e s z n st = rw (st.there, st.inside) refl
 
@@ -101,8 +102,8 @@ pub found : (e : Environment) (f : Frame) (s : State) (k : Kind) (x : ℕ) (o : 
 found e f s Unset x o n some pl t u l h = cc
 found e f s Number x o n some pl t u l h = cc
 found e f s (Stack k) x o n some pl t u l h =
-    let same : x ≡ address (e.place.stack + 512) k = cc in
-    rw (same, moved_word (e.place.stack + 512) k o) (stack_found e f s (k +ℤ o) n some pl t l)
+    let same : x ≡ address (e.place.stack + STACK_BYTES) k = cc in
+    rw (same, moved_word (e.place.stack + STACK_BYTES) k o) (stack_found e f s (k +ℤ o) n some pl t l)
 found e f s (Record k) x o n some pl t u l h =
     let same : x ≡ address e.place.record_at k = cc in
     rw (same, moved_word e.place.record_at k o) (record_found e s (k +ℤ o) n some pl (not_false _ (when_not _ _ l)))

@@ -33,11 +33,3 @@ fits_less e g f s less t = record {
   reg = λ r. holds_less e f r (s.regs r) (kind_of g r) (λ set. (less (HasKind r (kind_of g r)) (record { kind = refl; set = set })).kind) (t.reg r);
   byte = λ i w. t.byte i (less (HasByte i) w);
 }
-
--- what fits either of two frames fits their meet
-pub fits_meet : (e : Environment) (a b g : Frame) (s : State) → IsMeet a b g → FitsFrame e a s → FitsFrame e g s
-fits_meet e a b g s meet t = fits_less e g a s (λ x. says x) t
-  where
-    says : (x : Fact) → Says g x → Says a x
-    says (HasKind r k) h = ((meet.kinds r k).0 h).0
-    says (HasByte i) h = ((meet.bytes i).0 h).0

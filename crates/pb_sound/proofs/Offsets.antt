@@ -1,15 +1,16 @@
 -- Addresses at a distance from a place.
-use Rattle.std.proofs.Common.{◌≡◌, ℕ, zero, suc, ◌-◌, ◌%◌, ◌<◌, ◌≤◌, ltb, cond, Bool, true, false, ℤ, pos, negsuc, ◌+ℤ◌, neg_ℤ, ◌≤ℤ◌, ◌+◌, int_le, nat_abs, ◌⊎◌, arith, refl}
+use Rattle.std.proofs.Common.{◌≡◌, ℕ, zero, suc, ◌-◌, ◌%◌, ◌<◌, ◌≤◌, ltb, cond, Bool, true, false, ℤ, pos, negsuc, ◌+ℤ◌, neg_ℤ, ◌≤ℤ◌, ◌+◌, int_le, nat_abs, ◌&&◌, T, ◌⊎◌, arith, refl}
 use Rattle.std.proofs.Math.IntN.{sub_ℕ}
 use borrow.Author.Tests.{ltb-true, ltb-false}
 use Rattle.std.proofs.lemmas.Float.{T_from_true}
 use Rattle.std.proofs.lemmas.Int.{ints}
 use Rattle.std.proofs.lemmas.Bool.Decides.{nat_tests}
+use Rattle.pb_isa.specs.declared.limits.TheConstants.{STACK_BYTES}
 use Rattle.pb_isa.specs.Alu.{alu, word}
 use Rattle.pb_isa.specs.declared.insn.AluOp.TheVariants.{Sub}
 use Rattle.pb_isa.specs.declared.insn.Width.TheVariants.{Bits64}
 use Rattle.pb_isa.specs.Machine.{address, lies_in}
-use Rattle.pb_kinds.specs.Ranges.{from_low}
+use Rattle.pb_kinds.specs.Ranges.{in_record, from_low}
 
 -- the word of a difference
 word_sub : (a b : ℕ) → (word (sub_ℕ a b) + b) % 18446744073709551616 ≡ a % 18446744073709551616
@@ -36,8 +37,28 @@ plus_zero z = omega (arith, ints)
 pub le_from : (a b : ℤ) → int_le a b ≡ true → a ≤ℤ b
 le_from a b h = record { le = T_from_true _ h }
 
+t_true : (b : Bool) → T b → b ≡ true
+t_true true t = refl
+t_true false t = absurd t
+
+pub le_to : (a b : ℤ) → a ≤ℤ b → int_le a b ≡ true
+le_to a b h = t_true _ h.le
+
+le_more : (a : ℤ) (m k : ℕ) → m ≤ k → a ≤ℤ pos m → a ≤ℤ pos k
+le_more (pos a) m k more h = omega (arith, ints)
+le_more (negsuc a) m k more h = omega (arith, ints)
+
+both_true : (a b c : Bool) → (a && b) ≡ true → (b ≡ true → c ≡ true) → (a && c) ≡ true
+both_true true true c e f = f refl
+both_true true false c e f = cc
+both_true false b c e f = cc
+
+-- what lies in a record lies in a larger one
+pub larger : (m k : ℕ) (z : ℤ) (n : ℕ) → m ≤ k → in_record m z n ≡ true → in_record k z n ≡ true
+larger m k z n more h = both_true (int_le (pos 0) z) (int_le (z +ℤ pos n) (pos m)) (int_le (z +ℤ pos n) (pos k)) h (λ e. le_to (z +ℤ pos n) (pos k) (le_more (z +ℤ pos n) m k more (le_from (z +ℤ pos n) (pos m) e)))
+
 -- where a stack byte lies
-pub stack_at : (b n : ℕ) (z : ℤ) → 0 < n → negsuc 511 ≤ℤ z → (z +ℤ pos n) ≤ℤ pos 0 → b + 512 < 18446744073709551616 → (address (b + 512) z ≡ b + from_low z) × (from_low z + n ≤ 512)
+pub stack_at : (b n : ℕ) (z : ℤ) → 0 < n → negsuc 511 ≤ℤ z → (z +ℤ pos n) ≤ℤ pos 0 → b + STACK_BYTES < 18446744073709551616 → (address (b + STACK_BYTES) z ≡ b + from_low z) × (from_low z + n ≤ STACK_BYTES)
 stack_at b n (pos m) some l h f = absurd (omega (arith, ints))
 stack_at b n (negsuc m) some l h f = (omega (arith, ints), omega (arith, ints))
 

@@ -2,6 +2,7 @@
 use Rattle.std.proofs.Common.{◌≡◌, ℕ, ◌+◌, ◌-◌, ◌<◌, ◌≤◌, inl, inr, ℤ, pos, negsuc, ◌+ℤ◌, Bool, true, false, List, [], ◌∷◌, ◌++◌, length, get_or, Some, refl, ◌∙◌, arith, is_some, IsTrue}
 use Rattle.std.proofs.lemmas.Bool.{cases_lt}
 use Rattle.std.specs.Int.{to_le_bytes}
+use Rattle.pb_isa.specs.declared.limits.TheConstants.{STACK_BYTES}
 use Rattle.pb_isa.specs.declared.insn.Insn.{Insn}
 use Rattle.pb_isa.specs.declared.insn.Insn.TheVariants.{Store, StoreImm}
 use Rattle.pb_isa.specs.declared.insn.Reg.{Reg}
@@ -58,10 +59,10 @@ spot k o = o
 pub record Room (e : Environment) (f : Frame) (k : Kind) (o : ℤ) (n x : ℕ) : Type 0 where
   pub frame : with_store f k o n ≡ with_written f (spot k o) n
   pub there : address x o ≡ e.place.stack + from_low (spot k o)
-  pub room : from_low (spot k o) + n ≤ 512
+  pub room : from_low (spot k o) + n ≤ STACK_BYTES
   pub inside : m.stack_has e (e.place.stack + from_low (spot k o)) n ≡ true
 
-pub stack_room : (e : Environment) (f : Frame) (k o : ℤ) (n : ℕ) → 0 < n → IsPlaced e → stack_writes (k +ℤ o) n ≡ [] → Room e f (Stack k) o n (address (e.place.stack + 512) k)
+pub stack_room : (e : Environment) (f : Frame) (k o : ℤ) (n : ℕ) → 0 < n → IsPlaced e → stack_writes (k +ℤ o) n ≡ [] → Room e f (Stack k) o n (address (e.place.stack + STACK_BYTES) k)
 stack_room e f k o n some pl l =
     let z = k +ℤ o in
     let ok : in_stack z n ≡ true = not_false _ (when_not _ _ l) in
@@ -69,12 +70,12 @@ stack_room e f k o n some pl l =
     let low = le_from (negsuc 511) z range.0 in
     let high = le_from (z +ℤ pos n) (pos 0) range.1 in
     let there = stack_at e.place.stack n z some low high pl.place.stack_fits in
-    let room : from_low z + n ≤ 512 = there.1 in
+    let room : from_low z + n ≤ STACK_BYTES = there.1 in
     record {
       frame = rw ok refl;
-      there = moved_word (e.place.stack + 512) k o ∙ there.0;
+      there = moved_word (e.place.stack + STACK_BYTES) k o ∙ there.0;
       room = room;
-      inside = lies e.place.stack 512 (e.place.stack + from_low z) n (omega arith) (omega arith);
+      inside = lies e.place.stack STACK_BYTES (e.place.stack + from_low z) n (omega arith) (omega arith);
     }
 
 pub store_room : (e : Environment) (f : Frame) (k : Kind) (x : ℕ) (o : ℤ) (n : ℕ) → 0 < n → IsPlaced e → is_unset k ≡ false → stores k o n ≡ [] → Holds e k (Some x) → Room e f k o n x
@@ -82,7 +83,7 @@ store_room e f Unset x o n some pl u l h = cc
 store_room e f Number x o n some pl u l h = cc
 store_room e f (Record k) x o n some pl u l h = cc
 store_room e f (Stack k) x o n some pl u l h =
-    let same : x ≡ address (e.place.stack + 512) k = cc in
+    let same : x ≡ address (e.place.stack + STACK_BYTES) k = cc in
     rw same (stack_room e f k o n some pl l)
 
 -- n bytes are stored there, and the instruction leads to the slot after it

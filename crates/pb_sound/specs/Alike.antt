@@ -1,36 +1,10 @@
 -- An accepted program does the same at every placement.
-use Rattle.std.specs.Prelude.{◌≡◌, ℕ, ◌+◌, List, Option, IsTrue}
+use Rattle.std.specs.Prelude.{ℕ, List}
 use Rattle.pb_base.specs.Batch.{Writes}
-use Rattle.pb_isa.specs.declared.insn.Insn.{Insn}
 use Rattle.pb_isa.specs.Programs.{JudgedOf, IsProgram}
-use Rattle.pb_isa.specs.Machine.{Placement, IsPlaced, State, Reply, IsReply, Outcome, Goes, Asks, Ends}
+use Rattle.pb_isa.specs.Machine.{Placement, IsPlaced}
 use Rattle.pb_isa.specs.Meaning.{Talk, environment_of, EndsWith, Means}
-use Rattle.pb_kinds.specs.declared.frame.Kind.{Kind}
-use Rattle.pb_kinds.specs.declared.frame.Kind.TheVariants.{Unset, Number, Stack, Record}
-use Rattle.pb_kinds.specs.declared.frame.Frame.{Frame}
-use Rattle.pb_kinds.specs.Frames.{kind_of, has_byte}
-use Rattle.pb_verify.specs.Following.{after}
 use Rattle.pb_verify.specs.Arriving.{Accepts}
-
--- a number is the same; where pointers point follows from the frame
-abbrev pub SameNumber : Kind → Option ℕ → Option ℕ → Type 0
-SameNumber Unset v w = Unit {0}
-SameNumber Number v w = v ≡ w
-SameNumber (Stack k) v w = Unit {0}
-SameNumber (Record k) v w = Unit {0}
-
--- states at two placements: one slot, the same writes, numbers and written bytes
-pub record Alike (a b : Placement) (f : Frame) (s t : State) : Type 0 where
-  pub slot : s.slot ≡ t.slot
-  pub writes : s.writes ≡ t.writes
-  pub reg : (r : ℕ) → SameNumber (kind_of f r) (s.regs r) (t.regs r)
-  pub byte : (i : ℕ) → IsTrue (has_byte f i) → s.stack (a.stack + i) ≡ t.stack (b.stack + i)
-
-abbrev pub Agree : Placement → Placement → Frame → Insn → Outcome → Outcome → Type 0
-Agree a b f i (Goes s) (Goes t) = Alike a b (after f i) s t
-Agree a b f i (Asks x go) (Asks y on) = (x ≡ y) × ((r : Reply) → IsReply r → Alike a b (after f i) (go r) (on r))
-Agree a b f i (Ends v ws) (Ends w us) = (v ≡ w) × (ws ≡ us)
-Agree a b f i o n = ⊥
 
 -- what a run of an accepted program ends with at one placement, it ends with at each
 abbrev pub EndIsMeaning : Type 0

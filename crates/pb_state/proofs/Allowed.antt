@@ -1,17 +1,17 @@
 -- What holds where a step isn't refused.
-use Rattle.std.proofs.Common.{◌≡◌, ℕ, Bool, true, false, cond, not, ◌||◌, [], ◌∷◌, Option, Some, None, refl, sym, ap, ◌∙◌}
+use Rattle.std.proofs.Common.{◌≡◌, ℕ, Bool, true, false, cond, not, ◌||◌, [], ◌∷◌, Option, Some, None, refl, sym, ap, ◌∙◌, nat_lt, ◌≤◌, arith}
 use Rattle.std.specs.Prelude.{is_none, is_some, ◌==◌}
 use Rattle.std.specs.FinMap as map
 use Rattle.std.proofs.lemmas.Bool.{eqb-true}
 use Rattle.pb_base.specs.declared.cell.Cell.{Cell}
 use Rattle.pb_base.specs.declared.content.Content.{Content}
 use Rattle.pb_base.specs.declared.refusal.Reason.{Reason}
-use Rattle.pb_base.specs.declared.refusal.Reason.TheVariants.{OutOfTimestamps, NotOfSeat, NoSuchObserver, WrongPhase, NotItsDeclaration, NotDeclared, AlreadyPrewritten}
+use Rattle.pb_base.specs.declared.refusal.Reason.TheVariants.{LaterThanStart, OutOfTimestamps, NotOfSeat, NoSuchObserver, WrongPhase, NotItsDeclaration, NotDeclared, AlreadyPrewritten}
 use Rattle.pb_base.specs.declared.names.Ts.{Ts}
 use Rattle.pb_base.specs.Batch.{Writes, content_in, primary_in}
 use Rattle.pb_steps.specs.declared.step.Work.{Work}
 use Rattle.pb_steps.specs.declared.step.Declared.{Declared}
-use Rattle.pb_steps.specs.declared.step.Step.TheVariants.{Begin, Read, Declare, Prewrite, Stamp, CommitPrimary, CommitSecondary}
+use Rattle.pb_steps.specs.declared.step.Step.TheVariants.{Begin, Declare, Prewrite, Stamp, CommitPrimary, CommitSecondary}
 use Rattle.pb_steps.specs.declared.phase.Phase.{Phase}
 use Rattle.pb_steps.specs.declared.phase.Phase.TheVariants as phases
 use Rattle.pb_steps.specs.Phases.{is_reading, is_declared, is_stamped, is_committed}
@@ -19,7 +19,8 @@ use Rattle.pb_steps.specs.State.{StateOf, TransactionOf, is_in}
 use Rattle.pb_steps.specs.Declarations.{is_its}
 use Rattle.pb_steps.specs.Reasons.{Reasons, IsOwn, if_of_seat, own_transaction, own_reasons, no_seat, is_out, reasons_of, first_reason}
 use Rattle.pb_steps.specs.Begin.{is_unknown}
-use Rattle.pb_steps.specs.Read.{read_reasons}
+use Rattle.pb_steps.specs.Read.{read_step, read_reasons, read_at_reasons}
+use Rattle.pb_steps.specs.Reads.{read_up_to}
 use Rattle.pb_steps.specs.Declare.{declare_reasons}
 use Rattle.pb_steps.specs.Prewrite.{prewrite_reasons, is_early}
 use Rattle.pb_steps.specs.Stamp.{is_whole, unstamped_reasons}
@@ -42,10 +43,6 @@ not_false false e = cc
 some_there : {A : Type 0} (o : Option A) → is_none o ≡ false → (x : A) × (o ≡ Some x)
 some_there None e = cc
 some_there (Some x) e = (x, refl)
-
-pub first_declared : (ws : Writes) (x : Cell) (k : Content) → content_in ws x ≡ Some k → (p : Cell) × (primary_in ws ≡ Some p)
-first_declared [] x k e = cc
-first_declared (w ∷ ws) x k e = (w.0, refl)
 
 chosen : (b : Bool) (u t : TransactionOf) → cond b (Some u) None ≡ Some t → (b ≡ true) × (u ≡ t)
 chosen true u t e = (refl, cc)
@@ -76,13 +73,18 @@ owned s seat start why e =
     let o = of_own (own_transaction s seat start) why e in
     (o.0, own_is s seat start o.0 o.1, o.2)
 
-pub may_begin : (s : StateOf) (seat : ℕ) (work : Work) → step_reason s seat (Begin work) ≡ None → is_out s ≡ false
-may_begin s seat work e = (none_first OutOfTimestamps (is_out s) ((NotOfSeat, no_seat s seat) ∷ (NoSuchObserver, is_unknown s.observers work) ∷ []) e).0
+not_later : (a b : ℕ) → nat_lt a b ≡ false → b ≤ a
+not_later a b h = grind (arith, h)
 
-pub may_read : (s : StateOf) (seat : ℕ) (start : Ts) (x : Cell) → step_reason s seat (Read start x) ≡ None → (t : TransactionOf) × IsOwn s seat start.0 t × (is_reading t.phase ≡ true)
-may_read s seat start x e =
+pub may_read : (s : StateOf) (seat : ℕ) (start : Ts) (x : Cell) (at : Option Ts) → step_reason s seat (read_step start x at) ≡ None
+    → (t : TransactionOf) × IsOwn s seat start.0 t × (is_reading t.phase ≡ true) × (read_up_to start.0 at ≤ start.0)
+may_read s seat start x None e =
     let o = owned s seat start.0 read_reasons e in
-    (o.0, o.1, not_false _ (none_first WrongPhase (not (is_reading o.0.phase)) [] o.2).0)
+    (o.0, o.1, not_false _ (none_first WrongPhase (not (is_reading o.0.phase)) [] o.2).0, omega arith)
+may_read s seat start x (Some u) e =
+    let o = owned s seat start.0 (read_at_reasons start.0 u.0) e in
+    let p = none_first WrongPhase (not (is_reading o.0.phase)) ((LaterThanStart, nat_lt start.0 u.0) ∷ []) o.2 in
+    (o.0, o.1, not_false _ p.0, not_later start.0 u.0 (none_first LaterThanStart (nat_lt start.0 u.0) [] p.1).0)
 
 -- what a `Declare` finds
 pub record MayBeDeclared (s : StateOf) (seat : ℕ) (start : Ts) (what : Declared) : Type 0 where
@@ -119,21 +121,6 @@ may_prewrite s seat start x e =
     let n = neither _ _ a.0 in
     let k = some_there _ b.0 in
     record { t = o.0; own = o.1; phase = not_false _ n.0; in_order = n.1; content = k.0; declares = k.1; once = c.0 }
-
--- what a `Stamp` finds
-pub record MayStamp (s : StateOf) (seat start : ℕ) : Type 0 where
-  pub t : TransactionOf
-  pub own : IsOwn s seat start t
-  pub left : is_out s ≡ false
-  pub phase : is_declared t.phase ≡ true
-  pub whole : is_whole t ≡ true
-
-pub may_stamp : (s : StateOf) (seat : ℕ) (start : Ts) → step_reason s seat (Stamp start) ≡ None → MayStamp s seat start.0
-may_stamp s seat start e =
-    let p = none_first OutOfTimestamps (is_out s) (own_reasons s seat start.0 unstamped_reasons) e in
-    let o = owned s seat start.0 unstamped_reasons p.1 in
-    let n = neither (not (is_declared o.0.phase)) (not (is_whole o.0)) (none_first WrongPhase (not (is_declared o.0.phase) || not (is_whole o.0)) [] o.2).0 in
-    record { t = o.0; own = o.1; left = p.0; phase = not_false _ n.0; whole = not_false _ n.1 }
 
 stamp_in : (h : Phase) → is_stamped h ≡ true → (c : Ts) × (h ≡ phases.Stamped c)
 stamp_in phases.Reading e = cc

@@ -4,7 +4,7 @@ use Rattle.std.specs.Prelude.{MatchBool}
 use Rattle.std.proofs.lemmas.Option.{slice_get_within}
 use Rattle.pb_base.specs.declared.cell.Cell.TheVariants.{Data}
 use Rattle.pb_base.specs.declared.names.Row.{Row}
-use Rattle.pb_base.specs.declared.content.Version.{Version}
+use Rattle.pb_base.specs.declared.content.Revision.{Revision}
 use Rattle.pb_store.specs.Contents.{Entries}
 use Rattle.pb_steps.specs.Observers.{ObserverOf}
 use Rattle.pb_steps.specs.Readings.{last_timestamp, IsVersion, NoVersion}
@@ -12,7 +12,7 @@ use Rattle.pb_steps.specs.Marks.{SomeBehind, AllUpToDate}
 use Rattle.pb_state.specs.Behind.{SomeLate, AreOnTime}
 
 module _ (observers : List ObserverOf) (e : Entries) (row : Row) (column : ℕ) where
-  pub some_behind : (v : Version) → IsVersion e (Data row column) last_timestamp v → SomeLate e row column v.commit.0 observers → SomeBehind observers e (Data row column)
+  pub some_behind : (v : Revision) → IsVersion e (Data row column) last_timestamp v → SomeLate e row column v.commit.0 observers → SomeBehind observers e (Data row column)
   some_behind v n late =
       let stamp = late.3.2.2 in
       let below = late.3.3 in (
@@ -29,16 +29,13 @@ module _ (observers : List ObserverOf) (e : Entries) (row : Row) (column : ℕ) 
   above : (b c : ℕ) → (c < b) ⊎ (b ≤ c)
   above b c = grind arith
 
-  pub all_up_to_date : (v : Version) → IsVersion e (Data row column) last_timestamp v → AreOnTime e row column v.commit.0 observers (length observers) → AllUpToDate observers e (Data row column)
+  pub all_up_to_date : (v : Revision) → IsVersion e (Data row column) last_timestamp v → AreOnTime e row column v.commit.0 observers (length observers) → AllUpToDate observers e (Data row column)
   all_up_to_date v n times p observer there observes c low written =
       let k = times p observer (slice_get_within observers p observer there) there observes in
       elim (above c v.commit.0) [
         | inl g ↦ (let none = n.newest c g low in absurd cc)
         | inr g ↦ (let is = k.1.2 in let on = k.2 in (k.1.0, k.1.1, omega (arith, g, is, on)))
       ]
-
-  pub nothing_to_do : NoVersion e (Data row column) last_timestamp → AllUpToDate observers e (Data row column)
-  nothing_to_do none p observer there observes c low written = let n = none c low in absurd cc
 
 pub either_way : {A B C D : Type 0} (b : Bool) → (A → C) → (B → D) → MatchBool b A B → MatchBool b C D
 either_way true f g h = f h

@@ -1,12 +1,12 @@
 -- What passes the test for a declaration of its transaction is one.
-use Rattle.std.proofs.Common.{◌≡◌, ℕ, Bool, true, false, cond, ◌&&◌, List, [], ◌∷◌, Option, Some, None, slice_get, refl, sym, ap}
+use Rattle.std.proofs.Common.{◌≡◌, ℕ, Bool, true, false, cond, ◌&&◌, List, [], ◌∷◌, Option, Some, None, slice_get, refl, sym, ap, subst, ◌∙◌}
 use Rattle.std.specs.Prelude.{◌==◌, nat_lt}
 use Rattle.std.specs.Ordering.{eq_by_cmp}
 use Rattle.std.proofs.lemmas.Bool.{eqb-true, ltb-true}
 use Rattle.pb_base.specs.declared.cell.Cell.{Cell}
 use Rattle.pb_base.specs.declared.names.Row.{Row}
 use Rattle.pb_base.specs.declared.names.Ts.{Ts}
-use Rattle.pb_base.specs.declared.content.Version.{Version}
+use Rattle.pb_base.specs.declared.content.Revision.{Revision}
 use Rattle.pb_base.specs.declared.content.Content.TheVariants as contents
 use Rattle.pb_base.specs.Cell.{cell_cmp}
 use Rattle.pb_state.proofs.SameCells.{same_cell}
@@ -14,11 +14,10 @@ use Rattle.pb_base.specs.Same.{same, same_is}
 use Rattle.std.specs.Coded.{coded_ℕ, coded_list}
 use Rattle.pb_isa.specs.Programs.{judged_code}
 use Rattle.pb_isa.specs.Meaning.{Talk}
-use Rattle.pb_helpers.specs.Record.{record_of}
+use Rattle.pb_helpers.specs.OldRecord.{tells_old, record_by}
 use Rattle.pb_vm.specs.Finished.{Meant}
 use Rattle.pb_steps.specs.declared.seen.RecordedRead.{RecordedRead}
 use Rattle.pb_steps.specs.declared.seen.Seen.{Seen}
-use Rattle.pb_steps.specs.declared.step.Answer.{Answer}
 use Rattle.pb_steps.specs.declared.step.Work.{Work}
 use Rattle.pb_steps.specs.declared.step.Work.TheVariants as works
 use Rattle.pb_steps.specs.declared.step.Declared.{Declared}
@@ -26,59 +25,134 @@ use Rattle.pb_steps.specs.declared.step.Declared.TheVariants as declared
 use Rattle.pb_steps.specs.Reads.{asked_cell, version_in, acknowledged_in, value_in, value_code}
 use Rattle.pb_steps.specs.State.{cells_of}
 use Rattle.pb_steps.specs.Observers.{ObserverOf, observed_cell, acknowledgment, acknowledgment_by}
-use Rattle.pb_steps.specs.Declarations.{WasSeen, AreReplies, IsItsRun, MayDeclare, seen_by, seen_in, asked_in, is_replied, are_replies, is_made_of, is_run, is_run_of, is_its}
+use Rattle.pb_steps.specs.Declarations.{IsReadOf, old_at, WasOld, WasSeen, AreReplies, IsItsRun, MayDeclare, is_at, is_read_of, with_old, seen_by, seen_in, asked_in, is_replied, are_replies, is_made_of, is_run, is_run_by, is_run_of, is_its}
 
 both : (a b : Bool) → (a && b) ≡ true → (a ≡ true) × (b ≡ true)
 both true b e = (refl, e)
 both false b e = cc
 
-told_by : (v : Option Version) (a : Answer) (seen : Seen) → seen_by v a ≡ Some seen → (v ≡ Some seen.version) × (seen.acknowledged ≡ acknowledged_in a)
-told_by None a seen e = cc
-told_by (Some v) a seen e = let is : record { version = v; acknowledged = acknowledged_in a } ≡ seen = cc in (ap (λ (s : Seen). Some s.version) is, ap (λ (s : Seen). s.acknowledged) (sym is))
+at_is : (p q : Option Ts) → is_at p q ≡ true → p ≡ q
+at_is None None e = refl
+at_is (Some t) (Some u) e = ap (λ n. Some (record { 0 = n })) (eqb-true t.0 u.0 e)
+at_is None (Some u) e = cc
+at_is (Some t) None e = cc
 
-pair_seen : (x ack : Cell) (r q : RecordedRead) (asked : List RecordedRead) (seen : Seen) (b : Bool) → (eq_by_cmp cell_cmp r.cell x && eq_by_cmp cell_cmp q.cell ack) ≡ b
-    → cond b (seen_by (version_in r.answer) q.answer) None ≡ Some seen → WasSeen x ack (r ∷ q ∷ asked) seen asked
-pair_seen x ack r q asked seen true e h =
+read_is : (r : RecordedRead) (x : Cell) (named : Option Ts) → is_read_of r x named ≡ true → IsReadOf r x named
+read_is r x named e = let p = both (eq_by_cmp cell_cmp r.cell x) (is_at r.at named) e in record { cell = same_cell r.cell x p.0; at = at_is r.at named p.1 }
+
+-- what `with_old` leaves of what was seen before, and what it adds
+pub record IsWithOld (at : Option Ts) (x : Cell) (was : Seen) (rest : List RecordedRead) (seen : Seen) : Type 0 where
+  pub version : seen.version ≡ was.version
+  pub acknowledged : seen.acknowledged ≡ was.acknowledged
+  pub asked : List RecordedRead
+  pub old : WasOld at x rest seen.old asked
+  pub behind : (r q : RecordedRead) → asked_in at (r ∷ q ∷ rest) ≡ asked
+
+if_old : (a : Ts) (x : Cell) (was : Seen) (r : RecordedRead) (rs : List RecordedRead) (seen : Seen) (b : Bool) → is_read_of r x (Some a) ≡ b
+    → cond b (Some (record was { old = value_in r.answer })) None ≡ Some seen → IsWithOld (Some a) x was (r ∷ rs) seen
+if_old a x was r rs seen true e h =
+    let is : record was { old = value_in r.answer } ≡ seen = cc in
+    record {
+      version = ap (λ (z : Seen). z.version) (sym is);
+      acknowledged = ap (λ (z : Seen). z.acknowledged) (sym is);
+      asked = rs;
+      old = (r, read_is r x (Some a) e, ap (λ (z : Seen). z.old) (sym is), refl);
+      behind = λ p q. refl;
+    }
+if_old a x was r rs seen false e h = cc
+
+old_is : (at : Option Ts) (x : Cell) (was : Seen) (rest : List RecordedRead) (seen : Seen) → was.old ≡ None → with_old at x was rest ≡ Some seen → IsWithOld at x was rest seen
+old_is None x was rest seen none h =
+    let is : was ≡ seen = cc in
+    record {
+      version = ap (λ (z : Seen). z.version) (sym is);
+      acknowledged = ap (λ (z : Seen). z.acknowledged) (sym is);
+      asked = rest;
+      old = (ap (λ (z : Seen). z.old) (sym is) ∙ none, refl);
+      behind = λ p q. refl;
+    }
+old_is (Some a) x was (r ∷ rs) seen none h = if_old a x was r rs seen _ refl h
+old_is (Some a) x was [] seen none h = cc
+
+-- what is read behind the first two
+pub record IsSeenBy (second : Bool) (x : Cell) (v : Option Revision) (a : Ts) (rest : List RecordedRead) (seen : Seen) : Type 0 where
+  pub found : v ≡ Some seen.version
+  pub acknowledged : seen.acknowledged ≡ a
+  pub asked : List RecordedRead
+  pub old : WasOld (old_at second seen.acknowledged) x rest seen.old asked
+  pub behind : (r q : RecordedRead) → asked_in (old_at second seen.acknowledged) (r ∷ q ∷ rest) ≡ asked
+
+told_by : (second : Bool) (x : Cell) (v : Option Revision) (a : Ts) (rest : List RecordedRead) (seen : Seen) → seen_by second x v a rest ≡ Some seen → IsSeenBy second x v a rest seen
+told_by second x None a rest seen e = cc
+told_by second x (Some v) a rest seen e =
+    let o = old_is (old_at second a) x (record { version = v; acknowledged = a; old = None }) rest seen refl e in
+    record {
+      found = ap Some (sym o.version);
+      acknowledged = o.acknowledged;
+      asked = o.asked;
+      old = subst (λ t. WasOld (old_at second t) x rest seen.old o.asked) (sym o.acknowledged) o.old;
+      behind = λ r q. ap (λ t. asked_in (old_at second t) (r ∷ q ∷ rest)) o.acknowledged ∙ o.behind r q;
+    }
+
+pair_seen : (x ack : Cell) (second : Bool) (r q : RecordedRead) (rest : List RecordedRead) (seen : Seen) (b : Bool) → (is_read_of r x None && is_read_of q ack None) ≡ b
+    → cond b (seen_by second x (version_in r.answer) (acknowledged_in q.answer) rest) None ≡ Some seen → WasSeen x ack second (r ∷ q ∷ rest) seen (asked_in (old_at second seen.acknowledged) (r ∷ q ∷ rest))
+pair_seen x ack second r q rest seen true e h =
     let p = both _ _ e in
-    let t = told_by (version_in r.answer) q.answer seen h in
-    record { first = r; second = q; reads_are = refl; observed = same_cell r.cell x p.0; found = t.0; acknowledgment = same_cell q.cell ack p.1; acknowledged = t.1 }
-pair_seen x ack r q asked seen false e h = cc
+    let t = told_by second x (version_in r.answer) (acknowledged_in q.answer) rest seen h in
+    record {
+      found_by = r;
+      acknowledged_by = q;
+      rest = rest;
+      reads_are = refl;
+      observed = read_is r x None p.0;
+      found = t.found;
+      acknowledgment = read_is q ack None p.1;
+      acknowledged = t.acknowledged;
+      old = subst (WasOld (old_at second seen.acknowledged) x rest seen.old) (sym (t.behind r q)) t.old;
+    }
+pair_seen x ack second r q rest seen false e h = cc
 
-was_seen : (x ack : Cell) (reads : List RecordedRead) (seen : Seen) → seen_in x ack reads ≡ Some seen → WasSeen x ack reads seen (asked_in reads)
-was_seen x ack (r ∷ q ∷ asked) seen h = pair_seen x ack r q asked seen _ refl h
-was_seen x ack (r ∷ []) seen h = cc
-was_seen x ack [] seen h = cc
+was_seen : (x ack : Cell) (second : Bool) (reads : List RecordedRead) (seen : Seen) → seen_in x ack second reads ≡ Some seen → WasSeen x ack second reads seen (asked_in (old_at second seen.acknowledged) reads)
+was_seen x ack second (r ∷ q ∷ rest) seen h = pair_seen x ack second r q rest seen _ refl h
+was_seen x ack second (r ∷ []) seen h = cc
+was_seen x ack second [] seen h = cc
 
 replies_are : (reads : List RecordedRead) (talk : Talk) → are_replies reads talk ≡ true → AreReplies reads talk
 replies_are [] [] h = tt
 replies_are (r ∷ rs) (a ∷ talk) h =
     let p = both (is_replied r a) (are_replies rs talk) h in
-    let q = both (eq_by_cmp cell_cmp r.cell (asked_cell a.0)) (same value_code a.1 (value_in r.answer)) p.0 in
-    (same_cell r.cell (asked_cell a.0) q.0, same_is value_code a.1 (value_in r.answer) q.1, replies_are rs talk p.1)
+    let q = both (is_read_of r (asked_cell a.0) None) (same value_code a.1 (value_in r.answer)) p.0 in
+    (read_is r (asked_cell a.0) None q.0, same_is value_code a.1 (value_in r.answer) q.1, replies_are rs talk p.1)
 replies_are [] (a ∷ talk) h = cc
 replies_are (r ∷ rs) [] h = cc
 
-run_by : (observers : List ObserverOf) (p : ℕ) (row : Row) (s : ℕ) (reads : List RecordedRead) (f : Meant) (o : Option ObserverOf) (k : Option Seen)
-    → slice_get observers p ≡ o → seen_in (observed_cell observers p row) (acknowledgment observers p row) reads ≡ k → is_run o (observed_cell observers p row) s f k ≡ true → are_replies (asked_in reads) f.talk ≡ true → IsItsRun observers p row s reads f
-run_by observers p row s reads f None k oe ke h told = cc
-run_by observers p row s reads f (Some o) None oe ke h told = cc
-run_by observers p row s reads f (Some o) (Some seen) oe ke h told =
-    let bytes = record_of (observed_cell observers p row) seen.version seen.acknowledged.0 in
-    let q = both (nat_lt seen.acknowledged.0 seen.version.commit.0) (is_made_of o.program bytes s f) h in
+run_by : (observers : List ObserverOf) (p : ℕ) (row : Row) (s : ℕ) (reads : List RecordedRead) (f : Meant) (o : ObserverOf) (k : Option Seen)
+    → slice_get observers p ≡ Some o → seen_in (observed_cell observers p row) (acknowledgment observers p row) (tells_old o.program) reads ≡ k → is_run o.program (observed_cell observers p row) s reads f k ≡ true → IsItsRun observers p row s reads f
+run_by observers p row s reads f o None oe ke h = cc
+run_by observers p row s reads f o (Some seen) oe ke h =
+    let bytes = record_by (tells_old o.program) (observed_cell observers p row) seen.version seen.acknowledged.0 seen.old in
+    let asked = asked_in (old_at (tells_old o.program) seen.acknowledged) reads in
+    let k = both (nat_lt seen.acknowledged.0 seen.version.commit.0 && is_made_of o.program bytes s f) (are_replies asked f.talk) h in
+    let q = both (nat_lt seen.acknowledged.0 seen.version.commit.0) (is_made_of o.program bytes s f) k.0 in
     let m = both (same judged_code f.judged o.program && same (coded_list coded_ℕ) f.bytes bytes) (f.began == s) q.1 in
     let n = both (same judged_code f.judged o.program) (same (coded_list coded_ℕ) f.bytes bytes) m.0 in
     record {
       observer = o;
       observer_is = oe;
       seen = seen;
-      asked = asked_in reads;
-      was = was_seen (observed_cell observers p row) (acknowledgment observers p row) reads seen ke;
+      asked = asked;
+      was = was_seen (observed_cell observers p row) (acknowledgment observers p row) (tells_old o.program) reads seen ke;
       newer = ltb-true _ _ q.0;
       program = same_is judged_code f.judged o.program n.0;
       bytes = same_is (coded_list coded_ℕ) f.bytes bytes n.1;
       began = eqb-true f.began s m.1;
-      replied = replies_are (asked_in reads) f.talk told;
+      replied = replies_are asked f.talk k.1;
     }
+
+run_of : (observers : List ObserverOf) (p : ℕ) (row : Row) (s : ℕ) (reads : List RecordedRead) (f : Meant) (o : Option ObserverOf)
+    → slice_get observers p ≡ o → is_run_by o (observed_cell observers p row) (acknowledgment observers p row) s reads f ≡ true → IsItsRun observers p row s reads f
+run_of observers p row s reads f None oe h = cc
+run_of observers p row s reads f (Some o) oe h = run_by observers p row s reads f o _ oe refl h
 
 pub may_be_its : (observers : List ObserverOf) (work : Work) (s : ℕ) (reads : List RecordedRead) (what : Declared) → is_its observers work s reads what ≡ true → MayDeclare observers work s reads what
 may_be_its observers works.Script s reads (declared.Script batch) h = tt
@@ -86,8 +160,7 @@ may_be_its observers works.Script s reads (declared.Run o f) h = cc
 may_be_its observers (works.Run p row) s reads (declared.Script batch) h = cc
 may_be_its observers (works.Run p row) s reads (declared.Run o f) h =
     let q = both (o == p) (is_run_of observers p row s reads f) h in
-    let r = both _ (are_replies (asked_in reads) f.talk) q.1 in
-    (eqb-true o p q.0, run_by observers p row s reads f _ _ refl refl r.0 r.1)
+    (eqb-true o p q.0, run_of observers p row s reads f _ refl q.1)
 
 by_observer : (observers : List ObserverOf) (p : ℕ) (row : Row) (ob : ObserverOf) → slice_get observers p ≡ Some ob → acknowledgment_by observers (works.Run p row) ≡ Some (acknowledgment observers p row)
 by_observer observers p row ob e = rw e refl

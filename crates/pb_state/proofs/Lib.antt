@@ -6,8 +6,9 @@ pub mod Allowed
 pub mod NewState
 pub mod ItsDeclaration
 pub mod ReadsTaken
+pub mod Walks
 mod Walking
-mod ObserversByNumber
 mod SameCells
 mod SameRuns
 mod Behind
+pub mod Versions

@@ -12,9 +12,6 @@ use Rattle.pb_steps.specs.Readings.{NoLock, SomeLock, NoWriteFrom, SomeWriteFrom
 abbrev pub last : Ts
 last = record { 0 = 18446744073709551615 }
 
-pub no_lock : (e : Entries) (x : Cell) → IsNewest e x sorts.Lock last None → NoLock e x
-no_lock e x h = λ u lt. ap primary_of (h u (omega arith))
-
 lock_item : (i : Item) → IsOfSort sorts.Lock i → is_some (primary_of (Some i)) ≡ true
 lock_item (items.Data c) h = absurd h
 lock_item (items.Lock p) h = refl
@@ -27,12 +24,6 @@ write_item (items.Write s) h = refl
 
 pub some_lock : (e : Entries) (x : Cell) (f : Ts × Item) → IsNewest e x sorts.Lock last (Some f) → SomeLock e x
 some_lock e x f h = let low = h.0 in (f.0.0, omega arith, ap (λ o. is_some (primary_of o)) h.1 ∙ lock_item f.1 h.2)
-
-pub no_write : (e : Entries) (x : Cell) (s : ℕ) → IsNewest e x sorts.Write last None → NoWriteFrom e x s
-no_write e x s h = λ c le lt. ap start_of (h c (omega arith))
-
-pub earlier_write : (e : Entries) (x : Cell) (s : ℕ) (f : Ts × Item) → IsNewest e x sorts.Write last (Some f) → f.0.0 < s → NoWriteFrom e x s
-earlier_write e x s f h below = λ c le lt. ap start_of (h.3 c (omega arith) (omega arith))
 
 pub later_write : (e : Entries) (x : Cell) (s : ℕ) (f : Ts × Item) → IsNewest e x sorts.Write last (Some f) → s ≤ f.0.0 → SomeWriteFrom e x s
 later_write e x s f h le = let low = h.0 in (f.0.0, le, omega arith, ap (λ o. is_some (start_of o)) h.1 ∙ write_item f.1 h.2)

@@ -58,30 +58,6 @@ module _ {X : Type 0} where
       ap (λ b. cond b (Some e.1) (map.find nat_cmp k es)) (other_number k e.0 (λ s. h.none 0 e (omega arith) (sym s)))
       ∙ find_nowhere es k (record { none = λ i d lt is. h.none (suc i) d (omega arith) is })
 
-  no_pair : (es : List (ℕ × X)) → length es ≡ 0 → es ≡ []
-  no_pair [] e = refl
-  no_pair (x ∷ es) e = absurd (omega arith)
-
-  -- ---- the pair at a place is replaced by one of the same number
-
-  number_set : (es : List (ℕ × X)) (i : ℕ) (p d : ℕ × X) → i < length es → p.0 ≡ (get_or es i d).0 → (a : ℕ) → (get_or (set es i p) a d).0 ≡ (get_or es a d).0
-  number_set [] i p d lt e a = absurd (omega arith)
-  number_set (x ∷ es) zero p d lt e zero = e
-  number_set (x ∷ es) zero p d lt e (suc a) = refl
-  number_set (x ∷ es) (suc i) p d lt e zero = refl
-  number_set (x ∷ es) (suc i) p d lt e (suc a) = number_set es i p d (omega arith) e a
-
-  pub set_rises : (es : List (ℕ × X)) (i : ℕ) (p d : ℕ × X) → StartsRise es → i < length es → p.0 ≡ (get_or es i d).0 → StartsRise (set es i p)
-  set_rises es i p d r lt e = record {
-    at = λ a b f less within.
-        let w : b < length es = omega (arith, within, length-set es i p) in
-        let same : p.0 ≡ (get_or es i f).0 = e ∙ any_default es i d f lt in
-        let h = r.at a b f less w in
-        let x = number_set es i p f lt same a in
-        let y = number_set es i p f lt same b in
-        omega arith;
-  }
-
   either : (a b : Bool) (v x rest : Option X) → (a ≡ true → b ≡ true → ⊥) → cond a x (cond b v rest) ≡ cond b v (cond a x rest)
   either true true v x rest h = absurd (h refl refl)
   either true false v x rest h = refl
@@ -158,9 +134,6 @@ module _ {X : Type 0} where
   changed es m k i e v w r is at here same =
       let number : e.0 ≡ k = ap (λ (p : ℕ × X). p.0) here ∙ at.here e in
       (λ j. map.from_entries {R = nat_cmp} (set es i (number j, same j))) ∙ inserted es k i w r at ∙ ap (λ n. map.insert n k w) is
-
-  pub changed_rises : (es : List (ℕ × X)) (k i : ℕ) (e : ℕ × X) (v : X) → StartsRise es → IsStartAt es k i → e ≡ get_or es i e → StartsRise (set es i (e.0, v))
-  changed_rises es k i e v r at here = set_rises es i (e.0, v) e r at.within (ap (λ (p : ℕ × X). p.0) here)
 
   pub added : (es : List (ℕ × X)) (m : map.FinMap nat_cmp X) (k : ℕ) (v : X) → StartsRise es → map.from_entries es ≡ m → ((q : ℕ) (x : X) → map.get m q ≡ Some x → q < k) → map.from_entries {R = nat_cmp} (es ++ (k, v) ∷ []) ≡ map.insert m k v
   added es m k v r is low =

@@ -43,6 +43,3 @@ module _ (f : Meant) (p : JudgedOf) (bytes : List ℕ) (s : ℕ) where
       let one = sym (is_same judged_code f.judged p e) in
       let two = sym (is_same (coded_list coded_ℕ) f.bytes bytes h) in
       is ∙ (λ i. one i && two i && (f.began == s))
-
-pub newer_and : (a b : ℕ) (x y : Bool) → a < b → x ≡ y → x ≡ (nat_lt a b && y)
-newer_and a b x y lt e = rw (lt-ltb a b lt) e

@@ -10,7 +10,7 @@ use Rattle.std.specs.FinMap.Entries.{find, is_sorted, below_all}
 use Rattle.pb_base.specs.declared.cell.Cell.{Cell}
 use Rattle.pb_base.specs.Cell.{cell_cmp, cell_cmp_total, cell_cmp-IsAntisymmetric}
 use Rattle.pb_store.specs.Contents.{ComesAfter, IsNextMark, Marks}
-use Rattle.pb_state.specs.Walks.{IsWalked}
+use Rattle.pb_state.proofs.Walks.{IsWalked}
 
 abbrev List1 : Type 0
 List1 = List (Cell × Unit {0})

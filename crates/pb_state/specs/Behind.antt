@@ -3,7 +3,7 @@ use Rattle.std.specs.Prelude.{◌≡◌, ℕ, ◌<◌, ◌≤◌, List, Option, 
 use Rattle.pb_base.specs.declared.cell.Cell.{Cell}
 use Rattle.pb_base.specs.declared.cell.Cell.TheVariants.{Ack}
 use Rattle.pb_base.specs.declared.names.Row.{Row}
-use Rattle.pb_base.specs.declared.content.Version.{Version}
+use Rattle.pb_base.specs.declared.content.Revision.{Revision}
 use Rattle.pb_store.specs.Contents.{Entries}
 use Rattle.pb_steps.specs.Observers.{ObserverOf}
 use Rattle.pb_steps.specs.Readings.{IsNewestVersion}
@@ -11,7 +11,7 @@ use Rattle.pb_steps.specs.Marks.{stamp_in}
 
 -- the stamp of the newest version, 0 where there is none
 abbrev pub IsNewestStamp : Entries → Cell → ℕ → Type 0
-IsNewestStamp e ack a = (v : Option Version) × IsNewestVersion e ack v × (a ≡ stamp_in v)
+IsNewestStamp e ack a = (v : Option Revision) × IsNewestVersion e ack v × (a ≡ stamp_in v)
 
 -- it is one of the column, and has acknowledged less than this commit
 abbrev pub IsLate : Entries → Row → ℕ → ℕ → ObserverOf → ℕ → Type 0

@@ -1,5 +1,4 @@
 pub mod Cells
 pub mod Starts
 pub mod Keeping
-pub mod Walks
 pub mod Behind

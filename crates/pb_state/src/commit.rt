@@ -35,7 +35,8 @@ fn is_observed(observers: &[Observer], cell: &Cell) -> bool
 // Replaces the lock of a start on a cell by its write record.
 fn commit_edits(cell: &Cell, start: Ts, commit: Ts) -> [Edit; 2]
     ensures edits { AreEdits result }
-    ensures committed { (c : Contents) → after_edits result c ≡ record c { entries = commit_lock c.entries cell.now start.0 commit.0 } }
+    ensures committed { (c : Contents)
+        → after_edits result c ≡ record c { entries = commit_lock c.entries cell.now start.0 commit.0 } }
 {
     let lock = slot_of(cell, Sort::Lock, start);
     let record = slot_of(cell, Sort::Write, commit);
@@ -45,7 +46,9 @@ fn commit_edits(cell: &Cell, start: Ts, commit: Ts) -> [Edit; 2]
 // The same, and marks the cell.
 fn marking_edits(cell: &Cell, start: Ts, commit: Ts) -> [Edit; 3]
     ensures edits { AreEdits result }
-    ensures committed { (c : Contents) → after_edits result c ≡ record c { entries = commit_lock c.entries cell.now start.0 commit.0; marks = map.insert c.marks cell.now tt } }
+    ensures committed { (c : Contents)
+        → after_edits result c ≡ record c
+        { entries = commit_lock c.entries cell.now start.0 commit.0; marks = map.insert c.marks cell.now tt } }
 {
     let lock = slot_of(cell, Sort::Lock, start);
     let record = slot_of(cell, Sort::Write, commit);
@@ -64,7 +67,12 @@ pub(crate) fn commit_cell<T: Tablet>(
     start: Ts,
     commit: Ts,
 ) -> Result<(), NoMemory>
-    ensures ok { OnOk result (table.new.contents ≡ record table.old.contents { entries = commit_lock table.old.contents.entries cell.now start.0 commit.0; marks = with_mark observers.now table.old.contents.marks cell.now }) }
+    ensures ok { OnOk result (table.new.contents ≡ record table.old.contents {
+      entries = commit_lock
+          table.old.contents.entries cell.now start.0 commit.0;
+      marks = with_mark observers.now
+          table.old.contents.marks cell.now;
+    }) }
     ensures err { OnErr result (table.new.contents ≡ table.old.contents) }
 {
     if is_observed(observers, cell) {

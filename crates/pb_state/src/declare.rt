@@ -12,7 +12,8 @@ use pb_store::Tablet;
 
 impl<T: Tablet> Parts<T> {
     pub(crate) fn declare_reason(&self, seat: u32, start: Ts, what: &Declared) -> Option<Reason>
-        ensures { result ≡ first_reason (own_reasons self.now seat start.0 (declare_reasons self.now.observers start.0 what.now)) }
+        ensures { result ≡ first_reason
+            (own_reasons self.now seat start.0 (declare_reasons self.now.observers start.0 what.now)) }
     {
         let Some(transaction) = self.own(seat, start) else {
             return Some(Reason::NotOfSeat);

@@ -1,49 +1,132 @@
 //! Whether a declaration is one of its transaction, and what it writes.
-ghost use Rattle.std.specs.Prelude.{◌≡◌, ◌↔◌, IsTrue, Some, IfOk, is_some, true, slice_get};
+ghost use Rattle.std.specs.Prelude.{◌≡◌, ◌↔◌, ◌&&◌, nat_lt, IsTrue, Some, IfOk, is_some, true, slice_get};
 ghost use Rattle.std.specs.Option.{option_copied};
 ghost use Rattle.pb_base.specs.Batch.{primary_in};
 ghost use Rattle.pb_helpers.specs.Replies.{ask_of, reply_of};
 ghost use Rattle.pb_vm.specs.Position.{talk_of};
-ghost use Rattle.pb_steps.specs.Observers.{observed_cell, acknowledgment, acknowledgment_by};
+ghost use Rattle.pb_steps.specs.Observers.{acknowledgment_by};
 ghost use Rattle.pb_steps.specs.Reads.{value_in};
-ghost use Rattle.pb_steps.specs.Declarations.{IsKnown, seen_in, asked_in, is_replied, are_replies, is_made_of, is_run, is_run_of, is_its};
+ghost use Rattle.pb_steps.specs.Declarations.{IsKnown, is_at, is_read_of, with_old, seen_by, seen_in, asked_in, is_replied, are_replies, is_made_of, is_run, is_run_by, is_run_of, is_its};
+ghost use Rattle.pb_helpers.specs.OldRecord as versions;
 ghost use Rattle.pb_steps.specs.State.{cells_of};
 ghost use Rattle.pb_state.specs.Cells.{cells_in};
 
 use crate::cells::Cells;
-use pb_base::{Cell, NoMemory, ObserverNo, Row, Ts};
+use pb_base::{Cell, NoMemory, ObserverNo, Revision, Row, Ts};
 use pb_helpers::{Ask, Record, Reply};
 use pb_steps::{
-    Answer, Declaration, Declared, Observer, RecordedRead, Seen, Work, acknowledged_in, reply_in,
-    version_in,
+    Answer, Declaration, Declared, Observer, RecordedRead, Seen, Work, acknowledged_in, old_at,
+    reply_in, version_in,
 };
 use pb_verify::Accepted;
 use pb_vm::Finished;
+use std::sync::Arc;
 
-// The first two reads of a run are its cell, found, and its acknowledgment.
-fn seen_in(cell: &Cell, acknowledgment: &Cell, reads: &[RecordedRead]) -> Option<Seen>
-    ensures { result ≡ seen_in cell.now acknowledgment.now reads.now }
+// Whether two reads named one timestamp, or none.
+fn is_at(one: Option<Ts>, other: Option<Ts>) -> bool
+    ensures { result ≡ is_at one other }
 {
-    let [first, second, ..] = reads else {
-        return None;
-    };
-    if first.cell != *cell || second.cell != *acknowledgment {
-        return None;
+    match one {
+        None => match other {
+            None => true,
+            Some(_) => false,
+        },
+        Some(one) => match other {
+            None => false,
+            Some(other) => one.0 == other.0,
+        },
     }
-    let version = version_in(first.answer)?;
-    Some(Seen {
-        version,
-        acknowledged: acknowledged_in(second.answer),
-    })
 }
 
-// The reads after these two.
-fn asked_in(reads: &[RecordedRead]) -> &[RecordedRead]
-    ensures { result.now ≡ asked_in reads.now }
+// Whether a read is of this cell, and named this timestamp, or none.
+fn is_read_of(read: &RecordedRead, cell: &Cell, at: Option<Ts>) -> bool
+    ensures { result ≡ is_read_of read.now cell.now at }
 {
-    match reads {
-        [_, _, asked @ ..] => asked,
-        _ => &[],
+    if read.cell != *cell {
+        return false;
+    }
+    is_at(read.at, at)
+}
+
+// What was seen, with what the cell held at a timestamp if that was read at.
+fn with_old(at: Option<Ts>, cell: &Cell, seen: Seen, reads: &[RecordedRead]) -> Option<Seen>
+    ensures { result ≡ with_old at cell.now seen reads.now }
+{
+    match at {
+        None => Some(seen),
+        Some(at) => match reads {
+            [] => None,
+            [read, ..] => {
+                if is_read_of(read, cell, Some(at)) {
+                    let old = reply_in(read.answer).value();
+                    Some(Seen { old, ..seen })
+                } else {
+                    None
+                }
+            }
+        },
+    }
+}
+
+// What reads tell, if the first found its cell.
+fn seen_by(
+    second: bool,
+    cell: &Cell,
+    found: Option<Revision>,
+    acknowledged: Ts,
+    reads: &[RecordedRead],
+) -> Option<Seen>
+    ensures { result ≡ seen_by second cell.now found acknowledged reads.now }
+{
+    match found {
+        None => None,
+        Some(version) => {
+            let seen = Seen {
+                version,
+                acknowledged,
+                old: None,
+            };
+            with_old(old_at(second, acknowledged), cell, seen, reads)
+        }
+    }
+}
+
+// The first two reads of a run are its cell, found, and its acknowledgment.
+fn seen_in(cell: &Cell, acknowledgment: &Cell, second: bool, reads: &[RecordedRead]) -> Option<Seen>
+    ensures { result ≡ seen_in cell.now acknowledgment.now second reads.now }
+{
+    let [found, acknowledged, rest @ ..] = reads else {
+        return None;
+    };
+    if !is_read_of(found, cell, None) {
+        return None;
+    }
+    if !is_read_of(acknowledged, acknowledgment, None) {
+        return None;
+    }
+    let version = version_in(found.answer);
+    seen_by(
+        second,
+        cell,
+        version,
+        acknowledged_in(acknowledged.answer),
+        rest,
+    )
+}
+
+// The reads after these two, or after three.
+fn asked_in(at: Option<Ts>, reads: &[RecordedRead]) -> &[RecordedRead]
+    ensures { result.now ≡ asked_in at reads.now }
+{
+    match at {
+        None => match reads {
+            [_, _, asked @ ..] => asked,
+            _ => &[],
+        },
+        Some(_) => match reads {
+            [_, _, _, asked @ ..] => asked,
+            _ => &[],
+        },
     }
 }
 
@@ -62,7 +145,8 @@ fn is_told(reply: Reply, answer: Answer) -> bool
 fn is_replied(read: &RecordedRead, said: &(Ask, Reply)) -> bool
     ensures { result ≡ is_replied read.now (ask_of said.now.0, reply_of said.now.1) }
 {
-    if read.cell != Cell::Data(said.0.row, said.0.column) {
+    let cell = Cell::Data(said.0.row, said.0.column);
+    if !is_read_of(read, &cell, None) {
         return false;
     }
     is_told(said.1, read.answer)
@@ -94,16 +178,73 @@ fn is_made_of(finished: &Finished, program: &Accepted, change: &Record, start: T
     finished.run() == start
 }
 
-// Whether a run of this start is the observer's program on the record of what was seen, and newer than what was
-// acknowledged.
-fn is_run(observer: &Observer, cell: &Cell, start: Ts, finished: &Finished, seen: &Seen) -> bool
-    ensures { result ≡ is_run (Some observer.now) cell.now start.0 finished.now (Some seen.now) }
+// Whether a program is told what its cell held at the acknowledged timestamp.
+fn tells_old(program: &Arc<Accepted>) -> bool
+    ensures { result ≡ versions.tells_old program.now.value }
+{
+    program.version().tells_old()
+}
+
+// The record of what was seen of a cell, of the version that the program is accepted for.
+fn record_by(program: &Arc<Accepted>, cell: &Cell, seen: &Seen) -> Record
+    ensures { result ≡ versions.record_by (versions.tells_old program.now.value) cell.now seen.now.version
+        seen.now.acknowledged.0 seen.now.old }
+{
+    let version = program.version();
+    Record::of_version(version, *cell, &seen.version, seen.acknowledged, seen.old)
+}
+
+// Whether a run of this start is of the program on the record of what was seen, and newer than what was acknowledged.
+fn is_newer_run(
+    program: &Arc<Accepted>,
+    cell: &Cell,
+    start: Ts,
+    finished: &Finished,
+    seen: &Seen,
+) -> bool
+    ensures { result ≡ (nat_lt seen.now.acknowledged.0 seen.now.version.commit.0 && is_made_of program.now.value
+        (versions.record_by (versions.tells_old program.now.value) cell.now seen.now.version seen.now.acknowledged.0
+        seen.now.old) start.0 finished.now) }
 {
     if seen.acknowledged >= seen.version.commit {
         return false;
     }
-    let record = Record::new(*cell, &seen.version, seen.acknowledged);
-    is_made_of(finished, &observer.program, &record, start)
+    let record = record_by(program, cell, seen);
+    is_made_of(finished, program, &record, start)
+}
+
+// The same, with the replies that were read.
+fn is_run(
+    program: &Arc<Accepted>,
+    cell: &Cell,
+    start: Ts,
+    reads: &[RecordedRead],
+    finished: &Finished,
+    seen: &Seen,
+) -> bool
+    ensures { result ≡ is_run program.now.value cell.now start.0 reads.now finished.now (Some seen.now) }
+{
+    let at = old_at(tells_old(program), seen.acknowledged);
+    is_newer_run(program, cell, start, finished, seen)
+        && are_replies(asked_in(at, reads), finished.talk())
+}
+
+// Whether a run of this start is the observer's on what its transaction read.
+fn is_run_by(
+    observer: &Observer,
+    cell: &Cell,
+    acknowledgment: &Cell,
+    start: Ts,
+    reads: &[RecordedRead],
+    finished: &Finished,
+) -> bool
+    ensures { result ≡ is_run_by (Some observer.now) cell.now acknowledgment.now start.0 reads.now finished.now }
+{
+    let second = tells_old(&observer.program);
+    match seen_in(cell, acknowledgment, second, reads) {
+        None => false,
+        Some(seen) => is_run(&observer.program, cell, start, reads, finished, &seen),
+    }
 }
 
 // The observer of this number.
@@ -113,29 +254,7 @@ fn observer_at(observers: &[Observer], number: ObserverNo) -> Option<&Observer>
     observers.get(number.number() as usize)
 }
 
-// Whether a run of this start is the observer's on the record of what its transaction read first.
-fn is_run_on(
-    observers: &[Observer],
-    number: ObserverNo,
-    row: Row,
-    start: Ts,
-    reads: &[RecordedRead],
-    finished: &Finished,
-) -> bool
-    ensures { result ≡ is_run (slice_get observers.now number) (observed_cell observers.now number row) start.0 finished.now (seen_in (observed_cell observers.now number row) (acknowledgment observers.now number row) reads.now) }
-{
-    let Some(observer) = observer_at(observers, number) else {
-        return false;
-    };
-    let cell = Cell::Data(row, observer.column);
-    let acknowledgment = Cell::Ack(number, row, observer.column);
-    let Some(seen) = seen_in(&cell, &acknowledgment, reads) else {
-        return false;
-    };
-    is_run(observer, &cell, start, finished, &seen)
-}
-
-// The same, with what its transaction read for it.
+// The same, of the observer of a number.
 fn is_run_of(
     observers: &[Observer],
     number: ObserverNo,
@@ -146,8 +265,12 @@ fn is_run_of(
 ) -> bool
     ensures { result ≡ is_run_of observers.now number row start.0 reads.now finished.now }
 {
-    is_run_on(observers, number, row, start, reads, finished)
-        && are_replies(asked_in(reads), finished.talk())
+    let Some(observer) = observer_at(observers, number) else {
+        return false;
+    };
+    let cell = Cell::Data(row, observer.column);
+    let acknowledgment = Cell::Ack(number, row, observer.column);
+    is_run_by(observer, &cell, &acknowledgment, start, reads, finished)
 }
 
 /// Whether a declaration is one of a transaction with this work, start and reads.

@@ -66,6 +66,7 @@ impl<T: Tablet> Parts<T> {
         match step {
             Step::Begin(work) => self.begin_reason(seat, *work),
             Step::Read(start, _) => self.read_reason(seat, *start),
+            Step::ReadAt(start, _, at) => self.read_at_reason(seat, *start, *at),
             Step::Declare(start, what) => self.declare_reason(seat, *start, what.get()),
             Step::Prewrite(start, cell) => self.prewrite_reason(seat, *start, cell),
             Step::Stamp(start) => self.stamp_reason(seat, *start),
@@ -85,7 +86,8 @@ impl<T: Tablet> Parts<T> {
     {
         match step {
             Step::Begin(work) => self.begin(seat, *work),
-            Step::Read(start, cell) => self.read(seat, *start, cell),
+            Step::Read(start, cell) => self.read(seat, *start, cell, None),
+            Step::ReadAt(start, cell, at) => self.read(seat, *start, cell, Some(*at)),
             Step::Declare(start, what) => self.declare(seat, *start, what),
             Step::Prewrite(start, cell) => self.prewrite(seat, *start, cell),
             Step::Stamp(start) => Ok(self.stamp(seat, *start)),

@@ -14,7 +14,8 @@ use pb_store::{Edit, Item, Sort, Tablet};
 // Puts data and lock of a start on a cell.
 fn lock_edits(cell: &Cell, start: Ts, content: Content, primary: Cell) -> [Edit; 2]
     ensures edits { AreEdits result }
-    ensures lock { (c : Contents) → after_edits result c ≡ record c { entries = put_lock c.entries cell.now start.0 content primary } }
+    ensures lock { (c : Contents)
+        → after_edits result c ≡ record c { entries = put_lock c.entries cell.now start.0 content primary } }
 {
     let data = slot_of(cell, Sort::Data, start);
     let lock = slot_of(cell, Sort::Lock, start);

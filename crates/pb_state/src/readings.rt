@@ -6,7 +6,7 @@ ghost use Rattle.pb_steps.specs.Readings.{SomeLock, SomeWriteFrom, NoLock, NoWri
 ghost use Rattle.pb_steps.specs.Clear.{NoWriteOf};
 ghost use Rattle.pb_history.specs.Sound.{HasData};
 
-use pb_base::{Cell, Content, Ts, Version};
+use pb_base::{Cell, Content, Revision, Ts};
 use pb_store::{Item, Slot, Sort, Table, Tablet};
 
 /// The last timestamp there is.
@@ -42,9 +42,10 @@ fn data_of(item: Option<Item>) -> Option<Content>
 }
 
 // The newest version of the cell with a commit at most this one. A write record's data are there.
-pub(crate) fn version_of<T: Tablet>(table: &Table<T>, cell: &Cell, high: Ts) -> Option<Version>
+pub(crate) fn version_of<T: Tablet>(table: &Table<T>, cell: &Cell, high: Ts) -> Option<Revision>
     requires { HasData table.now.contents.entries }
-    ensures { MatchOption result (NoVersion table.now.contents.entries cell.now high.0) (IsVersion table.now.contents.entries cell.now high.0) }
+    ensures { MatchOption result (NoVersion table.now.contents.entries cell.now high.0)
+        (IsVersion table.now.contents.entries cell.now high.0) }
 {
     let Some((commit, Item::Write(start))) = table.newest(*cell, Sort::Write, high) else {
         return None;
@@ -52,7 +53,7 @@ pub(crate) fn version_of<T: Tablet>(table: &Table<T>, cell: &Cell, high: Ts) -> 
     let Some(content) = data_of(table.get(slot_of(cell, Sort::Data, start))) else {
         unreachable!()
     };
-    Some(Version {
+    Some(Revision {
         start,
         commit,
         content,
@@ -61,7 +62,8 @@ pub(crate) fn version_of<T: Tablet>(table: &Table<T>, cell: &Cell, high: Ts) -> 
 
 // The newest lock that stands on the cell, with its primary.
 pub(crate) fn any_lock_on<T: Tablet>(table: &Table<T>, cell: &Cell) -> Option<(Ts, Cell)>
-    ensures { MatchOption result (NoLock table.now.contents.entries cell.now) (λ l. IsLockOn table.now.contents.entries cell.now l.0.0 l.1) }
+    ensures { MatchOption result (NoLock table.now.contents.entries cell.now)
+        (λ l. IsLockOn table.now.contents.entries cell.now l.0.0 l.1) }
 {
     match table.newest(*cell, Sort::Lock, LAST) {
         Some((start, Item::Lock(primary))) => Some((start, primary)),
@@ -71,7 +73,8 @@ pub(crate) fn any_lock_on<T: Tablet>(table: &Table<T>, cell: &Cell) -> Option<(T
 
 // The commit of the write record of this start on the cell: the last timestamp below which none is looked for falls.
 pub(crate) fn commit_of<T: Tablet>(table: &Table<T>, cell: &Cell, start: Ts) -> Option<Ts>
-    ensures { MatchOption result (NoWriteOf table.now.contents.entries cell.now start.0) (λ c. write_at table.now.contents.entries cell.now c.0 ≡ Some start.0) }
+    ensures { MatchOption result (NoWriteOf table.now.contents.entries cell.now start.0)
+        (λ c. write_at table.now.contents.entries cell.now c.0 ≡ Some start.0) }
 {
     let mut high = LAST;
     while let Some((commit, Item::Write(named))) = table.newest(*cell, Sort::Write, high) {

@@ -14,7 +14,8 @@ use pb_store::{Edit, Sort, Tablet};
 // Erases lock and data of a start on a cell.
 pub(crate) fn erase_edits(cell: &Cell, start: Ts) -> [Edit; 2]
     ensures edits { AreEdits result }
-    ensures erased { (c : Contents) → after_edits result c ≡ record c { entries = erase_lock c.entries cell.now start.0 } }
+    ensures erased { (c : Contents)
+        → after_edits result c ≡ record c { entries = erase_lock c.entries cell.now start.0 } }
 {
     let lock = slot_of(cell, Sort::Lock, start);
     let data = slot_of(cell, Sort::Data, start);

@@ -34,10 +34,11 @@ impl<T: Tablet> Model for State<T> {
 }
 
 impl<T: Tablet> State<T> {
-    ghost use Rattle.std.specs.Prelude.{◌≤◌, ◌<◌, ◌^◌, OnErr, IfOk, None, Some, option_map, length};
+    ghost use Rattle.std.specs.Prelude.{◌≤◌, ◌<◌, ◌^◌, OnOk, OnErr, IfOk, IfErr, None, true, Some, option_map, length};
     ghost use Rattle.std.specs.FinMap as map;
     ghost use Rattle.pb_base.specs.Reasons.{refusal_by};
-    ghost use Rattle.pb_store.specs.Contents.{nothing};
+    ghost use Rattle.pb_store.specs.Contents.{nothing, is_nothing};
+    ghost use Rattle.pb_store.specs.Tiles.{TellsSwapReason};
     ghost use Rattle.pb_steps.specs.State.{opening, phase_in};
     ghost use Rattle.pb_steps.specs.Readings.{lock_count};
     ghost use Rattle.pb_steps.specs.Steps.{step_reason, TableStep};
@@ -154,6 +155,21 @@ impl<T: Tablet> State<T> {
         // For the proof: every step keeps the table sound.
         steps_keep_sound();
         self.parts.take(seat, step)
+    }
+
+    /// Copies all that a tablet of the table contains into another, puts that in its place, and answers the old one, emptied.
+    /// It is no step.
+    ///
+    /// Refused it answers the new one, emptied: with 4 where that isn't empty, else 5 where there is no such place, or 1 where
+    /// memory is refused.
+    pub fn swap(&mut self, place: usize, tablet: T) -> Result<T, (T, Refusal)>
+        ensures same { self.new ≡ self.old }
+        ensures answered { IfOk result (λ old. T.contents old ≡ nothing) }
+        ensures accepted { OnOk result (is_nothing (T.contents tablet) ≡ true) }
+        ensures handed_back { IfErr result (λ e. T.contents e.0 ≡ nothing) }
+        ensures refused { IfErr result (λ e. TellsSwapReason (T.contents tablet) place e.1) }
+    {
+        self.parts.table.swap(place, tablet)
     }
 
     /// Ends the table, with all that is in it.

@@ -163,16 +163,16 @@ impl Transaction {
     // Records what a read was answered.
     pub(crate) fn record_read(
         &mut self,
-        start: Ts,
         cell: Cell,
+        at: Option<Ts>,
         answer: &Answer,
     ) -> Result<(), NoMemory>
-        ensures ok { OnOk result (self.new ≡ with_read self.old start.0 cell answer.now) }
+        ensures ok { OnOk result (self.new ≡ with_read self.old cell at answer.now) }
         ensures err { OnErr result (self.new ≡ self.old) }
     {
         let read = RecordedRead {
             cell,
-            at: start,
+            at,
             answer: *answer,
         };
         self.reads.push(read)?;

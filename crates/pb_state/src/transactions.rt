@@ -116,7 +116,8 @@ impl Transactions {
 
     pub(crate) fn set_phase(&mut self, start: Ts, phase: Phase)
         requires { (t : TransactionOf) → map.get self.old start.0 ≡ Some t → is_reading t.phase ≡ false }
-        ensures { (t : TransactionOf) → map.get self.old start.0 ≡ Some t → self.new ≡ map.insert self.old start.0 (record t { phase = phase }) }
+        ensures { (t : TransactionOf) → map.get self.old start.0 ≡ Some t
+            → self.new ≡ map.insert self.old start.0 (record t { phase = phase }) }
     {
         if let Some(place) = place_of(&self.list, start.0) {
             let entry = &mut self.list[place];
@@ -126,7 +127,9 @@ impl Transactions {
 
     pub(crate) fn declare(&mut self, start: Ts, cells: Cells)
         requires { is_some (primary_in (cells_in cells)) ≡ true }
-        ensures { (t : TransactionOf) → map.get self.old start.0 ≡ Some t → self.new ≡ map.insert self.old start.0 (record t { phase = Phase.Declared; declared = cells_in cells }) }
+        ensures { (t : TransactionOf) → map.get self.old start.0 ≡ Some t
+            → self.new ≡ map.insert self.old start.0
+            (record t { phase = Phase.Declared; declared = cells_in cells }) }
     {
         if let Some(place) = place_of(&self.list, start.0) {
             let entry = &mut self.list[place];
@@ -139,16 +142,18 @@ impl Transactions {
         &mut self,
         start: Ts,
         cell: Cell,
+        at: Option<Ts>,
         answer: &Answer,
     ) -> Result<(), NoMemory>
-        ensures ok { OnOk result ((t : TransactionOf) → map.get self.old start.0 ≡ Some t → self.new ≡ map.insert self.old start.0 (with_read t start.0 cell answer.now)) }
+        ensures ok { OnOk result ((t : TransactionOf) → map.get self.old start.0 ≡ Some t
+            → self.new ≡ map.insert self.old start.0 (with_read t cell at answer.now)) }
         ensures err { OnErr result (self.new ≡ self.old) }
     {
         let Some(place) = place_of(&self.list, start.0) else {
             return Ok(());
         };
         let entry = &mut self.list[place];
-        entry.1.record_read(start, cell, answer)
+        entry.1.record_read(cell, at, answer)
     }
 
     /// Does the edits in the table and adds a prewritten cell to the transaction, or neither.
@@ -160,7 +165,8 @@ impl Transactions {
         edits: &[Edit],
     ) -> Result<(), NoMemory>
         requires { AreEdits edits.now }
-        ensures ok { OnOk result ((t : TransactionOf) → map.get self.old start.0 ≡ Some t → self.new ≡ map.insert self.old start.0 (record t { prewritten = t.prewritten ++ cell ∷ [] })) }
+        ensures ok { OnOk result ((t : TransactionOf) → map.get self.old start.0 ≡ Some t
+            → self.new ≡ map.insert self.old start.0 (record t { prewritten = t.prewritten ++ cell ∷ [] })) }
         ensures applied { OnOk result (table.new.contents ≡ after_edits edits.now table.old.contents) }
         ensures err { OnErr result (self.new ≡ self.old) }
         ensures kept { OnErr result (table.new.contents ≡ table.old.contents) }

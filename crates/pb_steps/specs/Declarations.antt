@@ -1,10 +1,11 @@
 -- Which declaration is one of its transaction (OSDI 2010, section 2.4): a script declares a batch, and a run what its
 -- observer's program makes of the cells that it read.
-use Rattle.std.specs.Prelude.{◌≡◌, ℕ, ◌<◌, Bool, true, false, ◌&&◌, ◌==◌, nat_lt, if◌then◌else◌, List, [], ◌∷◌, Option, Some, None, slice_get}
+use Rattle.std.specs.Prelude.{◌≡◌, ℕ, ◌<◌, Bool, true, false, not, ◌&&◌, ◌==◌, nat_lt, if◌then◌else◌, List, [], ◌∷◌, Option, Some, None, slice_get}
 use Rattle.std.specs.Ordering.{eq_by_cmp}
 use Rattle.pb_base.specs.declared.cell.Cell.{Cell}
 use Rattle.pb_base.specs.declared.names.Row.{Row}
-use Rattle.pb_base.specs.declared.content.Version.{Version}
+use Rattle.pb_base.specs.declared.names.Ts.{Ts}
+use Rattle.pb_base.specs.declared.content.Revision.{Revision}
 use Rattle.pb_base.specs.Cell.{cell_cmp}
 use Rattle.pb_base.specs.Same.{same}
 use Rattle.pb_base.specs.Batch.{is_batch}
@@ -14,14 +15,13 @@ use Rattle.pb_isa.specs.Machine.{Ask, Reply}
 use Rattle.pb_isa.specs.Meaning.{Talk}
 use Rattle.pb_sound.specs.RunWrites.{AreRunWrites}
 use Rattle.pb_vm.specs.Finished.{Meant, IsMeant}
-use Rattle.pb_helpers.specs.Record.{record_of}
+use Rattle.pb_helpers.specs.OldRecord.{tells_old, record_by}
 use Rattle.pb_steps.specs.declared.seen.RecordedRead.{RecordedRead}
 use Rattle.pb_steps.specs.declared.seen.Seen.{Seen}
 use Rattle.pb_steps.specs.declared.step.Work.{Work}
 use Rattle.pb_steps.specs.declared.step.Work.TheVariants as works
 use Rattle.pb_steps.specs.declared.step.Declared.{Declared}
 use Rattle.pb_steps.specs.declared.step.Declared.TheVariants as declared
-use Rattle.pb_steps.specs.declared.step.Answer.{Answer}
 use Rattle.pb_steps.specs.Reads.{asked_cell, version_in, acknowledged_in, value_in, value_code}
 use Rattle.pb_steps.specs.Observers.{ObserverOf, observed_cell, acknowledgment}
 
@@ -33,20 +33,38 @@ IsKnown (declared.Run o f) = IsMeant f × AreRunWrites f.writes
 
 -- ---- as a relation
 
--- the reads of a run: its cell, found; its acknowledgment; and the cells that its program asked for
-pub record WasSeen (x ack : Cell) (reads : List RecordedRead) (seen : Seen) (asked : List RecordedRead) : Type 0 where
-  pub first : RecordedRead
-  pub second : RecordedRead
-  pub reads_are : reads ≡ first ∷ second ∷ asked
-  pub observed : first.cell ≡ x
-  pub found : version_in first.answer ≡ Some seen.version
-  pub acknowledgment : second.cell ≡ ack
-  pub acknowledged : seen.acknowledged ≡ acknowledged_in second.answer
+-- a read of this cell, at the timestamp that it named, or at none
+pub record IsReadOf (r : RecordedRead) (x : Cell) (named : Option Ts) : Type 0 where
+  pub cell : r.cell ≡ x
+  pub at : r.at ≡ named
+
+-- the timestamp at which a run reads its cell once more: the acknowledged one, where its program is told the value then and
+-- something is acknowledged
+abbrev pub old_at : Bool → Ts → Option Ts
+old_at second a = if second && not (a.0 == 0) then Some a else None
+
+-- after the reads of cell and acknowledgment: what the cell held at a timestamp that is read at, and the reads behind that
+abbrev pub WasOld : Option Ts → Cell → List RecordedRead → Reply → List RecordedRead → Type 0
+WasOld None x reads old asked = (old ≡ None) × (reads ≡ asked)
+WasOld (Some a) x reads old asked = (third : RecordedRead) × IsReadOf third x (Some a) × (old ≡ value_in third.answer) × (reads ≡ third ∷ asked)
+
+-- the reads of a run: its cell, found; its acknowledgment; where its program is told what the cell held at the acknowledged
+-- timestamp, the cell at that; and the cells that its program asked for
+pub record WasSeen (x ack : Cell) (second : Bool) (reads : List RecordedRead) (seen : Seen) (asked : List RecordedRead) : Type 0 where
+  pub found_by : RecordedRead
+  pub acknowledged_by : RecordedRead
+  pub rest : List RecordedRead
+  pub reads_are : reads ≡ found_by ∷ acknowledged_by ∷ rest
+  pub observed : IsReadOf found_by x None
+  pub found : version_in found_by.answer ≡ Some seen.version
+  pub acknowledgment : IsReadOf acknowledged_by ack None
+  pub acknowledged : seen.acknowledged ≡ acknowledged_in acknowledged_by.answer
+  pub old : WasOld (old_at second seen.acknowledged) x rest seen.old asked
 
 -- each ask read its cell, and was replied the value that was found there, or that there is none
 abbrev pub AreReplies : List RecordedRead → Talk → Type 0
 AreReplies [] [] = Unit {0}
-AreReplies (r ∷ rs) (a ∷ talk) = (r.cell ≡ asked_cell a.0) × (a.1 ≡ value_in r.answer) × AreReplies rs talk
+AreReplies (r ∷ rs) (a ∷ talk) = IsReadOf r (asked_cell a.0) None × (a.1 ≡ value_in r.answer) × AreReplies rs talk
 AreReplies _ _ = ⊥
 
 -- what a run found is newer than its acknowledgment, and this is its observer's program run on the record of it, with the
@@ -56,10 +74,10 @@ pub record IsItsRun (observers : List ObserverOf) (p : ℕ) (row : Row) (s : ℕ
   pub observer_is : slice_get observers p ≡ Some observer
   pub seen : Seen
   pub asked : List RecordedRead
-  pub was : WasSeen (observed_cell observers p row) (acknowledgment observers p row) reads seen asked
+  pub was : WasSeen (observed_cell observers p row) (acknowledgment observers p row) (tells_old observer.program) reads seen asked
   pub newer : seen.acknowledged.0 < seen.version.commit.0
   pub program : f.judged ≡ observer.program
-  pub bytes : f.bytes ≡ record_of (observed_cell observers p row) seen.version seen.acknowledged.0
+  pub bytes : f.bytes ≡ record_by (tells_old observer.program) (observed_cell observers p row) seen.version seen.acknowledged.0 seen.old
   pub began : f.began ≡ s
   pub replied : AreReplies asked f.talk
 
@@ -71,22 +89,38 @@ MayDeclare observers _ s reads _ = ⊥
 
 -- ---- as a test
 
--- what two reads tell, if the first found its cell
-abbrev pub seen_by : Option Version → Answer → Option Seen
-seen_by None a = None
-seen_by (Some v) a = Some (record { version = v; acknowledged = acknowledged_in a })
+-- the timestamps that two reads named are one, or they named none
+abbrev pub is_at : Option Ts → Option Ts → Bool
+is_at None None = true
+is_at (Some t) (Some u) = t.0 == u.0
+is_at _ _ = false
 
-abbrev pub seen_in : Cell → Cell → List RecordedRead → Option Seen
-seen_in x ack (r ∷ q ∷ asked) = if eq_by_cmp cell_cmp r.cell x && eq_by_cmp cell_cmp q.cell ack then seen_by (version_in r.answer) q.answer else None
-seen_in x ack _ = None
+abbrev pub is_read_of : RecordedRead → Cell → Option Ts → Bool
+is_read_of r x at = eq_by_cmp cell_cmp r.cell x && is_at r.at at
 
--- the reads after these two
-abbrev pub asked_in : List RecordedRead → List RecordedRead
-asked_in (r ∷ q ∷ asked) = asked
-asked_in _ = []
+-- with what the cell held at a timestamp that is read at
+abbrev pub with_old : Option Ts → Cell → Seen → List RecordedRead → Option Seen
+with_old None x seen reads = Some seen
+with_old (Some a) x seen (r ∷ asked) = if is_read_of r x (Some a) then Some (record seen { old = value_in r.answer }) else None
+with_old (Some a) x seen [] = None
+
+-- what reads tell, if the first found its cell
+abbrev pub seen_by : Bool → Cell → Option Revision → Ts → List RecordedRead → Option Seen
+seen_by second x None a rest = None
+seen_by second x (Some v) a rest = with_old (old_at second a) x (record { version = v; acknowledged = a; old = None }) rest
+
+abbrev pub seen_in : Cell → Cell → Bool → List RecordedRead → Option Seen
+seen_in x ack second (r ∷ q ∷ rest) = if is_read_of r x None && is_read_of q ack None then seen_by second x (version_in r.answer) (acknowledged_in q.answer) rest else None
+seen_in x ack second _ = None
+
+-- the reads after these two, or after three
+abbrev pub asked_in : Option Ts → List RecordedRead → List RecordedRead
+asked_in None (r ∷ q ∷ asked) = asked
+asked_in (Some a) (r ∷ q ∷ o ∷ asked) = asked
+asked_in _ _ = []
 
 abbrev pub is_replied : RecordedRead → Ask × Reply → Bool
-is_replied r a = eq_by_cmp cell_cmp r.cell (asked_cell a.0) && same value_code a.1 (value_in r.answer)
+is_replied r a = is_read_of r (asked_cell a.0) None && same value_code a.1 (value_in r.answer)
 
 abbrev pub are_replies : List RecordedRead → Talk → Bool
 are_replies [] [] = true
@@ -97,16 +131,21 @@ are_replies _ _ = false
 abbrev pub is_made_of : JudgedOf → List ℕ → ℕ → Meant → Bool
 is_made_of program bytes s f = same judged_code f.judged program && same (coded_list coded_ℕ) f.bytes bytes && (f.began == s)
 
--- the change is newer than the acknowledgment, and the run is the observer's on the record of what was seen
-abbrev pub is_run : Option ObserverOf → Cell → ℕ → Meant → Option Seen → Bool
-is_run (Some o) x s f (Some seen) = nat_lt seen.acknowledged.0 seen.version.commit.0 && is_made_of o.program (record_of x seen.version seen.acknowledged.0) s f
-is_run _ x s f _ = false
+-- the change is newer than the acknowledgment, and the run is of this program on the record of what was seen, with the
+-- replies that were read
+abbrev pub is_run : JudgedOf → Cell → ℕ → List RecordedRead → Meant → Option Seen → Bool
+is_run p x s reads f (Some seen) =
+    nat_lt seen.acknowledged.0 seen.version.commit.0 && is_made_of p (record_by (tells_old p) x seen.version seen.acknowledged.0 seen.old) s f
+    && are_replies (asked_in (old_at (tells_old p) seen.acknowledged) reads) f.talk
+is_run p x s reads f None = false
+
+abbrev pub is_run_by : Option ObserverOf → Cell → Cell → ℕ → List RecordedRead → Meant → Bool
+is_run_by (Some o) x ack s reads f = is_run o.program x s reads f (seen_in x ack (tells_old o.program) reads)
+is_run_by None x ack s reads f = false
 
 -- the same with all that it read
 abbrev pub is_run_of : List ObserverOf → ℕ → Row → ℕ → List RecordedRead → Meant → Bool
-is_run_of observers p row s reads f =
-    is_run (slice_get observers p) (observed_cell observers p row) s f (seen_in (observed_cell observers p row) (acknowledgment observers p row) reads)
-    && are_replies (asked_in reads) f.talk
+is_run_of observers p row s reads f = is_run_by (slice_get observers p) (observed_cell observers p row) (acknowledgment observers p row) s reads f
 
 -- whether the declaration is one of a transaction with this work, start and reads
 abbrev pub is_its : List ObserverOf → Work → ℕ → List RecordedRead → Declared → Bool

@@ -5,7 +5,7 @@ use Rattle.std.specs.FinMap as map
 use Rattle.pb_base.specs.declared.cell.Cell.{Cell}
 use Rattle.pb_base.specs.declared.cell.Cell.TheVariants.{Data, Ack}
 use Rattle.pb_base.specs.declared.names.Row.{Row}
-use Rattle.pb_base.specs.declared.content.Version.{Version}
+use Rattle.pb_base.specs.declared.content.Revision.{Revision}
 use Rattle.pb_store.specs.Contents.{Entries, Marks}
 use Rattle.pb_steps.specs.Observers.{ObserverOf}
 use Rattle.pb_steps.specs.Reads.{stamp_of}
@@ -28,12 +28,12 @@ is_marked marks x = map.contains_key marks x
 -- ---- observers that are behind
 
 -- the stamp of an acknowledgment's newest version, and 0 where there is none
-abbrev pub stamp_in : Option Version → ℕ
+abbrev pub stamp_in : Option Revision → ℕ
 stamp_in None = 0
 stamp_in (Some v) = (stamp_of v.content).0
 
 -- the observer of this number is one of the column, and its acknowledgment in the row has this as its newest version
-pub record Acknowledges (observers : List ObserverOf) (e : Entries) (row : Row) (column p : ℕ) (acknowledged : Option Version) : Type 0 where
+pub record Acknowledges (observers : List ObserverOf) (e : Entries) (row : Row) (column p : ℕ) (acknowledged : Option Revision) : Type 0 where
   pub observer : ObserverOf
   pub there : slice_get observers p ≡ Some observer
   pub observes : observer.column ≡ column
@@ -41,9 +41,9 @@ pub record Acknowledges (observers : List ObserverOf) (e : Entries) (row : Row) 
 
 -- the newest commit of the cell is above what the observer has acknowledged
 pub record IsBehind (observers : List ObserverOf) (e : Entries) (row : Row) (column p : ℕ) : Type 0 where
-  pub version : Version
+  pub version : Revision
   pub newest : IsVersion e (Data row column) last_timestamp version
-  pub acknowledged : Option Version
+  pub acknowledged : Option Revision
   pub acknowledges : Acknowledges observers e row column p acknowledged
   pub newer : stamp_in acknowledged < version.commit.0
 
@@ -56,7 +56,7 @@ abbrev pub IsUpToDate : List ObserverOf → Entries → Row → ℕ → ℕ → 
 IsUpToDate observers e row column p =
     (observer : ObserverOf) → slice_get observers p ≡ Some observer → observer.column ≡ column
     → (c : ℕ) → c ≤ last_timestamp → is_some (write_at e (Data row column) c) ≡ true
-    → (acknowledged : Option Version) × IsNewestVersion e (Ack p row column) acknowledged × (c ≤ stamp_in acknowledged)
+    → (acknowledged : Option Revision) × IsNewestVersion e (Ack p row column) acknowledged × (c ≤ stamp_in acknowledged)
 
 abbrev pub AllUpToDate : List ObserverOf → Entries → Cell → Type 0
 AllUpToDate observers e (Data row column) = (p : ℕ) → IsUpToDate observers e row column p

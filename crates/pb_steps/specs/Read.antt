@@ -1,46 +1,63 @@
--- A read in a transaction's snapshot (OSDI 2010, section 2.2): a lock at or below its start hides what the cell holds.
-use Rattle.std.specs.Prelude.{◌≡◌, ℕ, ◌<◌, ◌≤◌, true, not, [], ◌∷◌, ◌++◌, Some, None}
+-- A read in the snapshot of a transaction's start, or in one of an earlier timestamp that it names (OSDI 2010, section 2.2): a
+-- lock at or below that timestamp hides what the cell holds.
+use Rattle.std.specs.Prelude.{◌≡◌, ℕ, ◌<◌, ◌≤◌, true, not, nat_lt, [], ◌∷◌, ◌++◌, Option, Some, None}
 use Rattle.pb_base.specs.declared.cell.Cell.{Cell}
-use Rattle.pb_base.specs.declared.content.Version.{Version}
-use Rattle.pb_base.specs.declared.refusal.Reason.TheVariants.{WrongPhase}
+use Rattle.pb_base.specs.declared.content.Revision.{Revision}
+use Rattle.pb_base.specs.declared.names.Ts.{Ts}
+use Rattle.pb_base.specs.declared.refusal.Reason.TheVariants.{WrongPhase, LaterThanStart}
+use Rattle.pb_steps.specs.declared.step.Step.{Step}
+use Rattle.pb_steps.specs.declared.step.Step.TheVariants.{Read, ReadAt}
 use Rattle.pb_steps.specs.declared.step.Answer.{Answer}
 use Rattle.pb_steps.specs.declared.step.Answer.TheVariants.{Found, Absent}
 use Rattle.pb_steps.specs.Phases.{is_reading}
+use Rattle.pb_steps.specs.Reads.{read_up_to}
 use Rattle.pb_steps.specs.State.{StateOf, TransactionOf, with_transaction}
 use Rattle.pb_steps.specs.Readings.{lock_at, NoLockUpTo, IsVersion, NoVersion}
 use Rattle.pb_steps.specs.Reasons.{Reasons, IsOwn}
 
+-- a read in the snapshot of its start, or of a timestamp that it names
+abbrev pub read_step : Ts → Cell → Option Ts → Step
+read_step s x None = Read s x
+read_step s x (Some t) = ReadAt s x t
+
 abbrev pub read_reasons : TransactionOf → Reasons
 read_reasons t = (WrongPhase, not (is_reading t.phase)) ∷ []
 
--- a transaction of start s that records a read
-abbrev pub with_read : TransactionOf → ℕ → Cell → Answer → TransactionOf
-with_read t s x a = record t { reads = t.reads ++ record { cell = x; at = record { 0 = s }; answer = a } ∷ [] }
+-- of a read at the timestamp u of a transaction of start s
+abbrev pub read_at_reasons : ℕ → ℕ → TransactionOf → Reasons
+read_at_reasons s u t = (WrongPhase, not (is_reading t.phase)) ∷ (LaterThanStart, nat_lt s u) ∷ []
 
--- a lock at most s stands on x
-pub record ReadsLocked (old : StateOf) (seat s : ℕ) (x : Cell) (start : ℕ) (primary : Cell) (new : StateOf) : Type 0 where
+-- a transaction that records a read, at the timestamp that it named if it named one
+abbrev pub with_read : TransactionOf → Cell → Option Ts → Answer → TransactionOf
+with_read t x at a = record t { reads = t.reads ++ record { cell = x; at = at; answer = a } ∷ [] }
+
+-- a lock at most the timestamp read at stands on x
+pub record ReadsLocked (old : StateOf) (seat s : ℕ) (x : Cell) (at : Option Ts) (start : ℕ) (primary : Cell) (new : StateOf) : Type 0 where
   pub t : TransactionOf
   pub own : IsOwn old seat s t
   pub reading : is_reading t.phase ≡ true
-  pub low : start ≤ s
+  pub in_time : read_up_to s at ≤ s
+  pub low : start ≤ read_up_to s at
   pub locked : lock_at old.entries x start ≡ Some primary
-  pub newest : (u : ℕ) → start < u → u ≤ s → lock_at old.entries x u ≡ None
+  pub newest : (u : ℕ) → start < u → u ≤ read_up_to s at → lock_at old.entries x u ≡ None
   pub new_is : new ≡ old
 
--- none does: the newest version at most s is told and recorded
-pub record ReadsFound (old : StateOf) (seat s : ℕ) (x : Cell) (v : Version) (new : StateOf) : Type 0 where
+-- none does: the newest version at most that is told and recorded
+pub record ReadsFound (old : StateOf) (seat s : ℕ) (x : Cell) (at : Option Ts) (v : Revision) (new : StateOf) : Type 0 where
   pub t : TransactionOf
   pub own : IsOwn old seat s t
   pub reading : is_reading t.phase ≡ true
-  pub unlocked : NoLockUpTo old.entries x s
-  pub version : IsVersion old.entries x s v
-  pub new_is : new ≡ with_transaction old s (with_read t s x (Found v.start v.commit v.content))
+  pub in_time : read_up_to s at ≤ s
+  pub unlocked : NoLockUpTo old.entries x (read_up_to s at)
+  pub version : IsVersion old.entries x (read_up_to s at) v
+  pub new_is : new ≡ with_transaction old s (with_read t x at (Found v.start v.commit v.content))
 
--- and there is no version at most s
-pub record ReadsAbsent (old : StateOf) (seat s : ℕ) (x : Cell) (new : StateOf) : Type 0 where
+-- and there is no version at most that
+pub record ReadsAbsent (old : StateOf) (seat s : ℕ) (x : Cell) (at : Option Ts) (new : StateOf) : Type 0 where
   pub t : TransactionOf
   pub own : IsOwn old seat s t
   pub reading : is_reading t.phase ≡ true
-  pub unlocked : NoLockUpTo old.entries x s
-  pub none : NoVersion old.entries x s
-  pub new_is : new ≡ with_transaction old s (with_read t s x Absent)
+  pub in_time : read_up_to s at ≤ s
+  pub unlocked : NoLockUpTo old.entries x (read_up_to s at)
+  pub none : NoVersion old.entries x (read_up_to s at)
+  pub new_is : new ≡ with_transaction old s (with_read t x at Absent)

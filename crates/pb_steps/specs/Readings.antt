@@ -3,7 +3,7 @@ use Rattle.std.specs.Prelude.{◌≡◌, ℕ, ◌<◌, ◌≤◌, ◌^◌, Bool,
 use Rattle.std.specs.FinMap as map
 use Rattle.pb_base.specs.declared.cell.Cell.{Cell}
 use Rattle.pb_base.specs.declared.content.Content.{Content}
-use Rattle.pb_base.specs.declared.content.Version.{Version}
+use Rattle.pb_base.specs.declared.content.Revision.{Revision}
 use Rattle.pb_base.specs.declared.names.Ts.{Ts}
 use Rattle.pb_store.specs.declared.slot.Item.{Item}
 use Rattle.pb_store.specs.declared.slot.Item.TheVariants as items
@@ -45,7 +45,7 @@ IsLockUpTo e x s None = NoLockUpTo e x s
 IsLockUpTo e x s (Some l) = (l.0.0 ≤ s) × (lock_at e x l.0.0 ≡ Some l.1) × ((u : ℕ) → l.0.0 < u → u ≤ s → lock_at e x u ≡ None)
 
 -- the version of x with the greatest commit at most s
-pub record IsVersion (e : Entries) (x : Cell) (s : ℕ) (v : Version) : Type 0 where
+pub record IsVersion (e : Entries) (x : Cell) (s : ℕ) (v : Revision) : Type 0 where
   pub low : v.commit.0 ≤ s
   pub written : write_at e x v.commit.0 ≡ Some v.start.0
   pub content : data_at e x v.start.0 ≡ Some v.content
@@ -60,7 +60,7 @@ abbrev pub last_timestamp : ℕ
 last_timestamp = 18446744073709551615
 
 -- the newest version of x, if it has any
-abbrev pub IsNewestVersion : Entries → Cell → Option Version → Type 0
+abbrev pub IsNewestVersion : Entries → Cell → Option Revision → Type 0
 IsNewestVersion e x None = NoVersion e x last_timestamp
 IsNewestVersion e x (Some v) = IsVersion e x last_timestamp v
 

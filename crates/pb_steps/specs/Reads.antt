@@ -1,12 +1,12 @@
 -- What a transaction has read.
-use Rattle.std.specs.Prelude.{Option, Some, None}
+use Rattle.std.specs.Prelude.{ℕ, Option, Some, None}
 use Rattle.std.specs.Coded.{Coded, coded_ℕ, coded_list, coded_option}
 use Rattle.pb_base.specs.declared.cell.Cell.{Cell}
 use Rattle.pb_base.specs.declared.cell.Cell.TheVariants.{Data}
 use Rattle.pb_base.specs.declared.names.Ts.{Ts}
 use Rattle.pb_base.specs.declared.content.Content.{Content}
 use Rattle.pb_base.specs.declared.content.Content.TheVariants.{Value, Stamp}
-use Rattle.pb_base.specs.declared.content.Version.{Version}
+use Rattle.pb_base.specs.declared.content.Revision.{Revision}
 use Rattle.pb_isa.specs.Machine.{Ask, Reply}
 use Rattle.pb_steps.specs.declared.step.Answer.{Answer}
 use Rattle.pb_steps.specs.declared.step.Answer.TheVariants.{Found}
@@ -16,12 +16,17 @@ abbrev pub stamp_of : Content → Ts
 stamp_of (Stamp t) = t
 stamp_of _ = record { 0 = 0 }
 
+-- the timestamp up to which a transaction of start s read: the one that the read named, or else s
+abbrev pub read_up_to : ℕ → Option Ts → ℕ
+read_up_to s None = s
+read_up_to s (Some t) = t.0
+
 -- the answer that tells a version
-abbrev pub found_answer : Version → Answer
+abbrev pub found_answer : Revision → Answer
 found_answer v = Found v.start v.commit v.content
 
 -- the version that a read found
-abbrev pub version_in : Answer → Option Version
+abbrev pub version_in : Answer → Option Revision
 version_in (Found start commit content) = Some (record { start = start; commit = commit; content = content })
 version_in _ = None
 

@@ -1,26 +1,29 @@
 //! What a transaction has read.
 ghost use Rattle.std.specs.Prelude.{◌≡◌};
 ghost use Rattle.pb_helpers.specs.Replies.{reply_of};
+ghost use Rattle.pb_steps.specs.Declarations.{old_at};
 ghost use Rattle.pb_steps.specs.Reads.{stamp_of, version_in, acknowledged_in, value_of, value_in};
 
 use crate::step::Answer;
-use pb_base::{Cell, Content, Ts, Version};
+use pb_base::{Cell, Content, Revision, Ts, Value};
 use pb_helpers::Reply;
 
 /// A read that was answered with what the cell held, as it is recorded with its transaction: the cell, the timestamp up to
-/// which it was read, and the answer.
+/// which it was read, where the read named one, and the answer. One that named none read up to the start.
 #[derive(Clone, Copy, Debug, PartialEq, Eq)]
 pub struct RecordedRead {
     pub cell: Cell,
-    pub at: Ts,
+    pub at: Option<Ts>,
     pub answer: Answer,
 }
 
-/// What a run saw of its cell: the newest version, and the stamp of its acknowledgment, 0 where there was none.
+/// What a run saw of its cell: the newest version; the stamp of its acknowledgment, 0 where there was none; and, where its
+/// program is told that, the value at the acknowledged timestamp, if there was one.
 #[derive(Clone, Copy, Debug, PartialEq, Eq)]
 pub struct Seen {
-    pub version: Version,
+    pub version: Revision,
     pub acknowledged: Ts,
+    pub old: Option<Value>,
 }
 
 /// The timestamp of a stamp, 0 where it is none.
@@ -35,7 +38,7 @@ pub fn stamp_of(content: Content) -> Ts
 }
 
 /// The version that a read found.
-pub fn version_in(answer: Answer) -> Option<Version>
+pub fn version_in(answer: Answer) -> Option<Revision>
     ensures { result ≡ version_in answer }
 {
     match answer {
@@ -43,7 +46,7 @@ pub fn version_in(answer: Answer) -> Option<Version>
             start,
             commit,
             content,
-        } => Some(Version {
+        } => Some(Revision {
             start,
             commit,
             content,
@@ -59,6 +62,18 @@ pub fn acknowledged_in(answer: Answer) -> Ts
     match answer {
         Answer::Found { content, .. } => stamp_of(content),
         _ => Ts(0),
+    }
+}
+
+/// The timestamp at which a run reads its cell once more: the acknowledged one, where its program is told the value then and
+/// something is acknowledged.
+pub fn old_at(second: bool, acknowledged: Ts) -> Option<Ts>
+    ensures { result ≡ old_at second acknowledged }
+{
+    if second && acknowledged.0 != 0 {
+        Some(acknowledged)
+    } else {
+        None
     }
 }
 

@@ -99,6 +99,8 @@ pub enum Step {
     Begin(Work),
     /// Reads a cell in the transaction's snapshot: its newest version of a commit at most its start.
     Read(Ts, Cell),
+    /// Reads a cell in the snapshot of a timestamp that is at most the transaction's start.
+    ReadAt(Ts, Cell, Ts),
     /// Says what the transaction writes, its first cell the primary.
     Declare(Ts, Declaration),
     /// Locks a declared cell and writes its data, the primary before the others.
@@ -127,6 +129,7 @@ impl Step {
         match self {
             Step::Begin(work) => Ok(Step::Begin(*work)),
             Step::Read(start, cell) => Ok(Step::Read(*start, *cell)),
+            Step::ReadAt(start, cell, at) => Ok(Step::ReadAt(*start, *cell, *at)),
             Step::Declare(start, what) => {
                 let what = what.share()?;
                 Ok(Step::Declare(*start, what))

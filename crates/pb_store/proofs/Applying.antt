@@ -1,5 +1,6 @@
 -- What an application of edits to one tablet, done or refused, does to all.
-use Rattle.std.proofs.Common.{◌≡◌, ℕ, ◌<◌, List, [], ◌∷◌, refl, sym, ap, ◌∙◌, subst, arith, length, get_or, set, Result, Ok, Err, OnOk, OnErr}
+use Rattle.std.proofs.Common.{◌≡◌, ℕ, ◌<◌, List, [], ◌∷◌, refl, sym, ap, ◌∙◌, subst, arith, length, get_or, set, Result, Ok, Err, OnOk, OnErr, false}
+use Rattle.std.specs.Result.{is_err}
 use Rattle.pb_base.specs.declared.names.Row.{Row}
 use Rattle.pb_store.specs.declared.slot.Edit.{Edit}
 use Rattle.pb_store.specs.Contents.{Contents, after_edits, edit_row, AreOfRow, AreOfOneRow}
@@ -31,3 +32,7 @@ module _ {T : Type 0} (c : T → Contents) (parts : List (Row × T)) (i : ℕ) (
 
     pub joined_after : joined (tiles_of c (set parts i (p.0, t))) ≡ after_edits edits (joined (tiles_of c parts))
     joined_after = ap joined (tiles_changed c parts i p t lt e (after_edits edits) done) ∙ (edits_in_place edits row (tiles_of c parts) i of tiling place).same
+
+pub ok_holds : {U E : Type 0} (r : Result U E) (P : Type 0) → false ≡ is_err r → OnOk r P → P
+ok_holds (Ok u) P e p = p
+ok_holds (Err x) P e p = cc

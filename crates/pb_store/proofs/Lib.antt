@@ -6,3 +6,4 @@ pub mod Applying
 pub mod Reading
 pub mod Marked
 pub mod Counting
+pub mod Copied

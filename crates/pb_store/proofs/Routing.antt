@@ -91,3 +91,7 @@ pub firsts_kept : {T : Type 0} (parts : List (Row × T)) (i : ℕ) (p : Row × T
 firsts_kept [] i p t lt e = absurd (omega arith)
 firsts_kept (q ∷ parts) zero p t lt e = ap (λ r. r.0.0 ∷ firsts_of parts) e
 firsts_kept (q ∷ parts) (suc i) p t lt e = ap (λ ns. q.0.0 ∷ ns) (firsts_kept parts i p t (omega arith) e)
+
+pub length-firsts_of : {T : Type 0} (parts : List (Row × T)) → length (firsts_of parts) ≡ length parts
+length-firsts_of [] = refl
+length-firsts_of (part ∷ parts) = ap suc (length-firsts_of parts)

@@ -1,14 +1,12 @@
 -- Slots are ordered by cell, then sort, then timestamp.
 use Rattle.std.specs.Prelude.{◌≡◌, ℕ, refl}
-use Rattle.std.proofs.Common.{arith, zero, suc}
-use Rattle.std.specs.Coded.{Coded, code_by, coded×, coded_ℕ}
+use Rattle.std.proofs.Common.{arith}
 use Rattle.std.specs.FinMap.{IsAntisymmetric, nat_cmp-IsAntisymmetric}
 use Rattle.std.specs.declared.cmp.Ordering.{Ordering}
 use Rattle.std.specs.Ordering.{nat_cmp, on, then_cmp}
 use Rattle.std.specs.Cmp.{IsTotalOrder, nat_cmp_total}
 use Rattle.std.proofs.lemmas.Cmp.{on_total, then_total}
-use Rattle.pb_base.specs.declared.names.Ts.{Ts}
-use Rattle.pb_base.specs.Cell.{cell_cmp, cell_cmp_total, cell_cmp-IsAntisymmetric, coded_cell, both_equal}
+use Rattle.pb_base.specs.Cell.{cell_cmp, cell_cmp_total, cell_cmp-IsAntisymmetric, both_equal}
 use Rattle.pb_store.specs.declared.slot.Slot.{Slot}
 use Rattle.pb_store.specs.declared.slot.Sort as sort
 use Rattle.pb_store.specs.declared.slot.Sort.TheVariants.{Data, Lock, Write}
@@ -48,22 +46,3 @@ slot_cmp-IsAntisymmetric x y e =
     let s = same_sort _ _ (nat_cmp-IsAntisymmetric _ _ sorts.0) in
     let t = nat_cmp-IsAntisymmetric _ _ sorts.1 in
     λ i. record { cell = c i; sort = s i; ts = record { 0 = t i } }
-
-abbrev sort_at : ℕ → sort.Sort
-sort_at zero = Data
-sort_at (suc zero) = Lock
-sort_at (suc (suc n)) = Write
-
-pub sort_at-sort_rank : (s : sort.Sort) → sort_at (sort_rank s) ≡ s
-sort_at-sort_rank Data = refl
-sort_at-sort_rank Lock = refl
-sort_at-sort_rank Write = refl
-
-abbrev coded_sort : Coded sort.Sort
-coded_sort = code_by ℕ coded_ℕ sort_rank sort_at sort_at-sort_rank
-
-abbrev coded_ts : Coded Ts
-coded_ts = code_by ℕ coded_ℕ (λ t. t.0) (λ n. record { 0 = n }) (λ _. refl)
-
-abbrev pub coded_slot : Coded Slot
-coded_slot = code_by _ (coded× coded_cell (coded× coded_sort coded_ts)) (λ s. (s.cell, (s.sort, s.ts))) (λ p. record { cell = p.0; sort = p.1.0; ts = p.1.1 }) (λ _. refl)

@@ -1,11 +1,13 @@
 -- Tablets side by side, each with the rows from its first up to the next one's first.
-use Rattle.std.specs.Prelude.{◌≡◌, ℕ, ◌<◌, ◌≤◌, Bool, true, List, [], ◌∷◌, ◌++◌, Option, None, Some, false, nat_lt, ◌&&◌, ◌==◌, if◌then◌else◌}
+use Rattle.std.specs.Prelude.{◌≡◌, ℕ, unwrap_or, ◌<◌, ◌≤◌, Bool, true, List, [], ◌∷◌, ◌++◌, Option, None, Some, false, nat_lt, ◌&&◌, ◌==◌, if◌then◌else◌}
 use Rattle.std.proofs.Common.{zero, suc}
 use Rattle.std.specs.FinMap as map
 use Rattle.pb_base.specs.declared.cell.Cell.{Cell}
 use Rattle.pb_base.specs.declared.names.Row.{Row}
 use Rattle.pb_base.specs.declared.refusal.Reason.{Reason}
-use Rattle.pb_base.specs.declared.refusal.Reason.TheVariants.{NoTablet, RowsDontRise, NotEmpty}
+use Rattle.pb_base.specs.declared.refusal.Reason.TheVariants.{NoMemory, NoTablet, RowsDontRise, NotEmpty, NoSuchPlace}
+use Rattle.pb_base.specs.declared.refusal.Refusal.{Refusal}
+use Rattle.pb_base.specs.Reasons.{refusal_by}
 use Rattle.pb_base.specs.Cell.{row_of}
 use Rattle.pb_store.specs.declared.slot.Slot.{Slot}
 use Rattle.pb_store.specs.declared.slot.Item.{Item}
@@ -93,3 +95,13 @@ abbrev pub table_reason : List Tile → Option Reason
 table_reason [] = Some NoTablet
 table_reason (tile ∷ tiles) =
     if rise_from_zero (tile ∷ tiles) then (if all_nothing (tile ∷ tiles) then None else Some NotEmpty) else Some RowsDontRise
+
+-- why a tablet with these contents isn't put in this place of so many, if it isn't
+abbrev pub swap_reason : Contents → ℕ → ℕ → Option Reason
+swap_reason c place places = if is_nothing c then (if nat_lt place places then None else Some NoSuchPlace) else Some NotEmpty
+
+-- this refusal tells that reason, or want of memory, for a table of some number of places
+pub record TellsSwapReason (c : Contents) (place : ℕ) (refusal : Refusal) : Type 0 where
+  pub places : ℕ
+  pub some : 0 < places
+  pub told : refusal ≡ refusal_by (unwrap_or (swap_reason c place places) NoMemory)

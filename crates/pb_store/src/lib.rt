@@ -1,6 +1,7 @@
 //! Tablets, which keep entries and marks, and the table over tablets side by side.
 #![tactic(auto)]
 
+mod copy;
 mod slot;
 mod table;
 mod tablet;

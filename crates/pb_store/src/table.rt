@@ -1,15 +1,18 @@
 //! Tablets side by side, seen as one.
-ghost use Rattle.std.specs.Prelude.{◌≡◌, ◌<◌, IfOk, IfErr, OnOk, OnErr, IfSome, None, Some, length, slice_get};
+ghost use Rattle.std.specs.Prelude.{◌≡◌, ◌<◌, IfOk, IfErr, OnOk, OnErr, IfSome, None, Some, length, slice_get, unwrap_or};
 ghost use Rattle.std.specs.FinMap as map;
 ghost use Rattle.pb_store.specs.Contents.{nothing, is_nothing, after_edits, AreEdits, IsOfSort, IsNewest, IsNextMark};
 ghost use Rattle.pb_store.specs.TableOf.{TableOf, firsts_of};
-ghost use Rattle.pb_store.specs.Tiles.{tiles_of, IsPlace, IsStart, IsTiling, rise_from_zero, all_nothing, table_reason, all_entries, joined};
-ghost use Rattle.pb_base.specs.Reasons.{TellsReason};
+ghost use Rattle.pb_store.specs.Tiles.{tiles_of, IsPlace, IsStart, IsTiling, rise_from_zero, all_nothing, table_reason, swap_reason, all_entries, joined};
+ghost use Rattle.pb_base.specs.Reasons.{TellsReason, refusal_by};
+ghost use Rattle.pb_base.specs.declared.refusal.Reason.TheVariants as reasons;
 
+use crate::copy::copy_all;
 use crate::slot::{Edit, Item, Slot, Sort};
 use crate::tablet::Tablet;
 use pb_base::{Cell, NoMemory, Reason, Refusal, Row, Ts};
 use std::marker::Model;
+use std::mem;
 
 /// Tablets side by side: each has the rows from its first up to the next one's first, the last all the rest.
 ///
@@ -119,6 +122,15 @@ fn entry_in<T: Tablet>(parts: &[(Row, T)], place: usize) -> Option<(Slot, Item)>
     None
 }
 
+// The tablet with all entries and marks taken out.
+fn emptied<T: Tablet>(tablet: T) -> T
+    ensures { T.contents result ≡ nothing }
+{
+    let mut tablet = tablet;
+    tablet.clear();
+    tablet
+}
+
 impl<T: Tablet> Table<T> {
     /// The table of tablets made by the caller, each with the first row of its range.
     ///
@@ -176,7 +188,8 @@ impl<T: Tablet> Table<T> {
 
     /// How many tablets it has.
     pub fn places(&self) -> usize
-        ensures { result ≡ length self.now.firsts }
+        ensures places { result ≡ length self.now.firsts }
+        ensures some { 0 < result }
     {
         self.parts.len()
     }
@@ -201,6 +214,35 @@ impl<T: Tablet> Table<T> {
         let i = place_in(&self.parts, edits[0].row());
         let part = &mut self.parts[i];
         part.1.apply(edits)
+    }
+
+    /// Copies all entries and marks of a tablet into another, puts that in its place, and answers the old one, emptied.
+    ///
+    /// Refused it answers the new one, emptied, and the table is as before: with 4 where the new one isn't empty, 5 where
+    /// there is no such place, 1 where memory is refused.
+    pub fn swap(&mut self, place: usize, tablet: T) -> Result<T, (T, Refusal)>
+        ensures same { self.new ≡ self.old }
+        ensures some { 0 < length self.old.firsts }
+        ensures answered { IfOk result (λ old. T.contents old ≡ nothing) }
+        ensures accepted { OnOk result (swap_reason (T.contents tablet) place (length self.old.firsts) ≡ None) }
+        ensures handed_back { IfErr result (λ e. T.contents e.0 ≡ nothing) }
+        ensures refused { IfErr result (λ e. e.1 ≡ refusal_by
+            (unwrap_or (swap_reason (T.contents tablet) place (length self.old.firsts)) reasons.NoMemory)) }
+    {
+        let places = self.places();
+        if !tablet.is_empty() {
+            return Err((emptied(tablet), Reason::NotEmpty.refusal()));
+        }
+        if place >= places {
+            return Err((emptied(tablet), Reason::NoSuchPlace.refusal()));
+        }
+        let mut tablet = tablet;
+        if copy_all(&self.parts[place].1, &mut tablet).is_err() {
+            return Err((emptied(tablet), Reason::NoMemory.refusal()));
+        }
+        let part = &mut self.parts[place];
+        let old = mem::replace(&mut part.1, tablet);
+        Ok(emptied(old))
     }
 
     /// Clears and ends all tablets.

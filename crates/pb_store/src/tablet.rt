@@ -31,7 +31,8 @@ pub trait Tablet {
 
     /// The entry at a place, counted by rising slot.
     fn at(&self, place: usize) -> Option<(Slot, Item)>
-        ensures { result ≡ slice_get (map.entries (contents self.now).entries) place };
+        ensures entry { result ≡ slice_get (map.entries (contents self.now).entries) place }
+        ensures sort { IfSome result (λ e. IsOfSort e.0.sort e.1) };
 
     /// Whether it has no entry and no mark.
     fn is_empty(&self) -> bool

@@ -23,9 +23,6 @@ use Rattle.pb_txn.proofs.Talk.{plans_talk, plans_end}
 abbrev following : Writes → PlanOf → ChangeOf
 following batch p = record { batch = batch; plan = Some p }
 
-some_other : {A : Type 0} (x : A) → Some x ≡ None → ⊥
-some_other x e = cc
-
 same_step : (s t : Step) → Some s ≡ Some t → s ≡ t
 same_step s t e = cc
 

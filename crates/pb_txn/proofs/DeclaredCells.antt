@@ -1,11 +1,12 @@
 -- The cells that a plan reads off a declaration are those that the table keeps of it.
-use Rattle.std.proofs.Common.{◌≡◌, ℕ, ◌<◌, ◌^◌, List, ◌∷◌, map, refl, sym, ap, ◌∙◌}
+use Rattle.std.proofs.Common.{◌≡◌, ℕ, ◌<◌, ◌^◌, Bool, true, false, Option, List, ◌∷◌, map, refl, sym, ap, ◌∙◌}
 use Rattle.std.proofs.lemmas.Nat.{from_le_bytes-to_le_bytes_8}
 use Rattle.pb_base.specs.declared.cell.Cell.{Cell}
 use Rattle.pb_base.specs.declared.cell.Cell.TheVariants.{Ack}
-use Rattle.pb_base.specs.declared.content.Version.{Version}
+use Rattle.pb_base.specs.declared.content.Revision.{Revision}
 use Rattle.pb_base.specs.Cell.{row_of, column_of}
-use Rattle.pb_helpers.specs.Record.{record_of, recorded_row, recorded_column}
+use Rattle.pb_helpers.specs.Record.{recorded_row, recorded_column}
+use Rattle.pb_helpers.specs.OldRecord.{record_by}
 use Rattle.pb_steps.specs.declared.step.Work.{Work}
 use Rattle.pb_steps.specs.declared.step.Work.TheVariants as works
 use Rattle.pb_steps.specs.declared.step.Declared.{Declared}
@@ -16,11 +17,13 @@ use Rattle.pb_history.specs.History.{IsForWork}
 use Rattle.pb_txn.specs.Places.{declared_cells}
 use Rattle.pb_txn.specs.Allowed.{IsInRange}
 
-row_recorded : (x : Cell) (v : Version) (a : ℕ) → (row_of x).0 < 2 ^ 64 → recorded_row (record_of x v a) ≡ (row_of x).0
-row_recorded x v a lt = from_le_bytes-to_le_bytes_8 (row_of x).0 lt
+row_recorded : (second : Bool) (x : Cell) (v : Revision) (a : ℕ) (old : Option (List ℕ)) → (row_of x).0 < 2 ^ 64 → recorded_row (record_by second x v a old) ≡ (row_of x).0
+row_recorded true x v a old lt = from_le_bytes-to_le_bytes_8 (row_of x).0 lt
+row_recorded false x v a old lt = from_le_bytes-to_le_bytes_8 (row_of x).0 lt
 
-column_recorded : (x : Cell) (v : Version) (a : ℕ) → column_of x < 2 ^ 64 → recorded_column (record_of x v a) ≡ column_of x
-column_recorded x v a lt = from_le_bytes-to_le_bytes_8 (column_of x) lt
+column_recorded : (second : Bool) (x : Cell) (v : Revision) (a : ℕ) (old : Option (List ℕ)) → column_of x < 2 ^ 64 → recorded_column (record_by second x v a old) ≡ column_of x
+column_recorded true x v a old lt = from_le_bytes-to_le_bytes_8 (column_of x) lt
+column_recorded false x v a old lt = from_le_bytes-to_le_bytes_8 (column_of x) lt
 
 pub cells_are : (observers : List ObserverOf) (work : Work) (s : ℕ) (what : Declared) → IsForWork observers work what → IsInRange observers work
     → map (λ w. w.0) (cells_of observers work s what) ≡ declared_cells what
@@ -28,6 +31,6 @@ cells_are observers works.Script s (declared.Script batch) f r = refl
 cells_are observers works.Script s (declared.Run o m) f r = absurd f
 cells_are observers (works.Run p row) s (declared.Script batch) f r = absurd f
 cells_are observers (works.Run p row) s (declared.Run o m) f r =
-    let row-is = ap recorded_row f.3 ∙ row_recorded (observed_cell observers p row) f.1 f.2 r.0 in
-    let column-is = ap recorded_column f.3 ∙ column_recorded (observed_cell observers p row) f.1 f.2 r.1 in
+    let row-is = ap recorded_row f.5 ∙ row_recorded f.1 (observed_cell observers p row) f.2 f.3 f.4 r.0 in
+    let column-is = ap recorded_column f.5 ∙ column_recorded f.1 (observed_cell observers p row) f.2 f.3 f.4 r.1 in
     λ i. Ack (sym f.0 i) (record { 0 = sym row-is i }) (sym column-is i) ∷ map (λ w. w.0) m.writes

@@ -3,9 +3,10 @@ use Rattle.std.proofs.Common.{◌≡◌, ℕ, Bool, true, false, cond, ◌||◌,
 use Rattle.std.specs.Prelude.{option_map}
 use Rattle.std.specs.List.{filter, list_any}
 use Rattle.pb_base.specs.declared.cell.Cell.{Cell}
+use Rattle.pb_base.specs.declared.names.Ts.{Ts}
 use Rattle.pb_steps.specs.declared.step.Work.{Work}
 use Rattle.pb_steps.specs.declared.step.Step.{Step}
-use Rattle.pb_steps.specs.declared.step.Step.TheVariants.{Begin, Read, Declare, Prewrite, Stamp, CommitPrimary, CommitSecondary, Settle, Clear, NextMark, Sweep}
+use Rattle.pb_steps.specs.declared.step.Step.TheVariants.{Begin, Read, ReadAt, Declare, Prewrite, Stamp, CommitPrimary, CommitSecondary, Settle, Clear, NextMark, Sweep}
 use Rattle.pb_steps.specs.declared.step.Answer.{Answer}
 use Rattle.pb_steps.specs.declared.step.Answer.TheVariants.{At, Found, Absent, Done, Conflict, Committed, Lost}
 use Rattle.pb_steps.specs.Observers.{ObserverOf}
@@ -22,9 +23,9 @@ bare t = record t { reads = [] }
 abbrev bare_if : Option TransactionOf → Option TransactionOf
 bare_if o = option_map (λ t. bare t) o
 
-read_leaves : (s : ℕ) (x : Cell) (a : Answer) (t : Option TransactionOf) → bare_if (option_map (λ (u : TransactionOf). with_read u s x a) t) ≡ bare_if t
-read_leaves s x a None = refl
-read_leaves s x a (Some t) = refl
+read_leaves : (x : Cell) (at : Option Ts) (a : Answer) (t : Option TransactionOf) → bare_if (option_map (λ (u : TransactionOf). with_read u x at a) t) ≡ bare_if t
+read_leaves x at a None = refl
+read_leaves x at a (Some t) = refl
 
 apart_from_reads : (f : TransactionOf → TransactionOf) → ((u : TransactionOf) → bare (f u) ≡ f (bare u)) → (t : Option TransactionOf) → bare_if (option_map f t) ≡ option_map f (bare_if t)
 apart_from_reads f h None = refl
@@ -47,9 +48,12 @@ module _ (observers : List ObserverOf) (s : ℕ) where
   one : (seat : ℕ) (step : Step) (answer : Answer) (t : Option TransactionOf) → is_begin step ≡ false → names_start s step answer ≡ true
       → bare_if (transaction_after observers seat step answer t) ≡ cond (names s step) (transaction_after observers seat step answer (bare_if t)) (bare_if t)
   one seat (Begin work) answer t b n = absurd cc
-  one seat (Read m x) (Found start commit content) t b n = read_leaves m.0 x (Found start commit content) t
-  one seat (Read m x) Absent t b n = read_leaves m.0 x Absent t
+  one seat (Read m x) (Found start commit content) t b n = read_leaves x None (Found start commit content) t
+  one seat (Read m x) Absent t b n = read_leaves x None Absent t
   one seat (Read m x) _ t b n = refl
+  one seat (ReadAt m x at) (Found start commit content) t b n = read_leaves x (Some at) (Found start commit content) t
+  one seat (ReadAt m x at) Absent t b n = read_leaves x (Some at) Absent t
+  one seat (ReadAt m x at) _ t b n = refl
   one seat (Declare m what) Done t b n = named _ _ _ _ n (apart_from_reads _ (λ u. refl) t)
   one seat (Prewrite m x) Done t b n = named _ _ _ _ n (apart_from_reads _ (λ u. refl) t)
   one seat (Prewrite m x) Conflict t b n = named _ _ _ _ n (apart_from_reads _ (λ u. refl) t)
@@ -62,6 +66,7 @@ module _ (observers : List ObserverOf) (s : ℕ) where
   named_no : (step : Step) (answer : Answer) → names_start s step answer ≡ false → names s step ≡ false
   named_no (Begin work) answer n = refl
   named_no (Read m x) answer n = refl
+  named_no (ReadAt m x at) answer n = refl
   named_no (Declare m what) answer n = n
   named_no (Prewrite m x) answer n = n
   named_no (Stamp m) answer n = n

@@ -8,7 +8,7 @@ use Rattle.pb_helpers.specs.Codes.{lowest_code}
 use Rattle.pb_verify.specs.Arriving.{merge, if_leads, gather, frame_before, outs}
 use Rattle.pb_verify.proofs.FramesAfter.{length-outs, outs_more}
 
--- what is gather of one more frame is merged with what is if_leads of it
+-- what is gathered of one frame more is what was gathered before, merged with that frame where it leads there
 gather_more : (p : List Insn) (n m : ℕ) (known : Option Frame) (fs : List (Option Frame)) (f : Option Frame) → gather p n m known (fs ++ f ∷ []) ≡ merge (gather p n m known fs) (if_leads (insn_at p (m + length fs)) (m + length fs) n f)
 gather_more p n m known [] f = let e : m + 0 ≡ m = omega arith in rw e refl
 gather_more p n m known (g ∷ gs) f =

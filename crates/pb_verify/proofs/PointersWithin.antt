@@ -1,4 +1,5 @@
 use Rattle.std.proofs.Common.{◌≡◌, ℕ, zero, suc, ◌+◌, ◌≤◌, Bool, true, false, cond, List, [], ◌∷◌, ◌++◌, Option, Some, None, set, get_or, arith, nat_eq}
+use Rattle.std.specs.Prelude.{slice_index_or}
 use Rattle.pb_isa.specs.declared.insn.Insn.{Insn}
 use Rattle.pb_isa.specs.declared.insn.Reg.{Reg}
 use Rattle.pb_isa.specs.Registers.{number}
@@ -9,16 +10,17 @@ use Rattle.pb_kinds.specs.declared.frame.Frame.{Frame}
 use Rattle.pb_kinds.specs.Frames.{kind_of, pointwise, meet, same_kind, join, entry_frame}
 use Rattle.pb_verify.specs.Following.{with_kind, leads}
 use Rattle.pb_verify.specs.Arriving.{merge, if_leads, gather, frame_before, has_slot}
-use Rattle.pb_verify.specs.Within.{IsNear, IsWithin, IsWithinIf, AllWithin}
+use Rattle.pb_verify.specs.Within.{IsNear, IsWithin, IsWithinIf}
+
+-- no pointer is further than so far in any of the frames
+pub record AllWithin (b : ℕ) (fs : List (Option Frame)) : Type 0 where
+  pub every : (k : ℕ) → IsWithinIf b (slice_index_or fs k None)
 
 pub near_more : (a b : ℕ) (k : Kind) → a ≤ b → IsNear a k → IsNear b k
 near_more a b Unset l h = tt
 near_more a b Number l h = tt
 near_more a b (Stack k) l h = omega arith
 near_more a b (Record k) l h = omega arith
-
-pub within_more : (a b : ℕ) (f : Frame) → a ≤ b → IsWithin a f → IsWithin b f
-within_more a b f l h = record { each = λ r. near_more a b (kind_of f r) l (h.each r) }
 
 near_set : (b : ℕ) (ks : List Kind) (i : ℕ) (k : Kind) → ((r : ℕ) → IsNear b (get_or ks r Unset)) → IsNear b k → (r : ℕ) → IsNear b (get_or (set ks i k) r Unset)
 near_set b [] i k h n r = h r

@@ -7,3 +7,4 @@ pub mod Ways
 pub mod Forward
 pub mod Accesses
 pub mod Effects
+pub mod Versions

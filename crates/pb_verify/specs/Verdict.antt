@@ -1,16 +1,18 @@
 -- What the verifier answers.
 use Rattle.std.specs.Prelude.{◌≡◌, ◌⊎◌, ℕ}
-use Rattle.pb_isa.specs.Programs.{ProgramOf, JudgedOf, judged_of}
+use Rattle.pb_isa.specs.Programs.{ProgramOf, JudgedOf}
 use Rattle.pb_isa.specs.Helpers.{HelperSet}
 use Rattle.pb_helpers.specs.declared.code.Code.{Code}
 use Rattle.pb_helpers.specs.Codes.{code_number}
 use Rattle.pb_verify.specs.declared.verifier.VerifyFault.{VerifyFault}
 use Rattle.pb_verify.specs.declared.verifier.VerifyFault.TheVariants.{NoMemory, Refused}
+use Rattle.pb_helpers.specs.declared.change.Version.{Version}
+use Rattle.pb_verify.specs.Versions.{judged_by}
 use Rattle.pb_verify.specs.Arriving.{Accepts, Refuses}
 
--- the program judged with its table for the change record, which the rules accept
-pub record IsAccepted (p : ProgramOf) (h : HelperSet) (a : JudgedOf) : Type 0 where
-  pub same : a ≡ judged_of p h
+-- the program judged with its table for change records of a version, which the rules accept
+pub record IsAccepted (v : Version) (p : ProgramOf) (h : HelperSet) (a : JudgedOf) : Type 0 where
+  pub same : a ≡ judged_by v p h
   pub accepts : Accepts a
 
 -- memory was refused, or this is the first slot at fault with its lowest code

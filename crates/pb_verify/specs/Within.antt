@@ -1,5 +1,5 @@
 -- How far the pointers of frames are from where they began: before slot n at most n steps of 2 ^ 31.
-use Rattle.std.specs.Prelude.{ℕ, ◌≤◌, nat_abs, List, Option, Some, None, slice_index_or}
+use Rattle.std.specs.Prelude.{ℕ, ◌≤◌, nat_abs, Option, Some, None}
 use Rattle.pb_kinds.specs.declared.frame.Kind.{Kind}
 use Rattle.pb_kinds.specs.declared.frame.Kind.TheVariants.{Unset, Number, Stack, Record}
 use Rattle.pb_kinds.specs.declared.frame.Frame.{Frame}
@@ -17,6 +17,3 @@ pub record IsWithin (b : ℕ) (f : Frame) : Type 0 where
 abbrev pub IsWithinIf : ℕ → Option Frame → Type 0
 IsWithinIf b None = Unit {0}
 IsWithinIf b (Some f) = IsWithin b f
-
-pub record AllWithin (b : ℕ) (fs : List (Option Frame)) : Type 0 where
-  pub every : (k : ℕ) → IsWithinIf b (slice_index_or fs k None)

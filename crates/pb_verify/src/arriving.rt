@@ -17,7 +17,8 @@ use std::boxed::Box;
 /// what jumps brought. False where nothing leads here.
 pub fn arrive(jumps: &mut [Option<Box<Frame>>], slot: usize, frame: &mut Frame, falls: bool) -> bool
     requires { slot < length jumps.old }
-    ensures known { (if result then Some frame.new else None) ≡ merge (option_map box_value (slice_index_or jumps.old slot None)) (if falls then Some frame.old else None) }
+    ensures known { (if result then Some frame.new else None) ≡ merge
+        (option_map box_value (slice_index_or jumps.old slot None)) (if falls then Some frame.old else None) }
     ensures len { length jumps.new ≡ length jumps.old }
     ensures rest { (k : ℕ) → slot < k → slice_index_or jumps.new k None ≡ slice_index_or jumps.old k None }
 {
@@ -38,7 +39,9 @@ fn send(
     frame: &Frame,
 ) -> Result<(), NoMemory>
     ensures len { length jumps.new ≡ length jumps.old }
-    ensures each { OnOk result ((k : ℕ) → k < length jumps.old → option_map box_value (slice_index_or jumps.new k None) ≡ merge (option_map box_value (slice_index_or jumps.old k None)) (if nat_eq k to then Some frame.now else None)) }
+    ensures each { OnOk result ((k : ℕ) → k < length jumps.old
+        → option_map box_value (slice_index_or jumps.new k None) ≡ merge
+        (option_map box_value (slice_index_or jumps.old k None)) (if nat_eq k to then Some frame.now else None)) }
 {
     if to < jumps.len() {
         let known = match jumps[to].take() {
@@ -62,7 +65,10 @@ fn jump(
 ) -> Result<(), NoMemory>
     requires { slot < MAX_SLOTS }
     ensures len { length jumps.new ≡ length jumps.old }
-    ensures each { OnOk result ((k : ℕ) → k < length jumps.old → option_map box_value (slice_index_or jumps.new k None) ≡ merge (option_map box_value (slice_index_or jumps.old k None)) (if has_slot (ahead slot offset) k then Some frame.now else None)) }
+    ensures each { OnOk result ((k : ℕ) → k < length jumps.old
+        → option_map box_value (slice_index_or jumps.new k None) ≡ merge
+        (option_map box_value (slice_index_or jumps.old k None))
+        (if has_slot (ahead slot offset) k then Some frame.now else None)) }
 {
     if offset >= 0 {
         send(alloc, jumps, slot + 1 + offset as usize, frame)?;
@@ -81,7 +87,10 @@ pub fn spread(
 ) -> Result<usize, NoMemory>
     requires { slot < MAX_SLOTS }
     ensures len { length jumps.new ≡ length jumps.old }
-    ensures each { IfOk result (λ next. (k : ℕ) → slot < k → k < length jumps.old → merge (option_map box_value (slice_index_or jumps.new k None)) (if nat_eq k next then Some frame.now else None) ≡ merge (option_map box_value (slice_index_or jumps.old k None)) (if_leads (Some insn) slot k (Some frame.now))) }
+    ensures each { IfOk result (λ next. (k : ℕ) → slot < k → k < length jumps.old
+        → merge (option_map box_value (slice_index_or jumps.new k None))
+        (if nat_eq k next then Some frame.now else None) ≡ merge
+        (option_map box_value (slice_index_or jumps.old k None)) (if_leads (Some insn) slot k (Some frame.now))) }
     ensures most { IfOk result (λ next. next ≤ slot + 2) }
     ensures pair { IfOk result (λ next. slot + 1 < next → places_of insn ≡ Some insn ∷ None ∷ []) }
 {

@@ -17,4 +17,4 @@ pub use accesses::Access;
 pub use arriving::{frames_are_meets, jumps_lead_on};
 pub use op::Op;
 pub use rules::codes_rise;
-pub use verifier::{VerifyFault, either_accepted_or_refused, verify};
+pub use verifier::{VerifyFault, either_accepted_or_refused, verify, verify_for};

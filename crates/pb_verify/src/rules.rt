@@ -1,17 +1,19 @@
 //! The rules of one instruction.
 ghost use Rattle.std.specs.Prelude.{◌≡◌, ◌<◌, ◌+◌, ◌^◌, ◌≤◌, ℕ};
 ghost use Rattle.pb_isa.specs.Slots.{slots};
-ghost use Rattle.pb_isa.specs.Programs.{judged_of};
+ghost use Rattle.pb_kinds.specs.Ranges as ranges;
+ghost use Rattle.pb_helpers.specs.Bytes.{size_of};
+ghost use Rattle.pb_verify.specs.Versions.{judged_by};
 ghost use Rattle.pb_helpers.specs.Codes.{lowest_code};
 ghost use Rattle.pb_verify.specs.Rules.{at, reads, sets, reads_operand, points, on_pointer, bytes_of, falls, numeric_rules, mov_rules, add_rules, alu_rules, loads, stores, load_rules, store_imm_rules, store_rules, jump_rules, jump_if_rules, exit_rules, insn_rules, CodesRise};
 ghost use Rattle.pb_verify.specs.Within.{IsNear, IsWithin};
 
 use pb_helpers::{
-    Code, HelperTable, argument_code, argument_codes_rise, stack_read_code, stack_write_code,
-    unset_code,
+    Code, HelperTable, Version, argument_code, argument_codes_rise, stack_read_code,
+    stack_write_code, unset_code,
 };
-use pb_isa::{AluOp, Insn, Operand, Program, RECORD_BYTES, Reg, Size, Width};
-use pb_kinds::{Frame, Kind, in_record};
+use pb_isa::{AluOp, Insn, MAX_RECORD_BYTES, Operand, Program, RECORD_BYTES, Reg, Size, Width};
+use pb_kinds::{Frame, Kind};
 
 pub fn kind(frame: &Frame, reg: Reg) -> Kind
     ensures { result ≡ at frame.now reg }
@@ -132,15 +134,30 @@ fn alu(frame: &Frame, op: AluOp, width: Width, dst: Reg, src: Operand) -> Option
     }
 }
 
-fn loads(frame: &Frame, base: Kind, offset: i16, bytes: u8) -> Option<Code>
+// Whether so many bytes lie all in a record of this version.
+fn in_record(version: Version, at: i64, bytes: u8) -> bool
+    ensures { result ≡ ranges.in_record (size_of version) at bytes }
+{
+    let size = match version {
+        Version::First => RECORD_BYTES as i64,
+        Version::Second => MAX_RECORD_BYTES as i64,
+    };
+    0 <= at && at <= size - i64::from(bytes)
+}
+
+fn loads(version: Version, frame: &Frame, base: Kind, offset: i16, bytes: u8) -> Option<Code>
     requires { IsNear (2 ^ 62) base }
-    ensures { result ≡ lowest_code (loads RECORD_BYTES frame.now base offset bytes) }
+    ensures { result ≡ lowest_code (loads (size_of version) frame.now base offset bytes) }
 {
     match base {
         Kind::Unset => None,
         Kind::Number => Some(Code::ThroughNumber),
         Kind::Stack(at) => stack_read_code(frame, at + i64::from(offset), bytes),
-        Kind::Record(at) => Code::OutsideRecord.when(!in_record(at + i64::from(offset), bytes)),
+        Kind::Record(at) => Code::OutsideRecord.when(!in_record(
+            version,
+            at + i64::from(offset),
+            bytes,
+        )),
     }
 }
 
@@ -157,11 +174,18 @@ fn stores(base: Kind, offset: i16, bytes: u8) -> Option<Code>
 }
 
 #[tactic(auto, using(crate::proofs::LowestCode::lowest_append))]
-fn load(frame: &Frame, size: Size, dst: Reg, src: Reg, offset: i16) -> Option<Code>
+fn load(
+    version: Version,
+    frame: &Frame,
+    size: Size,
+    dst: Reg,
+    src: Reg,
+    offset: i16,
+) -> Option<Code>
     requires { IsWithin (2 ^ 62) frame.now }
-    ensures { result ≡ lowest_code (load_rules RECORD_BYTES frame.now size dst src offset) }
+    ensures { result ≡ lowest_code (load_rules (size_of version) frame.now size dst src offset) }
 {
-    let access = loads(frame, kind(frame, src), offset, bytes_of(size));
+    let access = loads(version, frame, kind(frame, src), offset, bytes_of(size));
     reads(frame, src).or(sets(dst)).or(access)
 }
 
@@ -234,13 +258,14 @@ fn exit(frame: &Frame) -> Option<Code>
 pub fn lowest_broken(
     program: &Program,
     helpers: HelperTable,
+    version: Version,
     slot: usize,
     frame: &Frame,
     insn: Insn,
 ) -> Option<Code>
     requires inside { slot < slots program.now.insns }
     requires near { IsWithin (2 ^ 62) frame.now }
-    ensures { result ≡ lowest_code (insn_rules (judged_of program.now helpers) slot frame.now insn) }
+    ensures { result ≡ lowest_code (insn_rules (judged_by version program.now helpers) slot frame.now insn) }
 {
     // For the proof: a program has at most `MAX_SLOTS` slots, so that the next slot is a number.
     let _slots = program.slots();
@@ -259,7 +284,7 @@ pub fn lowest_broken(
             dst,
             src,
             offset,
-        } => load(frame, size, dst, src, offset).or(falls),
+        } => load(version, frame, size, dst, src, offset).or(falls),
         Insn::StoreImm {
             size,
             dst,

@@ -1,7 +1,8 @@
 //! Whether the rules hold at every slot.
 ghost use Rattle.std.specs.Prelude.{◌≡◌, ◌<◌, ◌^◌, Some, None, true, if◌then◌else◌, IfOk, IfErr, IfNone};
 ghost use Rattle.pb_isa.specs.Slots.{slots};
-ghost use Rattle.pb_isa.specs.Programs.{judged_of};
+ghost use Rattle.pb_helpers.specs.declared.change.Version.TheVariants as Version;
+ghost use Rattle.pb_verify.specs.Versions.{judged_by};
 ghost use Rattle.pb_helpers.specs.Codes.{lowest_code};
 ghost use Rattle.pb_verify.specs.Arriving.{codes_at};
 ghost use Rattle.pb_verify.specs.Verdict.{IsAccepted, IsVerifyFault, EachHasOneVerdict};
@@ -15,7 +16,7 @@ use crate::op::Op;
 use crate::resolving::resolve;
 use crate::rules::lowest_broken;
 use pb_base::Refused;
-use pb_helpers::{Code, HelperTable};
+use pb_helpers::{Code, HelperTable, Version};
 use pb_isa::{Insn, Program};
 use pb_kinds::{Frame, entry};
 use std::alloc::Global;
@@ -34,6 +35,7 @@ pub enum VerifyFault {
 fn code_at(
     program: &Program,
     helpers: HelperTable,
+    version: Version,
     slot: usize,
     insn: Insn,
     frame: &Frame,
@@ -41,11 +43,12 @@ fn code_at(
 ) -> Option<Code>
     requires inside { slot < slots program.now.insns }
     requires near { IsWithinIf (2 ^ 62) (if is_reached then Some frame.now else None) }
-    ensures value { result ≡ lowest_code (codes_at (judged_of program.now helpers) slot (Some insn) (if is_reached then Some frame.now else None)) }
+    ensures value { result ≡ lowest_code (codes_at (judged_by version program.now helpers) slot (Some insn)
+        (if is_reached then Some frame.now else None)) }
     ensures reached { IfNone result (is_reached ≡ true) }
 {
     if is_reached {
-        lowest_broken(program, helpers, slot, frame, insn)
+        lowest_broken(program, helpers, version, slot, frame, insn)
     } else {
         Some(Code::Unreachable)
     }
@@ -58,8 +61,21 @@ pub fn verify(
     program: Program,
     helpers: HelperTable,
 ) -> Result<Accepted, VerifyFault>
-    ensures accepted { IfOk result (IsAccepted program helpers) }
-    ensures refused { IfErr result (IsVerifyFault (judged_of program helpers)) }
+    ensures accepted { IfOk result (IsAccepted Version.First program helpers) }
+    ensures refused { IfErr result (IsVerifyFault (judged_by Version.First program helpers)) }
+{
+    verify_for(alloc, program, helpers, Version::First)
+}
+
+/// The same, for change records of a version.
+pub fn verify_for(
+    alloc: Global,
+    program: Program,
+    helpers: HelperTable,
+    version: Version,
+) -> Result<Accepted, VerifyFault>
+    ensures accepted { IfOk result (IsAccepted version program helpers) }
+    ensures refused { IfErr result (IsVerifyFault (judged_by version program helpers)) }
 {
     let Ok(mut jumps) = no_jumps(alloc, program.slots()) else {
         return Err(VerifyFault::NoMemory);
@@ -76,7 +92,7 @@ pub fn verify(
             continue;
         };
         let is_reached = arrive(&mut jumps, slot, &mut frame, slot == next);
-        if let Some(code) = code_at(&program, helpers, slot, insn, &frame, is_reached) {
+        if let Some(code) = code_at(&program, helpers, version, slot, insn, &frame, is_reached) {
             return Err(VerifyFault::Refused(Refused {
                 slot: slot as u16,
                 code: code.code(),
@@ -92,7 +108,7 @@ pub fn verify(
             Err(_) => return Err(VerifyFault::NoMemory),
         };
     }
-    Ok(Accepted::new(program, helpers, ops))
+    Ok(Accepted::new(program, helpers, version, ops))
 }
 
 /// The rules accept a program, or they refuse it at one slot with one code, and not both.

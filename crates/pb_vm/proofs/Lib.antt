@@ -8,3 +8,4 @@ pub mod Advancing
 pub mod Doing
 pub mod LeadingOn
 pub mod Rounds
+pub mod SlotsLeft

@@ -5,7 +5,7 @@ ghost use Rattle.pb_sound.specs.RunWrites.{AreRunWrites};
 ghost use Rattle.pb_vm.specs.Finished.{IsMeant, is_plain};
 ghost use Rattle.pb_vm.specs.Position.{talk_of};
 
-use pb_base::{Cell, Content, Ts};
+use pb_base::{Cell, Content, Ts, are_same_writes};
 use pb_helpers::{Ask, Record, Reply};
 use pb_sound::runs_write_batches;
 use pb_verify::Accepted;
@@ -36,6 +36,21 @@ impl Model for Finished {
     ghost view = { λ f. record { judged = f.accepted.value; bytes = f.change; began = f.run.0; talk = talk_of f.talk.items; result = f.end; writes = f.writes.items } };
 
     ghost invariant = { λ f. Means f.accepted.value f.change f.run.0 (talk_of f.talk.items) f.end f.writes.items };
+}
+
+// Whether the asks and replies are the same, in the same order.
+fn is_same_talk(a: &[(Ask, Reply)], b: &[(Ask, Reply)]) -> bool
+    ensures { IsTrue result ↔ (talk_of a.now ≡ talk_of b.now) }
+{
+    match a {
+        [] => b.is_empty(),
+        [first, rest @ ..] => match b {
+            [] => false,
+            [other, others @ ..] => {
+                first.0.is_same(other.0) && first.1.is_same(other.1) && is_same_talk(rest, others)
+            }
+        },
+    }
 }
 
 impl Finished {
@@ -82,6 +97,13 @@ impl Finished {
         self.accepted.is_same(accepted)
     }
 
+    /// The program that it ran, with its helpers.
+    pub fn accepted(&self) -> &Accepted
+        ensures { result.now ≡ self.now.judged }
+    {
+        &self.accepted
+    }
+
     /// The record that it ran on.
     pub fn record(&self) -> &Record
         ensures { result.now ≡ self.now.bytes }
@@ -122,5 +144,17 @@ impl Finished {
         ensures { result ≡ is_plain self.now }
     {
         self.talk.is_empty() && self.writes.is_empty()
+    }
+    /// Whether it is a run of the same program with the same helpers, on the same record, that began, asked and was told,
+    /// ended and wrote the same.
+    pub fn is_same(&self, other: &Finished) -> bool
+        ensures { IsTrue result ↔ (self.now ≡ other.now) }
+    {
+        self.is_of(other.accepted())
+            && self.record().is_same(other.record())
+            && self.run() == other.run()
+            && is_same_talk(self.talk(), other.talk())
+            && self.result() == other.result()
+            && are_same_writes(self.writes(), other.writes())
     }
 }

@@ -54,8 +54,6 @@ pub fn write(writes: &mut Vec<(Cell, Content)>, cell: Cell, content: Content) ->
     if writes.len() == MAX_CELLS {
         return 3;
     }
-    if writes.push(written).is_err() {
-        unreachable!()
-    }
+    writes.push_reserved(written);
     0
 }

@@ -1,5 +1,5 @@
 -- A run of events goes on by one event, or stops at one.
-use Rattle.std.proofs.Common.{◌≡◌, ℕ, ◌+◌, ◌<◌, ◌≤◌, List, [], ◌∷◌, ◌++◌, length, take, get_or, refl, sym, ◌∙◌, ap, subst, arith, add-one, inl, inr, ◌⊎◌, Option, Some, None, slice_get}
+use Rattle.std.proofs.Common.{◌≡◌, ℕ, ◌+◌, ◌<◌, ◌≤◌, List, [], ◌∷◌, ◌++◌, length, take, get_or, refl, sym, ◌∙◌, ap, subst, arith, add-one, inl, inr, ◌⊎◌, Some, slice_get}
 use Rattle.std.proofs.lemmas.Option.{slice_get-get_or}
 use Rattle.std.proofs.Math.Seq.{take-suc}
 use Rattle.pb_parse.specs.declared.event.Event.{Event}
@@ -7,7 +7,7 @@ use Rattle.pb_world.specs.declared.fault.EventFault.{EventFault}
 use Rattle.pb_world.specs.declared.fault.EventFault.TheVariants.{NoMemory}
 use Rattle.pb_world.specs.declared.note.Note.{Note}
 use Rattle.pb_world.specs.Faults.{fault_code}
-use Rattle.pb_world.specs.Events.{WorldOf, Happens, RunsTo, StopsAtEvent, fault_of}
+use Rattle.pb_world.specs.Events.{WorldOf, Happens, RunsTo, StopsAtEvent, Wants, fault_of}
 
 pub runs_more : (w : WorldOf) (es : List Event) (ns : List Note) (m : WorldOf) (e : Event) (n : Note) (v : WorldOf) → RunsTo w es ns m → Happens m e n v → RunsTo w (es ++ e ∷ []) (ns ++ n ∷ []) v
 runs_more w [] [] m e n v r h = (v, subst (λ x. Happens x e n v) r h, refl)
@@ -22,7 +22,7 @@ runs_on w es ns i m d n v lt r h =
     subst (λ xs. RunsTo w xs (ns ++ n ∷ []) v) (sym one) (runs_more w (take i es) ns m (get_or es i d) n v r h)
 
 pub stops : (w : WorldOf) (es : List Event) (ns : List Note) (i at : ℕ) (fault : EventFault) (code : ℕ) (m : WorldOf) (e : Event) (v : WorldOf) → i < length es → at ≡ i → code ≡ fault_code fault
-    → RunsTo w (take i es) ns m → v ≡ m → e ≡ get_or es i e → (fault ≡ NoMemory) ⊎ (fault_of m e ≡ Some fault) → StopsAtEvent w es at code v
+    → RunsTo w (take i es) ns m → v ≡ m → e ≡ get_or es i e → ((fault ≡ NoMemory) × Wants m e) ⊎ (fault_of m e ≡ Some fault) → StopsAtEvent w es at code v
 stops w es ns i at fault code m e v lt at-is code-is r same e-is why =
     let le : i ≤ length es = omega (arith, lt) in
     let s : StopsAtEvent w es i code m = record { notes = ns; within = le; before = r; why = because why } in
@@ -31,6 +31,6 @@ stops w es ns i at fault code m e v lt at-is code-is r same e-is why =
     there : slice_get es i ≡ Some e
     there = slice_get-get_or es i e lt ∙ ap (λ x. Some x) (sym e-is)
 
-    because : (fault ≡ NoMemory) ⊎ (fault_of m e ≡ Some fault) → (code ≡ fault_code NoMemory) ⊎ ((event : Event) × (f : EventFault) × (slice_get es i ≡ Some event) × (fault_of m event ≡ Some f) × (code ≡ fault_code f))
-    because (inl none) = inl (code-is ∙ ap fault_code none)
+    because : ((fault ≡ NoMemory) × Wants m e) ⊎ (fault_of m e ≡ Some fault) → ((code ≡ fault_code NoMemory) × ((i ≡ 0) ⊎ ((event : Event) × (slice_get es i ≡ Some event) × Wants m event))) ⊎ ((event : Event) × (f : EventFault) × (slice_get es i ≡ Some event) × (fault_of m event ≡ Some f) × (code ≡ fault_code f))
+    because (inl none) = inl (code-is ∙ ap fault_code none.0, inr (e, there, none.1))
     because (inr f) = inr (e, fault, there, f, code-is)

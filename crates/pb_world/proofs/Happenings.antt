@@ -1,5 +1,5 @@
 -- What a call, a launch, a step and a crash make of a world.
-use Rattle.std.proofs.Common.{◌≡◌, ℕ, ◌<◌, ◌≤◌, ◌==◌, if◌then◌else◌, Bool, true, false, List, length, get_or, slice_set, refl, sym, ◌∙◌, ap, subst, arith, Option, Some, None, slice_get, MatchOption}
+use Rattle.std.proofs.Common.{◌≡◌, ℕ, ◌<◌, ◌≤◌, ◌==◌, if◌then◌else◌, Bool, true, false, List, length, get_or, slice_set, refl, sym, ◌∙◌, ap, subst, Option, Some, None, slice_get, MatchOption}
 use Rattle.std.proofs.lemmas.Option.{slice_get_read, slice_get_within}
 use Rattle.std.proofs.lemmas.List.{set-get_or}
 use Rattle.pb_base.specs.declared.refusal.Reason.{Reason}
@@ -13,8 +13,8 @@ use Rattle.pb_world.specs.declared.job.ActorJob.{ActorJob}
 use Rattle.pb_world.specs.declared.note.Note.{Note}
 use Rattle.pb_world.specs.declared.note.Note.TheVariants.{Launched, Called, Refused}
 use Rattle.pb_world.specs.Jobs.{IsReady}
-use Rattle.pb_world.specs.Actors.{ActorSteps, launched, crashed, crash_note}
-use Rattle.pb_world.specs.Events.{WorldOf, IsWorld, with_actor, actor_of, job_for, no_launch, no_actor, Launches, StepsActor, CrashesActor, OwnAnswers, OwnCalls}
+use Rattle.pb_world.specs.Actors.{ActorSteps, NoneApplies, ActorMayWant, launched, crashed, crash_note}
+use Rattle.pb_world.specs.Events.{WorldOf, IsWorld, with_actor, actor_of, job_for, no_launch, no_actor, Launches, StepsActor, CrashesActor, OwnAnswers, OwnCalls, StepMayWant, OwnMayWant}
 
 pub here : {A : Type 0} (xs : List A) (k : ℕ) (x : A) → k < length xs → x ≡ get_or xs k x → slice_get xs k ≡ Some x
 here xs k x lt at = slice_get_read xs (length xs) k x refl lt at
@@ -66,6 +66,18 @@ module _ (w u : WorldOf) (u-is : w ≡ u) where
 
   pub own_same : (seat told : SeatOf) (t : SharedOf) → seat ≡ get_or w.seats 0 seat → t ≡ w.shared → told ≡ seat → record w { shared = t; seats = slice_set w.seats 0 told } ≡ u
   own_same seat told t at t-is told-is = ap (λ x. record w { shared = t; seats = x }) (same_list w.seats 0 seat told at told-is) ∙ (ap (λ x. record w { shared = x }) t-is ∙ u-is)
+
+  pub own_wants : (seat : SeatOf) (step : Step) → 1 ≤ length w.seats → seat ≡ get_or w.seats 0 seat → NoneApplies (call_reason w.shared seat.number step) → OwnMayWant u step
+  own_wants seat step some at none =
+      let own : OwnMayWant w step = record { seat = seat; its_seat = here w.seats 0 seat some at; wants = none } in
+      subst (λ x. OwnMayWant x step) u-is own
+
+  pub step_wants : (k : ℕ) (seat : SeatOf) (a : Actor) → IsWorld w → no_actor (actor_of u k) ≡ None → seat ≡ get_or w.seats k seat → a ≡ get_or w.actors k a → ActorMayWant w.shared seat.number a → StepMayWant u k
+  step_wants k seat a i can at at' wants =
+      let lt : k < length w.actors = actor_within w k (actor_of w k) refl (subst (λ x. no_actor (actor_of x k) ≡ None) (sym u-is) can) in
+      let lt' : k < length w.seats = subst (λ m. k < m) i.seated lt in
+      let did : StepMayWant w k = record { seat = seat; actor = a; its_seat = here w.seats k seat lt' at; its_actor = here w.actors k a lt at'; wants = wants } in
+      subst (λ x. StepMayWant x k) u-is did
 
   pub own_refused : (seat told : SeatOf) (t : SharedOf) (step : Step) (code : ℕ) → 1 ≤ length w.seats → seat ≡ get_or w.seats 0 seat → (why : Reason) × (call_reason w.shared seat.number step ≡ Some why) × (code ≡ reason_code why)
       → t ≡ w.shared → told ≡ seat → OwnCalls u step (Refused code) (record w { shared = t; seats = slice_set w.seats 0 told })

@@ -5,3 +5,4 @@ pub mod Soundness
 pub mod Opening
 pub mod Holding
 pub mod RunsJoin
+pub mod GivenJobs

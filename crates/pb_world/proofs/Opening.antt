@@ -1,11 +1,9 @@
 -- A world is sound as it is opened.
-use Rattle.std.proofs.Common.{◌≡◌, ℕ, zero, suc, List, [], ◌∷◌, length, replicate, slice_get, Option, Some, None, sym, ap, subst, ◌∙◌}
-use Rattle.pb_core.specs.Calls.{SeatOf}
+use Rattle.std.proofs.Common.{◌≡◌, ℕ, zero, suc, length, slice_get, Some, None, sym, ap, subst, ◌∙◌}
 use Rattle.pb_world.specs.declared.actor.Actor.{Actor}
-use Rattle.pb_world.specs.declared.job.ActorJob.{ActorJob}
 use Rattle.pb_world.specs.Events.{WorldOf, idle_actors}
 use Rattle.pb_world.specs.Headline.{IsOpened}
-use Rattle.pb_world.specs.Sound.{IsTied, IsSound}
+use Rattle.pb_world.specs.Sound.{IsSound}
 
 some_same : {A : Type 0} (x y : A) → Some x ≡ Some y → x ≡ y
 some_same x y e = cc
@@ -13,7 +11,7 @@ some_same x y e = cc
 none_some : {A : Type 0} (x : A) → None ≡ Some x → ⊥
 none_some x e = cc
 
-idle : (n k : ℕ) (a : Actor) → slice_get (idle_actors n) k ≡ Some a → a.job ≡ None
+pub idle : (n k : ℕ) (a : Actor) → slice_get (idle_actors n) k ≡ Some a → a.job ≡ None
 idle zero k a e = absurd (none_some a e)
 idle (suc n) zero a e = ap (λ (x : Actor). x.job) (sym (some_same _ a e))
 idle (suc n) (suc k) a e = idle n k a e

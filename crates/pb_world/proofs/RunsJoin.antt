@@ -1,9 +1,7 @@
 -- Runs of events, joined and parted.
-use Rattle.std.proofs.Common.{◌≡◌, List, [], ◌∷◌, ◌++◌, refl, sym, ap, subst}
-use Rattle.pb_parse.specs.declared.event.Event.{Event}
-use Rattle.pb_world.specs.declared.note.Note.{Note}
-use Rattle.pb_world.specs.Events.{WorldOf, RunsTo}
-use Rattle.pb_world.specs.Headline.{StopsBetween, RunsJoin, RunsPart}
+use Rattle.std.proofs.Common.{[], ◌∷◌, refl, ap, subst}
+use Rattle.pb_world.specs.Events.{RunsTo}
+use Rattle.pb_world.specs.Headline.{RunsJoin, RunsPart}
 
 pub runs_join : RunsJoin
 runs_join w [] [] m fs ks v r t = subst (λ x. RunsTo x fs ks v) r t

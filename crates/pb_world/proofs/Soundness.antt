@@ -1,5 +1,5 @@
 -- Whatever events happen, a world stays sound.
-use Rattle.std.proofs.Common.{◌≡◌, ◌≢◌, ℕ, ◌+◌, ◌<◌, Bool, true, false, eqb, List, [], ◌∷◌, ◌++◌, length, get_or, slice_set, replicate, refl, sym, ◌∙◌, ap, subst, arith, Option, Some, None, slice_get, MatchBool, MatchOption, get_or-set_same, get_or-set_other, length-set}
+use Rattle.std.proofs.Common.{◌≡◌, ◌≢◌, ℕ, ◌<◌, Bool, true, false, eqb, List, [], ◌∷◌, ◌++◌, length, get_or, slice_set, refl, sym, ◌∙◌, ap, subst, arith, Option, Some, None, slice_get, MatchBool, MatchOption, get_or-set_same, get_or-set_other, length-set}
 use Rattle.std.specs.Prelude.{◌==◌, if◌then◌else◌}
 use Rattle.std.specs.Option.{option_map}
 use Rattle.std.proofs.lemmas.Bool.{eqb-false, eqb-true}
@@ -26,7 +26,6 @@ use Rattle.pb_txn.specs.Changes as changes
 use Rattle.pb_notify.specs.declared.need.Need.{Need}
 use Rattle.pb_notify.specs.declared.need.Need.TheVariants.{Local, Call, Over}
 use Rattle.pb_notify.specs.Runs.{RunOf, fresh, need_of}
-use Rattle.pb_notify.specs.Runs as runs
 use Rattle.pb_notify.specs.Talks.{Reaches, took, computed}
 use Rattle.pb_notify.specs.Talks as talk
 use Rattle.pb_parse.specs.declared.event.Event.{Event}
@@ -38,9 +37,9 @@ use Rattle.pb_world.specs.declared.job.ActorJob.{ActorJob}
 use Rattle.pb_world.specs.declared.job.ActorJob.TheVariants.{Change, Run}
 use Rattle.pb_world.specs.declared.note.Note.{Note}
 use Rattle.pb_world.specs.declared.note.Note.TheVariants.{Refused}
-use Rattle.pb_world.specs.Jobs.{next_of, is_local, is_local_need, is_over, kept, Takes, Computes, IsReady}
-use Rattle.pb_world.specs.Actors.{AnswersJob, RefusesJob, CallSteps, Instructs, IsIdle, ChangesJobAlone, JobSteps, ActorSteps, launched, crashed}
-use Rattle.pb_world.specs.Events.{WorldOf, change_of, job_for, with_actor, actor_of, no_actor, no_launch, fault_of, Launches, StepsActor, CrashesActor, OwnAnswers, OwnCalls, Does, Happens, RunsTo}
+use Rattle.pb_world.specs.Jobs.{next_of, is_local, is_local_need, is_over, Takes, Computes, RulesAccept, IsReady}
+use Rattle.pb_world.specs.Actors.{AnswersJob, RefusesJob, CallSteps, Instructs, IsIdle, JobSteps, ActorSteps, launched, crashed}
+use Rattle.pb_world.specs.Events.{WorldOf, change_of, job_for, with_actor, actor_of, no_actor, no_launch, fault_of, Launches, StepsActor, CrashesActor, OwnAnswers, OwnCalls, Does}
 use Rattle.pb_world.specs.Sound.{ChangeCame, RunCame, Came, IsTied, IsSound, EventsKeepSound}
 use Rattle.pb_world.proofs.SeatLists.{called}
 
@@ -61,11 +60,11 @@ append-none [] = refl
 append-none (x ∷ xs) = ap (λ l. x ∷ l) (append-none xs)
 
 -- what stands at a place of a list with one item changed
-data IsAfterSet {A : Type 0} (xs : List A) (k : ℕ) (y : A) (i : ℕ) (x : A) : Type 0 where
+pub data IsAfterSet {A : Type 0} (xs : List A) (k : ℕ) (y : A) (i : ℕ) (x : A) : Type 0 where
   changed : i ≡ k → x ≡ y → IsAfterSet xs k y i x
   unchanged : i ≢ k → slice_get xs i ≡ Some x → IsAfterSet xs k y i x
 
-after_set : {A : Type 0} (xs : List A) (k : ℕ) (y : A) (i : ℕ) (x : A) → slice_get (slice_set xs k y) i ≡ Some x → IsAfterSet xs k y i x
+pub after_set : {A : Type 0} (xs : List A) (k : ℕ) (y : A) (i : ℕ) (x : A) → slice_get (slice_set xs k y) i ≡ Some x → IsAfterSet xs k y i x
 after_set xs k y i x is = by (eqb i k) refl
   where
     lt : i < length xs
@@ -104,22 +103,40 @@ talks_push : (p : ChangeOf) (said : List Received) (q : ChangeOf) (st : Step) (a
 talks_push p [] q st a t next can = (subst (λ x. changes.next_of x ≡ Some st) t next, can, ap (λ x. changes.answered x a) t)
 talks_push p (r ∷ rs) q st a t next can = (t.0, t.1, talks_push (changes.answered p r.answer) rs q st a t.2 next can)
 
+-- the same run, further on
+record IsOneRun (r l : RunOf) : Type 0 where
+  pub observer : l.observer ≡ r.observer
+  pub judged : l.judged ≡ r.judged
+  pub row : l.row ≡ r.row
+  pub column : l.column ≡ r.column
+
+run_goes_on : (w : WorldOf) (r l : RunOf) (said more : List Received) → IsOneRun r l → RunCame w r said → Reaches (fresh r.observer r.judged r.row r.column) more l → RunCame w l more
+run_goes_on w r l said more same m reaches = record {
+  its = record {
+    observer = m.its.observer;
+    there = subst (λ n. slice_get w.shared.state.observers n ≡ Some m.its.observer) (sym same.observer) m.its.there;
+    program = same.judged ∙ m.its.program;
+    column = same.column ∙ m.its.column;
+  };
+  accepted = subst (λ x. RulesAccept x) (sym same.judged) m.accepted;
+  reaches = subst (λ (z : Type 0). z) (λ i. Reaches (fresh (sym same.observer i) (sym same.judged i) (sym same.row i) (sym same.column i)) more l) reaches;
+}
+
 -- a job that took an answer has come on by it
 came_on : (w : WorldOf) (j k : ActorJob) (said : List Received) (st : Step) (a : Answer) → Came w j said → next_of j ≡ Some st → CanAnswer st a → Takes j a k → Came w k (said ++ record { step = st; answer = a } ∷ [])
 came_on w (Change c) k said st a m next can takes =
-    let more : ChangeCame w (changes.answered c a) (said ++ record { step = st; answer = a } ∷ []) = record { number = m.number; batch = m.batch; there = m.there; is = m.is; talks = talks_push (new_change m.batch) said c st a m.talks next can } in
+    let more : ChangeCame w (changes.answered c a) (said ++ record { step = st; answer = a } ∷ []) = record { number = m.number; there = m.there; is = m.is; talks = talks_push (new_change c.batch) said c st a m.talks next can } in
     subst (λ x. Came w x (said ++ record { step = st; answer = a } ∷ [])) (sym takes) more
 came_on w (Run r) k said st a m next can takes =
     let l = takes.0 in
-    let more : RunCame w l (said ++ record { step = st; answer = a } ∷ []) = record {
-      number = m.number;
-      observer = m.observer;
-      row = m.row;
-      there = m.there;
-      accepted = m.accepted;
-      reaches = took said r (record { step = st; answer = a }) l m.reaches next can takes.2 takes.3;
+    let same : IsOneRun r l = record {
+      observer = ap (λ (x : RunOf). x.observer) takes.2;
+      judged = ap (λ (x : RunOf). x.judged) takes.2;
+      row = ap (λ (x : RunOf). x.row) takes.2;
+      column = ap (λ (x : RunOf). x.column) takes.2;
     } in
-    subst (λ x. Came w x (said ++ record { step = st; answer = a } ∷ [])) (sym takes.1) more
+    let reaches = took said r (record { step = st; answer = a }) l m.reaches next can takes.2 takes.3 in
+    subst (λ x. Came w x (said ++ record { step = st; answer = a } ∷ [])) (sym takes.1) (run_goes_on w r l said (said ++ record { step = st; answer = a } ∷ []) same m reaches)
 
 local_by : (n : Need) → is_local_need n ≡ true → n ≡ Local
 local_by Local e = refl
@@ -131,13 +148,19 @@ came_by : (w : WorldOf) (j k : ActorJob) (said : List Received) → Came w j sai
 came_by w (Change c) k said m local did = absurd did
 came_by w (Run r) k said m local did =
     let l = did.0 in
-    let more : RunCame w l said = record { number = m.number; observer = m.observer; row = m.row; there = m.there; accepted = m.accepted; reaches = computed said r l m.reaches (local_by (need_of r) local) did.2 } in
-    subst (λ x. Came w x said) (sym did.1) more
+    let same : IsOneRun r l = record {
+      observer = ap (λ (x : RunOf). x.observer) did.2.same;
+      judged = ap (λ (x : RunOf). x.judged) did.2.same;
+      row = ap (λ (x : RunOf). x.row) did.2.same;
+      column = ap (λ (x : RunOf). x.column) did.2.same;
+    } in
+    let reaches = computed said r l m.reaches (local_by (need_of r) local) did.2 in
+    subst (λ x. Came w x said) (sym did.1) (run_goes_on w r l said said same m reaches)
 
 -- what a job came by depends on the observers and the changes alone
 came_in : (w v : WorldOf) (j : ActorJob) (said : List Received) → v.shared.state.observers ≡ w.shared.state.observers → v.batches ≡ w.batches → Came w j said → Came v j said
-came_in w v (Change c) said os bs m = record { number = m.number; batch = m.batch; there = subst (λ x. change_of x m.number ≡ Some m.batch) (sym bs) m.there; is = m.is; talks = m.talks }
-came_in w v (Run r) said os bs m = record { number = m.number; observer = m.observer; row = m.row; there = subst (λ x. slice_get x m.number ≡ Some m.observer) (sym os) m.there; accepted = m.accepted; reaches = m.reaches }
+came_in w v (Change c) said os bs m = record { number = m.number; there = subst (λ x. change_of x m.number ≡ Some c.batch) (sym bs) m.there; is = m.is; talks = m.talks }
+came_in w v (Run r) said os bs m = record { its = record { observer = m.its.observer; there = subst (λ x. slice_get x r.observer ≡ Some m.its.observer) (sym os) m.its.there; program = m.its.program; column = m.its.column }; accepted = m.accepted; reaches = m.reaches }
 
 tied_in : (w v : WorldOf) (seat : SeatOf) (n : ℕ) (j : ActorJob) → v.shared.state.observers ≡ w.shared.state.observers → v.batches ≡ w.batches → IsTied w seat n j → IsTied v seat n j
 tied_in w v seat n j os bs t = record { before = t.before; said = t.said; counted = t.counted; received = t.received; came = came_in w v j t.said os bs t.came }
@@ -288,7 +311,7 @@ change_made w k None made is e ready = absurd (some_none made e)
 change_made w k (Some batch) made is e ready =
     let same : Change (new_change batch) ≡ made = some_same (Change (new_change batch)) made e in
     let fits : is_batch batch ≡ true = subst (λ x. IsReady x) (sym same) ready in
-    let here : ChangeCame w (new_change batch) [] = record { number = k; batch = batch; there = is; is = fits; talks = refl } in
+    let here : ChangeCame w (new_change batch) [] = record { number = k; there = is; is = fits; talks = refl } in
     subst (λ x. Came w x []) same here
 
 run_made : (w : WorldOf) (o : ℕ) (row : Row) (found : Option ObserverOf) (made : ActorJob) → slice_get w.shared.state.observers o ≡ found → option_map (λ (x : ObserverOf). Run (fresh o x.program row x.column)) found ≡ Some made → IsReady made → Came w made []
@@ -296,7 +319,7 @@ run_made w o row None made is e ready = absurd (some_none made e)
 run_made w o row (Some x) made is e ready =
     let same : Run (fresh o x.program row x.column) ≡ made = some_same (Run (fresh o x.program row x.column)) made e in
     let fits = subst (λ y. IsReady y) (sym same) ready in
-    let here : RunCame w (fresh o x.program row x.column) [] = record { number = o; observer = x; row = row; there = is; accepted = fits; reaches = talk.made } in
+    let here : RunCame w (fresh o x.program row x.column) [] = record { its = record { observer = x; there = is; program = refl; column = refl }; accepted = fits; reaches = talk.made } in
     subst (λ y. Came w y []) same here
 
 came_first : (w : WorldOf) (job : Job) (made : ActorJob) → job_for w job ≡ Some made → IsReady made → Came w made []

@@ -1,6 +1,7 @@
 -- What a step does to an actor and to the table.
-use Rattle.std.specs.Prelude.{◌≡◌, ℕ, List, Bool, MatchBool, Option, Some, None, MatchOption, Result, MatchResult, length}
+use Rattle.std.specs.Prelude.{◌≡◌, ℕ, MatchBool, Option, Some, None, MatchOption, Result, MatchResult}
 use Rattle.pb_base.specs.declared.refusal.Reason.{Reason}
+use Rattle.pb_base.specs.declared.refusal.Reason.TheVariants.{NoMemory}
 use Rattle.pb_base.specs.Reasons.{reason_code}
 use Rattle.pb_steps.specs.declared.step.Step.{Step}
 use Rattle.pb_steps.specs.declared.step.Answer.{Answer}
@@ -11,13 +12,17 @@ use Rattle.pb_world.specs.declared.actor.NotCalled.{NotCalled}
 use Rattle.pb_world.specs.declared.actor.NotCalled.TheVariants as causes
 use Rattle.pb_world.specs.declared.job.ActorJob.{ActorJob}
 use Rattle.pb_world.specs.declared.note.Note.{Note}
-use Rattle.pb_world.specs.declared.note.Note.TheVariants.{Launched, Called, Refused, Instruction, Crashed, Idle}
+use Rattle.pb_world.specs.declared.note.Note.TheVariants.{Called, Refused, Instruction, Crashed, Idle}
 use Rattle.pb_world.specs.Jobs.{next_of, Takes, is_local, Computes, kept}
 
--- the number is that of the reason for which the step is refused
+-- no number of a refusal applies
+abbrev pub NoneApplies : Option Reason → Type 0
+NoneApplies o = (why : Reason) → o ≡ Some why → reason_code why ≡ reason_code NoMemory
+
+-- the number is that of the reason for which the step is refused, and want of memory is told where there is none
 abbrev pub IsRefusedBy : SharedOf → ℕ → Step → NotCalled → Type 0
 IsRefusedBy s seat step (causes.Refused code) = (why : Reason) × (call_reason s seat step ≡ Some why) × (code ≡ reason_code why)
-IsRefusedBy s seat step causes.NoMemory = Unit {0}
+IsRefusedBy s seat step causes.NoMemory = NoneApplies (call_reason s seat step)
 
 -- what holds with a note, and what where memory was refused
 abbrev pub OnNote : {E : Type 0} → Result Note E → (Note → Type 0) → Type 0 → Type 0
@@ -84,6 +89,13 @@ pub record IsIdle (s : SharedOf) (seat : SeatOf) (n : Note) (t : SharedOf) (told
 -- one instruction or one call, as the job needs
 abbrev pub JobSteps : SharedOf → SeatOf → ActorJob → Note → SharedOf → SeatOf → Option ActorJob → Type 0
 JobSteps s seat j n t told left = MatchBool (is_local j) (Instructs s seat j n t told left) (MatchOption (next_of j) (IsIdle s seat n t told left) (λ step. CallSteps s seat j step n t told left))
+
+-- what a job does next may want memory: an instruction, or a call that isn't refused
+abbrev pub MayWant : SharedOf → ℕ → ActorJob → Type 0
+MayWant s seat j = MatchBool (is_local j) (Unit {0}) (MatchOption (next_of j) ⊥ (λ step. NoneApplies (call_reason s seat step)))
+
+abbrev pub ActorMayWant : SharedOf → ℕ → Actor → Type 0
+ActorMayWant s seat a = MatchOption a.job ⊥ (MayWant s seat)
 
 -- an actor without job is idle
 pub record ActorSteps (s : SharedOf) (seat : SeatOf) (a : Actor) (n : Note) (t : SharedOf) (told : SeatOf) (b : Actor) : Type 0 where

@@ -1,5 +1,5 @@
 -- Worlds, and runs of a list of events.
-use Rattle.std.specs.Prelude.{◌≡◌, ℕ, ◌-◌, ◌≤◌, ◌==◌, if◌then◌else◌, List, [], ◌∷◌, ◌++◌, length, take, replicate, Option, Some, None, MatchOption, slice_get, slice_set, ◌⊎◌}
+use Rattle.std.specs.Prelude.{◌≡◌, ℕ, ◌-◌, ◌≤◌, ◌==◌, if◌then◌else◌, List, [], ◌∷◌, length, take, replicate, Option, Some, None, MatchOption, slice_get, slice_set, ◌⊎◌}
 use Rattle.std.specs.Option.{option_map}
 use Rattle.pb_base.specs.Batch.{Writes}
 use Rattle.pb_base.specs.Reasons.{reason_code}
@@ -24,7 +24,7 @@ use Rattle.pb_world.specs.declared.note.Note.{Note}
 use Rattle.pb_world.specs.declared.note.Note.TheVariants.{Launched, Called, Refused}
 use Rattle.pb_world.specs.Faults.{fault_code}
 use Rattle.pb_world.specs.Jobs.{IsReady}
-use Rattle.pb_world.specs.Actors.{ActorSteps, launched, crashed, crash_note}
+use Rattle.pb_world.specs.Actors.{ActorSteps, NoneApplies, ActorMayWant, launched, crashed, crash_note}
 
 -- A world, as its owner sees it. An actor has the seat of its number; the world's own steps are taken by seat 0, whose actor
 -- has no job.
@@ -141,6 +141,34 @@ pub record Happens (w : WorldOf) (e : Event) (n : Note) (v : WorldOf) : Type 0 w
   pub can : fault_of w e ≡ None
   pub does : Does w e n v
 
+-- ---- what may want memory
+
+pub record StepMayWant (w : WorldOf) (k : ℕ) : Type 0 where
+  pub seat : SeatOf
+  pub actor : Actor
+  pub its_seat : slice_get w.seats k ≡ Some seat
+  pub its_actor : slice_get w.actors k ≡ Some actor
+  pub wants : ActorMayWant w.shared seat.number actor
+
+pub record OwnMayWant (w : WorldOf) (step : Step) : Type 0 where
+  pub seat : SeatOf
+  pub its_seat : slice_get w.seats 0 ≡ Some seat
+  pub wants : NoneApplies (call_reason w.shared seat.number step)
+
+-- a crash and a step of an idle actor take none, and a call that is refused neither
+abbrev pub MayWant : WorldOf → Event → Type 0
+MayWant w (events.Launch k job) = Unit {0}
+MayWant w (events.Step k) = StepMayWant w k
+MayWant w (events.Crash k) = ⊥
+MayWant w (events.Settle x) = OwnMayWant w (steps.Settle x)
+MayWant w (events.Clear x) = OwnMayWant w (steps.Clear x)
+MayWant w (events.Sweep x) = OwnMayWant w (steps.Sweep x)
+
+-- the event isn't at fault, and what it does may want memory
+pub record Wants (w : WorldOf) (e : Event) : Type 0 where
+  pub can : fault_of w e ≡ None
+  pub wants : MayWant w e
+
 -- ---- lists of events
 
 -- each event happens in turn, with its note
@@ -154,4 +182,4 @@ pub record StopsAtEvent (w : WorldOf) (es : List Event) (at code : ℕ) (v : Wor
   pub notes : List Note
   pub within : at ≤ length es
   pub before : RunsTo w (take at es) notes v
-  pub why : (code ≡ fault_code faults.NoMemory) ⊎ ((event : Event) × (fault : EventFault) × (slice_get es at ≡ Some event) × (fault_of v event ≡ Some fault) × (code ≡ fault_code fault))
+  pub why : ((code ≡ fault_code faults.NoMemory) × ((at ≡ 0) ⊎ ((event : Event) × (slice_get es at ≡ Some event) × Wants v event))) ⊎ ((event : Event) × (fault : EventFault) × (slice_get es at ≡ Some event) × (fault_of v event ≡ Some fault) × (code ≡ fault_code fault))

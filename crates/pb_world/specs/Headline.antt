@@ -1,64 +1,62 @@
 -- What holds in every world, whatever the order of its events (OSDI 2010, sections 2.2 to 2.4).
-use Rattle.std.specs.Prelude.{◌≡◌, ◌≢◌, ℕ, ◌≤◌, List, ◌++◌, length, Option, Some, slice_get}
-use Rattle.pb_base.specs.Batch.{Writes}
-use Rattle.pb_base.specs.declared.names.Row.{Row}
+use Rattle.std.specs.Prelude.{◌≡◌, ◌≢◌, ℕ, ◌<◌, List, ◌++◌, length, Option, Some, slice_get}
 use Rattle.pb_base.specs.declared.names.Ts.{Ts}
 use Rattle.pb_isa.specs.Slots.{slots}
 use Rattle.pb_isa.specs.Machine.{Placement, IsPlacement, State, Stuck, act}
 use Rattle.pb_vm.specs.Position.{Position}
 use Rattle.pb_vm.specs.Moves.{IsAtState, environment_at}
 use Rattle.pb_vm.specs.Finished.{Meant}
-use Rattle.pb_steps.specs.Observers.{ObserverOf}
 use Rattle.pb_history.specs.declared.entry.Received.{Received}
 use Rattle.pb_history.specs.Places.{entries_of}
 use Rattle.pb_history.specs.RecordsTold.{TellsRecords}
 use Rattle.pb_core.specs.Calls.{SeatOf, AreSeats}
 use Rattle.pb_core.specs.Histories.{IsLegalTable, IsSnapshotHistory, HandlesOnce}
 use Rattle.pb_txn.specs.declared.place.Outcome.{Outcome}
-use Rattle.pb_txn.specs.Changes.{IsWholeChange}
+use Rattle.pb_txn.specs.Changes.{ChangeOf, IsWholeChange}
 use Rattle.pb_notify.specs.declared.need.JobEnd.{JobEnd}
 use Rattle.pb_notify.specs.Runs.{RunOf}
 use Rattle.pb_notify.specs.Forms.{IsRunTalk}
-use Rattle.pb_notify.specs.Led.{MachineStandsAt, IsMachineOf}
+use Rattle.pb_notify.specs.Led.{MachineStandsAt, IsMachineOf, IsAskingAt, HasEnded}
 use Rattle.pb_parse.specs.declared.event.Event.{Event}
 use Rattle.pb_world.specs.declared.actor.Actor.{Actor}
 use Rattle.pb_world.specs.declared.job.ActorJob.{ActorJob}
 use Rattle.pb_world.specs.declared.job.ActorJob.TheVariants.{Change, Run}
 use Rattle.pb_world.specs.declared.note.Note.{Note}
 use Rattle.pb_world.specs.Events.{WorldOf, change_of, idle_actors, RunsTo}
+use Rattle.pb_world.specs.Sound.{HasObserver}
 
 -- ---- actors
 
--- at every placement the machine stands in a state that isn't stuck, after at most as many instructions as its program has slots
+-- at every placement the machine stands in a state that isn't stuck, after fewer instructions than its program has slots
 pub record IsNeverStuck (v : Position) : Type 0 where
   pub at : (a : Placement) → IsPlacement (length v.bytes) a → (here : State) × IsAtState v a here × (act (environment_at v a) here ≢ Stuck)
-  pub few : v.taken ≤ slots v.judged.program.insns
+  pub few : v.taken < slots v.judged.program.insns
 
--- what was said is a beginning of a change of the script
-pub record HoldsOfChange (w : WorldOf) (said : List Received) : Type 0 where
+-- its batch is a change of the script, and what was said is a beginning of that change
+pub record HoldsOfChange (w : WorldOf) (c : ChangeOf) (said : List Received) : Type 0 where
   pub number : ℕ
-  pub batch : Writes
-  pub there : change_of w.batches number ≡ Some batch
+  pub there : change_of w.batches number ≡ Some c.batch
   pub start : Ts
   pub rest : List Received
   pub outcome : Outcome
-  pub talk : IsWholeChange batch start (said ++ rest) outcome
+  pub talk : IsWholeChange c.batch start (said ++ rest) outcome
 
--- What was said is a beginning of a run of an observer. Its machine, while there is one, runs the observer's program on the
--- record of what was read, was told what was read, and is never stuck; while it asks, it stands before the asking instruction.
+-- What was said is a beginning of a run of its observer on the cell of its row. Its machine, while there is one, runs the
+-- observer's program on the record of what was read, was told what was read, and is never stuck; while it asks, it stands
+-- before the asking instruction.
 pub record HoldsOfRun (w : WorldOf) (r : RunOf) (said : List Received) : Type 0 where
-  pub number : ℕ
-  pub observer : ObserverOf
-  pub row : Row
-  pub there : slice_get w.shared.state.observers number ≡ Some observer
+  pub its : HasObserver w r
   pub rest : List Received
   pub end : JobEnd
   pub run : Option Meant
-  pub talk : IsRunTalk number observer.program row observer.column (said ++ rest) end run
-  pub machine : (s : Ts) (v : Position) → MachineStandsAt r.place s v → IsMachineOf number observer.program row observer.column s v said × IsNeverStuck v
+  pub talk : IsRunTalk r.observer r.judged r.row r.column (said ++ rest) end run
+  pub machine : (s : Ts) (v : Position) → MachineStandsAt r.place s v
+      → IsMachineOf r.observer r.judged r.row r.column r.place s v said × IsNeverStuck v
+  pub asks : IsAskingAt r.place
+  pub ended : HasEnded r.observer r.judged r.row r.column r.place said
 
 abbrev pub HoldsOfJob : WorldOf → ActorJob → List Received → Type 0
-HoldsOfJob w (Change c) said = HoldsOfChange w said
+HoldsOfJob w (Change c) said = HoldsOfChange w c said
 HoldsOfJob w (Run r) said = HoldsOfRun w r said
 
 -- its conversation is what its seat was told since the launch, and the seat's list is the journal's entries of that seat

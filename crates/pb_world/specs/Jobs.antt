@@ -1,8 +1,7 @@
 -- The job of an actor, as the table meets it.
-use Rattle.std.specs.Prelude.{◌≡◌, Bool, true, false, if◌then◌else◌, Option, Some, None}
+use Rattle.std.specs.Prelude.{◌≡◌, Bool, true, false, if◌then◌else◌, Option, Some, None, ◌≤◌}
 use Rattle.std.specs.Option.{is_some}
 use Rattle.pb_base.specs.Batch.{is_batch}
-use Rattle.pb_isa.specs.declared.limits.TheConstants.{RECORD_BYTES}
 use Rattle.pb_isa.specs.Programs.{JudgedOf, IsProgram}
 use Rattle.pb_verify.specs.Arriving.{Accepts}
 use Rattle.pb_steps.specs.declared.step.Step.{Step}
@@ -10,7 +9,7 @@ use Rattle.pb_steps.specs.declared.step.Answer.{Answer}
 use Rattle.pb_txn.specs.Plans as plans
 use Rattle.pb_txn.specs.Changes as changes
 use Rattle.pb_notify.specs.declared.need.Need.{Need}
-use Rattle.pb_notify.specs.declared.need.Need.TheVariants.{Local, Call, Over}
+use Rattle.pb_notify.specs.declared.need.Need.TheVariants.{Local, Over}
 use Rattle.pb_notify.specs.Runs.{RunOf}
 use Rattle.pb_notify.specs.Runs as runs
 use Rattle.pb_world.specs.declared.job.ActorJob.{ActorJob}
@@ -60,7 +59,7 @@ kept j = if is_over j then None else Some j
 pub record RulesAccept (j : JudgedOf) : Type 0 where
   pub program : IsProgram j.program
   pub accepts : Accepts j
-  pub size : j.record_size ≡ RECORD_BYTES
+  pub size : j.record_size ≤ 120
 
 -- a change of some cells, each named once, or a run of an accepted program
 abbrev pub IsReady : ActorJob → Type 0

@@ -5,3 +5,4 @@ pub mod Events
 pub mod Codes
 pub mod Sound
 pub mod Headline
+pub mod GivenJobs

@@ -1,11 +1,7 @@
 -- What every world keeps: its journal is legal, each seat has its entries, and each actor's job is tied to what its seat was
 -- told since the launch.
 use Rattle.std.specs.Prelude.{◌≡◌, ℕ, true, List, ◌++◌, length, Some, None, slice_get}
-use Rattle.pb_base.specs.Batch.{Writes, is_batch}
-use Rattle.pb_base.specs.declared.names.Row.{Row}
-use Rattle.pb_isa.specs.declared.limits.TheConstants.{RECORD_BYTES}
-use Rattle.pb_isa.specs.Programs.{JudgedOf, IsProgram}
-use Rattle.pb_verify.specs.Arriving.{Accepts}
+use Rattle.pb_base.specs.Batch.{is_batch}
 use Rattle.pb_steps.specs.Observers.{ObserverOf}
 use Rattle.pb_history.specs.declared.entry.Received.{Received}
 use Rattle.pb_core.specs.Calls.{SeatOf, AreSeats}
@@ -24,19 +20,22 @@ use Rattle.pb_world.specs.Events.{WorldOf, change_of, RunsTo}
 -- a change of the script, led by its answers to where it stands
 pub record ChangeCame (w : WorldOf) (c : ChangeOf) (said : List Received) : Type 0 where
   pub number : ℕ
-  pub batch : Writes
-  pub there : change_of w.batches number ≡ Some batch
-  pub is : is_batch batch ≡ true
-  pub talks : Talks (new_change batch) said c
+  pub there : change_of w.batches number ≡ Some c.batch
+  pub is : is_batch c.batch ≡ true
+  pub talks : Talks (new_change c.batch) said c
+
+-- its observer is there, with the program that it runs and the column that it reads
+pub record HasObserver (w : WorldOf) (r : RunOf) : Type 0 where
+  pub observer : ObserverOf
+  pub there : slice_get w.shared.state.observers r.observer ≡ Some observer
+  pub program : r.judged ≡ observer.program
+  pub column : r.column ≡ observer.column
 
 -- a run of an observer, led by its answers and its machine's instructions to where it stands
 pub record RunCame (w : WorldOf) (r : RunOf) (said : List Received) : Type 0 where
-  pub number : ℕ
-  pub observer : ObserverOf
-  pub row : Row
-  pub there : slice_get w.shared.state.observers number ≡ Some observer
-  pub accepted : RulesAccept observer.program
-  pub reaches : Reaches (fresh number observer.program row observer.column) said r
+  pub its : HasObserver w r
+  pub accepted : RulesAccept r.judged
+  pub reaches : Reaches (fresh r.observer r.judged r.row r.column) said r
 
 abbrev pub Came : WorldOf → ActorJob → List Received → Type 0
 Came w (Change c) said = ChangeCame w c said

@@ -2,7 +2,7 @@
 ghost use Rattle.std.specs.Prelude.{◌≡◌, None, Some, MatchOption, MatchResult, IfOk, IfErr, OnErr, OnOk};
 ghost use Rattle.pb_steps.specs.Answers.{CanAnswer};
 ghost use Rattle.pb_core.specs.Calls.{Calls, call_reason};
-ghost use Rattle.pb_world.specs.Actors.{IsRefusedBy, AsksNothing, Answers, IsNotAnswered, JobSteps, ActorSteps, OnNote, launched, crashed, crash_note};
+ghost use Rattle.pb_world.specs.Actors.{IsRefusedBy, AsksNothing, Answers, IsNotAnswered, JobSteps, ActorSteps, OnNote, MayWant, ActorMayWant, launched, crashed, crash_note};
 ghost use Rattle.pb_world.specs.Jobs.{kept};
 ghost use Rattle.pb_world.specs.declared.note.Note.TheVariants.{Called};
 
@@ -58,7 +58,9 @@ fn ask<T: Tablet>(
     seat: &mut Seat,
     job: &ActorJob,
 ) -> Option<Result<Answer, NotCalled>>
-    ensures { MatchOption result (AsksNothing shared.old seat.old job.now shared.new seat.new) (λ r. MatchResult r (Answers shared.old seat.old job.now shared.new seat.new) (IsNotAnswered shared.old seat.old job.now shared.new seat.new)) }
+    ensures { MatchOption result (AsksNothing shared.old seat.old job.now shared.new seat.new) (λ r. MatchResult r
+        (Answers shared.old seat.old job.now shared.new seat.new)
+        (IsNotAnswered shared.old seat.old job.now shared.new seat.new)) }
 {
     let step = job.next()?;
     Some(call(shared, seat, step))
@@ -96,7 +98,9 @@ fn step_job<T: Tablet>(
     seat: &mut Seat,
     mut job: ActorJob,
 ) -> AfterStep
-    ensures { OnNote result.note (λ n. JobSteps shared.old seat.old job n shared.new seat.new result.job) ((shared.new ≡ shared.old) × (seat.new ≡ seat.old) × (result.job ≡ Some job)) }
+    ensures { OnNote result.note (λ n. JobSteps shared.old seat.old job n shared.new seat.new result.job)
+        ((shared.new ≡ shared.old)
+        × (seat.new ≡ seat.old) × (result.job ≡ Some job) × MayWant shared.old seat.old.number job) }
 {
     if job.is_local() {
         return match job.local(alloc) {
@@ -123,7 +127,9 @@ pub fn step_actor<T: Tablet>(
     seat: &mut Seat,
     actor: &mut Actor,
 ) -> Result<Note, NoMemory>
-    ensures { OnNote result (λ n. ActorSteps shared.old seat.old actor.old n shared.new seat.new actor.new) ((shared.new ≡ shared.old) × (seat.new ≡ seat.old) × (actor.new ≡ actor.old)) }
+    ensures { OnNote result (λ n. ActorSteps shared.old seat.old actor.old n shared.new seat.new actor.new)
+        ((shared.new ≡ shared.old)
+        × (seat.new ≡ seat.old) × (actor.new ≡ actor.old) × ActorMayWant shared.old seat.old.number actor.old) }
 {
     match actor.job.take() {
         None => Ok(Note::Idle),

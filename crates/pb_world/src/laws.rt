@@ -1,6 +1,7 @@
 //! What holds in every world, whatever the order of its events.
 ghost use Rattle.pb_world.specs.Headline.{WorldsHold, RunsJoin, RunsPart};
 ghost use Rattle.pb_world.specs.Sound.{EventsKeepSound};
+ghost use Rattle.pb_world.specs.GivenJobs.{JobsAreGiven, BusyActorsAreLeft, BusyActorsAreTold, RefusedJobsEnd};
 
 use pb_history::{
     behind_is_marked, commits_are_ordered, handled_at_most_once, handled_when_quiet,
@@ -17,9 +18,18 @@ pub fn worlds_stay_sound()
     ensures { EventsKeepSound }
 {}
 
+/// Whatever events happen in an opened world, an actor's job is what its last launch was for, and isn't at its end: it is gone
+/// with a refused step, with its last step, and with a crash. While an actor has one, a launch of it is at fault with 61.
+pub fn actors_hold_their_launch()
+    ensures given { JobsAreGiven }
+    ensures busy { BusyActorsAreLeft }
+    ensures told { BusyActorsAreTold }
+    ensures refused { RefusedJobsEnd }
+{}
+
 /// Whatever events happen in an opened world, after each of them: the machine of each actor's run is a state of the
 /// definitions, reached from entry at every placement with replies that are the reads of its transaction, isn't stuck, and has
-/// done at most as many instructions as its program has slots; an actor's conversation is a beginning of one of the forms, and
+/// done fewer instructions than its program has slots; an actor's conversation is a beginning of one of the forms, and
 /// the journal's entries of its seat since the launch; the committed transactions are a legal snapshot history; and each
 /// committed change of an observed column is handled by at most one committed run of each observer of that column, and by
 /// one when no mark and no lock is left.

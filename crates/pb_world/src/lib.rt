@@ -9,7 +9,7 @@ mod note;
 mod world;
 
 pub use fault::{EventFault, WorldFault};
-pub use laws::{worlds_hold, worlds_stay_sound};
+pub use laws::{actors_hold_their_launch, worlds_hold, worlds_stay_sound};
 pub use note::Note;
 pub use pb_parse::{Event, Job};
 pub use world::World;

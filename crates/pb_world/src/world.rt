@@ -82,7 +82,7 @@ impl<T: Tablet> World<T> {
     ghost use Rattle.pb_world.specs.declared.fault.EventFault.TheVariants as faults;
     ghost use Rattle.pb_world.specs.Actors.{OnNote};
     ghost use Rattle.pb_world.specs.Jobs.{IsReady};
-    ghost use Rattle.pb_world.specs.Events.{idle_actors, actor_of, change_of, job_for, no_actor, no_launch, fault_of, Launches, StepsActor, CrashesActor, OwnCalls, Does, Happens, RunsTo, StopsAtEvent};
+    ghost use Rattle.pb_world.specs.Events.{idle_actors, actor_of, change_of, job_for, no_actor, no_launch, fault_of, Launches, StepsActor, CrashesActor, OwnCalls, Does, StepMayWant, OwnMayWant, MayWant, Wants, Happens, RunsTo, StopsAtEvent};
 
     /// A world over a table with all its seats, in order, where these changes may be launched. Its actors have no job.
     ///
@@ -94,7 +94,13 @@ impl<T: Tablet> World<T> {
         batches: Vec<Batch>,
     ) -> Result<World<T>, (Shared<T>, Vec<Seat>, Vec<Batch>)>
         requires { AreSeats shared seats.items }
-        ensures ok { IfOk result (λ w. w ≡ record { shared = shared; seats = seats.items; actors = idle_actors (length seats.items); batches = batches.items }) }
+        ensures ok { IfOk result (λ w. w ≡ record {
+          shared = shared;
+          seats = seats.items;
+          actors = idle_actors
+              (length seats.items);
+          batches = batches.items;
+        }) }
         ensures opened { IfOk result IsOpened }
         ensures handed_back { IfErr result (λ p. p ≡ (shared, seats, batches)) }
     {
@@ -146,7 +152,8 @@ impl<T: Tablet> World<T> {
 
     // The change of this number, from 1.
     fn change(&self, number: u32) -> Option<&Batch>
-        ensures { MatchOption result (change_of self.now.batches number ≡ None) (λ b. change_of self.now.batches number ≡ Some b.now) }
+        ensures { MatchOption result (change_of self.now.batches number ≡ None)
+            (λ b. change_of self.now.batches number ≡ Some b.now) }
     {
         if number == 0 {
             None
@@ -243,12 +250,15 @@ impl<T: Tablet> World<T> {
 
     fn step(&mut self, alloc: Global, number: u32) -> Result<Note, NoMemory>
         requires { no_actor (actor_of self.old number) ≡ None }
-        ensures { OnNote result (λ n. StepsActor self.old number n self.new) (self.new ≡ self.old) }
+        ensures { OnNote result (λ n. StepsActor self.old number n self.new)
+            ((self.new ≡ self.old) × StepMayWant self.old number) }
     {
         let seat = &mut self.seats[number as usize];
         let actor = &mut self.actors[number as usize];
-        let note = step_actor(alloc, &mut self.shared, seat, actor)?;
-        Ok(note)
+        match step_actor(alloc, &mut self.shared, seat, actor) {
+            Ok(note) => Ok(note),
+            Err(e) => Err(e),
+        }
     }
 
     fn crash(&mut self, number: u32) -> Note
@@ -260,7 +270,8 @@ impl<T: Tablet> World<T> {
 
     // A step of no actor, by seat 0.
     fn own_call(&mut self, step: &Step) -> Result<Note, NoMemory>
-        ensures { OnNote result (λ n. OwnCalls self.old step.now n self.new) (self.new ≡ self.old) }
+        ensures { OnNote result (λ n. OwnCalls self.old step.now n self.new)
+            ((self.new ≡ self.old) × OwnMayWant self.old step.now) }
     {
         match call(&mut self.shared, &mut self.seats[0], step) {
             Ok(answer) => Ok(Note::Called(answer)),
@@ -271,7 +282,8 @@ impl<T: Tablet> World<T> {
 
     fn does(&mut self, alloc: Global, event: &Event) -> Result<Note, NoMemory>
         requires { fault_of self.old event.now ≡ None }
-        ensures { OnNote result (λ n. Does self.old event.now n self.new) (self.new ≡ self.old) }
+        ensures { OnNote result (λ n. Does self.old event.now n self.new)
+            ((self.new ≡ self.old) × MayWant self.old event.now) }
     {
         match event {
             Event::Launch(number, job) => self.launch(alloc, *number, job),
@@ -285,7 +297,8 @@ impl<T: Tablet> World<T> {
 
     // One event. At fault, it did nothing.
     fn event(&mut self, alloc: Global, event: &Event) -> Result<Note, EventFault>
-        ensures { MatchResult result (λ n. Happens self.old event.now n self.new) (λ f. (self.new ≡ self.old) × ((f ≡ faults.NoMemory) ⊎ (fault_of self.old event.now ≡ Some f))) }
+        ensures { MatchResult result (λ n. Happens self.old event.now n self.new) (λ f. (self.new ≡ self.old)
+            × (((f ≡ faults.NoMemory) × Wants self.old event.now) ⊎ (fault_of self.old event.now ≡ Some f))) }
     {
         if let Some(fault) = self.fault(event) {
             return Err(fault);

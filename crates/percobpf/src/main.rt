@@ -3,6 +3,9 @@
 //! text, `dis FILE` lists a program's bytes, and `check FILE` tells whether they are accepted.
 #![tactic(auto)]
 
+ghost use Rattle.std.specs.Prelude.{◌≡◌, ◌∷◌, [], IfOk};
+ghost use Rattle.pb_store.specs.TableOf.{firsts_of};
+
 mod files;
 
 use crate::files::Files;
@@ -12,6 +15,7 @@ use pb_command::command;
 use pb_memtablet::ListTablet;
 use pb_store::{Table, Tablet};
 use pb_texts::{Options, options};
+use std::alloc::Global;
 use std::process::ExitCode;
 use std::{env, io};
 
@@ -53,15 +57,22 @@ fn carry_out<T: Tablet>(rt: &HostRuntime, options: &Options, parts: Vec<(Row, T)
     }
 }
 
+// Two tablets in their places: of the rows from 0 on, and from 1,000 on.
+fn placed<T: Drop>(alloc: Global, low: T, high: T) -> Result<Vec<(Row, T)>, NoMemory>
+    ensures { IfOk result (λ parts. firsts_of parts.items ≡ 0 ∷ 1000 ∷ []) }
+{
+    let mut parts = Vec::new(alloc);
+    parts.push((Row(0), low))?;
+    parts.push((Row(1000), high))?;
+    Ok(parts)
+}
+
 // Makes the tablets, and carries out a command on them.
 fn run(rt: &HostRuntime, options: &Options) -> Result<u8, NoMemory> {
-    let mut parts: Vec<(Row, Box<dyn Tablet + Send + Drop>)> = Vec::new(rt.alloc());
-    parts.push((Row(0), Box::new(rt.alloc(), ListTablet::new(rt.alloc()))?))?;
-    parts.push((
-        Row(1000),
-        Box::new(rt.alloc(), ListTablet::new(rt.alloc()))?,
-    ))?;
-    Ok(carry_out(rt, options, parts))
+    let alloc = rt.alloc();
+    let low: Box<dyn Tablet + Send + Drop> = Box::new(alloc, ListTablet::new(alloc))?;
+    let high: Box<dyn Tablet + Send + Drop> = Box::new(alloc, ListTablet::new(alloc))?;
+    Ok(carry_out(rt, options, placed(alloc, low, high)?))
 }
 
 // Tells what is wrong with a command line, or the help that it asks for.

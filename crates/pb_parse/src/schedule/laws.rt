@@ -16,25 +16,31 @@ ghost use Rattle.pb_parse.specs.ScheduleFaults.{ScheduleStopsAt, StopsAtField, G
 /// 63, changes from 1 to 10,000, 1 to 1,000,000 times, rows of 64 bits, columns below 16, and observers by the name that
 /// they have first.
 pub fn event_lines_are_read_as_written()
-    ensures { (observers : List ObserverOf) (line : List ℕ) (order : Order) → (order_of observers line ≡ Ok order) ↔ IsLineOf observers order line }
+    ensures { (observers : List ObserverOf) (line : List ℕ) (order : Order) → (order_of observers line ≡ Ok order)
+        ↔ IsLineOf observers order line }
 {}
 
 /// A text is read as events exactly where each of its lines that are neither empty nor remarks is read, the events are
 /// theirs in order, and they are at most 1,000,000.
 pub fn schedules_are_their_lines()
-    ensures { (observers : List ObserverOf) (text : List ℕ) (events : List Event) → (schedule_of observers text ≡ Ok events) ↔ IsSchedule observers text events }
+    ensures { (observers : List ObserverOf) (text : List ℕ) (events : List Event)
+        → (schedule_of observers text ≡ Ok events) ↔ IsSchedule observers text events }
 {}
 
 /// The fault of a schedule is that of its first line at fault: the lines before it are a schedule of their own.
 pub fn schedule_fault_is_first()
-    ensures { (observers : List ObserverOf) (text : List ℕ) (line code : ℕ) → schedule_of observers text ≡ Err (line, code) → ScheduleStopsAt observers text line code }
+    ensures { (observers : List ObserverOf) (text : List ℕ) (line code : ℕ)
+        → schedule_of observers text ≡ Err (line, code) → ScheduleStopsAt observers text line code }
 {}
 
 /// A line that isn't read, and isn't at fault for its form, stops at its first field at fault: up to there its words are
 /// those of a line, and there stands a number beyond its range, or a name that no observer has. Each line that stops so
 /// has that fault, whatever stands behind. Too many events are told exactly where a line is read, and goes past.
 pub fn schedule_faults_are_told_where_they_are()
-    ensures field { (observers : List ObserverOf) (line : List ℕ) (cause : Code) → order_of observers line ≡ Err cause → (cause ≡ code.Form) ⊎ StopsAtField observers (words_of line) cause }
-    ensures told { (observers : List ObserverOf) (line : List ℕ) (cause : Code) → StopsAtField observers (words_of line) cause → order_of observers line ≡ Err cause }
-    ensures too_many { (observers : List ObserverOf) (before : List Event) (line : List ℕ) → (with_event_line observers before line ≡ Err code.TooMany) ↔ GoesPast observers before line }
+    ensures field { (observers : List ObserverOf) (line : List ℕ) (cause : Code)
+        → order_of observers line ≡ Err cause → (cause ≡ code.Form) ⊎ StopsAtField observers (words_of line) cause }
+    ensures told { (observers : List ObserverOf) (line : List ℕ) (cause : Code)
+        → StopsAtField observers (words_of line) cause → order_of observers line ≡ Err cause }
+    ensures too_many { (observers : List ObserverOf) (before : List Event) (line : List ℕ)
+        → (with_event_line observers before line ≡ Err code.TooMany) ↔ GoesPast observers before line }
 {}

@@ -31,7 +31,8 @@ fn append(events: &mut Vec<Event>, order: Order) -> Result<(), Code>
 fn add_line(observers: &[Observer], events: &mut Vec<Event>, line: &str) -> Result<(), Code>
     requires few { length observers.now ≤ MAX_OBSERVERS }
     requires most { vec_len events.old ≤ MAX_EVENTS }
-    ensures read { Gives is_memory (λ _. events.new.items) result (with_event_line observers.now events.old.items line.now) }
+    ensures read { Gives is_memory (λ _. events.new.items) result
+        (with_event_line observers.now events.old.items line.now) }
     ensures most { vec_len events.new ≤ MAX_EVENTS }
 {
     if is_skipped(line) {

@@ -51,7 +51,8 @@ struct Named {
 // The first observer of this name.
 fn observer_named(observers: &[Observer], name: &str) -> Option<Named>
     requires { length observers.now ≤ MAX_OBSERVERS }
-    ensures number { MatchOption result (observer_named observers.now name.now ≡ Err code.NoObserver) (λ o. observer_named observers.now name.now ≡ Ok o.number) }
+    ensures number { MatchOption result (observer_named observers.now name.now ≡ Err code.NoObserver)
+        (λ o. observer_named observers.now name.now ≡ Ok o.number) }
     ensures column { MatchOption result (Unit {0}) (λ o. o.column ≡ observed_column observers.now o.number) }
 {
     for (place, observer) in observers.iter().enumerate() {
@@ -77,7 +78,8 @@ struct Words<'a> {
 impl<'a> Words<'a> {
     // The next word.
     fn next_word(&mut self) -> Result<&'a str, Code>
-        ensures { Gives is_memory (λ x. (x.now, words_left self.new.rest)) result (next_word code.Form (words_left self.old.rest)) }
+        ensures { Gives is_memory (λ x. (x.now, words_left self.new.rest)) result
+            (next_word code.Form (words_left self.old.rest)) }
     {
         match self.rest {
             Some(line) => {
@@ -102,7 +104,8 @@ impl<'a> Words<'a> {
     // A number in this range.
     #[tactic(auto, unfolding(crate::specs::ScheduleWords::next_number))]
     fn number(&mut self, least: u64, greatest: u64) -> Result<u64, Code>
-        ensures value { Gives is_memory (λ x. (x, words_left self.new.rest)) result (next_number least greatest (words_left self.old.rest)) }
+        ensures value { Gives is_memory (λ x. (x, words_left self.new.rest)) result
+            (next_number least greatest (words_left self.old.rest)) }
         ensures low { IfOk result (λ x. least ≤ x) }
         ensures high { IfOk result (λ x. x ≤ greatest) }
     {
@@ -129,7 +132,8 @@ impl<'a> Words<'a> {
     #[tactic(auto, unfolding(crate::specs::ScheduleWords::next_observer))]
     fn observer(&mut self, observers: &[Observer]) -> Result<Named, Code>
         requires { length observers.now ≤ MAX_OBSERVERS }
-        ensures value { Gives is_memory (λ x. (x.number, words_left self.new.rest)) result (next_observer observers.now (words_left self.old.rest)) }
+        ensures value { Gives is_memory (λ x. (x.number, words_left self.new.rest)) result
+            (next_observer observers.now (words_left self.old.rest)) }
         ensures column { IfOk result (λ x. x.column ≡ observed_column observers.now x.number) }
     {
         let word = self.next_word()?;
@@ -150,7 +154,8 @@ impl<'a> Words<'a> {
     #[tactic(auto, unfolding(crate::specs::ScheduleWords::next_run))]
     fn run(&mut self, observers: &[Observer]) -> Result<Job, Code>
         requires { length observers.now ≤ MAX_OBSERVERS }
-        ensures { Gives is_memory (λ x. (x, words_left self.new.rest)) result (next_run observers.now (words_left self.old.rest)) }
+        ensures { Gives is_memory (λ x. (x, words_left self.new.rest)) result
+            (next_run observers.now (words_left self.old.rest)) }
     {
         let observer = self.observer(observers)?;
         let row = self.row()?;
@@ -160,7 +165,8 @@ impl<'a> Words<'a> {
     #[tactic(auto, unfolding(crate::specs::ScheduleWords::next_job))]
     fn job(&mut self, observers: &[Observer]) -> Result<Job, Code>
         requires { length observers.now ≤ MAX_OBSERVERS }
-        ensures { Gives is_memory (λ x. (x, words_left self.new.rest)) result (next_job observers.now (words_left self.old.rest)) }
+        ensures { Gives is_memory (λ x. (x, words_left self.new.rest)) result
+            (next_job observers.now (words_left self.old.rest)) }
     {
         let sort = self.next_word()?;
         match sort {
@@ -225,7 +231,8 @@ impl<'a> Words<'a> {
 
     #[tactic(auto, unfolding(crate::specs::ScheduleWords::next_data_cell))]
     fn data_cell(&mut self) -> Result<Cell, Code>
-        ensures { Gives is_memory (λ x. (x, words_left self.new.rest)) result (next_data_cell (words_left self.old.rest)) }
+        ensures { Gives is_memory (λ x. (x, words_left self.new.rest)) result
+            (next_data_cell (words_left self.old.rest)) }
     {
         let row = self.row()?;
         let number = self.number(0, u64::from(COLUMNS - 1))?;
@@ -238,7 +245,8 @@ impl<'a> Words<'a> {
     #[tactic(auto, unfolding(crate::specs::ScheduleWords::next_acknowledgment))]
     fn acknowledgment(&mut self, observers: &[Observer]) -> Result<Cell, Code>
         requires { length observers.now ≤ MAX_OBSERVERS }
-        ensures { Gives is_memory (λ x. (x, words_left self.new.rest)) result (next_acknowledgment observers.now (words_left self.old.rest)) }
+        ensures { Gives is_memory (λ x. (x, words_left self.new.rest)) result
+            (next_acknowledgment observers.now (words_left self.old.rest)) }
     {
         let observer = self.observer(observers)?;
         let row = self.row()?;
@@ -248,7 +256,8 @@ impl<'a> Words<'a> {
     // A data cell, or behind `ack` an acknowledgment.
     fn cell(&mut self, observers: &[Observer]) -> Result<Cell, Code>
         requires { length observers.now ≤ MAX_OBSERVERS }
-        ensures { Gives is_memory (λ x. (x, words_left self.new.rest)) result (next_cell observers.now (words_left self.old.rest)) }
+        ensures { Gives is_memory (λ x. (x, words_left self.new.rest)) result
+            (next_cell observers.now (words_left self.old.rest)) }
     {
         let Some(line) = self.rest else {
             return Err(Code::Form);
@@ -265,7 +274,8 @@ impl<'a> Words<'a> {
     #[tactic(auto, unfolding(crate::specs::ScheduleWords::once, crate::specs::ScheduleWords::once_on))]
     fn settle(&mut self, observers: &[Observer]) -> Result<Order, Code>
         requires { length observers.now ≤ MAX_OBSERVERS }
-        ensures { Gives is_memory (λ o. o) result (once_on event.Settle (next_cell observers.now (words_left self.old.rest))) }
+        ensures { Gives is_memory (λ o. o) result
+            (once_on event.Settle (next_cell observers.now (words_left self.old.rest))) }
     {
         let cell = self.cell(observers)?;
         self.no_word()?;
@@ -278,7 +288,8 @@ impl<'a> Words<'a> {
     #[tactic(auto, unfolding(crate::specs::ScheduleWords::once, crate::specs::ScheduleWords::once_on))]
     fn clear(&mut self, observers: &[Observer]) -> Result<Order, Code>
         requires { length observers.now ≤ MAX_OBSERVERS }
-        ensures { Gives is_memory (λ o. o) result (once_on event.Clear (next_cell observers.now (words_left self.old.rest))) }
+        ensures { Gives is_memory (λ o. o) result
+            (once_on event.Clear (next_cell observers.now (words_left self.old.rest))) }
     {
         let cell = self.cell(observers)?;
         self.no_word()?;

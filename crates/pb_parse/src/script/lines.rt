@@ -33,7 +33,8 @@ fn names(writes: &[Change], cell: Cell) -> bool
 // Takes one more operation of a line.
 #[tactic(auto, unfolding(crate::specs::ScriptLines::with_operation))]
 fn add(writes: &mut Vec<Change>, text: &str) -> Result<(), Code>
-    ensures { Gives is_memory (λ _. writes_of writes.new.items) result (with_operation (writes_of writes.old.items) text.now) }
+    ensures { Gives is_memory (λ _. writes_of writes.new.items) result
+        (with_operation (writes_of writes.old.items) text.now) }
 {
     let write = operation(text)?;
     if names(writes, Cell::Data(write.0, write.1)) {
@@ -144,7 +145,8 @@ pub fn reads_batches()
 /// A line is read as a transaction exactly where each of its operations is read, and what they write is a batch; the
 /// transaction is then what they write, in their order.
 pub fn reads_operations()
-    ensures { (line : List ℕ) (batch : Writes) → (batch_of line ≡ Ok batch) ↔ (Say (cut line) batch × (is_batch batch ≡ true)) }
+    ensures { (line : List ℕ) (batch : Writes) → (batch_of line ≡ Ok batch)
+        ↔ (Say (cut line) batch × (is_batch batch ≡ true)) }
 {}
 
 /// The fault of a line is that of its first operation at fault: those before it are read, of distinct cells. It is the

@@ -89,7 +89,8 @@ fn next_word(words: Option<&str>) -> Result<(&str, Option<&str>), Code>
 // A row and a column, and the words after them.
 #[tactic(auto, unfolding(crate::specs::ScriptWords::cell_at))]
 fn cell_at(words: Option<&str>) -> Result<(Place, Option<&str>), Code>
-    ensures value { Gives is_memory (λ x. (Data (record { 0 = x.0.row }) x.0.column, words_left x.1)) result (cell_at (words_left words.entry)) }
+    ensures value { Gives is_memory (λ x. (Data (record { 0 = x.0.row }) x.0.column, words_left x.1)) result
+        (cell_at (words_left words.entry)) }
     ensures bound { IfOk result (λ x. x.0.column < 16) }
 {
     let (word, words) = next_word(words)?;

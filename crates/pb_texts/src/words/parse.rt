@@ -231,11 +231,21 @@ pub fn options<'a>(alloc: Global, words: &'a [&'a str]) -> Result<Options<'a>, E
 /// A subcommand with as many words behind it as it has operands, none of which begins with a hyphen, is taken. So is
 /// `replay` with `--clock` and a number of `u64` behind them; with another such word there it is refused.
 pub fn plain_words_are_taken()
-    ensures run { (program manifest script : List ℕ) → is_plain_word manifest ≡ true → is_plain_word script ≡ true → AskFor (run_words program manifest script) (Run manifest script) }
-    ensures replay { (program manifest script schedule : List ℕ) → is_plain_word manifest ≡ true → is_plain_word script ≡ true → is_plain_word schedule ≡ true → AskFor (replay_words program manifest script schedule) (Replay manifest script schedule 0) }
-    ensures clock { (program manifest script schedule clock : List ℕ) → is_plain_word manifest ≡ true → is_plain_word script ≡ true → is_plain_word schedule ≡ true → is_clock clock ≡ true → AskFor (clock_words program manifest script schedule clock) (Replay manifest script schedule (clock_number clock)) }
-    ensures other_clock { (program manifest script schedule clock : List ℕ) → is_plain_word manifest ≡ true → is_plain_word script ≡ true → is_plain_word schedule ≡ true → is_plain_word clock ≡ true → is_clock clock ≡ false → HaveBadValue (clock_words program manifest script schedule clock) }
-    ensures asm { (program input output : List ℕ) → is_plain_word input ≡ true → is_plain_word output ≡ true → AskFor (asm_words program input output) (Asm input output) }
+    ensures run { (program manifest script : List ℕ) → is_plain_word manifest ≡ true → is_plain_word script ≡ true
+        → AskFor (run_words program manifest script) (Run manifest script) }
+    ensures replay { (program manifest script schedule : List ℕ) → is_plain_word manifest ≡ true
+        → is_plain_word script ≡ true → is_plain_word schedule ≡ true
+        → AskFor (replay_words program manifest script schedule) (Replay manifest script schedule 0) }
+    ensures clock { (program manifest script schedule clock : List ℕ) → is_plain_word manifest ≡ true
+        → is_plain_word script ≡ true → is_plain_word schedule ≡ true → is_clock clock ≡ true
+        → AskFor (clock_words program manifest script schedule clock)
+        (Replay manifest script schedule (clock_number clock)) }
+    ensures other_clock { (program manifest script schedule clock : List ℕ) → is_plain_word manifest ≡ true
+        → is_plain_word script ≡ true → is_plain_word schedule ≡ true → is_plain_word clock ≡ true
+        → is_clock clock ≡ false → HaveBadValue (clock_words program manifest script schedule clock) }
+    ensures asm { (program input output : List ℕ) → is_plain_word input ≡ true → is_plain_word output ≡ true
+        → AskFor (asm_words program input output) (Asm input output) }
     ensures dis { (program file : List ℕ) → is_plain_word file ≡ true → AskFor (dis_words program file) (Dis file) }
-    ensures check { (program file : List ℕ) → is_plain_word file ≡ true → AskFor (check_words program file) (Check file) }
+    ensures check { (program file : List ℕ) → is_plain_word file ≡ true
+        → AskFor (check_words program file) (Check file) }
 {}

@@ -1,4 +1,4 @@
-use Rattle.std.proofs.Common.{◌≡◌, ℕ, ◌<◌, List, sym, subst, ◌∙◌, arith}
+use Rattle.std.proofs.Common.{◌≡◌, ℕ, ◌<◌, List, sym, subst, ◌∙◌}
 use Rattle.std.proofs.lemmas.Result.{err_from_is_err_and}
 use Rattle.pb_core.specs.Calls.{SharedOf, Calls}
 use Rattle.pb_steps.specs.Observers.{ObserverOf}
@@ -7,7 +7,7 @@ use Rattle.pb_steps.specs.declared.step.Answer.{Answer}
 use Rattle.pb_steps.specs.declared.step.Answer.TheVariants.{Marked, NoMark}
 use Rattle.pb_alone.specs.Alone.{Gains}
 use Rattle.pb_alone.specs.Faults.{IsRefusedBy}
-use Rattle.pb_alone.specs.Passes.{AreAllRuns, RunsAsk, IsPassThat, PassAsks}
+use Rattle.pb_alone.specs.Passes.{AreAllRuns, RunsAsk, PassAsks}
 use Rattle.pb_alone.specs.Stops.{StoppedAt, IfRefused}
 use Rattle.pb_alone.proofs.Going.{stays, goes_on, called}
 use Rattle.pb_alone.proofs.PassAlong.{no_walk, walk_on, walk_stops, walk_stops_at, walk_ends, no_mark}

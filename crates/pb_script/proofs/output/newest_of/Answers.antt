@@ -1,9 +1,9 @@
 use Rattle.std.proofs.Common.{◌≡◌, ◌+◌, [], ◌∷◌, ◌++◌, ◌∙◌, refl, sym, ap, subst, take}
 use Rattle.std.proofs.lemmas.List.{take_more, take_all}
 use Rattle.pb_history.specs.declared.entry.Entry.{Entry}
-use Rattle.pb_script.specs.Puts.{puts_by, all_puts}
+use Rattle.pb_script.specs.Puts.{puts_by}
 use Rattle.pb_script.specs.Reports.{AreNewest}
-use Rattle.pb_script.proofs.Gathering.{gathers_on, gathers}
+use Rattle.pb_script.proofs.Gathering.{all_puts, gathers_on, gathers}
 use Rattle.pb_script.proofs.output.newest_of.Goals as goal
 
 pub loop-entry-preserved : goal.loop-entry-preserved

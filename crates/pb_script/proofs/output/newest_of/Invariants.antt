@@ -1,5 +1,5 @@
 use Rattle.std.proofs.Common.{take}
-use Rattle.pb_script.specs.Puts.{all_puts}
+use Rattle.pb_script.proofs.Gathering.{all_puts}
 use Rattle.pb_script.specs.Reports.{AreNewest}
 use Rattle.pb_script.proofs.output.newest_of.Given as goal
 

@@ -27,4 +27,4 @@ returns g c =
     let s = c.args.shared.now in
     let n = c.in_ok-table.ensures.newest in
     if_report s n.puts c.marks.result c.locks.result _ c.report_of.result n.gathered c.newest_of.ensures.seen
-    (subst (AreTallies s.state.observers s.journal 0 s.state.observers) (sym c.deref.ensures.value) c.in_ok-tallies.ensures) c.marks.ensures c.locks.ensures (c.report_of.ensures n.puts n.newest)
+    (subst (AreTallies s.state.observers s.journal 0 s.state.observers) (sym c.deref.ensures.value) c.in_ok-tallies.ensures) c.marks.ensures c.locks.ensures.count (c.report_of.ensures n.puts n.newest)

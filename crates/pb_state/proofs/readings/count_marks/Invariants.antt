@@ -1,6 +1,6 @@
 use Rattle.std.proofs.Common.{◌≤◌, ◌-◌, length}
 use Rattle.std.specs.FinMap as map
-use Rattle.pb_state.specs.Walks.{IsWalked}
+use Rattle.pb_state.proofs.Walks.{IsWalked}
 use Rattle.pb_state.proofs.readings.count_marks.Given as goal
 
 abbrev pub invariant-loop-cell : goal.invariant-loop-cell

@@ -5,7 +5,7 @@ use Rattle.pb_store.proofs.table.entry_in.Goals as goal
 
 pub returns-then-rest-count : goal.returns-then-rest-count
 returns-then-rest-count g c =
-    c.at.ensures
+    c.at.ensures.entry
     ∙ sym (counted_here g.T.Tablet.contents c.args.parts.now c.loop-part.part-index c.loop-part.rest c.part-item.result (omega arith) c.part-item.is (omega (arith, c.len-count.ensures)))
     ∙ sym c.loop-part.invariant
 

@@ -1,7 +1,7 @@
 use Rattle.std.proofs.Common.{◌+◌, rules, w16, w32}
 use mir.Val.{SFits}
 use Rattle.std.proofs.lemmas.Int.{to_z-of_z}
-use Rattle.pb_isa.specs.declared.limits.TheConstants.{RECORD_BYTES}
+use Rattle.pb_helpers.specs.Bytes.{size_of}
 use Rattle.pb_isa.specs.Helpers.{declared_helper}
 use Rattle.pb_helpers.specs.Arguments.{call_rules}
 use Rattle.pb_verify.specs.Rules.{load_rules, store_imm_rules, store_rules, falls}
@@ -13,7 +13,7 @@ returns-in-Load c =
     let o = c.in-Load.offset in
     let fits : SFits w16 o = search rules in
     let loaded = rw (to_z-of_z w16 o fits) at c.load.ensures in
-    rw c.in-Load.is (or_two (load_rules RECORD_BYTES c.args.frame.now c.in-Load.size c.in-Load.dst c.in-Load.src o) (falls c.args.program.now.insns (c.args.slot + 1)) loaded c.falls-falls.ensures c.or-in-Load.ensures)
+    rw c.in-Load.is (or_two (load_rules (size_of c.args.version) c.args.frame.now c.in-Load.size c.in-Load.dst c.in-Load.src o) (falls c.args.program.now.insns (c.args.slot + 1)) loaded c.falls-falls.ensures c.or-in-Load.ensures)
 
 pub returns-in-StoreImm : goal.returns-in-StoreImm
 returns-in-StoreImm c =

@@ -11,7 +11,7 @@ returns-clause-holds c = λ w es ns v opened runs.
     let obs = t.state.observers in
     let n = t.state.seats in
     record {
-      actors = λ k a seat j is its job. of_actor c.accepted_are_never_stuck.ensures c.jobs_talk.ensures.talks c.machines_are_led.ensures c.changes_talk.ensures.talks v k a.launched seat j s its (s.tied k a seat j is its job);
+      actors = λ k a seat j is its job. of_actor c.accepted_are_never_stuck.ensures c.jobs_talk.ensures.talks c.machines_are_led.ensures.led c.machines_are_led.ensures.open c.machines_are_led.ensures.ended c.changes_talk.ensures.talks v k a.launched seat j s its (s.tied k a seat j is its job);
       history = record {
         timestamps = c.timestamps_rise.ensures obs n t.opened t.journal t.state s.legal;
         order = c.commits_are_ordered.ensures obs n t.opened t.journal t.state s.legal;

@@ -1,8 +1,8 @@
 use Rattle.std.proofs.Common.{◌≡◌, subst, sym, refl, rules}
 use Rattle.pb_base.specs.declared.cell.Cell.TheVariants.{Data}
-use Rattle.pb_notify.specs.Places.{ComesFrom, GoesAt, waiting}
+use Rattle.pb_notify.specs.Places.{ComesFrom, GoesAt, AtPlace, waiting}
 use Rattle.pb_notify.specs.Runs.{RunOf, Computes}
-use Rattle.pb_notify.proofs.MovedInPlace.{went_comes, asks_comes}
+use Rattle.pb_notify.proofs.MovedInPlace.{went_comes, asks_at, asks_comes}
 use Rattle.pb_notify.proofs.job.ObserverJob.local.Goals as goal
 
 pub returns-in-Some-Went-clause-ok : goal.returns-in-Some-Went-clause-ok
@@ -24,3 +24,10 @@ returns-in-Some-Asks-clause-ok c =
       comes = subst (ComesFrom i.observer i.accepted.value (Data i.row i.column) i.place) (sym waits) (asks_comes i.observer i.accepted.value (Data i.row i.column) i.place c.move_on.new.place c.in-Some-Asks.ask goes);
       same = refl;
     })
+
+pub invariant_of-self-in-Some-Asks : goal.invariant_of-self-in-Some-Asks
+invariant_of-self-in-Some-Asks c =
+    let i = c.self.inside in
+    let goes = subst (λ m. GoesAt i.place m c.move_on.new.place) c.in-Some-Asks.field-0-is c.in-Some-Asks.ensures in
+    let waits : c.waiting-place.result ≡ waiting c.move_on.new.place c.in-Some-Asks.ask = search rules in
+    record { stored = c.step_at-asked.ensures; at = subst (AtPlace i.locked) (sym waits) (asks_at i.locked i.place c.move_on.new.place c.in-Some-Asks.ask c.self.invariant.at goes) }

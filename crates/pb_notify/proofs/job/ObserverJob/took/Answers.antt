@@ -1,4 +1,5 @@
 use Rattle.std.proofs.Common.{◌≡◌, sym, ap, subst, ◌∙◌}
+use Rattle.pb_helpers.specs.OldRecord.{tells_old}
 use Rattle.pb_notify.specs.Places.{locked_at, place_after, IsToldAt, AtPlace}
 use Rattle.pb_notify.specs.Runs.{RunOf, answered}
 use Rattle.pb_notify.proofs.Kept.{at_after, answered_is}
@@ -10,10 +11,10 @@ invariant_of-self c =
     let a = c.args.answer in
     let is = c.replace-place.ensures.value in
     let locked : c.locked_at-locked.result ≡ locked_at i.locked i.place a = c.locked_at-locked.ensures ∙ ap (λ p. locked_at i.locked p a) is in
-    let place : c.place_after-place.result ≡ place_after i.locked i.place a = c.place_after-place.ensures.place ∙ ap (λ p. place_after i.locked p a) is in
+    let place : c.place_after-place.result ≡ place_after (tells_old i.accepted.value) i.locked i.place a = c.place_after-place.ensures.place ∙ (λ j. place_after (c.tells_old-second.ensures j) i.locked (is j) a) in
     record {
       stored = c.step_at.ensures;
-      at = subst (λ n. AtPlace n c.place_after-place.result) (sym locked) (subst (AtPlace (locked_at i.locked i.place a)) (sym place) (at_after i.locked i.place a c.self.invariant.at));
+      at = subst (λ n. AtPlace n c.place_after-place.result) (sym locked) (subst (AtPlace (locked_at i.locked i.place a)) (sym place) (at_after (tells_old i.accepted.value) i.locked i.place a c.self.invariant.at));
     }
 
 pub returns-clause-answered : goal.returns-clause-answered
@@ -23,7 +24,7 @@ returns-clause-answered c =
     let is = c.replace-place.ensures.value in
     let j : RunOf = record { observer = i.observer; judged = i.accepted.value; row = i.row; column = i.column; locked = i.locked; place = i.place } in
     let locked : c.locked_at-locked.result ≡ locked_at i.locked i.place a = c.locked_at-locked.ensures ∙ ap (λ p. locked_at i.locked p a) is in
-    let place : c.place_after-place.result ≡ place_after i.locked i.place a = c.place_after-place.ensures.place ∙ ap (λ p. place_after i.locked p a) is in
+    let place : c.place_after-place.result ≡ place_after (tells_old i.accepted.value) i.locked i.place a = c.place_after-place.ensures.place ∙ (λ j. place_after (c.tells_old-second.ensures j) i.locked (is j) a) in
     answered_is j a c.locked_at-locked.result c.place_after-place.result locked place ∙ ap (λ k. answered k a) c.self.view_is
 
 pub returns-clause-told : goal.returns-clause-told

@@ -10,7 +10,7 @@ use Rattle.pb_state.proofs.transactions.Transactions.record_read.Goals as goal
 pub returns-in_default-clause-ok : goal.returns-in_default-clause-ok
 returns-in_default-clause-ok c =
     let none = not_held c.self.inside.list.items c.args.self.now c.args.start.0 c.self.view_is (subst (λ es. IsNoStart es c.args.start.0) c.deref.ensures.value c.in_default.ensures) in
-    let never : (t : TransactionOf) → map.get c.args.self.now c.args.start.0 ≡ Some t → c.args.self.now ≡ map.insert c.args.self.now c.args.start.0 (with_read t c.args.start.0 c.args.cell c.args.answer.now) =
+    let never : (t : TransactionOf) → map.get c.args.self.now c.args.start.0 ≡ Some t → c.args.self.now ≡ map.insert c.args.self.now c.args.start.0 (with_read t c.args.cell c.args.at c.args.answer.now) =
     (λ t is. absurd cc) in
     never
 
@@ -20,4 +20,4 @@ returns-clause-ok c = ok_then c.record_read.result _ _ (λ done t is.
     let here = held c.self.inside.list.items c.args.self.now c.args.start.0 c.in-Some.place c.index_mut-entry.result.now c.self.invariant c.self.view_is at c.index_mut-entry.ensures.value in
     let same : c.index_mut-entry.result.now.1 ≡ t = cc in
     changed c.self.inside.list.items c.args.self.now c.args.start.0 c.in-Some.place c.index_mut-entry.result.now _ _ c.self.invariant c.self.view_is at c.index_mut-entry.ensures.value
-    (done ∙ ap (λ (u : TransactionOf). with_read u c.args.start.0 c.args.cell c.args.answer.now) same)) c.record_read.ensures.ok
+    (done ∙ ap (λ (u : TransactionOf). with_read u c.args.cell c.args.at c.args.answer.now) same)) c.record_read.ensures.ok

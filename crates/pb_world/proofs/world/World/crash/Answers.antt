@@ -1,4 +1,3 @@
-use Rattle.std.proofs.Common.{rules, ◌≡◌}
 use Rattle.pb_world.specs.Events.{WorldOf}
 use Rattle.pb_world.proofs.Happenings.{crashes}
 use Rattle.pb_world.proofs.world.World.crash.Goals as goal

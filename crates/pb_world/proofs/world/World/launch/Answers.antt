@@ -1,4 +1,4 @@
-use Rattle.std.proofs.Common.{rules, ◌≡◌, get_or, length}
+use Rattle.std.proofs.Common.{rules, ◌≡◌, length}
 use Rattle.pb_world.specs.Events.{WorldOf}
 use Rattle.pb_world.specs.Actors.{launched}
 use Rattle.pb_world.proofs.Happenings.{launches}

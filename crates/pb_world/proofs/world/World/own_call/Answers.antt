@@ -2,7 +2,7 @@ use Rattle.std.proofs.Common.{rules, ◌≡◌, subst}
 use Rattle.pb_world.specs.declared.actor.NotCalled.TheVariants as causes
 use Rattle.pb_world.specs.Actors.{IsRefusedBy}
 use Rattle.pb_world.specs.Events.{WorldOf}
-use Rattle.pb_world.proofs.Happenings.{own_answers, own_refused, own_same}
+use Rattle.pb_world.proofs.Happenings.{own_answers, own_refused, own_same, own_wants}
 use Rattle.pb_world.proofs.world.World.own_call.Goals.{in-Ok, in-Err-Refused, in-Err-NoMemory}
 use Rattle.pb_world.proofs.world.World.own_call.Goals as goal
 
@@ -18,5 +18,8 @@ returns g c =
           let is : z.in-Err-Refused.field-0 ≡ causes.Refused z.in-Err-Refused.code = search rules in
           let refused = subst (λ y. IsRefusedBy w.shared seat.number c.args.step.now y) is z.in-Err-Refused.ensures.refused in
           rw z.result-is (own_refused w c.args.self.now c.self.view_is seat c.call.new.seat c.call.new.shared c.args.step.now z.in-Err-Refused.code c.self.invariant.some at refused z.in-Err-Refused.ensures.table z.in-Err-Refused.ensures.seat)
-      | in-Err-NoMemory z ↦ rw z.result-is (own_same w c.args.self.now c.self.view_is seat c.call.new.seat c.call.new.shared at z.in-Err-NoMemory.ensures.table z.in-Err-NoMemory.ensures.seat)
+      | in-Err-NoMemory z ↦
+          let is : z.in-Err-NoMemory.field-0 ≡ causes.NoMemory = search rules in
+          let none = subst (λ y. IsRefusedBy w.shared seat.number c.args.step.now y) is z.in-Err-NoMemory.ensures.refused in
+          rw z.result-is (own_same w c.args.self.now c.self.view_is seat c.call.new.seat c.call.new.shared at z.in-Err-NoMemory.ensures.table z.in-Err-NoMemory.ensures.seat, own_wants w c.args.self.now c.self.view_is seat c.args.step.now c.self.invariant.some at none)
     ]

@@ -1,0 +1,22 @@
+-- Batches compared write by write.
+use Rattle.std.proofs.Common.{◌≡◌, ℕ, zero, suc, ◌+◌, List, [], ◌∷◌, drop, Some, sym, ap, ◌∙◌, add-one}
+use Rattle.std.specs.Prelude.{slice_get}
+
+drop_step : {A : Type 0} (xs : List A) (i : ℕ) (x : A) → slice_get xs i ≡ Some x → drop i xs ≡ x ∷ drop (suc i) xs
+drop_step [] zero x e = cc
+drop_step [] (suc i) x e = cc
+drop_step (y ∷ ys) zero x e = cc
+drop_step (y ∷ ys) (suc i) x e = drop_step ys i x e
+
+step : {A : Type 0} (xs : List A) (i : ℕ) (x : A) → slice_get xs i ≡ Some x → drop i xs ≡ x ∷ drop (i + 1) xs
+step xs i x e = rw add-one (drop_step xs i x e)
+
+module _ {A : Type 0} (xs ys : List A) (i : ℕ) (x y : A) (a : slice_get xs i ≡ Some x) (b : slice_get ys i ≡ Some y) where
+  pub heads : drop i xs ≡ drop i ys → x ≡ y
+  heads h = let e : x ∷ drop (i + 1) xs ≡ y ∷ drop (i + 1) ys = sym (step xs i x a) ∙ h ∙ step ys i y b in cc
+
+  pub tails : drop i xs ≡ drop i ys → drop (i + 1) xs ≡ drop (i + 1) ys
+  tails h = let e : x ∷ drop (i + 1) xs ≡ y ∷ drop (i + 1) ys = sym (step xs i x a) ∙ h ∙ step ys i y b in cc
+
+  pub joins : x ≡ y → drop (i + 1) xs ≡ drop (i + 1) ys → drop i xs ≡ drop i ys
+  joins e h = step xs i x a ∙ ap (λ z. z ∷ drop (i + 1) xs) e ∙ ap (λ l. y ∷ l) h ∙ sym (step ys i y b)

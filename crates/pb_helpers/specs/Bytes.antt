@@ -1,0 +1,27 @@
+-- The bytes of a record of either version.
+use Rattle.std.specs.Prelude.{◌≡◌, ℕ, Bool, true, false, ◌-◌, List, ◌++◌, length, replicate}
+use Rattle.pb_isa.specs.declared.limits.TheConstants.{RECORD_BYTES, MAX_RECORD_BYTES}
+use Rattle.pb_helpers.specs.declared.change.Bytes.{Bytes}
+use Rattle.pb_helpers.specs.declared.change.Bytes.TheVariants as bytes
+use Rattle.pb_helpers.specs.declared.change.Version.{Version}
+use Rattle.pb_helpers.specs.declared.change.Version.TheVariants as versions
+
+abbrev pub all_bytes : Bytes → List ℕ
+all_bytes (bytes.First bs) = bs
+all_bytes (bytes.Second bs) = bs
+
+abbrev pub IsSized : Bytes → Type 0
+IsSized (bytes.First bs) = length bs ≡ RECORD_BYTES
+IsSized (bytes.Second bs) = length bs ≡ MAX_RECORD_BYTES
+
+abbrev pub size_of : Version → ℕ
+size_of versions.First = RECORD_BYTES
+size_of versions.Second = MAX_RECORD_BYTES
+
+abbrev pub is_second : Version → Bool
+is_second versions.First = false
+is_second versions.Second = true
+
+-- a record with zeros up to the most bytes that one has
+abbrev pub padded : List ℕ → List ℕ
+padded bs = bs ++ replicate (MAX_RECORD_BYTES - length bs) 0

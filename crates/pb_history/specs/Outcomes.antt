@@ -1,0 +1,9 @@
+-- What comes of a step.
+use Rattle.std.specs.Prelude.{◌≡◌}
+use Rattle.pb_steps.specs.declared.step.Answer.{Answer}
+use Rattle.pb_steps.specs.State.{StateOf}
+
+-- two answers, each with the state that is left, are the same
+pub record AreSame (a : Answer) (new : StateOf) (b : Answer) (other : StateOf) : Type 0 where
+  pub answer : a ≡ b
+  pub state : new ≡ other

@@ -1,0 +1,24 @@
+-- What keeps observers at work: marks are found, and go once nobody is behind (OSDI 2010, section 2.4).
+use Rattle.std.specs.Prelude.{◌≡◌, true, false, ◌⊎◌}
+use Rattle.std.specs.declared.cmp.Ordering.TheVariants.{Less}
+use Rattle.pb_base.specs.declared.cell.Cell.{Cell}
+use Rattle.pb_base.specs.Cell.{cell_cmp}
+use Rattle.pb_store.specs.Contents.{ComesAfter}
+use Rattle.pb_steps.specs.declared.step.Step.{Step}
+use Rattle.pb_steps.specs.declared.step.Step.TheVariants.{NextMark, Sweep}
+use Rattle.pb_steps.specs.declared.step.Answer.{Answer}
+use Rattle.pb_steps.specs.declared.step.Answer.TheVariants.{Marked}
+use Rattle.pb_steps.specs.State.{StateOf}
+use Rattle.pb_steps.specs.Marks.{is_marked, SomeBehind}
+
+-- where a marked cell comes after the given one, a marked cell after it is answered, which is that one or comes before it
+abbrev pub TellsFirstMark : StateOf → Step → Answer → Type 0
+TellsFirstMark old (NextMark after) answer =
+    (x : Cell) → is_marked old.marks x ≡ true → ComesAfter after x
+    → (y : Cell) × (answer ≡ Marked y) × (is_marked old.marks y ≡ true) × ComesAfter after y × ((y ≡ x) ⊎ (cell_cmp y x ≡ Less))
+TellsFirstMark old _ answer = Unit {0}
+
+-- a cell that is swept has no mark where no observer is behind on it
+abbrev pub TellsUnmarked : StateOf → Step → StateOf → Type 0
+TellsUnmarked old (Sweep x) new = (SomeBehind old.observers old.entries x → ⊥) → is_marked new.marks x ≡ false
+TellsUnmarked old _ new = Unit {0}

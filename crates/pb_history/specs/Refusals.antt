@@ -1,0 +1,9 @@
+-- The order in which reasons are listed.
+use Rattle.std.specs.Prelude.{ℕ, ◌<◌, [], ◌∷◌}
+use Rattle.pb_base.specs.Reasons.{reason_code}
+use Rattle.pb_steps.specs.Reasons.{Reasons}
+
+-- their numbers rise, from above this one
+abbrev pub RiseAbove : ℕ → Reasons → Type 0
+RiseAbove low [] = Unit {0}
+RiseAbove low (r ∷ rs) = (low < reason_code r.0) × RiseAbove (reason_code r.0) rs

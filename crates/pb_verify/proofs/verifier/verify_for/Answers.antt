@@ -1,0 +1,124 @@
+use Rattle.std.proofs.Common.{◌≡◌, ◌<◌, ◌≤◌, ◌+◌, ◌*◌, ◌++◌, take, drop, [], ◌∷◌, Some, None, nat_eq, refl, length, sym, ap, ◌∙◌, arith, rules, below_more, add-one}
+use Rattle.std.proofs.lemmas.List.{take_at}
+use Rattle.std.specs.Prelude.{slice_index_or, option_map, if◌then◌else◌}
+use Rattle.std.specs.Box.{box_value}
+use Rattle.pb_verify.specs.Versions.{judged_by}
+use Rattle.pb_isa.specs.Slots.{slots, insn_at}
+use Rattle.pb_verify.specs.Arriving.{merge, if_leads, outs, in_at, frame_before, frame_after, faults}
+use Rattle.pb_verify.specs.Within.{IsWithinIf}
+use Rattle.pb_verify.proofs.PointersWithin.{within_arriving, within_if_more, within_push, none_within}
+use Rattle.pb_verify.proofs.FramesAfter.{outs_more, in_is, outs_none}
+use Rattle.pb_verify.specs.declared.op.Op.TheVariants.{Exit}
+use Rattle.pb_verify.specs.Accesses.{access_at}
+use Rattle.pb_verify.specs.Effects.{effect_at}
+use Rattle.pb_verify.proofs.Pairs.{behind_pair}
+use Rattle.pb_verify.proofs.Resolved.{none_resolved, resolved_more}
+use Rattle.pb_verify.proofs.Pending.{before_next, before_past, merge_none, not_here, none_broken}
+use Rattle.pb_verify.proofs.verifier.verify_for.Goals as goal
+use Rattle.pb_verify.proofs.verifier.verify_for.Goals.{After-arrive-is_reached}
+
+pub loop-slot-init : goal.loop-slot-init
+loop-slot-init c = record {
+  len = c.in-Ok.ensures.len ∙ c.slots.ensures.slots;
+  known = λ k l h. rw (c.in-Ok.ensures.each k, c.entry-frame.ensures, outs_none c.args.program.insns) refl;
+  most = omega arith;
+  pair = λ h. absurd (omega (arith, h));
+  fine = λ m h. absurd (omega arith);
+  resolved = none_resolved c.args.program.insns _ c.new-ops.ensures.items;
+  near = none_within _ (outs_none c.args.program.insns);
+}
+
+pub loop-slot-preserved-in_default-at : goal.loop-slot-preserved-in_default-at
+loop-slot-preserved-in_default-at c =
+    let n = c.loop-slot.slot in
+    let p = c.args.program.insns in
+    let none : insn_at p n ≡ None = sym c.at.ensures ∙ c.in_default-at.is in
+    let pushed : c.push.new.self.items ≡ c.loop-slot.ops.items ++ Exit ∷ [] = search rules in
+    record {
+      len = c.loop-slot.invariant.len;
+      known = λ k l h.
+          let past : n < k = omega (arith, l) in
+          c.loop-slot.invariant.known k (omega (arith, l)) h ∙ sym (before_past p k n past none);
+      most = let most = c.loop-slot.invariant.most in omega (arith, most);
+      pair = λ h. let most = c.loop-slot.invariant.most in absurd (omega (arith, most, h));
+      fine = below_more (λ m. faults (judged_by c.args.version c.args.program c.args.helpers) m ≡ []) n c.loop-slot.invariant.fine (rw none refl);
+      resolved = resolved_more p n c.loop-slot.ops.items _ Exit c.loop-slot.invariant.resolved pushed (λ i at. let wrong : None ≡ Some i = sym none ∙ at in absurd (cc));
+      near = rw (outs_more p n, none) (within_push (n * 2147483648) ((n + 1) * 2147483648) _ None (omega arith) c.loop-slot.invariant.near tt);
+    }
+
+insn_is : (c : After-arrive-is_reached) → insn_at c.args.program.insns c.loop-slot.slot ≡ Some c.in-Some.insn
+insn_is c = sym c.at.ensures ∙ c.in-Some.is
+
+known_is : (c : After-arrive-is_reached) → (if c.arrive-is_reached.result then Some c.arrive-is_reached.new.frame else None) ≡ in_at c.args.program.insns c.loop-slot.slot
+known_is c =
+    let n = c.loop-slot.slot in
+    let p = c.args.program.insns in
+    let inside : n < slots p = search rules in
+    let known = c.loop-slot.invariant.known n (omega arith) inside in
+    c.arrive-is_reached.ensures.known ∙ ap (λ xs. merge (option_map box_value (slice_index_or xs n None)) (if nat_eq n c.loop-slot.next then Some c.loop-slot.frame else None)) c.deref_mut.ensures.value ∙ known ∙ sym (in_is p n)
+
+known_near : (c : After-arrive-is_reached) → IsWithinIf (c.loop-slot.slot * 2147483648) (if c.arrive-is_reached.result then Some c.arrive-is_reached.new.frame else None)
+known_near c =
+    let n = c.loop-slot.slot in
+    rw (known_is c, in_is c.args.program.insns n) (within_arriving c.args.program.insns _ n _ c.loop-slot.invariant.near)
+
+all_near : (c : After-arrive-is_reached) → IsWithinIf 4611686018427387904 (if c.arrive-is_reached.result then Some c.arrive-is_reached.new.frame else None)
+all_near c = within_if_more (c.loop-slot.slot * 2147483648) 4611686018427387904 _ (omega arith) (known_near c)
+
+pub code_at-requires-clause-near : goal.code_at-requires-clause-near
+code_at-requires-clause-near c = all_near (goal.at.code_at-requires-clause-near c).After-arrive-is_reached
+
+pub returns-in-Some-code_at-clause-refused : goal.returns-in-Some-code_at-clause-refused
+returns-in-Some-code_at-clause-refused c =
+    let at = (goal.at.returns-in-Some-code_at-clause-refused c).After-arrive-is_reached in
+    let found = rw (known_is at) at c.code_at.ensures.value in (
+      _,
+      c.code.ensures,
+      record { inside = omega arith; code = rw (insn_is at) (sym found ∙ c.in-Some-code_at.is); before = c.loop-slot.invariant.fine },
+    )
+
+pub access_of-access-requires : goal.access_of-access-requires
+access_of-access-requires c =
+    let near = all_near (goal.at.access_of-access-requires c).After-arrive-is_reached in
+    rw c.in_default-code_at.ensures.reached at near
+
+pub step-requires : goal.step-requires
+step-requires c =
+    let near = all_near (goal.at.step-requires c).After-arrive-is_reached in
+    rw c.in_default-code_at.ensures.reached at near
+
+pub loop-slot-preserved : goal.loop-slot-preserved
+loop-slot-preserved c =
+    let n = c.loop-slot.slot in
+    let p = c.args.program.insns in
+    let at = (goal.at.loop-slot-preserved c).After-arrive-is_reached in
+    let reached = c.in_default-code_at.ensures.reached in
+    let insn = insn_is at in
+    let pushed : c.push-in-loop-slot.new.self.items ≡ c.loop-slot.ops.items ++ c.resolve.result ∷ [] = search rules in
+    let low : c.loop-slot.next ≤ n = search rules in
+    let known = rw reached at (known_is at) in
+    let near = rw reached at (known_near at) in
+    let found = rw (known_is at) at c.code_at.ensures.value in
+    let out : frame_after (insn_at p n) (in_at p n) ≡ Some c.step.new.frame = rw (insn, ← known) (ap Some (sym c.step.ensures.value)) in
+    let more : outs p (n + 1) ≡ outs p n ++ Some c.step.new.frame ∷ [] = outs_more p n ∙ ap (λ x. outs p n ++ x ∷ []) out in
+    let taken : take c.loop-slot.jumps.len (c.arrive-is_reached.new.jumps ++ drop (length c.arrive-is_reached.new.jumps) c.loop-slot.jumps.items) ≡ c.arrive-is_reached.new.jumps = take_at _ _ _ (c.arrive-is_reached.ensures.len ∙ c.deref_mut.ensures.len) in
+    let before = c.deref_mut-in-loop-slot.ensures.value ∙ taken in
+    let long : length c.deref_mut-in-loop-slot.result.now ≡ slots p = ap length before ∙ c.arrive-is_reached.ensures.len ∙ ap length c.deref_mut.ensures.value ∙ c.loop-slot.invariant.len in
+    record {
+      len = rw (take_at c.spread.new.jumps _ c.loop-slot.jumps.len (c.spread.ensures.len ∙ c.deref_mut-in-loop-slot.ensures.len)) (c.spread.ensures.len ∙ long);
+      known = λ k l h.
+          let past : n < k = omega (arith, l) in
+          let same = rw (not_here c.loop-slot.next k (omega (arith, l, low))) at (c.loop-slot.invariant.known k (omega (arith, l)) h) in
+          let rest = ap (λ xs. option_map box_value (slice_index_or xs k None)) before ∙ ap (option_map box_value) (c.arrive-is_reached.ensures.rest k past ∙ ap (λ xs. slice_index_or xs k None) c.deref_mut.ensures.value) ∙ sym (merge_none _) ∙ same in
+          rw (take_at c.spread.new.jumps _ c.loop-slot.jumps.len (c.spread.ensures.len ∙ c.deref_mut-in-loop-slot.ensures.len), more)
+          (c.in-Ok-spread.ensures.each k past (rw long h) ∙ ap (λ o. merge o (if_leads (Some c.in-Some.insn) n k (Some c.step.new.frame))) rest ∙ ap (λ i. merge (frame_before p k (outs p n)) (if_leads i n k (Some c.step.new.frame))) (sym insn) ∙ sym (before_next p k n (Some c.step.new.frame) past));
+      most = let most = c.in-Ok-spread.ensures.most in omega (arith, most);
+      pair = λ h. rw add-one (behind_pair p n c.in-Some.insn insn (c.in-Ok-spread.ensures.pair h));
+      fine = below_more (λ m. faults (judged_by c.args.version c.args.program c.args.helpers) m ≡ []) n c.loop-slot.invariant.fine (rw insn (none_broken _ (sym found ∙ c.in_default-code_at.is)));
+      resolved = resolved_more p n c.loop-slot.ops.items _ c.resolve.result c.loop-slot.invariant.resolved pushed
+          (λ i at.
+          let same : c.in-Some.insn ≡ i = (let both : Some c.in-Some.insn ≡ Some i = sym insn ∙ at in cc) in
+          let access : c.access_of-access.result ≡ access_at p n = rw (insn, ← known) c.access_of-access.ensures in
+          c.resolve.ensures ∙ (λ k. effect_at n (same k) (access k)));
+      near = rw more (within_push (n * 2147483648) ((n + 1) * 2147483648) _ _ (omega arith) c.loop-slot.invariant.near (within_if_more (n * 2147483648 + 2147483648) _ (Some c.step.new.frame) (omega arith) (c.step.ensures.near _ near)));
+    }

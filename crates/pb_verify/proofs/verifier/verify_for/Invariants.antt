@@ -1,0 +1,20 @@
+use Rattle.std.proofs.Common.{◌≡◌, ℕ, ◌<◌, ◌≤◌, ◌+◌, ◌*◌, [], Some, None, length}
+use Rattle.std.specs.Prelude.{slice_index_or, option_map, if◌then◌else◌, nat_eq}
+use Rattle.std.specs.Box.{box_value}
+use Rattle.pb_isa.specs.Slots.{slots, insn_at}
+use Rattle.pb_verify.specs.Versions.{judged_by}
+use Rattle.pb_verify.specs.Arriving.{merge, outs, frame_before, faults}
+use Rattle.pb_verify.proofs.PointersWithin.{AllWithin}
+use Rattle.pb_verify.specs.Effects.{AreResolved}
+use Rattle.pb_verify.proofs.verifier.verify_for.Given as goal
+
+abbrev pub invariant-loop-slot : goal.invariant-loop-slot
+invariant-loop-slot l = record {
+  len : length l.jumps.items ≡ slots l.fn.program.insns;
+  known : (k : ℕ) → l.slot ≤ k → k < slots l.fn.program.insns → merge (option_map box_value (slice_index_or l.jumps.items k None)) (if nat_eq k l.next then Some l.frame else None) ≡ frame_before l.fn.program.insns k (outs l.fn.program.insns l.slot);
+  most : l.next ≤ l.slot + 1;
+  pair : l.slot < l.next → insn_at l.fn.program.insns l.slot ≡ None;
+  fine : (m : ℕ) → m < l.slot → faults (judged_by l.fn.version l.fn.program l.fn.helpers) m ≡ [];
+  resolved : AreResolved l.fn.program.insns l.slot l.ops.items;
+  near : AllWithin (l.slot * 2147483648) (outs l.fn.program.insns l.slot);
+}

@@ -1,0 +1,182 @@
+-- A try that was left after its commit has committed.
+use Rattle.std.proofs.Common.{◌≡◌, ◌≢◌, ◌⊎◌, Bool, true, false, ◌||◌, List, [], ◌∷◌, ◌++◌, inl, inr, refl, sym, ap, subst, ◌∙◌}
+use Rattle.pb_base.specs.declared.names.Ts.{Ts}
+use Rattle.pb_base.specs.declared.cell.Cell.{Cell}
+use Rattle.pb_base.specs.Batch.{Writes}
+use Rattle.pb_steps.specs.declared.step.Step.{Step}
+use Rattle.pb_steps.specs.declared.step.Step.TheVariants.{Begin, Declare, Prewrite, Stamp, CommitPrimary, Settle, Clear}
+use Rattle.pb_steps.specs.declared.step.Answer.{Answer}
+use Rattle.pb_steps.specs.declared.step.Answer.TheVariants as answers
+use Rattle.pb_steps.specs.declared.step.Answer.TheVariants.{At, Done, Committed, Absent, Conflict, Lost}
+use Rattle.pb_steps.specs.declared.step.Work.TheVariants as works
+use Rattle.pb_steps.specs.declared.step.Declared.{Declared}
+use Rattle.pb_steps.specs.declared.step.Declared.TheVariants as declared
+use Rattle.pb_steps.specs.Answers.{CanAnswer}
+use Rattle.pb_history.specs.declared.entry.Received.{Received}
+use Rattle.pb_history.specs.History.{Has}
+use Rattle.pb_txn.specs.declared.place.Outcome.{Outcome}
+use Rattle.pb_txn.specs.declared.place.Place.{Place}
+use Rattle.pb_txn.specs.Plans.{fresh}
+use Rattle.pb_txn.specs.Talks.{told}
+use Rattle.pb_txn.specs.Forms.{IsWhole, AreCleared, committed, conflicted_first, conflicted_later, lost, prewrites, secondaries}
+use Rattle.pb_txn.specs.Changes.{ChangeOf, new_change, Talks}
+use Rattle.pb_txn.proofs.ChangeTalk.{HasBegun, begins as has_begun}
+use Rattle.pb_txn.proofs.Talk.{SoFar, declaring, prewriting, stamping, committing, finishing, settling, clearing, over, said_all}
+use Rattle.pb_worker.specs.Tries.{is_commit, has_commit}
+use Rattle.pb_worker.proofs.Committing.{HasCommitted, has_right}
+
+-- ---- truths
+
+left_false : (a b : Bool) → (a || b) ≡ false → a ≡ false
+left_false true b e = e
+left_false false b e = refl
+
+both_false : (a b : Bool) → a ≡ false → b ≡ false → (a || b) ≡ false
+both_false a b p q = rw p q
+
+or_assoc : (a b c : Bool) → (a || (b || c)) ≡ ((a || b) || c)
+or_assoc true b c = refl
+or_assoc false b c = refl
+
+not_both : (b : Bool) → b ≡ true → b ≡ false → ⊥
+not_both true p q = cc
+not_both false p q = cc
+
+-- ---- answers and steps in a list
+
+commit_in : (xs ys : List Received) → has_commit (xs ++ ys) ≡ (has_commit xs || has_commit ys)
+commit_in [] ys = refl
+commit_in (x ∷ xs) ys = ap (λ b. is_commit x.answer || b) (commit_in xs ys) ∙ or_assoc (is_commit x.answer) (has_commit xs) (has_commit ys)
+
+abbrev is_clear : Step → Bool
+is_clear (Clear x) = true
+is_clear _ = false
+
+abbrev has_clear : List Received → Bool
+has_clear [] = false
+has_clear (r ∷ rs) = is_clear r.step || has_clear rs
+
+clear_in : (xs ys : List Received) → has_clear (xs ++ ys) ≡ (has_clear xs || has_clear ys)
+clear_in [] ys = refl
+clear_in (x ∷ xs) ys = ap (λ b. is_clear x.step || b) (clear_in xs ys) ∙ or_assoc (is_clear x.step) (has_clear xs) (has_clear ys)
+
+no_prewrite : (s : Ts) (xs : List Cell) → has_commit (prewrites s xs) ≡ false
+no_prewrite s [] = refl
+no_prewrite s (x ∷ xs) = no_prewrite s xs
+
+prewrites_clear : (s : Ts) (xs : List Cell) → has_clear (prewrites s xs) ≡ false
+prewrites_clear s [] = refl
+prewrites_clear s (x ∷ xs) = prewrites_clear s xs
+
+secondaries_clear : (s : Ts) (xs : List Cell) → has_clear (secondaries s xs) ≡ false
+secondaries_clear s [] = refl
+secondaries_clear s (x ∷ xs) = secondaries_clear s xs
+
+none_after : (s : Ts) (xs : List Cell) (ys : List Received) → has_commit ys ≡ false → has_commit (prewrites s xs ++ ys) ≡ false
+none_after s xs ys none = commit_in (prewrites s xs) ys ∙ both_false (has_commit (prewrites s xs)) (has_commit ys) (no_prewrite s xs) none
+
+clear_answer : (x : Cell) (a : Answer) → CanAnswer (Clear x) a → is_commit a ≡ false
+clear_answer x answers.Absent can = refl
+clear_answer x answers.Waits can = refl
+clear_answer x (answers.CommittedAt c) can = refl
+clear_answer x answers.RolledBack can = refl
+clear_answer x _ can = absurd can
+
+settle_answer : (x : Cell) (a : Answer) → CanAnswer (Settle x) a → is_commit a ≡ false
+settle_answer x answers.Absent can = refl
+settle_answer x (answers.Locked start primary) can = refl
+settle_answer x answers.RolledBack can = refl
+settle_answer x _ can = absurd can
+
+cleared : (xs : List Cell) (rs : List Received) → AreCleared xs rs → has_commit rs ≡ false
+cleared [] rs c = rw c refl
+cleared (x ∷ xs) [] c = absurd c
+cleared (x ∷ xs) (r ∷ rs) c = both_false (is_commit r.answer) (has_commit rs) (clear_answer x r.answer (subst (λ s. CanAnswer s r.answer) c.0 c.1)) (cleared xs rs c.2)
+
+-- some way to clear the rest
+clears : List Cell → List Received
+clears [] = []
+clears (x ∷ xs) = told (Clear x) Absent ∷ clears xs
+
+are_cleared : (xs ys : List Cell) (rs : List Received) → AreCleared xs rs → AreCleared (xs ++ ys) (rs ++ clears ys)
+unfolding clears
+are_cleared [] [] rs c = rw c refl
+are_cleared [] (y ∷ ys) rs c = rw c (refl, tt, are_cleared [] ys [] refl)
+are_cleared (x ∷ xs) ys [] c = absurd c
+are_cleared (x ∷ xs) ys (r ∷ rs) c = (c.0, c.1, are_cleared xs ys rs c.2)
+
+-- a whole conversation has no commit, or clears nothing
+by_form : (s : Ts) (what : Declared) (cells : List Cell) (said : List Received) (o : Outcome) → IsWhole s what cells said o → (has_commit said ≡ false) ⊎ (has_clear said ≡ false)
+by_form s what cells said o (committed x others c) =
+    inr (clear_in (prewrites s (x ∷ others)) (told (Stamp s) (At c) ∷ told (CommitPrimary s) Committed ∷ secondaries s others) ∙ both_false (has_clear (prewrites s (x ∷ others))) (has_clear (secondaries s others)) (prewrites_clear s (x ∷ others)) (secondaries_clear s others))
+by_form s what cells said o (conflicted_first x after) = inl refl
+by_form s what cells said o (conflicted_later x y before after a cs can c) =
+    inl (none_after s (x ∷ before) (told (Prewrite s y) Conflict ∷ told (Settle x) a ∷ cs) (both_false (is_commit a) (has_commit cs) (settle_answer x a can) (cleared before cs c)))
+by_form s what cells said o (lost x others c cs k) = inl (none_after s (x ∷ others) (told (Stamp s) (At c) ∷ told (CommitPrimary s) Lost ∷ cs) (cleared others cs k))
+
+-- ---- at a place
+
+abbrev Commits : Ts → Declared → List Received → Type 0
+Commits s what rest = (c : Ts) × Has rest (told (Declare s what) Done) × Has rest (told (Stamp s) (At c)) × Has rest (told (CommitPrimary s) Committed)
+
+paid : (s : Ts) (what : Declared) (xs : List Cell) (c : Ts) (more : List Received) → Commits s what (told (Declare s what) Done ∷ prewrites s xs ++ told (Stamp s) (At c) ∷ told (CommitPrimary s) Committed ∷ more)
+paid s what xs c more =
+    let rest = told (Stamp s) (At c) ∷ told (CommitPrimary s) Committed ∷ more in
+    (c, inl refl, inr (has_right (prewrites s xs) rest (told (Stamp s) (At c)) (inl refl)), inr (has_right (prewrites s xs) rest (told (CommitPrimary s) Committed) (inr (inl refl))))
+
+whole_commits : (s : Ts) (what : Declared) (cells : List Cell) (said : List Received) (o : Outcome) → IsWhole s what cells said o → has_commit said ≡ true → Commits s what said
+whole_commits s what cells said o (committed x others c) e = paid s what (x ∷ others) c (secondaries s others)
+whole_commits s what cells said o (conflicted_first x after) e = cc
+whole_commits s what cells said o (conflicted_later x y before after a cs can c) e =
+    absurd (not_both _ e (none_after s (x ∷ before) (told (Prewrite s y) Conflict ∷ told (Settle x) a ∷ cs) (both_false (is_commit a) (has_commit cs) (settle_answer x a can) (cleared before cs c))))
+whole_commits s what cells said o (lost x others c cs k) e = absurd (not_both _ e (none_after s (x ∷ others) (told (Stamp s) (At c) ∷ told (CommitPrimary s) Lost ∷ cs) (cleared others cs k)))
+
+clears_some : (y : Cell) (left : List Cell) → has_clear (clears (y ∷ left)) ≡ true
+unfolding clears
+clears_some y left = refl
+
+true_right : (a b : Bool) → b ≡ true → (a || b) ≡ true
+true_right true b e = refl
+true_right false b e = e
+
+module _ (s : Ts) (what : Declared) (x : Cell) (others : List Cell) where
+  -- where it clears, nothing was committed
+  clearing_none : (o : Outcome) (done : List Cell) (y : Cell) (left : List Cell) (said cs : List Received) → AreCleared done cs → ((all : List Received) → AreCleared (done ++ y ∷ left) all → IsWhole s what (x ∷ others) (said ++ all) o)
+      → has_commit (said ++ cs) ≡ true → ⊥
+  clearing_none o done y left said cs c ends e =
+      let rest = clears (y ∷ left) in
+      let w = ends (cs ++ rest) (are_cleared done (y ∷ left) cs c) in
+      elim (by_form s what (x ∷ others) (said ++ (cs ++ rest)) o w) [
+        | inl none ↦
+            let split : has_commit (said ++ (cs ++ rest)) ≡ (has_commit said || (has_commit cs || has_commit rest)) = commit_in said (cs ++ rest) ∙ ap (λ b. has_commit said || b) (commit_in cs rest) in
+            let joined : ((has_commit said || has_commit cs) || has_commit rest) ≡ false = sym (or_assoc (has_commit said) (has_commit cs) (has_commit rest)) ∙ sym split ∙ none in
+            not_both (has_commit (said ++ cs)) e (commit_in said cs ∙ left_false (has_commit said || has_commit cs) (has_commit rest) joined)
+        | inr none ↦
+            let some : has_clear (said ++ (cs ++ rest)) ≡ true =
+            clear_in said (cs ++ rest) ∙ true_right (has_clear said) (has_clear (cs ++ rest)) (clear_in cs rest ∙ true_right (has_clear cs) (has_clear rest) (clears_some y left)) in
+            not_both (has_clear (said ++ (cs ++ rest))) some none
+      ]
+
+  at_place : (p : Place) (said : List Received) → SoFar s what x others p said → has_commit said ≡ true → Commits s what said
+  at_place p said declaring e = cc
+  at_place p said (prewriting before y after at) e = absurd (not_both _ e (no_prewrite s before))
+  at_place p said stamping e = absurd (not_both _ e (no_prewrite s (x ∷ others)))
+  at_place p said (committing c) e = absurd (not_both _ e (none_after s (x ∷ others) (told (Stamp s) (At c) ∷ []) refl))
+  at_place p said (finishing c done y left at) e = paid s what (x ∷ others) c (secondaries s done)
+  at_place p said (settling before y after at) e = absurd (not_both _ e (none_after s (x ∷ before) (told (Prewrite s y) Conflict ∷ []) refl))
+  at_place p all (clearing o done y left more said cs at c ends) e = absurd (clearing_none o done y left said cs c ends e)
+  at_place p said (over o said' w) e = whole_commits s what (x ∷ others) said o w e
+
+of_begun : (batch : Writes) (r : Received) (rest : List Received) (q : ChangeOf) → batch ≢ [] → HasBegun batch r rest q → has_commit (r ∷ rest) ≡ true → HasCommitted batch (r ∷ rest)
+of_begun [] r rest q some b e = absurd (some refl)
+of_begun (w ∷ ws) r rest q some b e =
+    let batch : Writes = w ∷ ws in
+    let s : Ts = record { 0 = b.s } in
+    let first : has_commit (told (Begin works.Script) (At s) ∷ rest) ≡ true = ap (λ (z : Received). has_commit (z ∷ rest)) (sym b.first) ∙ e in
+    let so = said_all s (declared.Script batch) w.0 _ refl (fresh b.s (declared.Script batch)) b.plan [] rest refl refl declaring b.said in
+    let k = at_place s (declared.Script batch) w.0 _ b.plan.place rest so first in
+    record { start = s; commit = k.0; begun = inl b.first; declared = inr k.1; stamped = inr k.2; committed = inr k.3 }
+
+pub cut_commits : (batch : Writes) (part : List Received) (q : ChangeOf) → batch ≢ [] → Talks (new_change batch) part q → has_commit part ≡ true → HasCommitted batch part
+cut_commits batch [] q some t e = cc
+cut_commits batch (r ∷ rest) q some t e = of_begun batch r rest q some (has_begun batch r rest q t) e

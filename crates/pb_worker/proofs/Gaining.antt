@@ -1,0 +1,42 @@
+-- A seat's list goes on.
+use Rattle.std.proofs.Common.{◌≡◌, ℕ, List, [], ◌∷◌, ◌++◌, refl, sym, ap, subst, ◌∙◌}
+use Rattle.pb_steps.specs.declared.step.Step.{Step}
+use Rattle.pb_steps.specs.declared.step.Answer.{Answer}
+use Rattle.pb_history.specs.declared.entry.Received.{Received}
+use Rattle.pb_core.specs.Calls.{SeatOf}
+use Rattle.pb_txn.specs.Talks.{told}
+use Rattle.pb_worker.specs.Gains.{Told, Gains}
+
+pub append_assoc : {A : Type 0} (xs ys zs : List A) → (xs ++ ys) ++ zs ≡ xs ++ (ys ++ zs)
+append_assoc [] ys zs = refl
+append_assoc (x ∷ xs) ys zs = ap (λ l. x ∷ l) (append_assoc xs ys zs)
+
+pub append_nil : {A : Type 0} (xs : List A) → xs ++ [] ≡ xs
+append_nil [] = refl
+append_nil (x ∷ xs) = ap (λ l. x ∷ l) (append_nil xs)
+
+pub gains_none : {P : List Received → Type 0} (a : SeatOf) → P [] → Gains P a a
+gains_none a is = record { said = []; number = refl; received = sym (append_nil a.received); are_such = is }
+
+pub gains_as : {P R : List Received → Type 0} (a b : SeatOf) → ((said : List Received) → P said → R said) → Gains P a b → Gains R a b
+gains_as a b h g = record { said = g.said; number = g.number; received = g.received; are_such = h g.said g.are_such }
+
+pub gains_on : {P Q R : List Received → Type 0} (a b c : SeatOf) → Gains P a b → Gains Q b c → ((said more : List Received) → P said → Q more → R (said ++ more)) → Gains R a c
+gains_on a b c g h join = record {
+  said = g.said ++ h.said;
+  number = h.number ∙ g.number;
+  received = h.received ∙ ap (λ l. l ++ h.said) g.received ∙ append_assoc a.received g.said h.said;
+  are_such = join g.said h.said g.are_such h.are_such;
+}
+
+pub gains_more : {P R : List Received → Type 0} (a b c : SeatOf) (step : Step) (answer : Answer) → Gains P a b → Told b step answer c → ((said : List Received) → P said → R (said ++ told step answer ∷ [])) → Gains R a c
+gains_more a b c step answer g t join = record {
+  said = g.said ++ told step answer ∷ [];
+  number = t.number ∙ g.number;
+  received = t.received ∙ ap (λ l. l ++ told step answer ∷ []) g.received ∙ append_assoc a.received g.said (told step answer ∷ []);
+  are_such = join g.said g.are_such;
+}
+
+-- where the part speaks of the seat's number
+pub renumbered : (P : ℕ → List Received → Type 0) (a b : SeatOf) (n k : ℕ) → n ≡ k → Gains (P n) a b → Gains (P k) a b
+renumbered P a b n k same g = subst (λ m. Gains (P m) a b) same g

@@ -1,0 +1,97 @@
+-- What all workers did, said of their seats.
+use Rattle.std.proofs.Common.{◌≡◌, ℕ, zero, suc, ◌+◌, ◌-◌, ◌<◌, Bool, List, [], ◌∷◌, ◌++◌, length, map, take, drop, Option, None, refl, sym, ap, subst, ◌∙◌, arith}
+use Rattle.std.specs.Prelude.{slice_index_or}
+use Rattle.std.proofs.lemmas.List.{get_or-map}
+use Rattle.std.proofs.lemmas.Option.{slice_get-get_or}
+use Rattle.std.proofs.Math.Seq.{take-append_seam}
+use Rattle.pb_base.specs.declared.refusal.Refusal.{Refusal}
+use Rattle.pb_base.specs.Batch.{Writes}
+use Rattle.pb_steps.specs.Observers.{ObserverOf}
+use Rattle.pb_history.specs.declared.entry.Entry.{Entry}
+use Rattle.pb_core.specs.Calls.{SeatOf, AreSeatsFrom}
+use Rattle.pb_worker.specs.declared.worker.Worker.{Worker}
+use Rattle.pb_worker.specs.Gains.{Gains}
+use Rattle.pb_worker.specs.Work.{IsWork, IsLastDrain, AllWork, WorkedOn, AreFilled, seats_in, refusals_in, done_in, flags_in, is_done, undone_below}
+
+-- a slice that was written whole
+pub whole_written : (n : ℕ) (xs ys : List Worker) → length xs ≡ length ys → n ≡ length ys → take n (xs ++ drop (length xs) ys) ≡ xs
+whole_written n xs ys same is =
+    let n-is : n ≡ length xs = is ∙ sym same in
+    rw n-is (take-append_seam xs (drop (length xs) ys))
+
+pub numbered : (from : ℕ) (journal : List Entry) (seats : List SeatOf) → AreSeatsFrom from journal seats → (k : ℕ) (d : SeatOf) → k < length seats → (slice_index_or seats k d).number ≡ from + k
+numbered from j [] a k d lt = absurd (omega (arith, lt))
+numbered from j (s ∷ ss) a zero d lt = a.0 ∙ omega arith
+numbered from j (s ∷ ss) a (suc k) d lt =
+    let next : (from + 1) + k ≡ from + suc k = omega arith in
+    numbered (from + 1) j ss a.2 k d (omega arith) ∙ next
+
+length_map : {A B : Type 0} (f : A → B) (xs : List A) → length (map f xs) ≡ length xs
+length_map f [] = refl
+length_map f (x ∷ xs) = ap suc (length_map f xs)
+
+pub some_olds : (olds : List Worker) (seats : List SeatOf) → seats_in olds ≡ seats → 1 < length seats → 1 < length olds
+some_olds olds seats is some = subst (λ n. 1 < n) (ap length (sym is) ∙ length_map (λ (w : Worker). w.seat) olds) some
+
+some_worker : (ws : List Worker) → 1 < length ws → Worker
+some_worker [] lt = absurd (omega (arith, lt))
+some_worker (w ∷ ws) lt = w
+
+module _ (observers : List ObserverOf) (batches : List Writes) (olds news : List Worker) (journal : List Entry) (some : 1 < length olds) (are : AreSeatsFrom 0 journal (seats_in olds)) (all : AllWork observers batches olds news) where
+  abbrev refusal_of : Worker → Option Refusal
+  refusal_of w = w.refusal
+
+  e : Worker
+  e = some_worker olds some
+
+  old_seat : (k : ℕ) (d : SeatOf) → k < length olds → (slice_index_or olds k e).seat ≡ slice_index_or (seats_in olds) k d
+  old_seat k d lt = sym (get_or-map (λ (w : Worker). w.seat) olds k e d lt)
+
+  new_seat : (k : ℕ) (d : SeatOf) → k < length olds → (slice_index_or news k e).seat ≡ slice_index_or (seats_in news) k d
+  new_seat k d lt = sym (get_or-map (λ (w : Worker). w.seat) news k e d (subst (λ n. k < n) (sym all.counted) lt))
+
+  refusal : (k : ℕ) → k < length olds → (slice_index_or news k e).refusal ≡ slice_index_or (refusals_in news) k None
+  refusal k lt = sym (get_or-map refusal_of news k e None (subst (λ n. k < n) (sym all.counted) lt))
+
+  number : (k : ℕ) → k < length olds → (slice_index_or olds k e).seat.number ≡ k
+  number k lt =
+      let plain : 0 + k ≡ k = omega arith in
+      ap (λ (s : SeatOf). s.number) (old_seat k e.seat lt) ∙ numbered 0 journal (seats_in olds) are k e.seat (subst (λ n. k < n) (sym (length_map (λ (w : Worker). w.seat) olds)) lt) ∙ plain
+
+  one : (w : ℕ) (d : SeatOf) → w + 1 < length olds
+      → Gains (IsWork (w + 1) observers batches (length olds - 1) w (flags_in news w) (slice_index_or (refusals_in news) (w + 1) None)) (slice_index_or (seats_in olds) (w + 1) d) (slice_index_or (seats_in news) (w + 1) d)
+  one w d lt =
+      let n = length olds - 1 in
+      let a = slice_index_or olds (w + 1) e in
+      let b = slice_index_or news (w + 1) e in
+      let k = all.workers w e lt in
+      let flags : b.done.items ≡ flags_in news w = sym (ap done_in (slice_get-get_or news (w + 1) e (subst (λ m. w + 1 < m) (sym all.counted) lt))) in
+      let g1 : Gains (IsWork (w + 1) observers batches n w b.done.items b.refusal) a.seat b.seat = subst (λ m. Gains (IsWork m observers batches n w b.done.items b.refusal) a.seat b.seat) (number (w + 1) lt) k.gains in
+      let g2 : Gains (IsWork (w + 1) observers batches n w (flags_in news w) b.refusal) a.seat b.seat = subst (λ (fs : List Bool). Gains (IsWork (w + 1) observers batches n w fs b.refusal) a.seat b.seat) flags g1 in
+      let g3 = subst (λ (r : Option Refusal). Gains (IsWork (w + 1) observers batches n w (flags_in news w) r) a.seat b.seat) (refusal (w + 1) lt) g2 in
+      let g4 = subst (λ (s : SeatOf). Gains (IsWork (w + 1) observers batches n w (flags_in news w) (slice_index_or (refusals_in news) (w + 1) None)) s b.seat) (old_seat (w + 1) d lt) g3 in
+      subst (λ (s : SeatOf). Gains (IsWork (w + 1) observers batches n w (flags_in news w) (slice_index_or (refusals_in news) (w + 1) None)) (slice_index_or (seats_in olds) (w + 1) d) s) (new_seat (w + 1) d lt) g4
+
+  first : (d : SeatOf) → Gains (IsLastDrain 0 observers (slice_index_or (refusals_in news) 0 None)) (slice_index_or (seats_in olds) 0 d) (slice_index_or (seats_in news) 0 d)
+  first d =
+      let lt : 0 < length olds = omega (arith, some) in
+      let a = slice_index_or olds 0 e in
+      let b = slice_index_or news 0 e in
+      let g1 : Gains (IsLastDrain 0 observers b.refusal) a.seat b.seat = subst (λ m. Gains (IsLastDrain m observers b.refusal) a.seat b.seat) (number 0 lt) (all.main e).gains in
+      let g2 = subst (λ (r : Option Refusal). Gains (IsLastDrain 0 observers r) a.seat b.seat) (refusal 0 lt) g1 in
+      let g3 = subst (λ (s : SeatOf). Gains (IsLastDrain 0 observers (slice_index_or (refusals_in news) 0 None)) s b.seat) (old_seat 0 d lt) g2 in
+      subst (λ (s : SeatOf). Gains (IsLastDrain 0 observers (slice_index_or (refusals_in news) 0 None)) (slice_index_or (seats_in olds) 0 d) s) (new_seat 0 d lt) g3
+
+  many : length (seats_in olds) ≡ length olds
+  many = length_map (λ (w : Worker). w.seat) olds
+
+  pub joined : AreFilled batches → WorkedOn observers batches (seats_in olds) (seats_in news) (refusals_in news) (undone_below (is_done (flags_in news) (length news - 1)) (length batches))
+  joined filled = record {
+    filled = filled;
+    seats = length_map (λ (w : Worker). w.seat) news ∙ all.counted ∙ sym many;
+    refused = length_map refusal_of news ∙ all.counted ∙ sym many;
+    done = flags_in news;
+    workers = λ w d lt. subst (λ n. Gains (IsWork (w + 1) observers batches (n - 1) w (flags_in news w) (slice_index_or (refusals_in news) (w + 1) None)) (slice_index_or (seats_in olds) (w + 1) d) (slice_index_or (seats_in news) (w + 1) d)) (sym many) (one w d (subst (λ n. w + 1 < n) many lt));
+    main = first;
+    unfinished_are = ap (λ n. undone_below (is_done (flags_in news) (n - 1)) (length batches)) (all.counted ∙ sym many);
+  }

@@ -1,0 +1,12 @@
+pub mod Refusing
+pub mod Gaining
+pub mod TryAlong
+pub mod ChangesAlong
+pub mod RunAlong
+pub mod PassAlong
+pub mod WorkAlong
+pub mod Joined
+pub mod Walks
+pub mod Committing
+pub mod CutTries
+pub mod Making

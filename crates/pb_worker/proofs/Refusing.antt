@@ -1,0 +1,28 @@
+-- Why a call was refused.
+use Rattle.std.proofs.Common.{◌≡◌, ℕ, Option, Some, None, Result, Ok, Err, IfErr, refl, sym, subst, inl, inr}
+use Rattle.pb_base.specs.declared.refusal.Reason.{Reason}
+use Rattle.pb_base.specs.declared.refusal.Reason.TheVariants.{NoMemory}
+use Rattle.pb_base.specs.declared.refusal.Refusal.{Refusal}
+use Rattle.pb_base.specs.Reasons.{refusal_by}
+use Rattle.pb_steps.specs.declared.step.Step.{Step}
+use Rattle.pb_steps.specs.declared.step.Answer.{Answer}
+use Rattle.pb_core.specs.Calls.{SharedOf, call_reason}
+use Rattle.pb_core.specs.Histories.{IsLegalTable}
+use Rattle.pb_worker.specs.Gains.{MayRefuse, IsStop}
+
+want : (n : ℕ) (step : Step) (res : Result Answer Refusal) → IfErr res (λ r. r ≡ refusal_by NoMemory) → IfErr res (λ r. MayRefuse n step r)
+want n step (Ok a) h = tt
+want n step (Err r) h = inl h
+
+pub may_refuse : (s : SharedOf) (n : ℕ) (step : Step) (res : Result Answer Refusal) → IsLegalTable s → ((w : Reason) → call_reason s n step ≡ Some w → res ≡ Err (refusal_by w))
+    → (call_reason s n step ≡ None → IfErr res (λ r. r ≡ refusal_by NoMemory)) → IfErr res (λ r. MayRefuse n step r)
+may_refuse s n step res legal refused allowed = by (call_reason s n step) refl
+  where
+    by : (o : Option Reason) → call_reason s n step ≡ o → IfErr res (λ r. MayRefuse n step r)
+    by None e = want n step res (allowed e)
+    by (Some w) e = subst (λ (z : Result Answer Refusal). IfErr z (λ r. MayRefuse n step r)) (sym (refused w e)) (inr (record { shared = s; legal = legal; why = w; refused = e; told = refl }))
+
+-- the step that was asked next was refused
+pub stops_at : (n : ℕ) (next : Option Step) (step : Step) (r : Refusal) → next ≡ Some step → MayRefuse n step r → IsStop n next r
+stops_at n next step r e (inl w) = inl w
+stops_at n next step r e (inr h) = inr (step, e, h)

@@ -1,0 +1,150 @@
+-- An observer's run on its way to its end.
+use Rattle.std.proofs.Common.{◌≡◌, ◌≢◌, ℕ, ◌+◌, ◌-◌, ◌<◌, List, [], ◌∷◌, ◌++◌, Option, Some, None, inl, refl, sym, ap, subst, ◌∙◌, arith}
+use Rattle.pb_base.specs.declared.cell.Cell.{Cell}
+use Rattle.pb_base.specs.declared.cell.Cell.TheVariants.{Data}
+use Rattle.pb_base.specs.Cell.{row_of}
+use Rattle.pb_base.specs.declared.names.Ts.{Ts}
+use Rattle.pb_base.specs.declared.refusal.Refusal.{Refusal}
+use Rattle.pb_isa.specs.Programs.{JudgedOf}
+use Rattle.pb_isa.specs.Slots.{slots}
+use Rattle.pb_vm.specs.Position.{Position}
+use Rattle.pb_steps.specs.declared.step.Step.{Step}
+use Rattle.pb_steps.specs.declared.step.Answer.{Answer}
+use Rattle.pb_steps.specs.Answers.{CanAnswer}
+use Rattle.pb_steps.specs.Observers.{ObserverOf}
+use Rattle.pb_core.specs.Calls.{SeatOf}
+use Rattle.pb_txn.specs.Talks.{told}
+use Rattle.pb_notify.specs.declared.machine.stepped.Stepped.{Stepped}
+use Rattle.pb_notify.specs.declared.machine.stepped.Stepped.TheVariants as did
+use Rattle.pb_notify.specs.declared.need.Need.{Need}
+use Rattle.pb_notify.specs.declared.need.Need.TheVariants.{Local, Call, Over}
+use Rattle.pb_notify.specs.declared.need.JobEnd.{JobEnd}
+use Rattle.pb_notify.specs.declared.place.Place.{Place}
+use Rattle.pb_notify.specs.declared.place.Place.TheVariants.{Starting, Computing}
+use Rattle.pb_notify.specs.Places.{ComesFrom, Comes, place_of}
+use Rattle.pb_notify.specs.Steps.{Steps}
+use Rattle.pb_notify.specs.Runs.{RunOf, HasNext, next_of, need_of, answered, HearsLook, Computes}
+use Rattle.pb_notify.specs.Talks.{Reaches, made, took, computed}
+use Rattle.pb_notify.specs.Forms.{JobsEnd, JobsTalk}
+use Rattle.pb_worker.specs.Gains.{Gains, Told, MayRefuse, IsStop, IsWant}
+use Rattle.pb_worker.specs.Passes.{IsObserverOf, HasColumn, IsJobOn, IsRun, job_on, ReachesOn}
+use Rattle.pb_worker.specs.Stops.{RunStops}
+use Rattle.pb_worker.proofs.Refusing.{stops_at}
+use Rattle.pb_worker.proofs.Gaining.{gains_none, gains_more, gains_as}
+
+-- ---- its machine
+
+-- how many instructions are left at most, and one more
+abbrev pub left : JudgedOf → Place → ℕ
+left judged (Starting s seen) = slots judged.program.insns + 2
+left judged (Computing s v) = (slots v.judged.program.insns - v.taken) + 1
+left judged _ = 0
+
+comes_by : (judged : JudgedOf) (o : ℕ) (s : Ts) (v : Position) (stepped : Stepped) → Steps o v stepped → left judged (place_of s stepped) < (slots v.judged.program.insns - v.taken) + 1
+comes_by judged o s v (did.Went w) st =
+    let same : slots w.judged.program.insns ≡ slots v.judged.program.insns = ap (λ (j : JudgedOf). slots j.program.insns) st.went.given.judged in
+    let one = st.went.taken in
+    let most = st.most in
+    omega (arith, same, one, most)
+comes_by judged o s v (did.Asks w q) st = omega arith
+comes_by judged o s v (did.Ended r what) st = omega arith
+
+comes_less : (judged : JudgedOf) (o : ℕ) (s : Ts) (v : Position) (after : Place) → Comes o s v after → left judged after < (slots v.judged.program.insns - v.taken) + 1
+comes_less judged o s v after c = subst (λ p. left judged p < (slots v.judged.program.insns - v.taken) + 1) (sym c.place_is) (comes_by judged o s v c.stepped c.steps)
+
+less_left : (judged : JudgedOf) (o : ℕ) (x : Cell) (before after : Place) → ComesFrom o judged x before after → left judged after < left judged before
+less_left judged o x (Starting s seen) after c = let l = comes_less judged o s _ after c.comes in omega (arith, l)
+less_left judged o x (Computing s v) after c = comes_less judged o s v after c
+less_left judged o x _ after c = absurd c
+
+abbrev pub left_of : RunOf → ℕ
+left_of j = left j.judged j.place
+
+pub less : (j k : RunOf) → Computes j k → left_of k < left_of j
+less j k c =
+    let same : k.judged ≡ j.judged = ap (λ (z : RunOf). z.judged) c.same in
+    subst (λ d. left d k.place < left_of j) (sym same) (less_left j.judged j.observer (Data j.row j.column) j.place k.place c.comes)
+
+pub on : (j k l : RunOf) → ReachesOn j k → need_of k ≡ Local → Computes k l → ReachesOn j l
+on j k l r is c first said h = computed said k l (r first said h) is c
+
+-- ---- its steps
+
+pub record IsAlong (observers : List ObserverOf) (n : ℕ) (x : Cell) (a b : SeatOf) (job : RunOf) : Type 0 where
+  pub o : ObserverOf
+  pub observer : IsObserverOf observers n x o
+  pub gains : Gains (λ said. Reaches (job_on n o x) said job) a b
+
+begins : (n : ℕ) (o : ObserverOf) (x : Cell) → need_of (job_on n o x) ≢ Local
+begins n o x e = cc
+
+same_some : (o p : ObserverOf) → Some o ≡ Some p → o ≡ p
+same_some o p e = cc
+
+job_is : (observers : List ObserverOf) (n : ℕ) (x : Cell) (job : RunOf) (known : HasColumn observers n x) → IsJobOn observers n x job → job ≡ job_on n known.0 x
+job_is observers n x job known is =
+    let same : is.o ≡ known.0 = same_some is.o known.0 (sym is.there ∙ known.1.there) in
+    is.job_is ∙ ap (λ p. job_on n p x) same
+
+pub first : (observers : List ObserverOf) (n : ℕ) (x : Cell) (a : SeatOf) (job : RunOf) → HasColumn observers n x → IsJobOn observers n x job → IsAlong observers n x a a job
+first observers n x a job known is = record {
+  o = known.0;
+  observer = known.1;
+  gains = gains_none a (subst (λ j. Reaches (job_on n known.0 x) [] j) (sym (job_is observers n x job known is)) made);
+}
+
+pub first_calls : (observers : List ObserverOf) (n : ℕ) (x : Cell) (job : RunOf) → HasColumn observers n x → IsJobOn observers n x job → need_of job ≢ Local
+first_calls observers n x job known is = subst (λ j. need_of j ≢ Local) (sym (job_is observers n x job known is)) (begins n known.0 x)
+
+-- it couldn't be made
+pub not_made : (observers : List ObserverOf) (n : ℕ) (x : Cell) (a : SeatOf) → JobsTalk → HasColumn observers n x → (r : Refusal) → IsWant r → Gains (RunStops a.number observers n x r) a a
+not_made observers n x a law known r want = gains_none a (record {
+  o = known.0;
+  observer = known.1;
+  job = job_on n known.0 x;
+  reaches = made;
+  begins = law n known.0.program (row_of x) known.0.column [] (job_on n known.0 x) made;
+  stop = inl want;
+})
+
+module _ (observers : List ObserverOf) (n : ℕ) (x : Cell) (a b : SeatOf) (job : RunOf) (along : IsAlong observers n x a b job) where
+  pub next : (step : Step) → next_of job ≡ Some step → (answer : Answer) → CanAnswer step answer → (c : SeatOf) → Told b step answer c → (l : RunOf) → l ≡ answered job answer → HearsLook job answer l → (k : RunOf) → ReachesOn l k
+      → IsAlong observers n x a c k
+  next step e answer can c t l is hears k on_to = record {
+    o = along.o;
+    observer = along.observer;
+    gains = gains_more a b c step answer along.gains t (λ said h. on_to (job_on n along.o x) (said ++ told step answer ∷ []) (took said job (told step answer) l h e can is hears));
+  }
+
+  stopped : JobsTalk → (r : Refusal) → IsStop a.number (next_of job) r → Gains (RunStops a.number observers n x r) a b
+  stopped law r stop = gains_as a b (λ said h. record { o = along.o; observer = along.observer; job = job; reaches = h; begins = law n along.o.program (row_of x) along.o.column said job h; stop = stop }) along.gains
+
+  pub refused : JobsTalk → (step : Step) → next_of job ≡ Some step → (r : Refusal) → MayRefuse b.number step r → Gains (RunStops a.number observers n x r) a b
+  refused law step e r h = stopped law r (stops_at a.number (next_of job) step r e (subst (λ m. MayRefuse m step r) along.gains.number h))
+
+  pub wants : JobsTalk → (r : Refusal) → IsWant r → Gains (RunStops a.number observers n x r) a b
+  wants law r w = stopped law r (inl w)
+
+  -- at its end
+  over_by : (need : Need) → need_of job ≡ need → need_of job ≢ Local → next_of job ≡ None → (need_of job ≡ Call → HasNext job) → (end : JobEnd) × (need_of job ≡ Over end)
+  over_by Local e calls none some = absurd (calls e)
+  over_by Call e calls none some = let h = some e in absurd (none_some h.0 (sym none ∙ h.1))
+    where
+      none_some : (step : Step) → ◌≡◌ {A = Option Step} None (Some step) → ⊥
+      none_some step p = cc
+  over_by (Over end) e calls none some = (end, e)
+
+  pub ran : JobsEnd → need_of job ≢ Local → next_of job ≡ None → (need_of job ≡ Call → HasNext job) → Gains (IsRun observers n x) a b
+  ran law calls none some =
+      let over = over_by (need_of job) refl calls none some in
+      gains_as a b (λ said h. let whole = law n along.o.program (row_of x) along.o.column said job over.0 h over.1 in record {
+        o = along.o;
+        observer = along.observer;
+        job = job;
+        reaches = h;
+        end = over.0;
+        over = over.1;
+        run = whole.0;
+        talk = whole.1;
+        meant = whole.2;
+      }) along.gains

@@ -1,0 +1,7 @@
+use Rattle.std.proofs.Common.{◌≡◌, ◌≢◌, ℕ, ◌<◌, [], Some}
+use Rattle.std.specs.Prelude.{slice_get}
+use Rattle.pb_base.specs.Batch.{Writes}
+use Rattle.pb_worker.proofs.run.look_through.Given as goal
+
+abbrev pub invariant-loop-batch : goal.invariant-loop-batch
+invariant-loop-batch l = (i : ℕ) (b : Writes) → i < l.batch-index → slice_get l.fn.batches i ≡ Some b → b ≢ []

@@ -1,0 +1,43 @@
+-- What a seat gained, and why its worker stopped.
+use Rattle.std.specs.Prelude.{◌≡◌, ℕ, ◌⊎◌, List, [], ◌∷◌, ◌++◌, Option, Some}
+use Rattle.pb_base.specs.declared.refusal.Reason.{Reason}
+use Rattle.pb_base.specs.declared.refusal.Reason.TheVariants.{NoMemory}
+use Rattle.pb_base.specs.declared.refusal.Refusal.{Refusal}
+use Rattle.pb_base.specs.Reasons.{refusal_by}
+use Rattle.pb_steps.specs.declared.step.Step.{Step}
+use Rattle.pb_steps.specs.declared.step.Answer.{Answer}
+use Rattle.pb_history.specs.declared.entry.Received.{Received}
+use Rattle.pb_core.specs.Calls.{SharedOf, SeatOf, call_reason}
+use Rattle.pb_core.specs.Histories.{IsLegalTable}
+use Rattle.pb_txn.specs.Talks.{told}
+
+-- a seat was told one more answer
+pub record Told (old : SeatOf) (step : Step) (answer : Answer) (new : SeatOf) : Type 0 where
+  pub number : new.number ≡ old.number
+  pub received : new.received ≡ old.received ++ told step answer ∷ []
+
+-- the seat's list went on by such a part
+pub record Gains (AreSuch : List Received → Type 0) (old new : SeatOf) : Type 0 where
+  pub said : List Received
+  pub number : new.number ≡ old.number
+  pub received : new.received ≡ old.received ++ said
+  pub are_such : AreSuch said
+
+-- some table with a legal journal refuses this seat the step with this number
+pub record IsRefused (seat : ℕ) (step : Step) (r : Refusal) : Type 0 where
+  pub shared : SharedOf
+  pub legal : IsLegalTable shared
+  pub why : Reason
+  pub refused : call_reason shared seat step ≡ Some why
+  pub told : r ≡ refusal_by why
+
+abbrev pub IsWant : Refusal → Type 0
+IsWant r = r ≡ refusal_by NoMemory
+
+-- a call was refused: for want of memory, or by the table
+abbrev pub MayRefuse : ℕ → Step → Refusal → Type 0
+MayRefuse seat step r = IsWant r ⊎ IsRefused seat step r
+
+-- it stopped for want of memory, or at the step that it asked next, which was refused
+abbrev pub IsStop : ℕ → Option Step → Refusal → Type 0
+IsStop seat next r = IsWant r ⊎ ((step : Step) × (next ≡ Some step) × IsRefused seat step r)

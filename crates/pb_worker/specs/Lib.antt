@@ -1,0 +1,7 @@
+pub mod Gains
+pub mod Passes
+pub mod Tries
+pub mod Stops
+pub mod Work
+pub mod Agrees
+pub mod Laws

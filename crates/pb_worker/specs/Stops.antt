@@ -1,0 +1,91 @@
+-- Where a worker stopped: just a beginning of what it was to say, and the step that it asked next.
+use Rattle.std.specs.Prelude.{◌≡◌, ℕ, ◌+◌, ◌*◌, ◌<◌, ◌⊎◌, Bool, false, List, [], ◌∷◌, ◌++◌, length, Option, Some, slice_get}
+use Rattle.pb_base.specs.declared.cell.Cell.{Cell}
+use Rattle.pb_base.specs.declared.names.Ts.{Ts}
+use Rattle.pb_base.specs.declared.refusal.Refusal.{Refusal}
+use Rattle.pb_base.specs.Batch.{Writes}
+use Rattle.pb_base.specs.Cell.{row_of}
+use Rattle.pb_vm.specs.Finished.{Meant}
+use Rattle.pb_steps.specs.declared.step.Step.TheVariants.{NextMark}
+use Rattle.pb_steps.specs.declared.step.Answer.TheVariants.{Marked}
+use Rattle.pb_steps.specs.Observers.{ObserverOf}
+use Rattle.pb_history.specs.declared.entry.Received.{Received}
+use Rattle.pb_txn.specs.declared.place.Outcome.{Outcome}
+use Rattle.pb_txn.specs.Changes.{ChangeOf, new_change, Talks, IsWholeChange}
+use Rattle.pb_txn.specs.Changes as changes
+use Rattle.pb_txn.specs.Talks.{told}
+use Rattle.pb_notify.specs.declared.need.JobEnd.{JobEnd}
+use Rattle.pb_notify.specs.Runs.{RunOf}
+use Rattle.pb_notify.specs.Runs as runs
+use Rattle.pb_notify.specs.Talks.{Reaches}
+use Rattle.pb_notify.specs.Forms.{IsRunTalk}
+use Rattle.pb_worker.specs.declared.tries.TheConstants.{MAX_TRIES}
+use Rattle.pb_worker.specs.declared.passes.TheConstants.{MAX_PASSES}
+use Rattle.pb_worker.specs.Gains.{IsStop}
+use Rattle.pb_worker.specs.Tries.{has_commit, AreVain, AreTried}
+use Rattle.pb_worker.specs.Passes.{IsObserverOf, job_on, AreRuns, IsWalk, ArePasses}
+
+-- in a try: a beginning of its conversation, and whether its transaction was committed by then
+pub record TryStops (seat : ℕ) (batch : Writes) (committed : Bool) (r : Refusal) (said : List Received) : Type 0 where
+  pub told : committed ≡ has_commit said
+  pub job : ChangeOf
+  pub talks : Talks (new_change batch) said job
+  pub begins : (start : Ts) × (rest : List Received) × (o : Outcome) × IsWholeChange batch start (said ++ rest) o
+  pub stop : IsStop seat (changes.next_of job) r
+
+-- after tries in vain, in the next
+pub record TriesStop (seat : ℕ) (batch : Writes) (committed : Bool) (r : Refusal) (said : List Received) : Type 0 where
+  pub count : ℕ
+  pub few : count < MAX_TRIES
+  pub vain : List Received
+  pub tries : AreVain batch count vain
+  pub part : List Received
+  pub stops : TryStops seat batch committed r part
+  pub said_is : said ≡ vain ++ part
+
+-- after changes of which these flags tell whether they committed, in the next, or before it
+pub record ChangesStop (seat : ℕ) (batches : List Writes) (n first : ℕ) (done : List Bool) (r : Refusal) (said : List Received) : Type 0 where
+  pub flags : List Bool
+  pub before : List Received
+  pub tried : AreTried batches n first flags before
+  pub batch : Writes
+  pub next : slice_get batches (first + length flags * n) ≡ Some batch
+  pub committed : Bool
+  pub part : List Received
+  pub stops : TriesStop seat batch committed r part
+  pub said_is : said ≡ before ++ part
+  pub done_is : (done ≡ flags ++ committed ∷ []) ⊎ ((done ≡ flags) × (committed ≡ false))
+
+-- in a run of the observer of this number on the cell
+pub record RunStops (seat : ℕ) (observers : List ObserverOf) (i : ℕ) (x : Cell) (r : Refusal) (said : List Received) : Type 0 where
+  pub o : ObserverOf
+  pub observer : IsObserverOf observers i x o
+  pub job : RunOf
+  pub reaches : Reaches (job_on i o x) said job
+  pub begins : (rest : List Received) × (end : JobEnd) × (run : Option Meant) × IsRunTalk i o.program (row_of x) o.column (said ++ rest) end run
+  pub stop : IsStop seat (runs.next_of job) r
+
+-- after the runs of the observers before it
+pub record RunsStop (seat : ℕ) (observers : List ObserverOf) (x : Cell) (r : Refusal) (said : List Received) : Type 0 where
+  pub i : ℕ
+  pub before : List Received
+  pub runs : AreRuns observers x i before
+  pub part : List Received
+  pub stops : RunStops seat observers i x r part
+  pub said_is : said ≡ before ++ part
+
+-- in a pass: at the next mark, or in the runs on the cell that was found
+pub data PassStops (seat : ℕ) (observers : List ObserverOf) (r : Refusal) : List Received → Type 0 where
+  at_a_mark : (said : List Received) (after : Option Cell) → IsWalk observers said after → IsStop seat (Some (NextMark after)) r → PassStops seat observers r said
+  in_runs : (said : List Received) (after : Option Cell) (x : Cell) (part : List Received) → IsWalk observers said after → RunsStop seat observers x r part
+      → PassStops seat observers r (said ++ told (NextMark after) (Marked x) ∷ part)
+
+-- after so many passes, in the next
+pub record DrainStops (seat : ℕ) (observers : List ObserverOf) (r : Refusal) (said : List Received) : Type 0 where
+  pub count : ℕ
+  pub few : count < MAX_PASSES
+  pub before : List Received
+  pub passes : ArePasses observers count before
+  pub part : List Received
+  pub stops : PassStops seat observers r part
+  pub said_is : said ≡ before ++ part

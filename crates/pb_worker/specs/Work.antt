@@ -1,0 +1,112 @@
+-- What workers leave: what each seat gained, and which changes are unfinished.
+use Rattle.std.specs.Prelude.{◌≡◌, ◌≢◌, ℕ, ◌+◌, ◌-◌, ◌/◌, ◌%◌, ◌<◌, ◌≤◌, zero, suc, Bool, false, if◌then◌else◌, List, [], ◌∷◌, ◌++◌, length, map, vec_capacity, slice_get, Option, Some, None, slice_index_or}
+use Rattle.pb_base.specs.declared.refusal.Refusal.{Refusal}
+use Rattle.pb_base.specs.Batch.{Writes}
+use Rattle.pb_steps.specs.Observers.{ObserverOf}
+use Rattle.pb_history.specs.declared.entry.Received.{Received}
+use Rattle.pb_core.specs.Calls.{SharedOf, SeatOf}
+use Rattle.pb_worker.specs.declared.worker.Worker.{Worker}
+use Rattle.pb_worker.specs.declared.run.Rooms.{Rooms}
+use Rattle.pb_worker.specs.Gains.{Gains}
+use Rattle.pb_worker.specs.Tries.{AreAllTried}
+use Rattle.pb_worker.specs.Passes.{IsDrain}
+use Rattle.pb_worker.specs.Stops.{ChangesStop, DrainStops}
+
+-- all changes, and then passes up to one without a mark, or so many as may be made
+pub record IsWhole (observers : List ObserverOf) (batches : List Writes) (n first : ℕ) (done : List Bool) (said : List Received) : Type 0 where
+  pub changes : List Received
+  pub tried : AreAllTried batches n first done changes
+  pub passes : List Received
+  pub drained : IsDrain observers passes
+  pub said_is : said ≡ changes ++ passes
+
+-- just a beginning of that
+pub data IsPart (seat : ℕ) (observers : List ObserverOf) (batches : List Writes) (n first : ℕ) (done : List Bool) (r : Refusal) : List Received → Type 0 where
+  in_changes : (said : List Received) → ChangesStop seat batches n first done r said → IsPart seat observers batches n first done r said
+  in_passes : (said part : List Received) → AreAllTried batches n first done said → DrainStops seat observers r part → IsPart seat observers batches n first done r (said ++ part)
+
+-- what a worker's seat gained: only with a refusal just a beginning
+abbrev pub IsWork : ℕ → List ObserverOf → List Writes → ℕ → ℕ → List Bool → Option Refusal → List Received → Type 0
+IsWork seat observers batches n first done None said = IsWhole observers batches n first done said
+IsWork seat observers batches n first done (Some r) said = IsPart seat observers batches n first done r said
+
+-- what the main seat gained: passes alone
+abbrev pub IsLastDrain : ℕ → List ObserverOf → Option Refusal → List Received → Type 0
+IsLastDrain seat observers None said = IsDrain observers said
+IsLastDrain seat observers (Some r) said = DrainStops seat observers r said
+
+-- what one worker did
+pub record Works (observers : List ObserverOf) (batches : List Writes) (n first : ℕ) (old new : Worker) : Type 0 where
+  pub gains : Gains (IsWork old.seat.number observers batches n first new.done.items new.refusal) old.seat new.seat
+
+-- what the main seat did
+pub record Drains (observers : List ObserverOf) (old new : Worker) : Type 0 where
+  pub gains : Gains (IsLastDrain old.seat.number observers new.refusal) old.seat new.seat
+
+-- Change i is the (i / n)th of the worker i % n, both from 0: whether a try of it committed.
+abbrev pub is_done : (ℕ → List Bool) → ℕ → ℕ → Bool
+is_done done n i = slice_index_or (done (i % n)) (i / n) false
+
+-- the changes below this number of which no try committed, in order
+abbrev pub undone_below : (ℕ → Bool) → ℕ → List ℕ
+undone_below done zero = []
+undone_below done (suc i) = if done i then undone_below done i else undone_below done i ++ i ∷ []
+
+-- of each worker, from 0, which has the seat one higher, whether each of its changes committed
+abbrev pub done_in : Option Worker → List Bool
+done_in None = []
+done_in (Some w) = w.done.items
+
+abbrev pub flags_in : List Worker → ℕ → List Bool
+flags_in workers w = done_in (slice_get workers (w + 1))
+
+abbrev pub seats_in : List Worker → List SeatOf
+seats_in workers = map (λ (w : Worker). w.seat) workers
+
+abbrev pub refusals_in : List Worker → List (Option Refusal)
+refusals_in workers = map (λ (w : Worker). w.refusal) workers
+
+-- what all workers did
+pub record EachWorks (observers : List ObserverOf) (batches : List Writes) (olds news : List Worker) : Type 0 where
+  pub counted : length news ≡ length olds
+  pub each : (w : ℕ) (d : Worker) → w < length olds → Works observers batches (length olds) w (slice_index_or olds w d) (slice_index_or news w d)
+
+-- what all did, the main seat first
+pub record AllWork (observers : List ObserverOf) (batches : List Writes) (olds news : List Worker) : Type 0 where
+  pub counted : length news ≡ length olds
+  pub main : (d : Worker) → Drains observers (slice_index_or olds 0 d) (slice_index_or news 0 d)
+  pub workers : (w : ℕ) (d : Worker) → w + 1 < length olds → Works observers batches (length olds - 1) w (slice_index_or olds (w + 1) d) (slice_index_or news (w + 1) d)
+
+pub record HasRooms (observers : List ObserverOf) (seats changes : ℕ) (r : Rooms) : Type 0 where
+  pub observers_are : r.observers.items ≡ observers
+  pub no_workers : r.workers.items ≡ []
+  pub workers_room : seats ≤ vec_capacity r.workers
+  pub no_seats : r.seats.items ≡ []
+  pub seats_room : seats ≤ vec_capacity r.seats
+  pub no_refusals : r.refusals.items ≡ []
+  pub refusals_room : seats ≤ vec_capacity r.refusals
+  pub none_unfinished : r.unfinished.items ≡ []
+  pub unfinished_room : changes ≤ vec_capacity r.unfinished
+
+-- each batch has some cells
+abbrev pub AreFilled : List Writes → Type 0
+AreFilled batches = (i : ℕ) (batch : Writes) → slice_get batches i ≡ Some batch → batch ≢ []
+
+-- what all left: with the seats handed in and those given back, the first refusal of each, and the unfinished changes
+pub record WorkedOn (observers : List ObserverOf) (batches : List Writes) (olds news : List SeatOf) (refusals : List (Option Refusal)) (unfinished : List ℕ) : Type 0 where
+  pub seats : length news ≡ length olds
+  pub refused : length refusals ≡ length olds
+  pub filled : AreFilled batches
+  -- of each worker, from 0, whether each of its changes committed
+  pub done : ℕ → List Bool
+  pub workers : (w : ℕ) (d : SeatOf) → w + 1 < length olds
+      → Gains (IsWork (w + 1) observers batches (length olds - 1) w (done w) (slice_index_or refusals (w + 1) None)) (slice_index_or olds (w + 1) d) (slice_index_or news (w + 1) d)
+  pub main : (d : SeatOf) → Gains (IsLastDrain 0 observers (slice_index_or refusals 0 None)) (slice_index_or olds 0 d) (slice_index_or news 0 d)
+  pub unfinished_are : unfinished ≡ undone_below (is_done done (length olds - 1)) (length batches)
+
+-- the table that comes out has the observers of the one that went in, as many seats, and was opened so
+pub record KeepsOpening (before after : SharedOf) : Type 0 where
+  pub observers : after.state.observers ≡ before.state.observers
+  pub seats : after.state.seats ≡ before.state.seats
+  pub opened : after.opened ≡ before.opened
+  pub limit : after.limit ≡ before.limit

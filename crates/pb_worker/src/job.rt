@@ -1,0 +1,80 @@
+//! Runs of observers, each followed to its end.
+ghost use Rattle.std.specs.Prelude.{◌≡◌, ◌<◌, length, IfOk, IfErr, OnOk};
+ghost use Rattle.pb_worker.specs.Gains.{Gains, IsWant};
+ghost use Rattle.pb_worker.specs.Passes.{HasColumn, IsJobOn, IsComputed, IsRun, ReachesOn};
+ghost use Rattle.pb_worker.specs.Stops.{RunStops};
+
+use crate::desk::ask;
+use crate::gate::Gate;
+use crate::named::{Held, Opening};
+use pb_base::{Cell, NoMemory, ObserverNo, Reason, Refusal};
+use pb_core::{Observer, Seat};
+use pb_notify::{Need, ObserverJob, jobs_talk};
+use pb_store::Tablet;
+use std::alloc::Global;
+use std::sync::{Arc, Mutex, Wait};
+
+// The run of an observer on a cell of its column, before its first step.
+fn job_on(observers: &[Observer], number: ObserverNo, cell: Cell) -> Result<ObserverJob, NoMemory>
+    requires { number < length observers.now }
+    ensures { IfOk result (IsJobOn observers.now number cell) }
+{
+    let observer = &observers[number.number() as usize];
+    let program = Arc::try_clone(&observer.program)?;
+    Ok(ObserverJob::new(number, program, cell.row(), observer.column))
+}
+
+// The instructions of its machine up to the next ask or the exit, if it is at one. Refused for memory, it stands where one is
+// next.
+fn compute(alloc: Global, job: &mut ObserverJob) -> Result<(), NoMemory>
+    ensures ok { OnOk result (IsComputed job.old job.new) }
+    ensures on { ReachesOn job.old job.new }
+{
+    while job.needs() == Need::Local {
+        job.local(alloc)?;
+    }
+    Ok(())
+}
+
+// The same; refused for memory, its seat's refusal.
+fn compute_on(alloc: Global, job: &mut ObserverJob) -> Result<(), Refusal>
+    ensures ok { OnOk result (IsComputed job.old job.new) }
+    ensures on { ReachesOn job.old job.new }
+    ensures want { IfErr result IsWant }
+{
+    match compute(alloc, job) {
+        Ok(()) => Ok(()),
+        Err(_) => Err(Reason::NoMemory.refusal()),
+    }
+}
+
+/// Runs an observer on a cell of its column, from its first step to its end.
+pub(crate) fn run_one<R: Wait, T: Tablet, J: Opening, G: Gate>(
+    rt: &R,
+    alloc: Global,
+    shared: &Mutex<Held<T, J>>,
+    seat: &mut Seat,
+    observers: &[Observer],
+    number: ObserverNo,
+    cell: Cell,
+    gate: &G,
+) -> Result<(), Refusal>
+    requires known { HasColumn observers.now number cell }
+    ensures ok { OnOk result (Gains (IsRun observers.now number cell) seat.old seat.new) }
+    ensures err { IfErr result (λ r. Gains (RunStops seat.old.number observers.now number cell r) seat.old seat.new) }
+{
+    // For the proof: what a job has asked is a beginning of a run's conversation, and at its end a whole one.
+    jobs_talk();
+    let Ok(mut job) = job_on(observers, number, cell) else {
+        return Err(Reason::NoMemory.refusal());
+    };
+    for _turn in rt.forever() {
+        let Some(step) = job.next() else {
+            return Ok(());
+        };
+        let answer = ask(rt, shared, seat, step, gate)?;
+        job.took(answer);
+        compute_on(alloc, &mut job)?;
+    }
+    unreachable!()
+}

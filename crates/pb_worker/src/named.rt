@@ -1,0 +1,82 @@
+//! A table under a lock of which it is known which observers it has.
+ghost use Rattle.std.specs.Prelude.{◌≡◌, IfOk, IfErr, OnErr};
+ghost use Rattle.pb_steps.specs.Answers.{CanAnswer};
+ghost use Rattle.pb_worker.specs.Gains.{Told, MayRefuse};
+
+use crate::desk::call;
+use pb_base::Refusal;
+use pb_core::{Answer, Seat, Shared, Step};
+use pb_store::Tablet;
+use std::marker::{Brand, PhantomData};
+use std::sync::Mutex;
+
+/// Which observers a table has, and how it was opened.
+pub trait Opening {
+    ghost use Rattle.std.specs.Prelude.{ℕ, List};
+    ghost use Rattle.pb_steps.specs.Observers.{ObserverOf};
+
+    ghost observers: { List ObserverOf };
+
+    ghost seats: { ℕ };
+
+    ghost opened: { ℕ };
+
+    ghost limit: { ℕ };
+}
+
+impl Opening for Brand {
+    ghost use Rattle.std.specs.Prelude.{[]};
+
+    ghost observers = { [] };
+
+    ghost seats = { 0 };
+
+    ghost opened = { 0 };
+
+    ghost limit = { 0 };
+}
+
+/// A table that was opened so.
+pub struct Held<T: Tablet, J: Opening> {
+    shared: Shared<T>,
+    of: PhantomData<J>,
+    ghost observers_are: { shared.state.observers ≡ J.observers },
+    ghost seats_are: { shared.state.seats ≡ J.seats },
+    ghost opened_is: { shared.opened ≡ J.opened },
+    ghost limit_is: { shared.limit ≡ J.limit },
+}
+
+impl<T: Tablet, J: Opening> Held<T, J> {
+    pub(crate) fn call(&mut self, seat: &mut Seat, step: &Step) -> Result<Answer, Refusal>
+        ensures told { IfOk result (λ a. Told seat.old step.now a seat.new) }
+        ensures can { IfOk result (λ a. CanAnswer step.now a) }
+        ensures refused { IfErr result (λ r. MayRefuse seat.old.number step.now r) }
+        ensures seat { OnErr result (seat.new ≡ seat.old) }
+    {
+        call(&mut self.shared, seat, step)
+    }
+}
+
+/// Locks up a table that was opened so.
+pub(crate) fn hold<T: Tablet, J: Opening>(shared: Shared<T>) -> Mutex<Held<T, J>>
+    requires observers { shared.state.observers ≡ J.observers }
+    requires seats { shared.state.seats ≡ J.seats }
+    requires opened { shared.opened ≡ J.opened }
+    requires limit { shared.limit ≡ J.limit }
+{
+    Mutex::new(Held {
+        shared,
+        of: PhantomData,
+    })
+}
+
+/// The table, out of its lock.
+pub(crate) fn released<T: Tablet, J: Opening>(desk: Mutex<Held<T, J>>) -> Shared<T>
+    ensures observers { result.state.observers ≡ J.observers }
+    ensures seats { result.state.seats ≡ J.seats }
+    ensures opened { result.opened ≡ J.opened }
+    ensures limit { result.limit ≡ J.limit }
+{
+    let Held { shared, of: _ } = desk.into_inner();
+    shared
+}

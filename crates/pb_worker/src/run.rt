@@ -1,0 +1,293 @@
+//! A run of workers, each in a thread of its own.
+ghost use Rattle.std.specs.Prelude.{◌≡◌, ◌<◌, ◌≤◌, ◌-◌, [], length, map, vec_len, vec_capacity, IfOk, IfErr};
+ghost use Rattle.pb_base.specs.declared.limits.TheConstants.{MAX_SEATS, MAX_OBSERVERS};
+ghost use Rattle.pb_core.specs.Calls.{AreSeats};
+ghost use Rattle.pb_worker.specs.Work.{Works, EachWorks, AllWork, HasRooms, WorkedOn, AreFilled, KeepsOpening, seats_in, refusals_in, flags_in, is_done, undone_below};
+
+use crate::gate::Gate;
+use crate::named::{Held, Opening, hold, released};
+use crate::worker::{Worker, drain_last, work};
+use pb_base::{Batch, NoMemory, Refusal};
+use pb_core::{Observer, Seat, Shared};
+use pb_store::Tablet;
+use std::alloc::Global;
+use std::marker::Brand;
+use std::sync::{Arc, Mutex, Wait};
+use std::thread;
+use std::thread::Threads;
+
+/// What workers leave.
+pub struct Worked<T: Tablet> {
+    pub shared: Shared<T>,
+    /// All seats, in order.
+    pub seats: Vec<Seat>,
+    /// The first refusal of each seat, in their order.
+    pub refusals: Vec<Option<Refusal>>,
+    /// The changes of which no try committed, by their numbers from 0, in order.
+    pub unfinished: Vec<usize>,
+}
+
+/// What is handed back where memory was refused before the first call.
+pub struct NotRun<T: Tablet> {
+    pub shared: Shared<T>,
+    pub seats: Vec<Seat>,
+    pub batches: Vec<Batch>,
+}
+
+/// Room for all that workers leave, and their own list of the observers.
+pub(crate) struct Rooms {
+    observers: Vec<Observer>,
+    workers: Vec<Worker>,
+    seats: Vec<Seat>,
+    refusals: Vec<Option<Refusal>>,
+    unfinished: Vec<usize>,
+}
+
+fn copy_of(observer: &Observer) -> Result<Observer, NoMemory>
+    ensures { IfOk result (λ o. o ≡ observer.now) }
+{
+    let name = observer.name.clone()?;
+    let program = Arc::try_clone(&observer.program)?;
+    Ok(Observer {
+        name,
+        column: observer.column,
+        program,
+    })
+}
+
+fn copies_of(alloc: Global, observers: &[Observer]) -> Result<Vec<Observer>, NoMemory>
+    ensures { IfOk result (λ v. v.items ≡ observers.now) }
+{
+    let mut copies = Vec::new(alloc);
+    for observer in observers {
+        copies.push(copy_of(observer)?)?;
+    }
+    Ok(copies)
+}
+
+fn make_rooms(
+    alloc: Global,
+    observers: &[Observer],
+    seats: usize,
+    changes: usize,
+) -> Result<Rooms, NoMemory>
+    ensures { IfOk result (HasRooms observers.now seats changes) }
+{
+    let observers = copies_of(alloc, observers)?;
+    let workers = Vec::with_capacity(alloc, seats)?;
+    let back = Vec::with_capacity(alloc, seats)?;
+    let refusals = Vec::with_capacity(alloc, seats)?;
+    let unfinished = Vec::with_capacity(alloc, changes)?;
+    Ok(Rooms {
+        observers,
+        workers,
+        seats: back,
+        refusals,
+        unfinished,
+    })
+}
+
+// For the proof: each batch has some cells.
+fn look_through(batches: &[Batch])
+    ensures { AreFilled batches.now }
+{
+    for batch in batches {
+        let _ = batch.len();
+    }
+}
+
+// A worker for each seat, in their order.
+fn seat_all(alloc: Global, seats: Vec<Seat>, workers: &mut Vec<Worker>)
+    requires none { workers.old.items ≡ [] }
+    requires room { vec_len seats ≤ vec_capacity workers.old }
+    ensures { seats_in workers.new.items ≡ seats.items }
+{
+    for seat in seats {
+        let worker = Worker {
+            seat,
+            refusal: None,
+            done: Vec::new(alloc),
+        };
+        workers.push(worker).unwrap();
+    }
+}
+
+// The seats of the workers, with the refusal of each.
+fn part(workers: Vec<Worker>, seats: &mut Vec<Seat>, refusals: &mut Vec<Option<Refusal>>)
+    requires no_seats { seats.old.items ≡ [] }
+    requires no_refusals { refusals.old.items ≡ [] }
+    requires seats_room { vec_len workers ≤ vec_capacity seats.old }
+    requires refusals_room { vec_len workers ≤ vec_capacity refusals.old }
+    ensures seats { seats.new.items ≡ seats_in workers.items }
+    ensures refusals { refusals.new.items ≡ refusals_in workers.items }
+{
+    for worker in workers {
+        let Worker {
+            seat,
+            refusal,
+            done: _,
+        } = worker;
+        seats.push(seat).unwrap();
+        refusals.push(refusal).unwrap();
+    }
+}
+
+// Whether a try of the change of this number committed.
+fn is_done(workers: &[Worker], number: usize) -> bool
+    requires { 1 < length workers.now }
+    ensures { result ≡ is_done (flags_in workers.now) (length workers.now - 1) number }
+{
+    let count = workers.len() - 1;
+    let worker = &workers[number % count + 1];
+    match worker.done.get(number / count) {
+        Some(done) => *done,
+        None => false,
+    }
+}
+
+fn note_unfinished(workers: &[Worker], changes: usize, unfinished: &mut Vec<usize>)
+    requires some { 1 < length workers.now }
+    requires none { unfinished.old.items ≡ [] }
+    requires room { changes ≤ vec_capacity unfinished.old }
+    ensures { unfinished.new.items ≡ undone_below (is_done (flags_in workers.now) (length workers.now - 1)) changes }
+{
+    for number in 0..changes {
+        if !is_done(workers, number) {
+            unfinished.push(number).unwrap();
+        }
+    }
+}
+
+// Each worker in a thread of its own, or on a thread that there is.
+pub(crate) fn in_threads<
+    R: Threads + Wait + Sync,
+    T: Tablet + Send,
+    J: Opening + Send + Sync,
+    G: Gate,
+>(
+    rt: &R,
+    alloc: Global,
+    shared: &Mutex<Held<T, J>>,
+    workers: &mut [Worker],
+    observers: &[Observer],
+    batches: &[Batch],
+    gate: &G,
+)
+    requires few { length workers.old ≤ MAX_SEATS }
+    requires numbered { length observers.now ≤ MAX_OBSERVERS }
+    ensures { EachWorks observers.now batches.now workers.old workers.new }
+{
+    let count = workers.len();
+    if count == 0 {
+        return;
+    }
+    thread::for_each_mut(
+        rt,
+        workers,
+        count,
+        &|place: usize, worker: &mut Worker|
+            requires { (0 < count) × (count ≤ MAX_SEATS) × (length observers.now ≤ MAX_OBSERVERS) }
+            ensures { Works observers.entry.now batches.entry.now count place worker.entry.now worker.exit.now }
+        {
+            work(
+                rt, alloc, shared, worker, observers, batches, count, place, gate,
+            )
+        },
+    );
+}
+
+// The workers, and after them the last passes of the main seat.
+fn run_all<R: Threads + Wait + Sync, T: Tablet + Send, J: Opening + Send + Sync, G: Gate>(
+    rt: &R,
+    alloc: Global,
+    shared: &Mutex<Held<T, J>>,
+    workers: &mut [Worker],
+    observers: &[Observer],
+    batches: &[Batch],
+    gate: &G,
+)
+    requires some { 1 < length workers.old }
+    requires few { length workers.old ≤ MAX_SEATS }
+    requires numbered { length observers.now ≤ MAX_OBSERVERS }
+    ensures { AllWork observers.now batches.now workers.old workers.new }
+{
+    let (main, rest) = workers.split_at_mut(1);
+    in_threads(rt, alloc, shared, rest, observers, batches, gate);
+    drain_last(rt, alloc, shared, &mut main[0], observers, gate);
+}
+
+// The same, where it is known how the table was opened.
+fn run_held<R: Threads + Wait + Sync, T: Tablet + Send, J: Opening + Send + Sync, G: Gate>(
+    rt: &R,
+    alloc: Global,
+    shared: Shared<T>,
+    seats: Vec<Seat>,
+    batches: Vec<Batch>,
+    gate: &G,
+) -> Result<Worked<T>, NotRun<T>>
+    requires seated { AreSeats shared seats.items }
+    requires some { 1 < vec_len seats }
+    requires observers { shared.state.observers ≡ J.observers }
+    requires count { shared.state.seats ≡ J.seats }
+    requires opened { shared.opened ≡ J.opened }
+    requires limit { shared.limit ≡ J.limit }
+    ensures worked { IfOk result (λ w. WorkedOn shared.state.observers batches.items seats.items w.seats.items
+        w.refusals.items w.unfinished.items) }
+    ensures table { IfOk result (λ w. KeepsOpening shared w.shared) }
+    ensures handed_back { IfErr result (λ n. n.shared ≡ shared) }
+    ensures seats { IfErr result (λ n. n.seats ≡ seats) }
+    ensures batches { IfErr result (λ n. n.batches ≡ batches) }
+{
+    prove!(shared.seats() <= 64);
+    let Ok(rooms) = make_rooms(alloc, shared.observers(), seats.len(), batches.len()) else {
+        return Err(NotRun {
+            shared,
+            seats,
+            batches,
+        });
+    };
+    let Rooms {
+        observers,
+        mut workers,
+        seats: mut back,
+        mut refusals,
+        mut unfinished,
+    } = rooms;
+    look_through(&batches);
+    seat_all(alloc, seats, &mut workers);
+    let desk: Mutex<Held<T, J>> = hold(shared);
+    run_all(rt, alloc, &desk, &mut workers, &observers, &batches, gate);
+    let shared = released(desk);
+    note_unfinished(&workers, batches.len(), &mut unfinished);
+    part(workers, &mut back, &mut refusals);
+    Ok(Worked {
+        shared,
+        seats: back,
+        refusals,
+        unfinished,
+    })
+}
+
+/// Runs the changes by workers, each in a thread of its own where one can be started, and after them passes of the first seat
+/// alone. Worker k has seat k; the change of number i, from 0, is tried by the worker of seat 1 + i mod n, of n workers.
+///
+/// Its own growths come first: refused there, it hands everything back and has made no call.
+pub fn run_workers<R: Threads + Wait + Sync, T: Tablet + Send, G: Gate>(
+    rt: &R,
+    alloc: Global,
+    shared: Shared<T>,
+    seats: Vec<Seat>,
+    batches: Vec<Batch>,
+    gate: &G,
+) -> Result<Worked<T>, NotRun<T>>
+    requires seated { AreSeats shared seats.items }
+    requires some { 1 < vec_len seats }
+    ensures worked { IfOk result (λ w. WorkedOn shared.state.observers batches.items seats.items w.seats.items
+        w.refusals.items w.unfinished.items) }
+    ensures table { IfOk result (λ w. KeepsOpening shared w.shared) }
+    ensures handed_back { IfErr result (λ n. n.shared ≡ shared) }
+    ensures seats { IfErr result (λ n. n.seats ≡ seats) }
+    ensures batches { IfErr result (λ n. n.batches ≡ batches) }
+{
+    run_held::<R, T, Brand, G>(rt, alloc, shared, seats, batches, gate)
+}

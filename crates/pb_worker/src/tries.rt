@@ -1,0 +1,185 @@
+//! Changes, each tried until it commits.
+ghost use Rattle.std.specs.Prelude.{◌≡◌, ◌||◌, ◌<◌, ◌≤◌, ◌++◌, ◌∷◌, [], length, vec_len, vec_capacity, IfOk, IfErr, OnOk};
+ghost use Rattle.pb_base.specs.declared.limits.TheConstants.{MAX_SEATS};
+ghost use Rattle.pb_txn.specs.Changes.{new_change, outcome_of};
+ghost use Rattle.pb_worker.specs.Gains.{Gains, IsWant};
+ghost use Rattle.pb_worker.specs.Tries.{IsTry, AreTries, AreAllTried, committed_in, is_commit};
+ghost use Rattle.pb_worker.specs.Stops.{TryStops, TriesStop, ChangesStop};
+
+use crate::desk::ask;
+use crate::gate::Gate;
+use crate::named::{Held, Opening};
+use pb_base::{Batch, NoMemory, Reason, Refusal};
+use pb_core::{Answer, Seat};
+use pb_store::Tablet;
+use pb_txn::{ChangeJob, Outcome, changes_talk, plans_talk};
+use std::alloc::Global;
+use std::sync::{Mutex, Wait};
+
+/// How often a change is tried at most.
+pub const MAX_TRIES: u32 = 100;
+
+/// The limit of tries has this value.
+pub fn tries_limit_is_this()
+    ensures { MAX_TRIES ≡ 100 }
+{}
+
+/// Why a change was left, and whether a try of it had committed by then.
+#[derive(Drop)]
+pub(crate) struct Cut {
+    refusal: Refusal,
+    committed: bool,
+}
+
+// A change of a copy of this batch, before its first step.
+fn job_of(alloc: Global, batch: &Batch) -> Result<ChangeJob, NoMemory>
+    ensures { IfOk result (λ j. j ≡ new_change batch.now) }
+{
+    let copy = batch.copy()?;
+    match ChangeJob::new(alloc, copy) {
+        Ok(job) => Ok(job),
+        Err(_) => Err(NoMemory),
+    }
+}
+
+fn is_commit(answer: &Answer) -> bool
+    ensures { result ≡ is_commit answer.now }
+{
+    matches!(answer, Answer::Committed)
+}
+
+fn or_commits(committed: bool, answer: &Answer) -> bool
+    ensures { result ≡ (committed || is_commit answer.now) }
+{
+    committed || is_commit(answer)
+}
+
+// Whether it is over, and committed.
+fn has_committed(job: &ChangeJob) -> bool
+    ensures { result ≡ committed_in (outcome_of job.now) }
+{
+    matches!(job.outcome(), Some(Outcome::Committed(_)))
+}
+
+// One try of a change, and whether it committed. It may be left with its transaction committed, and some of its cells still
+// locked.
+fn try_once<R: Wait, T: Tablet, J: Opening, G: Gate>(
+    rt: &R,
+    alloc: Global,
+    shared: &Mutex<Held<T, J>>,
+    seat: &mut Seat,
+    batch: &Batch,
+    gate: &G,
+) -> Result<bool, Cut>
+    ensures ok { IfOk result (λ committed. Gains (IsTry batch.now committed) seat.old seat.new) }
+    ensures err { IfErr result
+        (λ cut. Gains (TryStops seat.old.number batch.now cut.committed cut.refusal) seat.old seat.new) }
+{
+    // For the proof: a batch has some cells; and what a change has asked is a beginning of its conversation, and at its end
+    // a whole one.
+    let _ = batch.len();
+    plans_talk();
+    changes_talk();
+    let mut committed = false;
+    let Ok(mut job) = job_of(alloc, batch) else {
+        return Err(Cut {
+            refusal: Reason::NoMemory.refusal(),
+            committed,
+        });
+    };
+    for _turn in rt.forever() {
+        let Some(step) = job.next() else {
+            return Ok(has_committed(&job));
+        };
+        match ask(rt, shared, seat, step, gate) {
+            Ok(answer) => {
+                committed = or_commits(committed, &answer);
+                job.took(answer);
+            }
+            Err(refusal) => return Err(Cut { refusal, committed }),
+        }
+    }
+    unreachable!()
+}
+
+// Tries a change until it commits, or so often as may be, and tells whether it committed.
+fn try_all<R: Wait, T: Tablet, J: Opening, G: Gate>(
+    rt: &R,
+    alloc: Global,
+    shared: &Mutex<Held<T, J>>,
+    seat: &mut Seat,
+    batch: &Batch,
+    gate: &G,
+) -> Result<bool, Cut>
+    ensures ok { IfOk result (λ committed. Gains (AreTries batch.now committed) seat.old seat.new) }
+    ensures err { IfErr result
+        (λ cut. Gains (TriesStop seat.old.number batch.now cut.committed cut.refusal) seat.old seat.new) }
+{
+    for _count in 0..MAX_TRIES {
+        let committed = try_once(rt, alloc, shared, seat, batch, gate)?;
+        if committed {
+            return Ok(true);
+        }
+    }
+    Ok(false)
+}
+
+// Room for one flag more.
+fn make_room(done: &mut Vec<bool>) -> Result<(), Refusal>
+    ensures items { done.new.items ≡ done.old.items }
+    ensures room { OnOk result (vec_len done.new < vec_capacity done.new) }
+    ensures want { IfErr result IsWant }
+{
+    match done.reserve(1) {
+        Ok(()) => Ok(()),
+        Err(_) => Err(Reason::NoMemory.refusal()),
+    }
+}
+
+fn note(done: &mut Vec<bool>, committed: bool)
+    requires { vec_len done.old < vec_capacity done.old }
+    ensures { done.new.items ≡ done.old.items ++ committed ∷ [] }
+{
+    done.push(committed).unwrap();
+}
+
+/// Tries the changes of one of so many workers, its first at this number and each later one so many further. It notes of
+/// each whether it committed.
+pub(crate) fn change_all<R: Wait, T: Tablet, J: Opening, G: Gate>(
+    rt: &R,
+    alloc: Global,
+    shared: &Mutex<Held<T, J>>,
+    seat: &mut Seat,
+    batches: &[Batch],
+    count: usize,
+    first: usize,
+    done: &mut Vec<bool>,
+    gate: &G,
+) -> Result<(), Refusal>
+    requires some { 0 < count }
+    requires few { count ≤ MAX_SEATS }
+    requires none { done.old.items ≡ [] }
+    ensures ok { OnOk result (Gains (AreAllTried batches.now count first done.new.items) seat.old seat.new) }
+    ensures err { IfErr result
+        (λ r. Gains (ChangesStop seat.old.number batches.now count first done.new.items r) seat.old seat.new) }
+{
+    // For the proof: what a change has asked is a beginning of its conversation.
+    changes_talk();
+    let mut next = first;
+    while next < batches.len() {
+        // For the proof: a batch has some cells.
+        let _ = batches[next].len();
+        make_room(done)?;
+        match try_all(rt, alloc, shared, seat, &batches[next], gate) {
+            Ok(committed) => {
+                note(done, committed);
+                next += count;
+            }
+            Err(cut) => {
+                note(done, cut.committed);
+                return Err(cut.refusal);
+            }
+        }
+    }
+    Ok(())
+}

@@ -1,0 +1,98 @@
+//! Workers.
+ghost use Rattle.std.specs.Prelude.{◌≡◌, ◌<◌, ◌≤◌, [], length, IfOk, IfErr, OnOk};
+ghost use Rattle.pb_base.specs.declared.limits.TheConstants.{MAX_SEATS, MAX_OBSERVERS};
+ghost use Rattle.pb_worker.specs.Gains.{Gains};
+ghost use Rattle.pb_worker.specs.Work.{IsWhole, IsPart, Works, Drains};
+
+use crate::gate::Gate;
+use crate::named::{Held, Opening};
+use crate::passes::drain;
+use crate::tries::change_all;
+use pb_base::{Batch, Refusal};
+use pb_core::{Observer, Seat};
+use pb_store::Tablet;
+use std::alloc::Global;
+use std::sync::{Mutex, Wait};
+
+/// A worker with its seat: why it stopped, and of each of its changes whether it committed.
+#[derive(Drop)]
+pub(crate) struct Worker {
+    pub(crate) seat: Seat,
+    pub(crate) refusal: Option<Refusal>,
+    pub(crate) done: Vec<bool>,
+}
+
+// Its changes, and then passes.
+fn work_on<R: Wait, T: Tablet, J: Opening, G: Gate>(
+    rt: &R,
+    alloc: Global,
+    shared: &Mutex<Held<T, J>>,
+    seat: &mut Seat,
+    observers: &[Observer],
+    batches: &[Batch],
+    count: usize,
+    first: usize,
+    done: &mut Vec<bool>,
+    gate: &G,
+) -> Result<(), Refusal>
+    requires some { 0 < count }
+    requires few { count ≤ MAX_SEATS }
+    requires numbered { length observers.now ≤ MAX_OBSERVERS }
+    requires none { done.old.items ≡ [] }
+    ensures ok { OnOk result (Gains (IsWhole observers.now batches.now count first done.new.items) seat.old seat.new) }
+    ensures err { IfErr result (λ r. Gains
+        (IsPart seat.old.number observers.now batches.now count first done.new.items r) seat.old seat.new) }
+{
+    change_all(rt, alloc, shared, seat, batches, count, first, done, gate)?;
+    drain(rt, alloc, shared, seat, observers, gate)?;
+    Ok(())
+}
+
+/// All that one of so many workers does, its first change at this number.
+pub(crate) fn work<R: Wait, T: Tablet, J: Opening, G: Gate>(
+    rt: &R,
+    alloc: Global,
+    shared: &Mutex<Held<T, J>>,
+    worker: &mut Worker,
+    observers: &[Observer],
+    batches: &[Batch],
+    count: usize,
+    first: usize,
+    gate: &G,
+)
+    requires some { 0 < count }
+    requires few { count ≤ MAX_SEATS }
+    requires numbered { length observers.now ≤ MAX_OBSERVERS }
+    ensures { Works observers.now batches.now count first worker.old worker.new }
+{
+    worker.done.clear();
+    let ended = work_on(
+        rt,
+        alloc,
+        shared,
+        &mut worker.seat,
+        observers,
+        batches,
+        count,
+        first,
+        &mut worker.done,
+        gate,
+    );
+    worker.refusal = ended.err();
+}
+
+/// The last passes, of the main seat.
+pub(crate) fn drain_last<R: Wait, T: Tablet, J: Opening, G: Gate>(
+    rt: &R,
+    alloc: Global,
+    shared: &Mutex<Held<T, J>>,
+    main: &mut Worker,
+    observers: &[Observer],
+    gate: &G,
+)
+    requires numbered { length observers.now ≤ MAX_OBSERVERS }
+    ensures { Drains observers.now main.old main.new }
+{
+    let ended = drain(rt, alloc, shared, &mut main.seat, observers, gate);
+    main.refusal = ended.err();
+}

@@ -1,0 +1,337 @@
+-- Each actor's job is what its last launch gave, and isn't at its end.
+use Rattle.std.proofs.Common.{◌≡◌, ◌≢◌, ℕ, zero, suc, Bool, true, false, List, [], ◌∷◌, ◌++◌, inl, inr, length, refl, sym, ◌∙◌, ap, subst, Option, Some, None, slice_get, slice_set, MatchBool, MatchOption}
+use Rattle.std.specs.Prelude.{if◌then◌else◌}
+use Rattle.std.specs.Option.{option_map}
+use Rattle.pb_base.specs.declared.refusal.Reason.{Reason}
+use Rattle.pb_base.specs.Reasons.{reason_code}
+use Rattle.pb_base.specs.Batch.{Writes}
+use Rattle.pb_base.specs.declared.cell.Cell.{Cell}
+use Rattle.pb_base.specs.declared.names.Row.{Row}
+use Rattle.pb_base.specs.declared.names.Ts.{Ts}
+use Rattle.pb_isa.specs.Programs.{JudgedOf}
+use Rattle.pb_vm.specs.Position.{Position}
+use Rattle.pb_steps.specs.declared.step.Step.{Step}
+use Rattle.pb_steps.specs.declared.step.Step.TheVariants as step
+use Rattle.pb_steps.specs.declared.step.Answer.{Answer}
+use Rattle.pb_steps.specs.Observers.{ObserverOf}
+use Rattle.pb_history.specs.History.{Has}
+use Rattle.pb_core.specs.Calls.{SharedOf, SeatOf, call_reason}
+use Rattle.pb_txn.specs.Changes.{new_change}
+use Rattle.pb_txn.specs.Changes as changes
+use Rattle.pb_notify.specs.declared.machine.stepped.Stepped.{Stepped}
+use Rattle.pb_notify.specs.declared.machine.stepped.Stepped.TheVariants as did
+use Rattle.pb_notify.specs.declared.place.Place.{Place}
+use Rattle.pb_notify.specs.declared.place.Place.TheVariants.{Starting, Computing}
+use Rattle.pb_notify.specs.Places.{place_of, Comes, ComesFrom}
+use Rattle.pb_notify.specs.Runs.{RunOf, fresh, need_at}
+use Rattle.pb_parse.specs.declared.event.Event.{Event}
+use Rattle.pb_parse.specs.declared.event.Event.TheVariants as events
+use Rattle.pb_parse.specs.declared.event.Job.{Job}
+use Rattle.pb_parse.specs.declared.event.Job.TheVariants as jobs
+use Rattle.pb_world.specs.declared.actor.Actor.{Actor}
+use Rattle.pb_world.specs.declared.fault.EventFault.{EventFault}
+use Rattle.pb_world.specs.declared.fault.EventFault.TheVariants as faults
+use Rattle.pb_world.specs.Faults.{fault_code}
+use Rattle.pb_world.specs.declared.job.ActorJob.{ActorJob}
+use Rattle.pb_world.specs.declared.job.ActorJob.TheVariants.{Change, Run}
+use Rattle.pb_world.specs.declared.note.Note.{Note}
+use Rattle.pb_world.specs.declared.note.Note.TheVariants.{Called, Refused, Instruction}
+use Rattle.pb_world.specs.Jobs.{next_of, is_local, is_over, is_over_need, Takes, Computes}
+use Rattle.pb_world.specs.Actors.{AnswersJob, RefusesJob, Instructs, IsIdle, JobSteps, ActorSteps, launched, crashed}
+use Rattle.pb_world.specs.Events.{WorldOf, change_of, job_for, actor_of, no_launch, no_launch_by, fault_of, Launches, StepsActor, CrashesActor, OwnAnswers, OwnCalls, Does, Happens, RunsTo, StopsAtEvent}
+use Rattle.pb_world.specs.Sound.{HasObserver}
+use Rattle.pb_world.specs.Headline.{IsOpened}
+use Rattle.pb_world.specs.GivenJobs.{Renews, IsLastLaunch, IsOf, IsGivenJob, JobsAreGiven, BusyActorsAreLeft, BusyActorsAreTold, RefusedJobsEnd}
+use Rattle.pb_world.proofs.Soundness.{IsAfterSet, changed, unchanged, after_set}
+use Rattle.pb_world.proofs.Opening.{idle}
+
+some_same : {A : Type 0} (x y : A) → Some x ≡ Some y → x ≡ y
+some_same x y e = cc
+
+none_some : {A : Type 0} (x : A) → None ≡ Some x → ⊥
+none_some x e = cc
+
+append_assoc' : (xs ys zs : List Event) → (xs ++ ys) ++ zs ≡ xs ++ (ys ++ zs)
+append_assoc' [] ys zs = refl
+append_assoc' (x ∷ xs) ys zs = ap (λ l. x ∷ l) (append_assoc' xs ys zs)
+
+-- ---- one more event
+
+not_in : (k : ℕ) (after : List Event) (d : Event) → ((e : Event) → Has after e → Renews k e → ⊥) → (Renews k d → ⊥) → (e : Event) → Has (after ++ d ∷ []) e → Renews k e → ⊥
+not_in k [] d none isnt e (inl is) r = isnt (subst (Renews k) (sym is) r)
+not_in k [] d none isnt e (inr has) r = absurd has
+not_in k (x ∷ after) d none isnt e (inl is) r = none e (inl is) r
+not_in k (x ∷ after) d none isnt e (inr on) r = not_in k after d (λ f has. none f (inr has)) isnt e on r
+
+longer : (es : List Event) (k : ℕ) (job : Job) (d : Event) → (Renews k d → ⊥) → IsLastLaunch es k job → IsLastLaunch (es ++ d ∷ []) k job
+longer es k job d isnt l = record {
+  before = l.before;
+  after = l.after ++ d ∷ [];
+  es_is = ap (λ xs. xs ++ d ∷ []) l.es_is ∙ append_assoc' l.before (events.Launch k job ∷ l.after) (d ∷ []);
+  last = not_in k l.after d l.last isnt;
+}
+
+-- ---- jobs
+
+of_on : (w : WorldOf) (job : Job) (j : ActorJob) (a : Answer) (k : ActorJob) → IsOf w job j → Takes j a k → IsOf w job k
+of_on w (jobs.Change n) (Change c) a k is takes = subst (λ x. IsOf w (jobs.Change n) x) (sym takes) is
+of_on w (jobs.Run o row) (Run r) a k is takes =
+    let here : IsOf w (jobs.Run o row) (Run takes.0) = subst (λ (l : RunOf). IsOf w (jobs.Run o row) (Run l)) (sym takes.2) (is.0, is.1, record { observer = is.2.observer; there = is.2.there; program = is.2.program; column = is.2.column }) in
+    subst (λ x. IsOf w (jobs.Run o row) x) (sym takes.1) here
+of_on w (jobs.Change n) (Run r) a k is takes = absurd is
+of_on w (jobs.Run o row) (Change c) a k is takes = absurd is
+
+of_by : (w : WorldOf) (job : Job) (j k : ActorJob) → IsOf w job j → Computes j k → IsOf w job k
+of_by w (jobs.Change n) (Change c) k is did = absurd did
+of_by w (jobs.Run o row) (Run r) k is did =
+    let here : IsOf w (jobs.Run o row) (Run did.0) = subst (λ (l : RunOf). IsOf w (jobs.Run o row) (Run l)) (sym did.2.same) (is.0, is.1, record { observer = is.2.observer; there = is.2.there; program = is.2.program; column = is.2.column }) in
+    subst (λ x. IsOf w (jobs.Run o row) x) (sym did.1) here
+of_by w (jobs.Change n) (Run r) k is did = absurd is
+of_by w (jobs.Run o row) (Change c) k is did = absurd is
+
+of_in : (w v : WorldOf) (job : Job) (j : ActorJob) → v.shared.state.observers ≡ w.shared.state.observers → v.batches ≡ w.batches → IsOf w job j → IsOf v job j
+of_in w v (jobs.Change n) (Change c) os bs is = subst (λ x. change_of x n ≡ Some c.batch) (sym bs) is
+of_in w v (jobs.Run o row) (Run r) os bs is =
+    (is.0, is.1, record { observer = is.2.observer; there = subst (λ x. slice_get x r.observer ≡ Some is.2.observer) (sym os) is.2.there; program = is.2.program; column = is.2.column })
+of_in w v (jobs.Change n) (Run r) os bs is = absurd is
+of_in w v (jobs.Run o row) (Change c) os bs is = absurd is
+
+-- after an instruction a run isn't over
+stepped_goes : (s : Ts) (stepped : Stepped) → is_over_need (need_at (place_of s stepped)) ≡ false
+stepped_goes s (did.Went w) = refl
+stepped_goes s (did.Asks w q) = refl
+stepped_goes s (did.Ended r what) = refl
+
+comes_on : (o : ℕ) (s : Ts) (v : Position) (place : Place) → Comes o s v place → is_over_need (need_at place) ≡ false
+comes_on o s v place c = subst (λ p. is_over_need (need_at p) ≡ false) (sym c.place_is) (stepped_goes s c.stepped)
+
+from_on : (o : ℕ) (judged : JudgedOf) (x : Cell) (place next : Place) → ComesFrom o judged x place next → is_over_need (need_at next) ≡ false
+from_on o judged x (Starting s seen) next c = comes_on o s _ next c.comes
+from_on o judged x (Computing s v) next c = comes_on o s v next c
+from_on o judged x _ next c = absurd c
+
+computed_goes : (j k : ActorJob) → Computes j k → is_over k ≡ false
+computed_goes (Change c) k did = absurd did
+computed_goes (Run r) k did = subst (λ x. is_over x ≡ false) (sym did.1) (from_on r.observer r.judged _ r.place did.0.place did.2.comes)
+
+-- a job that is kept isn't over
+kept_goes : (b : Bool) (after k : ActorJob) → is_over after ≡ b → Some k ≡ (if b then None else Some after) → (k ≡ after) × (is_over k ≡ false)
+kept_goes true after k over e = absurd (none_some k (sym e))
+kept_goes false after k over e = let same = some_same k after e in (same, subst (λ x. is_over x ≡ false) (sym same) over)
+
+-- ---- launches
+
+module _ (w : WorldOf) where
+  pub record IsMade (job : Job) (j : ActorJob) : Type 0 where
+    pub is : IsOf w job j
+    pub goes_on : is_over j ≡ false
+
+  change_made : (k : ℕ) (found : Option Writes) (made : ActorJob) → change_of w.batches k ≡ found → option_map (λ batch. Change (new_change batch)) found ≡ Some made → IsMade (jobs.Change k) made
+  change_made k None made is e = absurd (none_some made e)
+  change_made k (Some batch) made is e = subst (λ x. IsMade (jobs.Change k) x) (some_same (Change (new_change batch)) made e) (record { is = is; goes_on = refl })
+
+  run_made : (o : ℕ) (row : Row) (found : Option ObserverOf) (made : ActorJob) → slice_get w.shared.state.observers o ≡ found → option_map (λ (x : ObserverOf). Run (fresh o x.program row x.column)) found ≡ Some made → IsMade (jobs.Run o row) made
+  run_made o row None made is e = absurd (none_some made e)
+  run_made o row (Some x) made is e =
+      subst (λ y. IsMade (jobs.Run o row) y) (some_same (Run (fresh o x.program row x.column)) made e)
+      (record { is = (refl, refl, record { observer = x; there = is; program = refl; column = refl }); goes_on = refl })
+
+  made_is : (job : Job) (made : ActorJob) → job_for w job ≡ Some made → IsMade job made
+  made_is (jobs.Change k) made is = change_made k (change_of w.batches k) made refl is
+  made_is (jobs.Run o row) made is = run_made o row (slice_get w.shared.state.observers o) made refl is
+
+-- ---- steps
+
+-- what a step leaves is of the job that there was
+record IsLeftOf (w : WorldOf) (j : Option ActorJob) (s : SharedOf) (rest : Option ActorJob) : Type 0 where
+  pub observers : s.state.observers ≡ w.shared.state.observers
+  pub goes : (k : ActorJob) → rest ≡ Some k → (i : ActorJob) × (j ≡ Some i) × ((job : Job) → IsOf w job i → IsOf w job k) × (is_over k ≡ false)
+
+left_none : (w : WorldOf) (j : Option ActorJob) (s : SharedOf) (rest : Option ActorJob) → s ≡ w.shared → rest ≡ None → IsLeftOf w j s rest
+left_none w j s rest same none = record { observers = ap (λ (x : SharedOf). x.state.observers) same; goes = λ k is. absurd (none_some k (sym none ∙ is)) }
+
+left_instructed : (w : WorldOf) (seat : SeatOf) (j : ActorJob) (n : Note) (t : SharedOf) (told : SeatOf) (rest : Option ActorJob) → Instructs w.shared seat j n t told rest → IsLeftOf w (Some j) t rest
+left_instructed w seat j n t told rest d = record {
+  observers = ap (λ (x : SharedOf). x.state.observers) d.same.table;
+  goes = λ k is.
+      let same : d.after ≡ k = some_same d.after k (sym d.left ∙ is) in
+      (j, refl, (λ job of. subst (λ x. IsOf w job x) same (of_by w job j d.after of d.computes)), subst (λ x. is_over x ≡ false) same (computed_goes j d.after d.computes));
+}
+
+left_answered : (w : WorldOf) (seat : SeatOf) (j : ActorJob) (st : Step) (n : Note) (t : SharedOf) (told : SeatOf) (rest : Option ActorJob) → AnswersJob w.shared seat j st n t told rest → IsLeftOf w (Some j) t rest
+left_answered w seat j st n t told rest d = record {
+  observers = d.calls.observers;
+  goes = λ k is.
+      let kept = kept_goes (is_over d.after) d.after k refl (sym is ∙ d.left) in
+      (j, refl, (λ job of. subst (λ x. IsOf w job x) (sym kept.0) (of_on w job j d.answer d.after of d.takes)), kept.1);
+}
+
+left_called : (w : WorldOf) (seat : SeatOf) (j : ActorJob) (st : Step) (n : Note) (t : SharedOf) (told : SeatOf) (rest : Option ActorJob) (why : Option Reason)
+    → MatchOption why (AnswersJob w.shared seat j st n t told rest) (λ y. RefusesJob w.shared seat y n t told rest) → IsLeftOf w (Some j) t rest
+left_called w seat j st n t told rest None d = left_answered w seat j st n t told rest d
+left_called w seat j st n t told rest (Some y) d = left_none w (Some j) t rest d.same.table d.left
+
+left_asked : (w : WorldOf) (seat : SeatOf) (j : ActorJob) (n : Note) (t : SharedOf) (told : SeatOf) (rest : Option ActorJob) (o : Option Step)
+    → MatchOption o (IsIdle w.shared seat n t told rest) (λ st. MatchOption (call_reason w.shared seat.number st) (AnswersJob w.shared seat j st n t told rest) (λ y. RefusesJob w.shared seat y n t told rest)) → IsLeftOf w (Some j) t rest
+left_asked w seat j n t told rest None d = left_none w (Some j) t rest d.same.table d.left
+left_asked w seat j n t told rest (Some st) d = left_called w seat j st n t told rest (call_reason w.shared seat.number st) d
+
+left_job : (w : WorldOf) (seat : SeatOf) (j : ActorJob) (n : Note) (t : SharedOf) (told : SeatOf) (rest : Option ActorJob) (b : Bool)
+    → MatchBool b (Instructs w.shared seat j n t told rest) (MatchOption (next_of j) (IsIdle w.shared seat n t told rest) (λ st. MatchOption (call_reason w.shared seat.number st) (AnswersJob w.shared seat j st n t told rest) (λ y. RefusesJob w.shared seat y n t told rest)))
+    → IsLeftOf w (Some j) t rest
+left_job w seat j n t told rest true d = left_instructed w seat j n t told rest d
+left_job w seat j n t told rest false d = left_asked w seat j n t told rest (next_of j) d
+
+left_actor : (w : WorldOf) (seat : SeatOf) (o : Option ActorJob) (n : Note) (t : SharedOf) (told : SeatOf) (rest : Option ActorJob)
+    → MatchOption o (IsIdle w.shared seat n t told rest) (λ j. JobSteps w.shared seat j n t told rest) → IsLeftOf w o t rest
+left_actor w seat None n t told rest d = left_none w None t rest d.same.table d.left
+left_actor w seat (Some j) n t told rest d = left_job w seat j n t told rest (is_local j) d
+
+-- ---- events
+
+-- each actor's job is given by these events
+abbrev AreGiven : List Event → WorldOf → Type 0
+AreGiven es w = (k : ℕ) (a : Actor) (j : ActorJob) → slice_get w.actors k ≡ Some a → a.job ≡ Some j → IsGivenJob es w k j
+
+-- an actor that an event leaves alone holds what it held
+held_on : (es : List Event) (w v : WorldOf) (k : ℕ) (j : ActorJob) (e : Event) → v.shared.state.observers ≡ w.shared.state.observers → v.batches ≡ w.batches → (Renews k e → ⊥) → IsGivenJob es w k j → IsGivenJob (es ++ e ∷ []) v k j
+held_on es w v k j e os bs isnt g = record { job = g.job; launch = longer es k g.job e isnt g.launch; is = of_in w v g.job j os bs g.is; goes_on = g.goes_on }
+
+launch_given : (es : List Event) (w v : WorldOf) (i : ℕ) (job : Job) (n : Note) → AreGiven es w → Launches w i job n v → AreGiven (es ++ events.Launch i job ∷ []) v
+launch_given es w v i job n all d k a j is holds = by (after_set w.actors i (launched (length d.seat.received) d.made) k a (subst (λ (x : WorldOf). slice_get x.actors k ≡ Some a) d.after is))
+  where
+    os : v.shared.state.observers ≡ w.shared.state.observers
+    os = ap (λ (x : WorldOf). x.shared.state.observers) d.after
+
+    bs : v.batches ≡ w.batches
+    bs = ap (λ (x : WorldOf). x.batches) d.after
+
+    by : IsAfterSet w.actors i (launched (length d.seat.received) d.made) k a → IsGivenJob (es ++ events.Launch i job ∷ []) v k j
+    by (changed here a-is) =
+        let same : d.made ≡ j = some_same d.made j (sym (ap (λ (x : Actor). x.job) a-is) ∙ holds) in
+        let m = made_is w job d.made d.made_is in
+        record {
+          job = job;
+          launch = record { before = es; after = []; es_is = ap (λ x. es ++ events.Launch x job ∷ []) (sym here); last = λ e has r. absurd has };
+          is = of_in w v job j os bs (subst (λ x. IsOf w job x) same m.is);
+          goes_on = subst (λ x. is_over x ≡ false) same m.goes_on;
+        }
+    by (unchanged apart was) = held_on es w v k j (events.Launch i job) os bs (λ e. apart (sym e)) (all k a j was holds)
+
+step_given : (es : List Event) (w v : WorldOf) (i : ℕ) (n : Note) → AreGiven es w → StepsActor w i n v → AreGiven (es ++ events.Step i ∷ []) v
+step_given es w v i n all d k a j is holds = by (after_set w.actors i d.stepped k a (subst (λ (x : WorldOf). slice_get x.actors k ≡ Some a) d.after is))
+  where
+    left : IsLeftOf w d.actor.job v.shared d.stepped.job
+    left = left_actor w d.seat d.actor.job n v.shared d.told d.stepped.job d.steps.steps
+
+    bs : v.batches ≡ w.batches
+    bs = ap (λ (x : WorldOf). x.batches) d.after
+
+    by : IsAfterSet w.actors i d.stepped k a → IsGivenJob (es ++ events.Step i ∷ []) v k j
+    by (changed here a-is) =
+        let went = left.goes j (sym (ap (λ (x : Actor). x.job) a-is) ∙ holds) in
+        let was = all k d.actor went.0 (subst (λ x. slice_get w.actors x ≡ Some d.actor) (sym here) d.its_actor) went.1 in
+        record { job = was.job; launch = longer es k was.job (events.Step i) (λ r. r) was.launch; is = of_in w v was.job j left.observers bs (went.2 was.job was.is); goes_on = went.3 }
+    by (unchanged apart was) = held_on es w v k j (events.Step i) left.observers bs (λ r. r) (all k a j was holds)
+
+crash_given : (es : List Event) (w v : WorldOf) (i : ℕ) (n : Note) → AreGiven es w → CrashesActor w i n v → AreGiven (es ++ events.Crash i ∷ []) v
+crash_given es w v i n all d k a j is holds = by (after_set w.actors i (crashed d.actor) k a (subst (λ (x : WorldOf). slice_get x.actors k ≡ Some a) d.after is))
+  where
+    by : IsAfterSet w.actors i (crashed d.actor) k a → IsGivenJob (es ++ events.Crash i ∷ []) v k j
+    by (changed here a-is) = absurd (none_some j (sym (ap (λ (x : Actor). x.job) a-is) ∙ holds))
+    by (unchanged apart was) =
+        held_on es w v k j (events.Crash i) (ap (λ (x : WorldOf). x.shared.state.observers) d.after) (ap (λ (x : WorldOf). x.batches) d.after) (λ e. apart (sym e)) (all k a j was holds)
+
+own_given : (es : List Event) (w v : WorldOf) (st : Step) (e : Event) (n : Note) → ((k : ℕ) → Renews k e → ⊥) → AreGiven es w → OwnCalls w st n v → AreGiven (es ++ e ∷ []) v
+own_given es w v st e n isnt all d k a j is holds = by (call_reason w.shared d.seat.number st) d.calls
+  where
+    by : (r : Option Reason) → MatchOption r (OwnAnswers w d.seat st n v) (λ why. (n ≡ Refused (reason_code why)) × (v ≡ w)) → IsGivenJob (es ++ e ∷ []) v k j
+    by None c = held_on es w v k j e c.calls.observers (ap (λ (x : WorldOf). x.batches) c.after) (isnt k) (all k a j (subst (λ (x : WorldOf). slice_get x.actors k ≡ Some a) c.after is) holds)
+    by (Some y) c =
+        held_on es w v k j e (ap (λ (x : WorldOf). x.shared.state.observers) c.1) (ap (λ (x : WorldOf). x.batches) c.1) (isnt k) (all k a j (subst (λ (x : WorldOf). slice_get x.actors k ≡ Some a) c.1 is) holds)
+
+does_given : (es : List Event) (w : WorldOf) (e : Event) (n : Note) (v : WorldOf) → AreGiven es w → Does w e n v → AreGiven (es ++ e ∷ []) v
+does_given es w (events.Launch k job) n v all d = launch_given es w v k job n all d
+does_given es w (events.Step k) n v all d = step_given es w v k n all d
+does_given es w (events.Crash k) n v all d = crash_given es w v k n all d
+does_given es w (events.Settle x) n v all d = own_given es w v (step.Settle x) (events.Settle x) n (λ k r. r) all d
+does_given es w (events.Clear x) n v all d = own_given es w v (step.Clear x) (events.Clear x) n (λ k r. r) all d
+does_given es w (events.Sweep x) n v all d = own_given es w v (step.Sweep x) (events.Sweep x) n (λ k r. r) all d
+
+run_given : (es : List Event) (w : WorldOf) (fs : List Event) (ns : List Note) (v : WorldOf) → AreGiven es w → RunsTo w fs ns v → AreGiven (es ++ fs) v
+run_given es w [] [] v all r = subst (λ x. AreGiven x v) (sym (append_none es)) (subst (λ x. AreGiven es x) (sym r) all)
+  where
+    append_none : (xs : List Event) → xs ++ [] ≡ xs
+    append_none [] = refl
+    append_none (x ∷ xs) = ap (λ l. x ∷ l) (append_none xs)
+run_given es w (e ∷ fs) (n ∷ ns) v all r =
+    subst (λ x. AreGiven x v) (append_assoc' es (e ∷ []) fs) (run_given (es ++ e ∷ []) r.0 fs ns v (does_given es w e n r.0 all r.1.does) r.2)
+run_given es w [] (n ∷ ns) v all r = absurd r
+run_given es w (e ∷ fs) [] v all r = absurd r
+
+pub jobs_are_given : JobsAreGiven
+jobs_are_given w es ns v o r = run_given [] w es ns v (λ k a j is holds. absurd (none_some j (sym (idle _ k a (subst (λ xs. slice_get xs k ≡ Some a) o.actors is)) ∙ holds))) r
+
+-- ---- busy actors
+
+some_none : {A : Type 0} (x : A) → Some x ≡ None → ⊥
+some_none x e = cc
+
+busy_fault : (w : WorldOf) (k : ℕ) (a : Actor) (j : ActorJob) (job : Job) → actor_of w k ≡ Some a → a.job ≡ Some j → fault_of w (events.Launch k job) ≡ Some faults.Busy
+busy_fault w k a j job is holds = ap (λ o. no_launch o (job_for w job)) is ∙ ap (λ o. no_launch_by o (job_for w job)) holds
+
+pub busy_actors_are_left : BusyActorsAreLeft
+busy_actors_are_left w k a j job es [] v is holds r = r
+busy_actors_are_left w k a j job es (n ∷ ns) v is holds r = some_none faults.Busy (sym (busy_fault w k a j job is holds) ∙ r.1.can)
+
+pub busy_actors_are_told : BusyActorsAreTold
+busy_actors_are_told w k a j job es zero code v is holds s = (refl, same s.notes s.before, elim s.why [ inl m ↦ inr m.0 | inr f ↦ inl (told f) ])
+  where
+    same : (ns : List Note) → RunsTo w [] ns v → v ≡ w
+    same [] r = r
+    same (n ∷ ns) r = absurd r
+
+    told : (event : Event) × (fault : EventFault) × (slice_get (events.Launch k job ∷ es) 0 ≡ Some event) × (fault_of v event ≡ Some fault) × (code ≡ fault_code fault) → code ≡ 61
+    told f =
+        let event : events.Launch k job ≡ f.0 = some_same (events.Launch k job) f.0 f.2 in
+        let here : fault_of w (events.Launch k job) ≡ Some f.1 = subst (λ e. fault_of w e ≡ Some f.1) (sym event) (subst (λ x. fault_of x f.0 ≡ Some f.1) (same s.notes s.before) f.3) in
+        let busy : faults.Busy ≡ f.1 = some_same faults.Busy f.1 (sym (busy_fault w k a j job is holds) ∙ here) in
+        f.4 ∙ ap fault_code (sym busy)
+busy_actors_are_told w k a j job es (suc at) code v is holds s = absurd (busy_actors_are_left w k a j job _ s.notes v is holds s.before)
+
+-- ---- refused steps
+
+refused_job : (w : WorldOf) (seat : SeatOf) (j : ActorJob) (code : ℕ) (t : SharedOf) (told : SeatOf) (rest : Option ActorJob) (b : Bool)
+    → MatchBool b (Instructs w.shared seat j (Refused code) t told rest) (MatchOption (next_of j) (IsIdle w.shared seat (Refused code) t told rest) (λ st. MatchOption (call_reason w.shared seat.number st) (AnswersJob w.shared seat j st (Refused code) t told rest) (λ y. RefusesJob w.shared seat y (Refused code) t told rest)))
+    → rest ≡ None
+refused_job w seat j code t told rest true d = absurd (instruction code d.note)
+  where
+    instruction : (c : ℕ) → Refused c ≡ Instruction → ⊥
+    instruction c e = cc
+refused_job w seat j code t told rest false d = asked (next_of j) d
+  where
+    not_called : (c : ℕ) (a : Answer) → Refused c ≡ Called a → ⊥
+    not_called c a e = cc
+
+    called : (st : Step) (why : Option Reason) → MatchOption why (AnswersJob w.shared seat j st (Refused code) t told rest) (λ y. RefusesJob w.shared seat y (Refused code) t told rest) → rest ≡ None
+    called st None d = absurd (not_called code d.answer d.note)
+    called st (Some y) d = d.left
+
+    asked : (o : Option Step) → MatchOption o (IsIdle w.shared seat (Refused code) t told rest) (λ st. MatchOption (call_reason w.shared seat.number st) (AnswersJob w.shared seat j st (Refused code) t told rest) (λ y. RefusesJob w.shared seat y (Refused code) t told rest)) → rest ≡ None
+    asked None d = d.left
+    asked (Some st) d = called st (call_reason w.shared seat.number st) d
+
+refused_actor : (w : WorldOf) (seat : SeatOf) (o : Option ActorJob) (code : ℕ) (t : SharedOf) (told : SeatOf) (rest : Option ActorJob)
+    → MatchOption o (IsIdle w.shared seat (Refused code) t told rest) (λ j. JobSteps w.shared seat j (Refused code) t told rest) → rest ≡ None
+refused_actor w seat None code t told rest d = d.left
+refused_actor w seat (Some j) code t told rest d = refused_job w seat j code t told rest (is_local j) d
+
+pub refused_jobs_end : RefusedJobsEnd
+refused_jobs_end w k code v a h is = by (after_set w.actors k d.stepped k a (subst (λ (x : WorldOf). slice_get x.actors k ≡ Some a) d.after is))
+  where
+    d : StepsActor w k (Refused code) v
+    d = h.does
+
+    by : IsAfterSet w.actors k d.stepped k a → a.job ≡ None
+    by (changed here a-is) = ap (λ (x : Actor). x.job) a-is ∙ refused_actor w d.seat d.actor.job code v.shared d.told d.stepped.job d.steps.steps
+    by (unchanged apart was) = absurd (apart refl)

@@ -1,0 +1,94 @@
+//! Commands carried out over paths and sinks in memory.
+ghost use Rattle.std.specs.Prelude.{◌≡◌, None, false};
+
+use pb_base::{NoMemory, Sink, SinkFault};
+use pb_command::{Paths, command};
+use pb_texts::Options;
+use std::alloc::Global;
+use std::rt::HostRuntime;
+use test_fixtures::table;
+
+// A sink that takes one byte a call, so many times, and then none, or fails.
+#[derive(Drop)]
+struct Sheet {
+    bytes: Vec<u8>,
+    left: usize,
+    fails: bool,
+    failed: bool,
+}
+
+impl Sink for Sheet {
+    ghost taken = { λ _. None };
+
+    ghost failed = { λ s. s.failed };
+
+    fn write(&mut self, piece: &[u8]) -> Result<usize, SinkFault> {
+        if piece.is_empty() {
+            return Ok(0);
+        }
+        if self.left > 0 && self.bytes.push(piece[0]).is_ok() {
+            self.left -= 1;
+            return Ok(1);
+        }
+        self.failed = true;
+        if self.fails { Err(SinkFault) } else { Ok(0) }
+    }
+
+    fn has_failed(&self) -> bool {
+        self.failed
+    }
+}
+
+/// What a command printed, and its status.
+#[derive(Drop)]
+pub struct Outcome {
+    pub status: u8,
+    pub out: Vec<u8>,
+    pub err: Vec<u8>,
+}
+
+impl Sheet {
+    // An empty one.
+    fn new(alloc: Global, left: usize, fails: bool) -> Sheet
+        ensures { result.failed ≡ false }
+    {
+        Sheet {
+            bytes: Vec::new(alloc),
+            left,
+            fails,
+            failed: false,
+        }
+    }
+}
+
+/// Carries out a command over these paths, with an output that takes so many bytes, and then fails or takes none.
+pub fn carry<P: Paths>(
+    rt: &HostRuntime,
+    options: &Options,
+    paths: &mut P,
+    left: usize,
+    fails: bool,
+) -> Result<Outcome, NoMemory> {
+    let alloc = rt.alloc();
+    let table = table(alloc)?;
+    let mut out = Sheet::new(alloc, left, fails);
+    let mut err = Sheet::new(alloc, usize::MAX, fails);
+    let status = command(alloc, options, paths, table, &mut out, &mut err);
+    Ok(Outcome {
+        status,
+        out: out.bytes,
+        err: err.bytes,
+    })
+}
+
+/// Whether a command prints nothing but this fault.
+pub fn has_told(outcome: Result<Outcome, NoMemory>, fault: &str) -> bool {
+    match outcome {
+        Ok(outcome) => {
+            outcome.status == 1
+                && outcome.out.is_empty()
+                && outcome.err.as_slice() == fault.as_bytes()
+        }
+        Err(_) => false,
+    }
+}

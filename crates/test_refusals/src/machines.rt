@@ -1,0 +1,99 @@
+//! Machines, also of the program in a file.
+use pb_base::{Cell, Column, Content, NoMemory, Revision, Row, Ts};
+use pb_core::{Finished, Record, Vm};
+use pb_helpers::HelperTable;
+use pb_registry::accept;
+use pb_verify::Accepted;
+use pb_vm::{Phase, Reply};
+use std::alloc::Global;
+use std::fs;
+use std::io::Read;
+use std::sync::Arc;
+
+/// The record of a cell that was deleted at 2.
+pub fn change(cell: Cell) -> Record {
+    let version = Revision {
+        start: Ts(1),
+        commit: Ts(2),
+        content: Content::Deleted,
+    };
+    Record::new(cell, &version, Ts(0))
+}
+
+// A machine of a program on that record, which is of its version, for a run at 3.
+fn started_once(alloc: Global, program: &Arc<Accepted>, cell: &Cell) -> Result<Vm, NoMemory> {
+    let version = program.version();
+    let record = change(*cell);
+    if record.version() != version {
+        return Err(NoMemory);
+    }
+    Vm::start(alloc, program, record, Ts(3))
+}
+
+/// A machine of a program on that record, for a run at 3. Where it is refused once, the same call again starts it.
+pub fn started(alloc: Global, program: &Arc<Accepted>, cell: &Cell) -> Option<Vm> {
+    match started_once(alloc, program, cell) {
+        Ok(vm) => Some(vm),
+        Err(_) => started_once(alloc, program, cell).ok(),
+    }
+}
+
+/// What a machine leaves at its end, where each cell that it asks for is absent. It takes no memory.
+pub fn finished(vm: Vm) -> Option<Finished> {
+    let mut vm = vm;
+    for _ in 0..1_024u32 {
+        match vm.phase() {
+            Phase::Going => {
+                vm.step();
+            }
+            Phase::Asking(_) => vm.reply(Reply::Absent),
+            Phase::Over(_) => {}
+        }
+    }
+    match vm.phase() {
+        Phase::Over(_) => Some(vm.finish()),
+        _ => None,
+    }
+}
+
+// The program of a file, with all helpers.
+fn program_in(rt: &HostRuntime, path: &str) -> Result<Arc<Accepted>, NoMemory> {
+    let mut bytes = Vec::new(rt.alloc());
+    let Ok(mut file) = fs::open(rt, path) else {
+        return Err(NoMemory);
+    };
+    if file.read_to_end(&mut bytes).is_err() {
+        return Err(NoMemory);
+    }
+    match accept(rt.alloc(), &bytes, HelperTable::all()) {
+        Ok(program) => Ok(Arc::new(rt.alloc(), program)?),
+        Err(_) => Err(NoMemory),
+    }
+}
+
+fn started_in(rt: &HostRuntime, path: &str) -> Result<Option<Vm>, NoMemory> {
+    let Some(column) = Column::new(0) else {
+        return Ok(None);
+    };
+    let program = program_in(rt, path)?;
+    Ok(started(rt.alloc(), &program, &Cell::Data(Row(7), column)))
+}
+
+/// Whether a machine of the program in a file stands on entry.
+pub fn file_starts(rt: &HostRuntime, path: &str) -> Result<bool, NoMemory> {
+    match started_in(rt, path)? {
+        Some(vm) => Ok(vm.phase() == Phase::Going && vm.taken() == 0),
+        None => Ok(false),
+    }
+}
+
+/// Whether a machine of the program in a file comes to its end.
+pub fn file_runs(rt: &HostRuntime, path: &str) -> Result<bool, NoMemory> {
+    let Some(vm) = started_in(rt, path)? else {
+        return Ok(false);
+    };
+    match finished(vm) {
+        Some(finished) => Ok(finished.run() == Ts(3)),
+        None => Ok(false),
+    }
+}

@@ -1,0 +1,83 @@
+//! Makes each call that grows, on a small state. Where memory is refused, nothing has changed, and the same call again
+//! answers as if it had never been refused. It ends with status 0 where all of that held.
+//!
+//! It is run once for each of its requests for memory, with that request refused (checks/refused-growths). With `start FILE`
+//! it starts a machine of the program in a file, and with `run FILE` it runs one to its end.
+#![tactic(auto)]
+
+mod calls;
+mod jobs;
+mod machines;
+mod observers;
+mod page;
+mod programs;
+mod runs;
+mod same;
+mod tablets;
+mod worlds;
+
+use pb_base::NoMemory;
+use std::env;
+use std::process::ExitCode;
+
+// Every check. It fails for memory only where a check's own preparation was refused.
+fn all(rt: &HostRuntime) -> Result<bool, NoMemory> {
+    let alloc = rt.alloc();
+    let copies = calls::batch_copies(alloc)? && calls::step_copies(alloc)?;
+    let table = calls::table_applies(alloc)?
+        && tablets::chunks_are_parted(alloc)?
+        && calls::state_takes(alloc)?;
+    let shared = calls::shared_calls(alloc)?
+        && jobs::changes_are_made(alloc)?
+        && jobs::observers_run(alloc)?;
+    let runs = runs::script_parses(alloc)?
+        && runs::shared_opens(alloc)?
+        && runs::script_runs(alloc)?;
+    let observers = observers::programs_are_accepted(alloc)?
+        && observers::manifests_are_read(alloc)?
+        && observers::schedules_are_read(alloc)?
+        && observers::machines_start(alloc)?
+        && observers::tables_open(alloc)?
+        && observers::runs_are_declared(alloc)?
+        && worlds::worlds_run(alloc)?;
+    let programs = programs::programs_are_made(alloc)?
+        && programs::bytes_are_decoded(alloc)?
+        && programs::programs_are_encoded(alloc)?
+        && programs::texts_are_assembled(alloc)?
+        && programs::programs_are_listed(alloc)?
+        && programs::programs_are_verified(alloc)?
+        && programs::jumps_are_verified(alloc)?;
+    Ok(copies && table && shared && runs && observers && programs)
+}
+
+// What the words behind the program's own ask for.
+fn asked(rt: &HostRuntime) -> Result<bool, NoMemory> {
+    let Ok(args) = env::args(rt) else {
+        return Err(NoMemory);
+    };
+    let words: Vec<String> = args.collect(rt.alloc())?;
+    let Some(word) = words.get(1) else {
+        return all(rt);
+    };
+    match (word.as_str(), words.get(2)) {
+        ("start", Some(path)) => machines::file_starts(rt, path.as_str()),
+        ("run", Some(path)) => machines::file_runs(rt, path.as_str()),
+        _ => Ok(false),
+    }
+}
+
+fn main(rt: HostRuntime) -> ExitCode {
+    // Only one request is refused; the second time no preparation is.
+    let held = match asked(&rt) {
+        Ok(held) => held,
+        Err(_) => match asked(&rt) {
+            Ok(held) => held,
+            Err(_) => false,
+        },
+    };
+    if held {
+        ExitCode::SUCCESS
+    } else {
+        ExitCode::FAILURE
+    }
+}

@@ -1,0 +1,57 @@
+//! A tablet that counts how often it is changed.
+ghost use Rattle.std.specs.Prelude.{◌≡◌};
+ghost use Rattle.pb_store.specs.Contents.{Contents};
+
+use pb_base::{Cell, NoMemory, Ts};
+use pb_memtablet::ListTablet;
+use pb_store::{Edit, Item, Slot, Sort, Tablet};
+use std::sync::Arc;
+use std::sync::atomic::{AtomicUsize, Ordering};
+
+/// A list tablet that counts the calls of `apply`, where others can read it.
+#[derive(Drop)]
+pub struct CountedTablet {
+    pub inner: ListTablet,
+    pub calls: Arc<AtomicUsize>,
+}
+
+impl Tablet for CountedTablet {
+    ghost contents = { λ t. t.inner };
+
+    fn get(&self, slot: Slot) -> Option<Item> {
+        self.inner.get(slot)
+    }
+
+    fn newest(&self, cell: Cell, sort: Sort, high: Ts) -> Option<(Ts, Item)> {
+        self.inner.newest(cell, sort, high)
+    }
+
+    fn next_mark(&self, after: Option<Cell>) -> Option<Cell> {
+        self.inner.next_mark(after)
+    }
+
+    fn len(&self) -> usize {
+        self.inner.len()
+    }
+
+    fn at(&self, place: usize) -> Option<(Slot, Item)> {
+        self.inner.at(place)
+    }
+
+    fn is_empty(&self) -> bool {
+        self.inner.is_empty()
+    }
+
+    fn apply(&mut self, edits: &[Edit]) -> Result<(), NoMemory> {
+        self.calls.fetch_add(1, Ordering::SeqCst);
+        self.inner.apply(edits)
+    }
+
+    fn clear(&mut self) {
+        self.inner.clear();
+    }
+
+    fn end(self) {
+        drop(self);
+    }
+}

@@ -1,0 +1,121 @@
+//! Transactions of several cells, and what rivals do with those that stop half way.
+ghost use Rattle.std.specs.Prelude.{◌≡◌, ◌≤◌, length};
+
+use crate::tables::{cell, deletes};
+use pb_base::{Content, NoMemory, Ts};
+use pb_core::{Answer, Observer, Seat, Shared, Step, Work};
+use pb_store::Tablet;
+use std::alloc::Global;
+use std::rt::HostRuntime;
+use test_fixtures::opened;
+
+// A step of a seat, and what it is answered, or the number that it is refused with.
+pub type Told = (usize, Step, Result<Answer, u8>);
+
+// What a seat's step is answered; 0 where there is no such seat, or where a refused step adds to journal or seat.
+fn call<T: Tablet>(
+    shared: &mut Shared<T>,
+    seats: &mut Vec<Seat>,
+    number: usize,
+    step: &Step,
+) -> Result<Answer, u8> {
+    let Some(seat) = seats.get_mut(number) else {
+        return Err(0);
+    };
+    let entries = shared.journal().len();
+    let received = seat.received().len();
+    match shared.call(seat, step) {
+        Ok(answer) => Ok(answer),
+        Err(refusal) => {
+            let is_same = shared.journal().len() == entries && seat.received().len() == received;
+            if is_same { Err(refusal.0) } else { Err(0) }
+        }
+    }
+}
+
+// Whether each step is answered as said.
+fn are_told<T: Tablet>(shared: Shared<T>, seats: Vec<Seat>, told: &[Told]) -> bool {
+    let mut shared = shared;
+    let mut seats = seats;
+    let mut held = true;
+    for (number, step, wanted) in told {
+        held = held && call(&mut shared, &mut seats, *number, step) == *wanted;
+    }
+    shared.close();
+    held
+}
+
+// The same, on a table with these observers and three seats.
+pub fn are_told_on(alloc: Global, observers: Vec<Observer>, told: &[Told]) -> Result<bool, NoMemory>
+    requires { length observers.items ≤ 32 }
+{
+    let (shared, seats) = opened(alloc, observers, 3, Ts(0), 100)?;
+    Ok(are_told(shared, seats, told))
+}
+
+#[test]
+fn a_rival_rolls_back(rt: HostRuntime) -> Result<(), NoMemory> {
+    let first = cell(&rt, 7, 1);
+    let second = cell(&rt, 7, 0);
+    let one = Ts(1);
+    let two = Ts(2);
+    let locked = Answer::Locked {
+        start: one,
+        primary: first,
+    };
+    let what = deletes(&rt, rt.alloc(), &[1, 0]);
+    let mut told = Vec::new(rt.alloc());
+    told.push((1, Step::Begin(Work::Script), Ok(Answer::At(one))))?;
+    told.push((1, Step::Declare(one, what), Ok(Answer::Done)))?;
+    told.push((1, Step::Prewrite(one, second), Err(42)))?;
+    told.push((1, Step::Prewrite(one, first), Ok(Answer::Done)))?;
+    told.push((1, Step::Prewrite(one, first), Err(46)))?;
+    told.push((1, Step::Prewrite(one, cell(&rt, 8, 0)), Err(45)))?;
+    told.push((1, Step::Prewrite(one, second), Ok(Answer::Done)))?;
+    told.push((2, Step::Begin(Work::Script), Ok(Answer::At(two))))?;
+    told.push((2, Step::Read(two, second), Ok(locked)))?;
+    told.push((2, Step::Clear(second), Ok(Answer::Waits)))?;
+    told.push((2, Step::Settle(second), Ok(locked)))?;
+    told.push((2, Step::Settle(first), Ok(Answer::RolledBack)))?;
+    told.push((2, Step::Clear(second), Ok(Answer::RolledBack)))?;
+    told.push((2, Step::Read(two, second), Ok(Answer::Absent)))?;
+    told.push((2, Step::Read(one, second), Err(41)))?;
+    told.push((1, Step::CommitSecondary(one, second), Err(42)))?;
+    told.push((1, Step::Stamp(one), Ok(Answer::At(Ts(3)))))?;
+    told.push((1, Step::CommitPrimary(one), Ok(Answer::Lost)))?;
+    told.push((1, Step::CommitSecondary(one, second), Err(42)))?;
+    told.push((0, Step::Settle(first), Ok(Answer::Absent)))?;
+    told.push((0, Step::Clear(second), Ok(Answer::Absent)))?;
+    assert!(rt; are_told_on(rt.alloc(), Vec::new(rt.alloc()), &told)?);
+    Ok(())
+}
+
+#[test]
+fn a_rival_finishes(rt: HostRuntime) -> Result<(), NoMemory> {
+    let first = cell(&rt, 7, 1);
+    let second = cell(&rt, 7, 0);
+    let one = Ts(1);
+    let found = Answer::Found {
+        start: one,
+        commit: Ts(2),
+        content: Content::Deleted,
+    };
+    let what = deletes(&rt, rt.alloc(), &[1, 0]);
+    let mut told = Vec::new(rt.alloc());
+    told.push((1, Step::Begin(Work::Script), Ok(Answer::At(one))))?;
+    told.push((1, Step::Declare(one, what), Ok(Answer::Done)))?;
+    told.push((1, Step::Prewrite(one, first), Ok(Answer::Done)))?;
+    told.push((1, Step::Prewrite(one, second), Ok(Answer::Done)))?;
+    told.push((1, Step::Stamp(one), Ok(Answer::At(Ts(2)))))?;
+    told.push((0, Step::Clear(first), Ok(Answer::Waits)))?;
+    told.push((1, Step::CommitPrimary(one), Ok(Answer::Committed)))?;
+    told.push((2, Step::CommitSecondary(one, second), Err(41)))?;
+    told.push((1, Step::CommitSecondary(one, cell(&rt, 8, 0)), Err(45)))?;
+    told.push((2, Step::Clear(second), Ok(Answer::CommittedAt(Ts(2)))))?;
+    told.push((1, Step::CommitSecondary(one, second), Ok(Answer::Done)))?;
+    told.push((2, Step::Begin(Work::Script), Ok(Answer::At(Ts(3)))))?;
+    told.push((2, Step::Read(Ts(3), first), Ok(found)))?;
+    told.push((2, Step::Read(Ts(3), second), Ok(found)))?;
+    assert!(rt; are_told_on(rt.alloc(), Vec::new(rt.alloc()), &told)?);
+    Ok(())
+}

@@ -1,0 +1,185 @@
+//! Marks of changed cells, and what runs may declare.
+use crate::clean_ups::{Told, are_told_on};
+use crate::tables::{WATCH, acknowledgment, cell, deletes, first, observer_of, observers_of};
+use pb_base::{Content, NoMemory, Revision, Row, Ts};
+use pb_core::{Answer, Declaration, Declared, EndedRun, Observer, Step, Work};
+use pb_helpers::{Record, Reply};
+use pb_vm::{Finished, Phase, Vm};
+use std::alloc::Global;
+use std::process::Abort;
+use std::rt::HostRuntime;
+
+const ONE: Ts = Ts(1);
+
+const THREE: Ts = Ts(3);
+
+// What the run reads of its cell.
+const FOUND: Answer = Answer::Found {
+    start: Ts(1),
+    commit: Ts(2),
+    content: Content::Deleted,
+};
+
+// A machine's run to its end, where each ask is answered by this reply.
+fn finished_by(rt: &impl Abort, vm: Vm, reply: Reply) -> Finished {
+    let mut vm = vm;
+    for _ in 0..64u32 {
+        match vm.phase() {
+            Phase::Going => {
+                vm.step();
+            }
+            Phase::Asking(_) => vm.reply(reply),
+            Phase::Over(_) => {}
+        }
+    }
+    match vm.phase() {
+        Phase::Over(_) => vm.finish(),
+        _ => panic!(rt; "not ended"),
+    }
+}
+
+// The run at 3 of an observer on what was found.
+fn run_of(rt: &impl Abort, alloc: Global, observer: &Observer, reply: Reply) -> Declaration {
+    let version = Revision {
+        start: Ts(1),
+        commit: Ts(2),
+        content: Content::Deleted,
+    };
+    let record = Record::new(cell(rt, 7, 0), &version, Ts(0));
+    let version = observer.program.version();
+    assert!(rt; record.version() == version);
+    let vm = Vm::start(alloc, &observer.program, record, THREE).expect(rt, "memory");
+    let run = EndedRun::new(alloc, finished_by(rt, vm, reply));
+    let declared = Declared::Run(first(rt), run.ok().expect(rt, "memory"));
+    Declaration::new(alloc, declared).ok().expect(rt, "memory")
+}
+
+// A change of column 0, committed, and a run that has read its cell and its acknowledgment.
+fn begun(rt: &impl Abort, alloc: Global) -> Result<Vec<Told>, NoMemory> {
+    let ack = acknowledgment(rt);
+    let what = deletes(rt, alloc, &[0]);
+    let mut told = Vec::new(alloc);
+    told.push((1, Step::Begin(Work::Script), Ok(Answer::At(ONE))))?;
+    told.push((1, Step::Declare(ONE, what), Ok(Answer::Done)))?;
+    told.push((1, Step::Prewrite(ONE, cell(rt, 7, 0)), Ok(Answer::Done)))?;
+    told.push((1, Step::Stamp(ONE), Ok(Answer::At(Ts(2)))))?;
+    told.push((1, Step::CommitPrimary(ONE), Ok(Answer::Committed)))?;
+    told.push((
+        2,
+        Step::Begin(Work::Run(first(rt), Row(7))),
+        Ok(Answer::At(THREE)),
+    ))?;
+    told.push((2, Step::Read(THREE, cell(rt, 7, 0)), Ok(FOUND)))?;
+    told.push((2, Step::Read(THREE, ack), Ok(Answer::Absent)))?;
+    Ok(told)
+}
+
+#[test]
+fn a_cleared_cell_is_marked_and_swept(rt: HostRuntime) -> Result<(), NoMemory> {
+    let x = cell(&rt, 7, 0);
+    let other = cell(&rt, 7, 1);
+    let ack = acknowledgment(&rt);
+    let observer = observer_of(&rt, rt.alloc(), WATCH);
+    let run = run_of(&rt, rt.alloc(), &observer, Reply::Absent);
+    let mut told = Vec::new(rt.alloc());
+    told.push((1, Step::Begin(Work::Script), Ok(Answer::At(ONE))))?;
+    let what = deletes(&rt, rt.alloc(), &[1, 0]);
+    told.push((1, Step::Declare(ONE, what), Ok(Answer::Done)))?;
+    told.push((1, Step::Prewrite(ONE, other), Ok(Answer::Done)))?;
+    told.push((1, Step::Prewrite(ONE, x), Ok(Answer::Done)))?;
+    told.push((1, Step::Stamp(ONE), Ok(Answer::At(Ts(2)))))?;
+    told.push((1, Step::CommitPrimary(ONE), Ok(Answer::Committed)))?;
+    // The primary's column has no observer.
+    told.push((2, Step::NextMark(None), Ok(Answer::NoMark)))?;
+    told.push((2, Step::Clear(x), Ok(Answer::CommittedAt(Ts(2)))))?;
+    told.push((2, Step::NextMark(None), Ok(Answer::Marked(x))))?;
+    told.push((2, Step::NextMark(Some(x)), Ok(Answer::NoMark)))?;
+    told.push((
+        2,
+        Step::NextMark(Some(cell(&rt, 6, 15))),
+        Ok(Answer::Marked(x)),
+    ))?;
+    told.push((0, Step::Sweep(other), Ok(Answer::NoMark)))?;
+    told.push((0, Step::Sweep(x), Ok(Answer::StillBehind)))?;
+    told.push((
+        2,
+        Step::Begin(Work::Run(first(&rt), Row(7))),
+        Ok(Answer::At(THREE)),
+    ))?;
+    told.push((2, Step::Read(THREE, x), Ok(FOUND)))?;
+    told.push((2, Step::Read(THREE, ack), Ok(Answer::Absent)))?;
+    told.push((2, Step::Declare(THREE, run), Ok(Answer::Done)))?;
+    told.push((2, Step::Prewrite(THREE, ack), Ok(Answer::Done)))?;
+    told.push((2, Step::Stamp(THREE), Ok(Answer::At(Ts(4)))))?;
+    told.push((1, Step::Sweep(x), Ok(Answer::StillBehind)))?;
+    told.push((2, Step::CommitPrimary(THREE), Ok(Answer::Committed)))?;
+    // An acknowledgment isn't marked.
+    told.push((0, Step::NextMark(Some(x)), Ok(Answer::NoMark)))?;
+    told.push((0, Step::NextMark(None), Ok(Answer::Marked(x))))?;
+    told.push((0, Step::Sweep(x), Ok(Answer::Done)))?;
+    told.push((0, Step::Sweep(x), Ok(Answer::NoMark)))?;
+    told.push((0, Step::NextMark(None), Ok(Answer::NoMark)))?;
+    let observers = observers_of(rt.alloc(), observer)?;
+    assert!(rt; are_told_on(rt.alloc(), observers, &told)?);
+    Ok(())
+}
+
+#[test]
+fn a_run_declares_what_it_read(rt: HostRuntime) -> Result<(), NoMemory> {
+    // It asks for cell 7 1.
+    let observer = observer_of(
+        &rt,
+        rt.alloc(),
+        "b701000007000000b702000001000000bfa300000000000007030000e0ffffff85000000010000009500000000000000",
+    );
+    let absent = run_of(&rt, rt.alloc(), &observer, Reply::Absent);
+    let early = run_of(&rt, rt.alloc(), &observer, Reply::Absent);
+    let invented = run_of(&rt, rt.alloc(), &observer, Reply::Found([9; 32]));
+    let mut told = begun(&rt, rt.alloc())?;
+    told.push((2, Step::Declare(THREE, early), Err(43)))?;
+    told.push((2, Step::Read(THREE, cell(&rt, 7, 1)), Ok(Answer::Absent)))?;
+    told.push((2, Step::Declare(THREE, invented), Err(43)))?;
+    told.push((2, Step::Declare(THREE, absent), Ok(Answer::Done)))?;
+    let observers = observers_of(rt.alloc(), observer)?;
+    assert!(rt; are_told_on(rt.alloc(), observers, &told)?);
+    Ok(())
+}
+
+#[test]
+fn a_run_writes_its_acknowledgment_and_more(rt: HostRuntime) -> Result<(), NoMemory> {
+    // It deletes cell 5 15.
+    let observer = observer_of(
+        &rt,
+        rt.alloc(),
+        "b701000005000000b70200000f00000085000000030000009500000000000000",
+    );
+    let run = run_of(&rt, rt.alloc(), &observer, Reply::Absent);
+    let written = cell(&rt, 5, 15);
+    let ack = acknowledgment(&rt);
+    let five = Ts(5);
+    let mut told = begun(&rt, rt.alloc())?;
+    told.push((2, Step::Declare(THREE, run), Ok(Answer::Done)))?;
+    told.push((2, Step::Prewrite(THREE, written), Err(42)))?;
+    told.push((2, Step::Prewrite(THREE, ack), Ok(Answer::Done)))?;
+    told.push((2, Step::Stamp(THREE), Err(42)))?;
+    told.push((2, Step::Prewrite(THREE, written), Ok(Answer::Done)))?;
+    told.push((2, Step::Stamp(THREE), Ok(Answer::At(Ts(4)))))?;
+    told.push((2, Step::CommitPrimary(THREE), Ok(Answer::Committed)))?;
+    told.push((2, Step::CommitSecondary(THREE, written), Ok(Answer::Done)))?;
+    told.push((0, Step::Begin(Work::Script), Ok(Answer::At(five))))?;
+    let stamp = Answer::Found {
+        start: THREE,
+        commit: Ts(4),
+        content: Content::Stamp(THREE),
+    };
+    let deleted = Answer::Found {
+        start: THREE,
+        commit: Ts(4),
+        content: Content::Deleted,
+    };
+    told.push((0, Step::Read(five, ack), Ok(stamp)))?;
+    told.push((0, Step::Read(five, written), Ok(deleted)))?;
+    let observers = observers_of(rt.alloc(), observer)?;
+    assert!(rt; are_told_on(rt.alloc(), observers, &told)?);
+    Ok(())
+}

@@ -1,0 +1,141 @@
+//! Worlds opened from texts, and what events leave in them.
+ghost use Rattle.std.specs.Prelude.{◌≤◌, length, IfOk};
+ghost use Rattle.pb_core.specs.Calls.{AreSeats};
+ghost use Rattle.pb_base.specs.declared.limits.TheConstants.{MAX_OBSERVERS};
+
+use pb_base::{Batch, NoMemory, Ts};
+use pb_core::{Observer, Seat, Shared};
+use pb_memtablet::ListTablet;
+use pb_parse::{Event, parse_schedule, parse_script};
+use pb_registry::Registry;
+use pb_world::{Note, World};
+use std::alloc::Global;
+use test_fixtures::opened;
+
+/// An observer of column 0 that does nothing.
+pub const WATCH: &str =
+    "{\"profile\":1,\"observers\":[{\"name\":\"watch\",\"column\":0,\"helpers\":[],\"code\":\"b7000000000000009500000000000000\"}]}";
+
+/// One that copies the value of its cell to column 1.
+pub const COPY: &str =
+    "{\"profile\":1,\"observers\":[{\"name\":\"copy\",\"column\":0,\"helpers\":[2],\"code\":\"bf1600000000000079623000000000007b2ae0ff0000000079623800000000007b2ae8ff0000000079624000000000007b2af0ff0000000079624800000000007b2af8ff000000007961000000000000b702000001000000bfa300000000000007030000e0ffffff8500000002000000b7000000000000009500000000000000\"}]}";
+
+/// A manifest, a script and a schedule; and of the table the seats, the last timestamp given out and the journal's limit.
+#[derive(Clone, Copy)]
+pub struct Texts<'a> {
+    pub manifest: &'a str,
+    pub script: &'a str,
+    pub schedule: &'a str,
+    pub seats: u32,
+    pub last: u64,
+    pub limit: usize,
+}
+
+fn observers(alloc: Global, manifest: &str) -> Result<Vec<Observer>, NoMemory>
+    ensures { IfOk result (λ v. length v.items ≤ MAX_OBSERVERS) }
+{
+    match Registry::from_json(alloc, manifest) {
+        Ok(registry) => match registry.into_observers(alloc) {
+            Ok(observers) => Ok(observers),
+            Err(_) => Err(NoMemory),
+        },
+        Err(_) => Err(NoMemory),
+    }
+}
+
+fn changes(alloc: Global, script: &str) -> Result<Vec<Batch>, NoMemory> {
+    match parse_script(alloc, script) {
+        Ok(batches) => Ok(batches),
+        Err(_) => Err(NoMemory),
+    }
+}
+
+fn events(alloc: Global, schedule: &str, observers: &[Observer]) -> Result<Vec<Event>, NoMemory>
+    requires { length observers.now ≤ MAX_OBSERVERS }
+{
+    match parse_schedule(alloc, schedule, observers) {
+        Ok(events) => Ok(events),
+        Err(_) => Err(NoMemory),
+    }
+}
+
+/// What a run of a list of events answered: its notes, or the event at fault and its code.
+pub type Told = Result<Vec<Note>, (usize, u8)>;
+
+fn run_on(
+    alloc: Global,
+    world: &mut World<ListTablet>,
+    lists: &[&[Event]],
+) -> Result<Vec<Told>, NoMemory> {
+    let mut told = Vec::new(alloc);
+    for events in lists {
+        match world.run(alloc, events) {
+            Ok(notes) => told.push(Ok(notes))?,
+            Err(fault) => told.push(Err((fault.event, fault.code)))?,
+        }
+    }
+    Ok(told)
+}
+
+fn run_in(
+    alloc: Global,
+    shared: Shared<ListTablet>,
+    seats: Vec<Seat>,
+    batches: Vec<Batch>,
+    lists: &[&[Event]],
+) -> Result<Vec<Told>, NoMemory>
+    requires { AreSeats shared seats.items }
+{
+    match World::open(alloc, shared, seats, batches) {
+        Ok(world) => {
+            let mut world = world;
+            let told = run_on(alloc, &mut world, lists);
+            let (shared, _seats) = world.close();
+            shared.close();
+            told
+        }
+        Err((shared, _seats, _batches)) => {
+            shared.close();
+            Err(NoMemory)
+        }
+    }
+}
+
+// The lists of events, run one after another in a world of these texts over a table with these observers.
+fn runs(
+    alloc: Global,
+    texts: &Texts,
+    observers: Vec<Observer>,
+    lists: &[&[Event]],
+) -> Result<Vec<Told>, NoMemory>
+    requires few { length observers.items ≤ MAX_OBSERVERS }
+    requires some { 1 ≤ texts.now.seats }
+    requires seats { texts.now.seats ≤ 64 }
+    requires bounded { texts.now.limit ≤ 1000000 }
+{
+    let batches = changes(alloc, texts.script)?;
+    let (shared, seats) = opened(alloc, observers, texts.seats, Ts(texts.last), texts.limit)?;
+    run_in(alloc, shared, seats, batches, lists)
+}
+
+/// The notes of the schedule's events, or the fault that stops them.
+pub fn notes(alloc: Global, texts: &Texts) -> Result<Told, NoMemory>
+    requires some { 1 ≤ texts.now.seats }
+    requires seats { texts.now.seats ≤ 64 }
+    requires bounded { texts.now.limit ≤ 1000000 }
+{
+    let observers = observers(alloc, texts.manifest)?;
+    let events = events(alloc, texts.schedule, &observers)?;
+    let mut told = runs(alloc, texts, observers, &[events.as_slice()])?;
+    told.pop().ok_or(NoMemory)
+}
+
+/// What lists of events answer, each run after the one before.
+pub fn each(alloc: Global, texts: &Texts, lists: &[&[Event]]) -> Result<Vec<Told>, NoMemory>
+    requires some { 1 ≤ texts.now.seats }
+    requires seats { texts.now.seats ≤ 64 }
+    requires bounded { texts.now.limit ≤ 1000000 }
+{
+    let observers = observers(alloc, texts.manifest)?;
+    runs(alloc, texts, observers, lists)
+}
