@@ -62,7 +62,7 @@ number_tells greatest text = if_tells (is_numeral text) _ (Err code.Form) (if_te
 
 minus_tells : (greatest : ℕ) (text : List ℕ) → Tells (minus greatest text)
 unfolding minus
-minus_tells greatest text = then_tells (numeral_upto code.Form code.Range greatest text) _ (number_tells greatest text) (λ n. if_tells (n == 0) (Err code.Form) (Ok (neg_ℤ (pos n))) tt tt)
+minus_tells greatest text = then_tells (numeral_upto code.Form code.Range greatest text) _ (number_tells greatest text) (λ n. if_tells (n == 0) (Err _) (Ok (neg_ℤ (pos n))) tt tt)
 
 plus_tells : (limit : ℕ) (text : List ℕ) → Tells (plus limit text)
 unfolding plus
@@ -209,13 +209,13 @@ slots_past : (front p : List Insn) (b : Bool) → cond b (Err code.TooLong) (Ok 
 slots_past front p true h = refl
 slots_past front p false h = absurd cc
 
-abbrev failed : (A : Type 0) → Code → Result A Code
+abbrev pub failed : (A : Type 0) → Code → Result A Code
 failed A c = Err c
 
 same_code : (A : Type 0) (c d : Code) → failed A c ≡ failed A d → c ≡ d
 same_code A c d h = cc
 
-moved : (A B : Type 0) (c d : Code) → failed A c ≡ failed A d → failed B c ≡ failed B d
+pub moved : (A B : Type 0) (c d : Code) → failed A c ≡ failed A d → failed B c ≡ failed B d
 moved A B c d h = ap (failed B) (same_code A c d h)
 
 read_past : (front : List Insn) (line : List ℕ) (r : Result Insn Code) → line_of line ≡ r → (r >>= λ i. cond (nat_lt MAX_SLOTS (slots (front ++ i ∷ []))) (Err code.TooLong) (Ok (front ++ i ∷ []))) ≡ Err code.TooLong → PastEnd front line
@@ -235,6 +235,28 @@ past_told front line h = ap (with_insn_line front) h.1 ∙ rw (insn_shown h.0, l
 pub too_long_told : (front : List Insn) (line : List ℕ) → (with_insn_line front line ≡ Err code.TooLong) ↔ ((i : Insn) × (line ≡ insn_text i) × Fits i × (MAX_SLOTS < slots (front ++ i ∷ [])))
 unfolding with_insn_line
 too_long_told front line = (shown_past front line (is_skipped line), past_told front line)
+
+-- ---- no other code of a line
+
+told_so : (c : Code) → Tells (failed Insn c) → (c ≡ code.Word) ⊎ (c ≡ code.Form) ⊎ (c ≡ code.Range)
+told_so code.Memory h = absurd h
+told_so code.Word h = absurd h
+told_so code.Form h = inr (inl refl)
+told_so code.Range h = inr (inr refl)
+told_so code.TooLong h = absurd h
+told_so code.Nothing h = absurd h
+
+words_told : (texts : List (List ℕ)) (o : Option Word) (c : Code) → (ok_or o code.Word >>= λ w. operands w texts) ≡ Err c → (c ≡ code.Word) ⊎ (c ≡ code.Form) ⊎ (c ≡ code.Range)
+words_told texts None c h = inl (sym (same_code Insn code.Word c h))
+words_told texts (Some w) c h = told_so c (subst Tells h (operands_tell w texts))
+
+fields_told : (texts : List (List ℕ)) (c : Code) → insn_of_words texts ≡ Err c → (c ≡ code.Word) ⊎ (c ≡ code.Form) ⊎ (c ≡ code.Range)
+unfolding insn_of_words
+fields_told [] c h = inr (inl (sym (same_code Insn code.Form c h)))
+fields_told (text ∷ texts) c h = words_told texts (word_named text) c h
+
+pub line_told : (line : List ℕ) (c : Code) → line_of line ≡ Err c → (c ≡ code.Word) ⊎ (c ≡ code.Form) ⊎ (c ≡ code.Range)
+line_told line c h = fields_told (slice_split blank line) c h
 
 -- ---- no instruction
 

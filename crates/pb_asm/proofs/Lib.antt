@@ -8,3 +8,4 @@ mod OneSpelling
 mod OnlyListings
 mod FaultsTold
 pub mod NumbersBeyond
+mod RangeToldOnly

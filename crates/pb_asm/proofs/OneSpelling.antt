@@ -56,7 +56,7 @@ pub else_ok : {A : Type 0} (b : Bool) (r : Result A Code) (e : Code) (x : A) →
 else_ok true r e x h = absurd cc
 else_ok false r e x h = (refl, h)
 
-there_ok : {A : Type 0} (o : Option A) (e : Code) (x : A) → ok_or o e ≡ Ok x → o ≡ Some x
+pub there_ok : {A : Type 0} (o : Option A) (e : Code) (x : A) → ok_or o e ≡ Ok x → o ≡ Some x
 there_ok None e x h = absurd cc
 there_ok (Some y) e x h = ap Some (ok_is y x (Ok y) refl h)
 
@@ -69,16 +69,16 @@ if_some false x y h = absurd cc
 behind_if : (c b : ℕ) (bs rest : List ℕ) → (b ≡ c) × (bs ≡ rest) → b ∷ bs ≡ c ∷ rest
 behind_if c b bs rest h = ap (λ (x : ℕ). x ∷ bs) h.0 ∙ ap (λ (xs : List ℕ). c ∷ xs) h.1
 
-behind_whole : (c : ℕ) (text rest : List ℕ) → strip_prefix c text ≡ Some rest → text ≡ c ∷ rest
+pub behind_whole : (c : ℕ) (text rest : List ℕ) → strip_prefix c text ≡ Some rest → text ≡ c ∷ rest
 behind_whole c [] rest h = absurd cc
 behind_whole c (b ∷ bs) rest h = let p = if_some (b == c) bs rest h in behind_if c b bs rest (eqb-true b c p.0, p.1)
 
-before_whole : (c : ℕ) (text front : List ℕ) → 0 < c → strip_suffix c text ≡ Some front → text ≡ front ++ c ∷ []
+pub before_whole : (c : ℕ) (text front : List ℕ) → 0 < c → strip_suffix c text ≡ Some front → text ≡ front ++ c ∷ []
 before_whole c text front some h =
     let p = if_some (slice_index text (length text - 1) == c) _ front h in
     split_end c text some (eqb-true _ c p.0) ∙ ap (λ (xs : List ℕ). xs ++ c ∷ []) p.1
 
-around_whole : (c : ℕ) (text : List ℕ) (sides : List ℕ × List ℕ) → split_once c text ≡ Some sides → text ≡ sides.0 ++ c ∷ sides.1
+pub around_whole : (c : ℕ) (text : List ℕ) (sides : List ℕ × List ℕ) → split_once c text ≡ Some sides → text ≡ sides.0 ++ c ∷ sides.1
 around_whole c text sides h =
     let p = if_some (nat_lt (position_or_len (λ b. b == c) text) (length text)) (before_first (λ b. b == c) text, after_first (λ b. b == c) text) sides h in
     let lt : position_or_len (λ b. b == c) text < length text = ltb-true _ _ p.0 in
@@ -110,12 +110,12 @@ unfolding minus
 minus_is greatest text z lt h =
     let p = then_ok (numeral_upto code.Form code.Range greatest text) _ z h in
     let q = number_is greatest p.0 text lt p.1 in
-    below greatest p.0 text z q p.2
+    below greatest p.0 text z _ q p.2
   where
-    below : (greatest m : ℕ) (text : List ℕ) (z : ℤ) → (text ≡ decimal m) × (m ≤ greatest) → cond (m == 0) (Err code.Form) (Ok (neg_ℤ (pos m))) ≡ Ok z → (n : ℕ) × (z ≡ negsuc n) × (text ≡ decimal (suc n)) × (n < greatest)
-    below greatest zero text z q h = absurd cc
-    below greatest (suc n) text z q h =
-        let p = else_ok (suc n == 0) (Ok (negsuc n)) code.Form z h in
+    below : (greatest m : ℕ) (text : List ℕ) (z : ℤ) (c : Code) → (text ≡ decimal m) × (m ≤ greatest) → cond (m == 0) (Err c) (Ok (neg_ℤ (pos m))) ≡ Ok z → (n : ℕ) × (z ≡ negsuc n) × (text ≡ decimal (suc n)) × (n < greatest)
+    below greatest zero text z c q h = absurd cc
+    below greatest (suc n) text z c q h =
+        let p = else_ok (suc n == 0) (Ok (negsuc n)) c z h in
         let le = q.1 in
         (n, sym (ok_is (negsuc n) z (Ok (negsuc n)) refl p.1), q.0, omega (arith, le))
 
@@ -184,22 +184,22 @@ reg_among : (text : List ℕ) (rs : List Reg) (r : Reg) → reg_spelled text rs 
 reg_among text [] r h = absurd cc
 reg_among text (s ∷ rs) r h = found text reg_name s r (reg_spelled text rs) (bytes_eq text (reg_name s)) refl h (reg_among text rs r)
 
-reg_is : (text : List ℕ) (r : Reg) → reg_of_text text ≡ Ok r → text ≡ reg_name r
+pub reg_is : (text : List ℕ) (r : Reg) → reg_of_text text ≡ Ok r → text ≡ reg_name r
 reg_is text r h = reg_among text registers r (there_ok (reg_named text) code.Form r h)
 
 pub word_among : (text : List ℕ) (ws : List Word) (w : Word) → word_in text ws ≡ Some w → text ≡ name w
 word_among text [] w h = absurd cc
 word_among text (v ∷ ws) w h = found text name v w (word_in text ws) (bytes_eq text (name v)) refl h (word_among text ws w)
 
-word_is : (text : List ℕ) (c : Code) (w : Word) → ok_or (word_named text) c ≡ Ok w → text ≡ name w
+pub word_is : (text : List ℕ) (c : Code) (w : Word) → ok_or (word_named text) c ≡ Ok w → text ≡ name w
 word_is text c w h = word_among text words w (there_ok (word_named text) c w h)
 
 -- ---- operands and places
 
-abbrev Either : List ℕ → Operand → Type 0
+abbrev pub Either : List ℕ → Operand → Type 0
 Either text a = (text ≡ operand_text a) × OperandFits a
 
-operand_is : (text : List ℕ) (a : Operand) → operand_of_text text ≡ Ok a → Either text a
+pub operand_is : (text : List ℕ) (a : Operand) → operand_of_text text ≡ Ok a → Either text a
 unfolding operand_of_text
 operand_is text a h = sort (slice_index text 0 == 114) h
   where
@@ -231,7 +231,7 @@ plus_cases : (text : List ℕ) (p : Reg × ℤ) (o : Option (List ℕ × List �
 plus_cases text p (Some sides) is h = subst (λ (t : List ℕ). Place t p) (sym (around_whole 43 text sides is)) (based_is sides.0 sides.1 43 (plus (2 ^ 15) sides.1) p h (plus_offset sides.1))
 plus_cases text p None is h = minus_cases text p (split_once 45 text) refl h
 
-place_is : (text : List ℕ) (p : Reg × ℤ) → place_of_text text ≡ Ok p → (text ≡ place_text p.0 p.1) × FitsSigned w16 p.1
+pub place_is : (text : List ℕ) (p : Reg × ℤ) → place_of_text text ≡ Ok p → (text ≡ place_text p.0 p.1) × FitsSigned w16 p.1
 unfolding place_of_text
 place_is text p h =
     let a = then_ok (ok_or (strip_prefix 91 text) code.Form) _ p h in
@@ -244,7 +244,7 @@ place_is text p h =
 
 -- ---- the words of a line
 
-comma_is : (texts : List (List ℕ)) (p : List ℕ × List (List ℕ)) → comma texts ≡ Ok p → texts ≡ (p.0 ++ 44 ∷ []) ∷ p.1
+pub comma_is : (texts : List (List ℕ)) (p : List ℕ × List (List ℕ)) → comma texts ≡ Ok p → texts ≡ (p.0 ++ 44 ∷ []) ∷ p.1
 unfolding comma
 comma_is [] p h = absurd cc
 comma_is (text ∷ texts) p h =

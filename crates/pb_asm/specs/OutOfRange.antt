@@ -83,3 +83,13 @@ IsBeyond CallImm number = IsImmBeyond number
 -- the line ends here, or a blank comes and then anything
 abbrev pub EndsWord : List ℕ → Type 0
 EndsWord rest = (rest ≡ []) ⊎ ((more : List ℕ) × (rest ≡ 32 ∷ more))
+
+-- an instruction's line up to a number that has its form and goes beyond its field, and after that number's word anything
+pub record IsOutOfRange (line : List ℕ) : Type 0 where
+  pub place : NumberPlace
+  pub number : List ℕ
+  pub rest : List ℕ
+  pub fits : FitsBefore place
+  pub beyond : IsBeyond place number
+  pub ends : EndsWord rest
+  pub parts : line ≡ line_with place number rest

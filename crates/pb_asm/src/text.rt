@@ -5,6 +5,7 @@ ghost use Rattle.pb_isa.specs.Bounds.{Fits};
 ghost use Rattle.pb_isa.specs.declared.insn.Insn.{Insn};
 ghost use Rattle.pb_isa.specs.Slots.{slots};
 ghost use Rattle.pb_isa.specs.Programs.{ProgramOf, IsProgram};
+ghost use Rattle.pb_asm.specs.declared.fault.Code.{Code};
 ghost use Rattle.pb_asm.specs.declared.fault.Code.TheVariants as code;
 ghost use Rattle.pb_asm.specs.declared.names.Word.{Word};
 ghost use Rattle.pb_asm.specs.Names.{name};
@@ -12,7 +13,7 @@ ghost use Rattle.pb_base.specs.Reading.{Gives, texts_of, lines_of, is_skipped, n
 ghost use Rattle.pb_asm.specs.Codes.{asm_code, is_memory};
 ghost use Rattle.pb_asm.specs.Listing.{insn_text, listing};
 ghost use Rattle.pb_asm.specs.Operands.{line_of};
-ghost use Rattle.pb_asm.specs.OutOfRange.{NumberPlace, line_with, FitsBefore, IsBeyond, EndsWord};
+ghost use Rattle.pb_asm.specs.OutOfRange.{NumberPlace, line_with, FitsBefore, IsBeyond, EndsWord, IsOutOfRange};
 ghost use Rattle.pb_asm.specs.Texts.{instruction_lines, with_insn_line, insns_of_lines, program_of_text, ReadsProgram, ReadsLines, IsFirstFault, HasNone};
 
 use crate::fault::{AsmFault, Code};
@@ -134,22 +135,24 @@ pub fn fault_is_first()
         → IsFirstFault text line told ⊎ HasNone text line told }
 {}
 
-/// An unknown word is told exactly where what stands before the first blank, or the whole line where there is none, is no
-/// instruction's name; too many slots exactly where the line is a listing's and its instruction ends past the last slot that a program may have; and
-/// no instruction at all exactly where each line is empty or a remark.
+/// An unknown word is told exactly where what stands before the first blank, or the whole line where there is none, is
+/// no instruction's name; too many slots exactly where the line is a listing's and its instruction ends past the last
+/// slot that a program may have; and no instruction at all exactly where each line is empty or a remark. Of a line by
+/// itself an unknown word, operands that are not of the form and a number out of range are told, and nothing else.
 pub fn faults_are_told_where_they_are()
     ensures word { (line : List ℕ) → (line_of line ≡ Err code.Word)
         ↔ ((w : Word) → before_first (λ b. b == 32) line ≢ name w) }
     ensures too_long { (before : List Insn) (line : List ℕ) → (with_insn_line before line ≡ Err code.TooLong)
         ↔ ((i : Insn) × (line ≡ insn_text i) × Fits i × (MAX_SLOTS < slots (before ++ i ∷ []))) }
     ensures nothing { (text : List ℕ) → (program_of_text text ≡ Err (0, 84)) ↔ (instruction_lines text ≡ []) }
+    ensures line { (line : List ℕ) (c : Code) → line_of line ≡ Err c
+        → (c ≡ code.Word) ⊎ (c ≡ code.Form) ⊎ (c ≡ code.Range) }
 {}
 
-/// Where a line is an instruction's up to a number that has its form and goes beyond its field, code 82 is told of it, whatever
-/// comes behind the number's word.
+/// A line is out of range exactly where it is an instruction's up to a number that has its form and goes beyond its
+/// field, whatever comes behind the number's word; code 82 is told of it.
 pub fn numbers_out_of_range_are_told()
-    ensures read { (place : NumberPlace) (number rest : List ℕ) → FitsBefore place → IsBeyond place number
-        → EndsWord rest → line_of (line_with place number rest) ≡ Err code.Range }
+    ensures read { (line : List ℕ) → (line_of line ≡ Err code.Range) ↔ IsOutOfRange line }
     ensures told { (n : ℕ) (before : List Insn) (place : NumberPlace) (number rest : List ℕ) → FitsBefore place
         → IsBeyond place number → EndsWord rest
         → numbered asm_code n (with_insn_line before (line_with place number rest)) ≡ Err (n + 1, 82) }

@@ -1,4 +1,4 @@
-use Rattle.pb_asm.proofs.FaultsTold.{word_told, too_long_told, nothing_told}
+use Rattle.pb_asm.proofs.FaultsTold.{line_told, word_told, too_long_told, nothing_told}
 use Rattle.pb_asm.proofs.text.faults_are_told_where_they_are.Goals as goal
 
 pub returns-clause-word : goal.returns-clause-word
@@ -9,3 +9,6 @@ returns-clause-too_long c = too_long_told
 
 pub returns-clause-nothing : goal.returns-clause-nothing
 returns-clause-nothing c = nothing_told
+
+pub returns-clause-line : goal.returns-clause-line
+returns-clause-line c = line_told

@@ -1,0 +1,320 @@
+-- A line that is told as out of range is an instruction's up to a number beyond its field.
+use Rattle.std.proofs.Common.{◌≡◌, ℕ, ◌-◌, ◌^◌, ◌↔◌, ℤ, Bool, true, false, cond, List, [], ◌∷◌, ◌++◌, Option, Some, None, Result, Ok, Err, refl, sym, ap, subst, ◌∙◌, append_assoc, append-nil, arith, inl, inr}
+use Rattle.std.specs.Prelude.{◌==◌, nat_le, codes, slice_index, ok_or}
+use Rattle.std.specs.List.{slice_split, join_with_byte}
+use Rattle.std.specs.Str.Parse.{digits_value}
+use Rattle.std.proofs.lemmas.Bool.{leb-false}
+use Rattle.std.proofs.lemmas.List.Splits.{join_with_byte-slice_split}
+use Rattle.pb_isa.specs.declared.insn.Insn.TheVariants as insn
+use Rattle.pb_isa.specs.declared.insn.Operand.TheVariants as operand
+use Rattle.pb_isa.specs.declared.insn.Reg.{Reg}
+use Rattle.pb_isa.specs.declared.insn.AluOp.{AluOp}
+use Rattle.pb_isa.specs.declared.insn.Cmp.{Cmp}
+use Rattle.pb_isa.specs.declared.insn.Width.{Width}
+use Rattle.pb_isa.specs.declared.insn.Size.{Size}
+use Rattle.pb_base.specs.Reading.{◌>>=◌, is_numeral, numeral_upto, no_word}
+use Rattle.pb_asm.specs.declared.fault.Code.{Code}
+use Rattle.pb_asm.specs.declared.fault.Code.TheVariants as code
+use Rattle.pb_asm.specs.declared.names.Word.{Word}
+use Rattle.pb_asm.specs.declared.names.Word.TheVariants as word
+use Rattle.pb_asm.specs.Names.{name, word_named, reg_name, reg_named}
+use Rattle.pb_asm.specs.Cuts.{strip_prefix, strip_suffix, split_once}
+use Rattle.pb_asm.specs.Listing.{operand_text, place_text}
+use Rattle.pb_asm.specs.Operands.{minus, plus, signed_or, imm_of_text, plus_or_fault, offset_of_text, reg_of_text, operand_of_text, base_and_offset, at_minus, at_plus, place_of_text, comma, last, alu_operands, load_imm_operands, load_operands, store_imm_operands, store_operands, jump_if_operands, map_insn, operands, insn_of_words, line_of}
+use Rattle.pb_asm.specs.OutOfRange.{IsAbove, IsImmBeyond, IsOffsetBeyond, NumberPlace, AluImm, LoadImmImm, LoadOffset, StoreImmOffset, StoreImmImm, StoreOffset, JumpOffset, JumpIfImm, JumpIfOffset, CallImm, place_with, line_with, FitsBefore, IsBeyond, EndsWord, IsOutOfRange}
+use Rattle.pb_asm.proofs.OneSpelling.{there_ok, behind_whole, before_whole, around_whole, reg_is, word_is, operand_is, place_is, comma_is}
+use Rattle.pb_asm.proofs.FaultsTold.{moved}
+use Rattle.pb_asm.proofs.NumbersBeyond.{range_told}
+
+-- ---- what a reading that ended out of range has read
+
+abbrev IsOver : {A : Type 0} → Result A Code → Type 0
+IsOver r = r ≡ Err code.Range
+
+then_over : {A B P : Type 0} (r : Result A Code) (f : A → Result B Code) → IsOver (r >>= f) → (IsOver r → P) → ((x : A) → r ≡ Ok x → IsOver (f x) → P) → P
+then_over (Ok x) f h first later = later x refl h
+then_over {A = A} {B = B} (Err c) f h first later = first (moved B A c code.Range h)
+
+if_over : {A : Type 0} (b : Bool) (r : Result A Code) → IsOver (cond b r (Err code.Form)) → (b ≡ true) × IsOver r
+if_over true r h = (refl, h)
+if_over false r h = absurd cc
+
+ok_never : {A P : Type 0} (x : A) → IsOver (Ok x) → P
+ok_never x h = absurd cc
+
+there_never : {A P : Type 0} (o : Option A) → IsOver (ok_or o code.Form) → P
+there_never None h = absurd cc
+there_never (Some x) h = absurd cc
+
+reg_never : {P : Type 0} (text : List ℕ) → IsOver (reg_of_text text) → P
+reg_never text h = there_never (reg_named text) h
+
+-- ---- numbers
+
+above_most : (b : Bool) (n : ℕ) → IsOver (cond b (Ok n) (Err code.Range)) → b ≡ false
+above_most true n h = absurd cc
+above_most false n h = refl
+
+number_beyond : (most : ℕ) (text : List ℕ) → IsOver (numeral_upto code.Form code.Range most text) → IsAbove most text
+number_beyond most text h =
+    let p = if_over (is_numeral text) _ h in
+    record { numeral = p.0; above = leb-false _ _ (above_most (nat_le (digits_value 10 text) most) (digits_value 10 text) p.1) }
+
+not_zero_never : {P : Type 0} (b : Bool) (z : ℤ) → IsOver (cond b (Err code.Form) (Ok z)) → P
+not_zero_never true z h = absurd cc
+not_zero_never false z h = absurd cc
+
+minus_beyond : (most : ℕ) (digits : List ℕ) → IsOver (minus most digits) → IsAbove most digits
+unfolding minus
+minus_beyond most digits h = then_over (numeral_upto code.Form code.Range most digits) _ h (number_beyond most digits) (λ n is over. not_zero_never (n == 0) _ over)
+
+plus_beyond : (limit : ℕ) (digits : List ℕ) → IsOver (plus limit digits) → IsAbove (limit - 1) digits
+unfolding plus
+plus_beyond limit digits h = then_over (numeral_upto code.Form code.Range (limit - 1) digits) _ h (number_beyond (limit - 1) digits) (λ n is over. ok_never _ over)
+
+imm_signs_beyond : (text : List ℕ) (o : Option (List ℕ)) → strip_prefix 45 text ≡ o → IsOver (signed_or (plus (2 ^ 31) text) (2 ^ 31) o) → IsImmBeyond text
+imm_signs_beyond text (Some digits) is h = inr (digits, behind_whole 45 text digits is, minus_beyond (2 ^ 31) digits h)
+imm_signs_beyond text None is h = inl (plus_beyond (2 ^ 31) text h)
+
+imm_beyond : (text : List ℕ) → IsOver (imm_of_text text) → IsImmBeyond text
+imm_beyond text h = imm_signs_beyond text (strip_prefix 45 text) refl h
+
+plus_sign_beyond : (text : List ℕ) (o : Option (List ℕ)) → strip_prefix 43 text ≡ o → IsOver (plus_or_fault o) → IsOffsetBeyond text
+plus_sign_beyond text (Some digits) is h = inl (digits, behind_whole 43 text digits is, plus_beyond (2 ^ 15) digits h)
+plus_sign_beyond text None is h = absurd cc
+
+offset_signs_beyond : (text : List ℕ) (o : Option (List ℕ)) → strip_prefix 45 text ≡ o → IsOver (signed_or (plus_or_fault (strip_prefix 43 text)) (2 ^ 15) o) → IsOffsetBeyond text
+offset_signs_beyond text (Some digits) is h = inr (digits, behind_whole 45 text digits is, minus_beyond (2 ^ 15) digits h)
+offset_signs_beyond text None is h = plus_sign_beyond text (strip_prefix 43 text) refl h
+
+offset_beyond : (text : List ℕ) → IsOver (offset_of_text text) → IsOffsetBeyond text
+offset_beyond text h = offset_signs_beyond text (strip_prefix 45 text) refl h
+
+operand_kinds_beyond : (text : List ℕ) (b : Bool) → IsOver (cond b (reg_of_text text >>= λ r. Ok (operand.Reg r)) (imm_of_text text >>= λ k. Ok (operand.Imm k))) → IsImmBeyond text
+operand_kinds_beyond text true h = then_over (reg_of_text text) (λ r. Ok (operand.Reg r)) h (reg_never text) (λ r is over. ok_never _ over)
+operand_kinds_beyond text false h = then_over (imm_of_text text) (λ k. Ok (operand.Imm k)) h (imm_beyond text) (λ k is over. ok_never _ over)
+
+operand_beyond : (text : List ℕ) → IsOver (operand_of_text text) → IsImmBeyond text
+unfolding operand_of_text
+operand_beyond text h = operand_kinds_beyond text (slice_index text 0 == 114) h
+
+-- ---- places
+
+-- a register, and behind it an offset beyond its field
+abbrev Inside : List ℕ → Type 0
+Inside text = (base : Reg) × (number : List ℕ) × (text ≡ reg_name base ++ number) × IsOffsetBeyond number
+
+based_beyond : (register digits : List ℕ) (c : ℕ) (offset : Result ℤ Code) → IsOver (base_and_offset register offset) → (IsOver offset → IsOffsetBeyond (c ∷ digits)) → Inside (register ++ c ∷ digits)
+unfolding base_and_offset
+based_beyond register digits c offset h beyond =
+    then_over (reg_of_text register) _ h (reg_never register) (λ r is over. then_over offset _ over (λ first. (r, c ∷ digits, ap (λ (t : List ℕ). t ++ c ∷ digits) (reg_is register r is), beyond first)) (λ o at end. ok_never _ end))
+
+at_minus_beyond : (text : List ℕ) (o : Option (List ℕ × List ℕ)) → split_once 45 text ≡ o → IsOver (at_minus o) → Inside text
+at_minus_beyond text (Some sides) is h =
+    subst Inside (sym (around_whole 45 text sides is))
+    (based_beyond sides.0 sides.1 45 (minus (2 ^ 15) sides.1) h (λ over. inr (sides.1, refl, minus_beyond (2 ^ 15) sides.1 over)))
+at_minus_beyond text None is h = absurd cc
+
+at_plus_beyond : (text : List ℕ) (o : Option (List ℕ × List ℕ)) → split_once 43 text ≡ o → IsOver (at_plus text o) → Inside text
+at_plus_beyond text (Some sides) is h =
+    subst Inside (sym (around_whole 43 text sides is))
+    (based_beyond sides.0 sides.1 43 (plus (2 ^ 15) sides.1) h (λ over. inl (sides.1, refl, plus_beyond (2 ^ 15) sides.1 over)))
+at_plus_beyond text None is h = at_minus_beyond text (split_once 45 text) refl h
+
+bracketed : (text front inner : List ℕ) → text ≡ 91 ∷ front → front ≡ inner ++ 93 ∷ [] → Inside inner → (base : Reg) × (number : List ℕ) × (text ≡ place_with base number) × IsOffsetBeyond number
+bracketed text front inner begins ends p = (p.0, p.1, begins ∙ ap (λ (t : List ℕ). 91 ∷ t) (ends ∙ ap (λ (t : List ℕ). t ++ 93 ∷ []) p.2 ∙ append_assoc (reg_name p.0) p.1 (93 ∷ [])), p.3)
+
+place_beyond : (text : List ℕ) → IsOver (place_of_text text) → (base : Reg) × (number : List ℕ) × (text ≡ place_with base number) × IsOffsetBeyond number
+unfolding place_of_text
+place_beyond text h =
+    then_over (ok_or (strip_prefix 91 text) code.Form) _ h (there_never (strip_prefix 91 text)) (λ front begins later.
+    then_over (ok_or (strip_suffix 93 front) code.Form) _ later (there_never (strip_suffix 93 front)) (λ inner ends over.
+    bracketed text front inner (behind_whole 91 text front (there_ok _ code.Form front begins)) (before_whole 93 front inner (omega arith) (there_ok _ code.Form inner ends)) (at_plus_beyond inner (split_once 43 inner) refl over)))
+
+-- ---- the words of a line
+
+comma_never : {P : Type 0} (texts : List (List ℕ)) → IsOver (comma texts) → P
+unfolding comma
+comma_never [] h = absurd cc
+comma_never (text ∷ texts) h = then_over (ok_or (strip_suffix 44 text) code.Form) _ h (there_never (strip_suffix 44 text)) (λ t is over. ok_never _ over)
+
+ended_never : {P : Type 0} (texts : List (List ℕ)) → IsOver (no_word code.Form texts) → P
+ended_never [] h = absurd cc
+ended_never (text ∷ texts) h = absurd cc
+
+-- the next word is out of range
+abbrev Next : {A : Type 0} → (List ℕ → Result A Code) → List (List ℕ) → Type 0
+Next read texts = (text : List ℕ) × (others : List (List ℕ)) × (texts ≡ text ∷ others) × IsOver (read text)
+
+last_beyond : {A : Type 0} (read : List ℕ → Result A Code) (texts : List (List ℕ)) → IsOver (last read texts) → Next read texts
+unfolding last
+last_beyond read [] h = absurd cc
+last_beyond read (text ∷ others) h = then_over (read text) _ h (λ over. (text, others, refl, over)) (λ x is later. then_over (no_word code.Form others) _ later (ended_never others) (λ end at over. ok_never _ over))
+
+last_reg_never : {P : Type 0} (texts : List (List ℕ)) → IsOver (last reg_of_text texts) → P
+last_reg_never texts h = let n = last_beyond reg_of_text texts h in reg_never n.0 n.3
+
+-- what stands behind a word
+abbrev rest_of : List (List ℕ) → List ℕ
+rest_of [] = []
+rest_of (text ∷ texts) = 32 ∷ join_with_byte 32 (text ∷ texts)
+
+rest_ends : (texts : List (List ℕ)) → EndsWord (rest_of texts)
+rest_ends [] = inl refl
+rest_ends (text ∷ texts) = inr (join_with_byte 32 (text ∷ texts), refl)
+
+joined : (text : List ℕ) (texts : List (List ℕ)) → join_with_byte 32 (text ∷ texts) ≡ text ++ rest_of texts
+joined text [] = sym (append-nil text)
+joined text (next ∷ texts) = refl
+
+-- a first word and the one at fault; one before it, with its comma; and two
+first_there : (w : Word) (texts others : List (List ℕ)) (x : List ℕ) → texts ≡ x ∷ others → join_with_byte 32 (name w ∷ texts) ≡ name w ++ (codes " " ++ (x ++ rest_of others))
+first_there w texts others x is = ap (λ (ws : List (List ℕ)). join_with_byte 32 (name w ∷ ws)) is ∙ ap (λ (t : List ℕ). name w ++ 32 ∷ t) (joined x others)
+
+comma_there : (u y : List ℕ) (others : List (List ℕ)) → join_with_byte 32 ((u ++ 44 ∷ []) ∷ y ∷ others) ≡ u ++ (codes ", " ++ (y ++ rest_of others))
+comma_there u y others = append_assoc u (44 ∷ []) (32 ∷ join_with_byte 32 (y ∷ others)) ∙ ap (λ (t : List ℕ). u ++ 44 ∷ 32 ∷ t) (joined y others)
+
+second_there : (w : Word) (texts others : List (List ℕ)) (first : List ℕ × List (List ℕ)) (u y : List ℕ) → comma texts ≡ Ok first → first.0 ≡ u → first.1 ≡ y ∷ others
+    → join_with_byte 32 (name w ∷ texts) ≡ name w ++ (codes " " ++ (u ++ (codes ", " ++ (y ++ rest_of others))))
+second_there w texts others first u y begins same ends =
+    ap (λ (ws : List (List ℕ)). join_with_byte 32 (name w ∷ ws)) (comma_is texts first begins ∙ ap (λ (t : List ℕ). (t ++ 44 ∷ []) ∷ first.1) same ∙ ap (λ (ws : List (List ℕ)). (u ++ 44 ∷ []) ∷ ws) ends)
+    ∙ ap (λ (t : List ℕ). name w ++ 32 ∷ t) (comma_there u y others)
+
+third_there : (w : Word) (texts others : List (List ℕ)) (first second : List ℕ × List (List ℕ)) (t u y : List ℕ) → comma texts ≡ Ok first → comma first.1 ≡ Ok second → first.0 ≡ t → second.0 ≡ u → second.1 ≡ y ∷ others
+    → join_with_byte 32 (name w ∷ texts) ≡ name w ++ (codes " " ++ (t ++ (codes ", " ++ (u ++ (codes ", " ++ (y ++ rest_of others))))))
+third_there w texts others first second t u y begins goes same_t same_u ends =
+    let tail : first.1 ≡ (u ++ 44 ∷ []) ∷ y ∷ others = comma_is first.1 second goes ∙ ap (λ (r : List ℕ). (r ++ 44 ∷ []) ∷ second.1) same_u ∙ ap (λ (ws : List (List ℕ)). (u ++ 44 ∷ []) ∷ ws) ends in
+    ap (λ (ws : List (List ℕ)). join_with_byte 32 (name w ∷ ws)) (comma_is texts first begins ∙ ap (λ (r : List ℕ). (r ++ 44 ∷ []) ∷ first.1) same_t ∙ ap (λ (ws : List (List ℕ)). (t ++ 44 ∷ []) ∷ ws) tail)
+    ∙ ap (λ (r : List ℕ). name w ++ 32 ∷ r) (append_assoc t (44 ∷ []) (32 ∷ join_with_byte 32 ((u ++ 44 ∷ []) ∷ y ∷ others)) ∙ ap (λ (r : List ℕ). t ++ 44 ∷ 32 ∷ r) (comma_there u y others))
+
+-- ---- the operands of each word
+
+-- a line of these words is out of range
+abbrev Beyond : Word → List (List ℕ) → Type 0
+Beyond w texts = IsOutOfRange (join_with_byte 32 (name w ∷ texts))
+
+beyond_there : (w : Word) (texts : List (List ℕ)) (f : NumberPlace) (number : List ℕ) (others : List (List ℕ)) → FitsBefore f → IsBeyond f number → join_with_byte 32 (name w ∷ texts) ≡ line_with f number (rest_of others) → Beyond w texts
+beyond_there w texts f number others fits beyond is = record { place = f; number = number; rest = rest_of others; fits = fits; beyond = beyond; ends = rest_ends others; parts = is }
+
+alu_beyond : (op : AluOp) (w : Width) (texts : List (List ℕ)) → IsOver (alu_operands (insn.Alu op w) texts) → Beyond (word.Alu op w) texts
+unfolding alu_operands
+alu_beyond op w texts h =
+    then_over (comma texts) _ h (comma_never texts) (λ first begins a.
+    then_over (reg_of_text first.0) _ a (reg_never first.0) (λ d is b.
+    then_over (last operand_of_text first.1) _ b (λ over.
+    let n = last_beyond operand_of_text first.1 over in
+    beyond_there (word.Alu op w) texts (AluImm op w d) n.0 n.1 tt (operand_beyond n.0 n.3) (second_there (word.Alu op w) texts n.1 first (reg_name d) n.0 begins (reg_is first.0 d is) n.2))
+    (λ x at over. ok_never _ over)))
+
+wide_beyond : (texts : List (List ℕ)) → IsOver (load_imm_operands texts) → Beyond word.LoadImm texts
+unfolding load_imm_operands
+wide_beyond texts h =
+    then_over (comma texts) _ h (comma_never texts) (λ first begins a.
+    then_over (reg_of_text first.0) _ a (reg_never first.0) (λ d is b.
+    then_over (last (numeral_upto code.Form code.Range (2 ^ 64 - 1)) first.1) _ b (λ over.
+    let n = last_beyond (numeral_upto code.Form code.Range (2 ^ 64 - 1)) first.1 over in
+    beyond_there word.LoadImm texts (LoadImmImm d) n.0 n.1 tt (number_beyond (2 ^ 64 - 1) n.0 n.3) (second_there word.LoadImm texts n.1 first (reg_name d) n.0 begins (reg_is first.0 d is) n.2))
+    (λ x at over. ok_never _ over)))
+
+load_beyond : (z : Size) (texts : List (List ℕ)) → IsOver (load_operands (insn.Load z) texts) → Beyond (word.Load z) texts
+unfolding load_operands
+load_beyond z texts h =
+    then_over (comma texts) _ h (comma_never texts) (λ first begins a.
+    then_over (reg_of_text first.0) _ a (reg_never first.0) (λ d is b.
+    then_over (last place_of_text first.1) _ b (λ over.
+    let n = last_beyond place_of_text first.1 over in
+    let p = place_beyond n.0 n.3 in
+    beyond_there (word.Load z) texts (LoadOffset z d p.0) p.1 n.1 tt p.3 (second_there (word.Load z) texts n.1 first (reg_name d) (place_with p.0 p.1) begins (reg_is first.0 d is) (n.2 ∙ ap (λ (t : List ℕ). t ∷ n.1) p.2)))
+    (λ x at over. ok_never _ over)))
+
+-- a place with its comma, as the word at fault
+place_first : (w : Word) (texts : List (List ℕ)) (first : List ℕ × List (List ℕ)) (base : Reg) (number : List ℕ) → comma texts ≡ Ok first → first.0 ≡ place_with base number
+    → join_with_byte 32 (name w ∷ texts) ≡ name w ++ (codes " " ++ ((place_with base number ++ codes ",") ++ rest_of first.1))
+place_first w texts first base number begins is = first_there w texts first.1 (place_with base number ++ 44 ∷ []) (comma_is texts first begins ∙ ap (λ (t : List ℕ). (t ++ 44 ∷ []) ∷ first.1) is)
+
+store_imm_beyond : (z : Size) (texts : List (List ℕ)) → IsOver (store_imm_operands (insn.StoreImm z) texts) → Beyond (word.StoreImm z) texts
+unfolding store_imm_operands
+store_imm_beyond z texts h =
+    then_over (comma texts) _ h (comma_never texts) (λ first begins a.
+    then_over (place_of_text first.0) _ a (λ over.
+    let p = place_beyond first.0 over in
+    beyond_there (word.StoreImm z) texts (StoreImmOffset z p.0) p.1 first.1 tt p.3 (place_first (word.StoreImm z) texts first p.0 p.1 begins p.2))
+    (λ p at b.
+    then_over (last imm_of_text first.1) _ b (λ over.
+    let n = last_beyond imm_of_text first.1 over in
+    let q = place_is first.0 p at in
+    beyond_there (word.StoreImm z) texts (StoreImmImm z p.0 p.1) n.0 n.1 q.1 (imm_beyond n.0 n.3) (second_there (word.StoreImm z) texts n.1 first (place_text p.0 p.1) n.0 begins q.0 n.2))
+    (λ x is over. ok_never _ over)))
+
+store_beyond : (z : Size) (texts : List (List ℕ)) → IsOver (store_operands (insn.Store z) texts) → Beyond (word.Store z) texts
+unfolding store_operands
+store_beyond z texts h =
+    then_over (comma texts) _ h (comma_never texts) (λ first begins a.
+    then_over (place_of_text first.0) _ a (λ over.
+    let p = place_beyond first.0 over in
+    beyond_there (word.Store z) texts (StoreOffset z p.0) p.1 first.1 tt p.3 (place_first (word.Store z) texts first p.0 p.1 begins p.2))
+    (λ p at b. then_over (last reg_of_text first.1) _ b (last_reg_never first.1) (λ x is over. ok_never _ over)))
+
+jump_if_beyond : (c : Cmp) (w : Width) (texts : List (List ℕ)) → IsOver (jump_if_operands (insn.JumpIf c w) texts) → Beyond (word.JumpIf c w) texts
+unfolding jump_if_operands
+jump_if_beyond c w texts h =
+    then_over (comma texts) _ h (comma_never texts) (λ first begins a.
+    then_over (reg_of_text first.0) _ a (reg_never first.0) (λ d is b.
+    then_over (comma first.1) _ b (comma_never first.1) (λ second goes e.
+    then_over (operand_of_text second.0) _ e (λ over.
+    beyond_there (word.JumpIf c w) texts (JumpIfImm c w d) second.0 second.1 tt (operand_beyond second.0 over) (second_there (word.JumpIf c w) texts second.1 first (reg_name d) (second.0 ++ 44 ∷ []) begins (reg_is first.0 d is) (comma_is first.1 second goes)))
+    (λ s at g.
+    then_over (last offset_of_text second.1) _ g (λ over.
+    let n = last_beyond offset_of_text second.1 over in
+    let q = operand_is second.0 s at in
+    beyond_there (word.JumpIf c w) texts (JumpIfOffset c w d s) n.0 n.1 q.1 (offset_beyond n.0 n.3) (third_there (word.JumpIf c w) texts n.1 first second (reg_name d) (operand_text s) n.0 begins goes (reg_is first.0 d is) q.0 n.2))
+    (λ x there over. ok_never _ over)))))
+
+neg_never : {P : Type 0} (w : Width) (texts : List (List ℕ)) → IsOver (map_insn (insn.Neg w) (last reg_of_text texts)) → P
+neg_never w texts h = then_over (last reg_of_text texts) _ h (last_reg_never texts) (λ x is over. ok_never _ over)
+
+jump_beyond : (texts : List (List ℕ)) → IsOver (map_insn insn.Jump (last offset_of_text texts)) → Beyond word.Jump texts
+jump_beyond texts h =
+    then_over (last offset_of_text texts) _ h (λ over.
+    let n = last_beyond offset_of_text texts over in
+    beyond_there word.Jump texts JumpOffset n.0 n.1 tt (offset_beyond n.0 n.3) (first_there word.Jump texts n.1 n.0 n.2))
+    (λ x is over. ok_never _ over)
+
+call_beyond : (texts : List (List ℕ)) → IsOver (map_insn insn.Call (last imm_of_text texts)) → Beyond word.Call texts
+call_beyond texts h =
+    then_over (last imm_of_text texts) _ h (λ over.
+    let n = last_beyond imm_of_text texts over in
+    beyond_there word.Call texts CallImm n.0 n.1 tt (imm_beyond n.0 n.3) (first_there word.Call texts n.1 n.0 n.2))
+    (λ x is over. ok_never _ over)
+
+exit_never : {P : Type 0} (texts : List (List ℕ)) → IsOver (map_insn (λ _. insn.Exit) (no_word code.Form texts)) → P
+exit_never texts h = then_over (no_word code.Form texts) _ h (ended_never texts) (λ x is over. ok_never _ over)
+
+operands_beyond : (w : Word) (texts : List (List ℕ)) → IsOver (operands w texts) → Beyond w texts
+operands_beyond (word.Alu op w) texts h = alu_beyond op w texts h
+operands_beyond (word.Neg w) texts h = neg_never w texts h
+operands_beyond word.LoadImm texts h = wide_beyond texts h
+operands_beyond (word.Load z) texts h = load_beyond z texts h
+operands_beyond (word.StoreImm z) texts h = store_imm_beyond z texts h
+operands_beyond (word.Store z) texts h = store_beyond z texts h
+operands_beyond word.Jump texts h = jump_beyond texts h
+operands_beyond (word.JumpIf c w) texts h = jump_if_beyond c w texts h
+operands_beyond word.Call texts h = call_beyond texts h
+operands_beyond word.Exit texts h = exit_never texts h
+
+unnamed_never : {P : Type 0} (o : Option Word) → IsOver (ok_or o code.Word) → P
+unnamed_never None h = absurd cc
+unnamed_never (Some w) h = absurd cc
+
+words_beyond : (texts : List (List ℕ)) → IsOver (insn_of_words texts) → IsOutOfRange (join_with_byte 32 texts)
+unfolding insn_of_words
+words_beyond [] h = absurd cc
+words_beyond (text ∷ texts) h =
+    then_over (ok_or (word_named text) code.Word) _ h (unnamed_never (word_named text)) (λ w is over.
+    subst (λ (t : List ℕ). IsOutOfRange (join_with_byte 32 (t ∷ texts))) (sym (word_is text code.Word w is)) (operands_beyond w texts over))
+
+line_beyond : (line : List ℕ) → IsOver (line_of line) → IsOutOfRange line
+line_beyond line h = subst IsOutOfRange (join_with_byte-slice_split 32 line) (words_beyond (slice_split (λ b. b == 32) line) h)
+
+pub range_is : (line : List ℕ) → (line_of line ≡ Err code.Range) ↔ IsOutOfRange line
+range_is line = (line_beyond line, λ h. ap line_of h.parts ∙ range_told h.place h.number h.rest h.fits h.beyond h.ends)
