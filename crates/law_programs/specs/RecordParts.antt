@@ -1,0 +1,65 @@
+-- What stands where in a change record.
+use Rattle.std.specs.Prelude.{◌≡◌, ℕ, ◌<◌, ◌^◌, List, replicate, take, drop, length, Some, None, IfSome}
+use Rattle.pb_base.specs.declared.cell.Cell.{Cell}
+use Rattle.pb_base.specs.declared.content.Content.{Content}
+use Rattle.pb_base.specs.declared.content.Content.TheVariants.{Value, Deleted, Stamp}
+use Rattle.pb_base.specs.declared.content.Revision.{Revision}
+use Rattle.pb_base.specs.Cell.{row_of, column_of}
+use Rattle.pb_isa.specs.Machine.{Reply}
+use Rattle.pb_helpers.specs.Record.{record_of, word_at}
+use Rattle.pb_helpers.specs.OldRecord.{record_with_old}
+
+-- 32 bytes from a place on
+abbrev pub value_at : List ℕ → ℕ → List ℕ
+value_at bytes n = take 32 (drop n bytes)
+
+-- zeros in place of a value
+abbrev pub HasNoValue : List ℕ → ℕ → ℕ → Type 0
+HasNoValue bytes flag n = (word_at bytes flag ≡ 0) × (value_at bytes n ≡ replicate 32 0)
+
+-- 1 at the flag's place and the value at its own, or 0 and zeros
+abbrev pub HasContent : List ℕ → Content → Type 0
+HasContent bytes (Value v) = (word_at bytes 32 ≡ 1) × (value_at bytes 48 ≡ v)
+HasContent bytes Deleted = HasNoValue bytes 32 48
+HasContent bytes (Stamp t) = HasNoValue bytes 32 48
+
+abbrev pub HasOld : List ℕ → Reply → Type 0
+HasOld bytes (Some v) = (word_at bytes 80 ≡ 1) × (value_at bytes 88 ≡ v)
+HasOld bytes None = HasNoValue bytes 80 88
+
+-- of a version of cell x, for an observer that has acknowledged up to a
+pub record HasParts (bytes : List ℕ) (x : Cell) (found : Revision) (a : ℕ) : Type 0 where
+  pub row : word_at bytes 0 ≡ (row_of x).0
+  pub column : word_at bytes 8 ≡ column_of x
+  pub start : word_at bytes 16 ≡ found.start.0
+  pub commit : word_at bytes 24 ≡ found.commit.0
+  pub content : HasContent bytes found.content
+  pub acknowledged : word_at bytes 40 ≡ a
+
+-- a value has 32 bytes
+abbrev pub HasValueSize : Content → Type 0
+HasValueSize (Value v) = length v ≡ 32
+HasValueSize Deleted = Unit {0}
+HasValueSize (Stamp t) = Unit {0}
+
+-- the numbers have 64 bits, and a value 32 bytes
+pub record FitsRecord (x : Cell) (found : Revision) (a : ℕ) : Type 0 where
+  pub row : (row_of x).0 < 2 ^ 64
+  pub column : column_of x < 2 ^ 64
+  pub start : found.start.0 < 2 ^ 64
+  pub commit : found.commit.0 < 2 ^ 64
+  pub content : HasValueSize found.content
+  pub acknowledged : a < 2 ^ 64
+
+-- a record of version 1, and one of version 2, which has 40 bytes more
+pub record AreRecords (x : Cell) (found : Revision) (a : ℕ) (old : Reply) : Type 0 where
+  pub first_size : length (record_of x found a) ≡ 80
+  pub first : HasParts (record_of x found a) x found a
+  pub second_size : length (record_with_old x found a old) ≡ 120
+  pub second : HasParts (record_with_old x found a old) x found a
+  pub told : HasOld (record_with_old x found a old) old
+
+abbrev pub RecordsHaveParts : Type 0
+RecordsHaveParts =
+    (x : Cell) (found : Revision) (a : ℕ) (old : Reply) → FitsRecord x found a → IfSome old (λ v. length v ≡ 32) →
+    AreRecords x found a old
