@@ -1,1 +1,6 @@
 pub mod RecordParts
+pub mod Told
+pub mod Tests
+pub mod Broken
+pub mod Listed
+pub mod ByCode

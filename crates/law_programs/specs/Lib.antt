@@ -1,1 +1,5 @@
 pub mod RecordParts
+pub mod Operands
+pub mod Touches
+pub mod Targets
+pub mod Breaks

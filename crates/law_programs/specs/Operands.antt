@@ -1,0 +1,96 @@
+-- Which registers an instruction reads, sets and stores.
+use Rattle.std.specs.Prelude.{◌≡◌, ◌≢◌, ◌⊎◌, ℕ, ℤ}
+use Rattle.std.specs.Option.{IsSomeAnd}
+use Rattle.pb_isa.specs.declared.insn.Insn.{Insn}
+use Rattle.pb_isa.specs.declared.insn.Insn.TheVariants.{Alu, Neg, LoadImm, Load, StoreImm, Store, Jump, JumpIf, Call, Exit}
+use Rattle.pb_isa.specs.declared.insn.AluOp.{AluOp}
+use Rattle.pb_isa.specs.declared.insn.AluOp.TheVariants.{Add, Sub, Mov}
+use Rattle.pb_isa.specs.declared.insn.Width.{Width}
+use Rattle.pb_isa.specs.declared.insn.Width.TheVariants.{Bits64}
+use Rattle.pb_isa.specs.declared.insn.Operand.{Operand}
+use Rattle.pb_isa.specs.declared.insn.Operand.TheVariants as operands
+use Rattle.pb_isa.specs.Registers.{number}
+use Rattle.pb_isa.specs.Programs.{JudgedOf}
+use Rattle.pb_isa.specs.Helpers.{Helper, Read, Write, Start, declared_helper}
+use Rattle.pb_kinds.specs.declared.frame.Kind.{Kind}
+use Rattle.pb_kinds.specs.declared.frame.Kind.TheVariants.{Stack, Record}
+
+-- ---- pointers
+
+abbrev pub IsStackPointer : Kind → Type 0
+IsStackPointer k = (z : ℤ) × (k ≡ Stack z)
+
+abbrev pub IsRecordPointer : Kind → Type 0
+IsRecordPointer k = (z : ℤ) × (k ≡ Record z)
+
+abbrev pub IsPointer : Kind → Type 0
+IsPointer k = IsStackPointer k ⊎ IsRecordPointer k
+
+-- ---- arguments of helpers
+
+-- reading, writing and deleting take row and column in R1 and R2
+abbrev pub IsCellArgument : Helper → ℕ → Type 0
+IsCellArgument Start r = ⊥
+IsCellArgument h r = (r ≡ 1) ⊎ (r ≡ 2)
+
+-- reading and writing take in R3 where the value's bytes are
+abbrev pub IsPlaceArgument : Helper → ℕ → Type 0
+IsPlaceArgument Read r = r ≡ 3
+IsPlaceArgument Write r = r ≡ 3
+IsPlaceArgument h r = ⊥
+
+-- ---- registers by instruction
+
+-- an operand that is an immediate is no register
+abbrev pub IsOperand : Operand → ℕ → Type 0
+IsOperand (operands.Imm imm) r = ⊥
+IsOperand (operands.Reg src) r = r ≡ number src
+
+-- mov alone doesn't read its destination. A call reads the arguments of a declared helper, and exit the result in R0
+abbrev pub ReadsRegister : JudgedOf → Insn → ℕ → Type 0
+ReadsRegister j (Alu op w dst src) r = ((op ≢ Mov) × (r ≡ number dst)) ⊎ IsOperand src r
+ReadsRegister j (Neg w dst) r = r ≡ number dst
+ReadsRegister j (LoadImm dst imm) r = ⊥
+ReadsRegister j (Load z dst src offset) r = r ≡ number src
+ReadsRegister j (StoreImm z dst offset imm) r = r ≡ number dst
+ReadsRegister j (Store z dst src offset) r = (r ≡ number dst) ⊎ (r ≡ number src)
+ReadsRegister j (Jump offset) r = ⊥
+ReadsRegister j (JumpIf c w dst src offset) r = (r ≡ number dst) ⊎ IsOperand src r
+ReadsRegister j (Call imm) r = IsSomeAnd (declared_helper j.helpers imm) (λ h. IsCellArgument h r ⊎ IsPlaceArgument h r)
+ReadsRegister j Exit r = r ≡ 0
+
+-- the destination of arithmetic, of the 64-bit immediate and of a load
+abbrev pub SetsRegister : Insn → ℕ → Type 0
+SetsRegister (Alu op w dst src) r = r ≡ number dst
+SetsRegister (Neg w dst) r = r ≡ number dst
+SetsRegister (LoadImm dst imm) r = r ≡ number dst
+SetsRegister (Load z dst src offset) r = r ≡ number dst
+SetsRegister i r = ⊥
+
+-- the source of a store
+abbrev pub StoresRegister : Insn → ℕ → Type 0
+StoresRegister (Store z dst src offset) r = r ≡ number src
+StoresRegister i r = ⊥
+
+-- ---- sorts of instructions
+
+-- mov64 copies a pointer, and add64 and sub64 of an immediate move one; other operations don't
+abbrev pub KeepsPointers : AluOp → Width → Operand → Type 0
+KeepsPointers Mov Bits64 src = Unit {0}
+KeepsPointers Add Bits64 (operands.Imm imm) = Unit {0}
+KeepsPointers Sub Bits64 (operands.Imm imm) = Unit {0}
+KeepsPointers op w src = ⊥
+
+-- arithmetic on numbers alone
+abbrev pub IsArithmetic : Insn → Type 0
+IsArithmetic (Alu op w dst src) = ¬ (KeepsPointers op w src)
+IsArithmetic (Neg w dst) = Unit {0}
+IsArithmetic i = ⊥
+
+abbrev pub IsComparison : Insn → Type 0
+IsComparison (JumpIf c w dst src offset) = Unit {0}
+IsComparison i = ⊥
+
+abbrev pub IsExit : Insn → Type 0
+IsExit Exit = Unit {0}
+IsExit i = ⊥

@@ -1,0 +1,70 @@
+-- Which bytes of memory an instruction touches.
+use Rattle.std.specs.Prelude.{◌≡◌, ◌⊎◌, ℕ, ◌+◌, ◌<◌, ℤ, pos, neg_ℤ, ◌+ℤ◌, ◌≤ℤ◌, false}
+use Rattle.std.specs.Option.{IsSomeAnd}
+use Rattle.pb_isa.specs.declared.insn.Insn.{Insn}
+use Rattle.pb_isa.specs.declared.insn.Insn.TheVariants.{Load, StoreImm, Store, Call}
+use Rattle.pb_isa.specs.declared.insn.Size.{Size}
+use Rattle.pb_isa.specs.declared.insn.Size.TheVariants.{B, H, W, Dw}
+use Rattle.pb_isa.specs.Registers.{number}
+use Rattle.pb_isa.specs.Programs.{JudgedOf}
+use Rattle.pb_isa.specs.Helpers.{Helper, Read, Write, declared_helper}
+use Rattle.pb_kinds.specs.declared.frame.Frame.{Frame}
+use Rattle.pb_kinds.specs.Frames.{has_byte}
+use Rattle.pb_kinds.specs.Ranges.{from_low}
+
+-- how many bytes a load or a store moves
+abbrev pub size_bytes : Size → ℕ
+size_bytes B = 1
+size_bytes H = 2
+size_bytes W = 4
+size_bytes Dw = 8
+
+-- an instruction loads or stores bytes, and a helper takes a value's bytes or fills them
+pub data Touching : Type 0 where
+  Loading : Touching
+  Storing : Touching
+  Taking : Touching
+  Filling : Touching
+
+-- so many bytes from this distance on from where the register of a number points
+pub record Touch : Type 0 where
+  pub how : Touching
+  pub base : ℕ
+  pub offset : ℤ
+  pub bytes : ℕ
+
+abbrev pub touch : Touching → ℕ → ℤ → ℕ → Touch
+touch how base offset bytes = record { how = how; base = base; offset = offset; bytes = bytes }
+
+-- the 32 bytes at R3: reading fills them, and writing takes them
+abbrev pub HelperTouches : Helper → Touch → Type 0
+HelperTouches Read t = t ≡ touch Filling 3 (pos 0) 32
+HelperTouches Write t = t ≡ touch Taking 3 (pos 0) 32
+HelperTouches h t = ⊥
+
+abbrev pub Touches : JudgedOf → Insn → Touch → Type 0
+Touches j (Load z dst src offset) t = t ≡ touch Loading (number src) offset (size_bytes z)
+Touches j (StoreImm z dst offset imm) t = t ≡ touch Storing (number dst) offset (size_bytes z)
+Touches j (Store z dst src offset) t = t ≡ touch Storing (number dst) offset (size_bytes z)
+Touches j (Call imm) t = IsSomeAnd (declared_helper j.helpers imm) (λ h. HelperTouches h t)
+Touches j i t = ⊥
+
+-- the bytes are read, by a load or by a helper
+abbrev pub IsReading : Touching → Type 0
+IsReading how = (how ≡ Loading) ⊎ (how ≡ Taking)
+
+-- a load or a store, and no helper
+abbrev pub IsOfInstruction : Touching → Type 0
+IsOfInstruction how = (how ≡ Loading) ⊎ (how ≡ Storing)
+
+-- n bytes from z on, counted from the stack's end, are all among the 512 before it
+abbrev pub LieInStack : ℤ → ℕ → Type 0
+LieInStack z n = (neg_ℤ (pos 512) ≤ℤ z) × ((z +ℤ pos n) ≤ℤ pos 0)
+
+-- n bytes from z on, counted from the record's first, are all among those of a record of this size
+abbrev pub LieInRecord : ℕ → ℤ → ℕ → Type 0
+LieInRecord size z n = (pos 0 ≤ℤ z) × ((z +ℤ pos n) ≤ℤ pos size)
+
+-- one of n stack bytes from z on isn't written
+abbrev pub SomeUnwritten : Frame → ℤ → ℕ → Type 0
+SomeUnwritten f z n = (k : ℕ) × (k < n) × (has_byte f (from_low z + k) ≡ false)
