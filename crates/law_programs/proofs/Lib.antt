@@ -4,3 +4,4 @@ pub mod Tests
 pub mod Broken
 pub mod Listed
 pub mod ByCode
+pub mod Reached

@@ -3,3 +3,4 @@ pub mod Operands
 pub mod Touches
 pub mod Targets
 pub mod Breaks
+pub mod Reached

@@ -2,7 +2,10 @@
 #![tactic(auto)]
 
 ghost use Rattle.law_programs.specs.Breaks.{RulesAreByCode};
+ghost use Rattle.law_programs.specs.Reached.{FaultsAreTold, ReachedAreTold, UnreachableIsTold};
 ghost use Rattle.law_programs.specs.RecordParts.{RecordsHaveParts};
+
+use pb_verify::{frames_are_meets, jumps_lead_on};
 
 /// In a change record row, column, start and commit of the change, 1 for a value or 0 for none, and the acknowledged timestamp
 /// stand at 0, 8, 16, 24, 32 and 40 as 8 bytes with the lowest first, and the value or zeros at 48. In version 2 the same of
@@ -16,3 +19,23 @@ pub fn records_have_parts()
 pub fn rules_are_by_code()
     ensures { RulesAreByCode }
 {}
+
+/// A slot has a frame before it exactly where it is reached from the first slot, in steps that each go where an instruction
+/// leads. Where it has none, it isn't the first, and no earlier slot that has a frame leads to it.
+pub fn reached_are_told()
+    ensures { ReachedAreTold }
+{
+    frames_are_meets();
+    jumps_lead_on();
+}
+
+/// The codes at a slot are those that its instruction breaks with the frame before it. An instruction is told as unreachable
+/// exactly where its slot isn't reached.
+pub fn faults_are_told()
+    ensures each { FaultsAreTold }
+    ensures unreachable { UnreachableIsTold }
+{
+    frames_are_meets();
+    jumps_lead_on();
+    rules_are_by_code();
+}

@@ -1,0 +1,52 @@
+-- Which slots are reached.
+use Rattle.std.specs.Prelude.{◌≡◌, ◌≢◌, ◌⊎◌, ◌↔◌, ℕ, ◌<◌, List, Some, None}
+use Rattle.std.specs.List.{Contains}
+use Rattle.pb_isa.specs.declared.insn.Insn.{Insn}
+use Rattle.pb_isa.specs.Slots.{insn_at}
+use Rattle.pb_isa.specs.Programs.{JudgedOf}
+use Rattle.pb_kinds.specs.declared.frame.Frame.{Frame}
+use Rattle.pb_helpers.specs.declared.code.Code.{Code}
+use Rattle.pb_helpers.specs.declared.code.Code.TheVariants.{Unreachable}
+use Rattle.pb_verify.specs.Arriving.{in_at, faults}
+use Rattle.law_programs.specs.Breaks.{Breaks}
+use Rattle.law_programs.specs.Targets.{JumpsTo, next_slot}
+
+-- the instruction of slot m goes on to slot n, or jumps there
+pub record LeadsTo (p : List Insn) (m n : ℕ) : Type 0 where
+  pub insn : Insn
+  pub there : insn_at p m ≡ Some insn
+  pub leads : (next_slot m insn ≡ Some n) ⊎ JumpsTo m insn n
+
+-- not the first slot, and no earlier one that has a frame leads to it
+pub record IsUnreached (p : List Insn) (n : ℕ) : Type 0 where
+  pub later : 0 < n
+  pub none : (m : ℕ) → m < n → in_at p m ≢ None → ¬ (LeadsTo p m n)
+
+-- reached from the first slot in steps, each to where an instruction leads
+pub data IsReachable (p : List Insn) : ℕ → Type 0 where
+  First : IsReachable p 0
+  Next : (m n : ℕ) → IsReachable p m → LeadsTo p m n → IsReachable p n
+
+-- the slots that have a frame are those that are reached
+pub record TellsReached (p : List Insn) : Type 0 where
+  pub none : (n : ℕ) → (in_at p n ≡ None) ↔ IsUnreached p n
+  pub some : (n : ℕ) → (in_at p n ≢ None) ↔ IsReachable p n
+
+abbrev pub ReachedAreTold : Type 0
+ReachedAreTold = (p : List Insn) → TellsReached p
+
+-- the code is told at a slot: as unreachable, or as the instruction breaks it with the frame before it. A second slot has no
+-- rules
+abbrev pub IsToldAt : Code → JudgedOf → ℕ → Type 0
+IsToldAt c j n =
+    (i : Insn) × (insn_at j.program.insns n ≡ Some i) × (((c ≡ Unreachable) × ¬ (IsReachable j.program.insns n)) ⊎
+    ((f : Frame) × (in_at j.program.insns n ≡ Some f) × Breaks c j n f i))
+
+abbrev pub FaultsAreTold : Type 0
+FaultsAreTold = (c : Code) (j : JudgedOf) (n : ℕ) → Contains (faults j n) c ↔ IsToldAt c j n
+
+-- an instruction is told as unreachable exactly where its slot isn't reached
+abbrev pub UnreachableIsTold : Type 0
+UnreachableIsTold =
+    (j : JudgedOf) (n : ℕ) (i : Insn) → insn_at j.program.insns n ≡ Some i →
+    Contains (faults j n) Unreachable ↔ ¬ (IsReachable j.program.insns n)
