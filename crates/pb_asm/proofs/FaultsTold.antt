@@ -53,9 +53,9 @@ if_tells : {A : Type 0} (b : Bool) (r s : Result A Code) → Tells r → Tells s
 if_tells true r s h k = h
 if_tells false r s h k = k
 
-there_tells : {A : Type 0} (o : Option A) → Tells (ok_or o code.Form)
-there_tells None = tt
-there_tells (Some x) = tt
+there_tells : {A : Type 0} (c : Code) (o : Option A) → Tells {A = A} (Err c) → Tells (ok_or o c)
+there_tells c None h = h
+there_tells c (Some x) h = tt
 
 number_tells : (greatest : ℕ) (text : List ℕ) → Tells (numeral_upto code.Form code.Range greatest text)
 number_tells greatest text = if_tells (is_numeral text) _ (Err code.Form) (if_tells (nat_le (digits_value 10 text) greatest) (Ok (digits_value 10 text)) (Err code.Range) tt tt) tt
@@ -83,7 +83,7 @@ offset_tells : (text : List ℕ) → Tells (offset_of_text text)
 offset_tells text = signed_tells (plus_or_fault (strip_prefix 43 text)) (2 ^ 15) (strip_prefix 45 text) (sign_tells (strip_prefix 43 text))
 
 reg_tells : (text : List ℕ) → Tells (reg_of_text text)
-reg_tells text = there_tells (reg_named text)
+reg_tells text = there_tells _ (reg_named text) tt
 
 operand_tells : (text : List ℕ) → Tells (operand_of_text text)
 unfolding operand_of_text
@@ -103,7 +103,7 @@ at_plus_tells text (Some sides) = based_tells sides.0 (plus (2 ^ 15) sides.1) (p
 
 place_tells : (text : List ℕ) → Tells (place_of_text text)
 unfolding place_of_text
-place_tells text = then_tells (ok_or (strip_prefix 91 text) code.Form) _ (there_tells (strip_prefix 91 text)) (λ front. then_tells (ok_or (strip_suffix 93 front) code.Form) _ (there_tells (strip_suffix 93 front)) (λ inner. at_plus_tells inner (split_once 43 inner)))
+place_tells text = then_tells (ok_or (strip_prefix 91 text) code.Form) _ (there_tells _ (strip_prefix 91 text) tt) (λ front. then_tells (ok_or (strip_suffix 93 front) code.Form) _ (there_tells _ (strip_suffix 93 front) tt) (λ inner. at_plus_tells inner (split_once 43 inner)))
 
 field_tells : (texts : List (List ℕ)) → Tells (next_word code.Form texts)
 field_tells [] = tt
@@ -115,7 +115,7 @@ ended_tells (text ∷ texts) = tt
 
 comma_tells : (texts : List (List ℕ)) → Tells (comma texts)
 unfolding comma
-comma_tells texts = then_tells (next_word code.Form texts) _ (field_tells texts) (λ first. then_tells (ok_or (strip_suffix 44 first.0) code.Form) _ (there_tells (strip_suffix 44 first.0)) (λ text. tt))
+comma_tells texts = then_tells (next_word code.Form texts) _ (field_tells texts) (λ first. then_tells (ok_or (strip_suffix 44 first.0) code.Form) _ (there_tells _ (strip_suffix 44 first.0) tt) (λ text. tt))
 
 last_tells : {A : Type 0} (read : List ℕ → Result A Code) (texts : List (List ℕ)) → ((text : List ℕ) → Tells (read text)) → Tells (last read texts)
 unfolding last
@@ -237,6 +237,22 @@ unfolding with_insn_line
 too_long_told front line = (shown_past front line (is_skipped line), past_told front line)
 
 -- ---- no other code of a line
+
+only_past : (p : List Insn) (c : Code) (b : Bool) → cond b (Err code.TooLong) (Ok p) ≡ Err c → c ≡ code.TooLong
+only_past p c true h = sym (same_code (List Insn) code.TooLong c h)
+only_past p c false h = absurd cc
+
+read_own : (front : List Insn) (line : List ℕ) (c : Code) (r : Result Insn Code) → line_of line ≡ r → (r >>= λ i. cond (nat_lt MAX_SLOTS (slots (front ++ i ∷ []))) (Err code.TooLong) (Ok (front ++ i ∷ []))) ≡ Err c → (c ≡ code.TooLong) ⊎ (line_of line ≡ Err c)
+read_own front line c (Err d) is h = inr (is ∙ moved (List Insn) Insn d c h)
+read_own front line c (Ok i) is h = inl (only_past (front ++ i ∷ []) c (nat_lt MAX_SLOTS (slots (front ++ i ∷ []))) h)
+
+shown_own : (front : List Insn) (line : List ℕ) (c : Code) (b : Bool) → cond b (Ok front) (line_of line >>= λ i. cond (nat_lt MAX_SLOTS (slots (front ++ i ∷ []))) (Err code.TooLong) (Ok (front ++ i ∷ []))) ≡ Err c → (c ≡ code.TooLong) ⊎ (line_of line ≡ Err c)
+shown_own front line c true h = absurd cc
+shown_own front line c false h = read_own front line c (line_of line) refl h
+
+pub own_told : (front : List Insn) (line : List ℕ) (c : Code) → with_insn_line front line ≡ Err c → (c ≡ code.TooLong) ⊎ (line_of line ≡ Err c)
+unfolding with_insn_line
+own_told front line c h = shown_own front line c (is_skipped line) h
 
 told_so : (c : Code) → Tells (failed Insn c) → (c ≡ code.Word) ⊎ (c ≡ code.Form) ⊎ (c ≡ code.Range)
 told_so code.Memory h = absurd h

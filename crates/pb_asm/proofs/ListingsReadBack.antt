@@ -98,7 +98,7 @@ offset_back (negsuc n) fits =
 -- ---- registers, operands, places
 
 pub reg_read : (r : Reg) → reg_of_text (reg_name r) ≡ Ok r
-reg_read r = ap (λ (o : Option Reg). ok_or o code.Form) (reg_back r)
+reg_read r = rw (reg_back r) refl
 
 first_letter : (r : Reg) → (slice_index (reg_name r) 0 == 114) ≡ true
 first_letter R0 = refl

@@ -185,7 +185,7 @@ reg_among text [] r h = absurd cc
 reg_among text (s ∷ rs) r h = found text reg_name s r (reg_spelled text rs) (bytes_eq text (reg_name s)) refl h (reg_among text rs r)
 
 pub reg_is : (text : List ℕ) (r : Reg) → reg_of_text text ≡ Ok r → text ≡ reg_name r
-reg_is text r h = reg_among text registers r (there_ok (reg_named text) code.Form r h)
+reg_is text r h = reg_among text registers r (there_ok (reg_named text) _ r h)
 
 pub word_among : (text : List ℕ) (ws : List Word) (w : Word) → word_in text ws ≡ Some w → text ≡ name w
 word_among text [] w h = absurd cc

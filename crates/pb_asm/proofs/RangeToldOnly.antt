@@ -1,10 +1,11 @@
 -- A line that is told as out of range is an instruction's up to a number beyond its field.
-use Rattle.std.proofs.Common.{◌≡◌, ℕ, ◌-◌, ◌^◌, ◌↔◌, ℤ, Bool, true, false, cond, List, [], ◌∷◌, ◌++◌, Option, Some, None, Result, Ok, Err, refl, sym, ap, subst, ◌∙◌, append_assoc, append-nil, arith, inl, inr}
+use Rattle.std.proofs.Common.{◌≡◌, ◌⊎◌, ℕ, ◌+◌, ◌-◌, ◌^◌, ◌↔◌, ℤ, Bool, true, false, cond, List, [], ◌∷◌, ◌++◌, Option, Some, None, Result, Ok, Err, refl, sym, ap, subst, ◌∙◌, append_assoc, append-nil, arith, inl, inr}
 use Rattle.std.specs.Prelude.{◌==◌, nat_le, codes, slice_index, ok_or}
 use Rattle.std.specs.List.{slice_split, join_with_byte}
 use Rattle.std.specs.Str.Parse.{digits_value}
 use Rattle.std.proofs.lemmas.Bool.{leb-false}
 use Rattle.std.proofs.lemmas.List.Splits.{join_with_byte-slice_split}
+use Rattle.pb_isa.specs.declared.insn.Insn.{Insn}
 use Rattle.pb_isa.specs.declared.insn.Insn.TheVariants as insn
 use Rattle.pb_isa.specs.declared.insn.Operand.TheVariants as operand
 use Rattle.pb_isa.specs.declared.insn.Reg.{Reg}
@@ -12,7 +13,7 @@ use Rattle.pb_isa.specs.declared.insn.AluOp.{AluOp}
 use Rattle.pb_isa.specs.declared.insn.Cmp.{Cmp}
 use Rattle.pb_isa.specs.declared.insn.Width.{Width}
 use Rattle.pb_isa.specs.declared.insn.Size.{Size}
-use Rattle.pb_base.specs.Reading.{◌>>=◌, is_numeral, numeral_upto, no_word}
+use Rattle.pb_base.specs.Reading.{◌>>=◌, is_numeral, numeral_upto, no_word, numbered}
 use Rattle.pb_asm.specs.declared.fault.Code.{Code}
 use Rattle.pb_asm.specs.declared.fault.Code.TheVariants as code
 use Rattle.pb_asm.specs.declared.names.Word.{Word}
@@ -22,8 +23,10 @@ use Rattle.pb_asm.specs.Cuts.{strip_prefix, strip_suffix, split_once}
 use Rattle.pb_asm.specs.Listing.{operand_text, place_text}
 use Rattle.pb_asm.specs.Operands.{minus, plus, signed_or, imm_of_text, plus_or_fault, offset_of_text, reg_of_text, operand_of_text, base_and_offset, at_minus, at_plus, place_of_text, comma, last, alu_operands, load_imm_operands, load_operands, store_imm_operands, store_operands, jump_if_operands, map_insn, operands, insn_of_words, line_of}
 use Rattle.pb_asm.specs.OutOfRange.{IsAbove, IsImmBeyond, IsOffsetBeyond, NumberPlace, AluImm, LoadImmImm, LoadOffset, StoreImmOffset, StoreImmImm, StoreOffset, JumpOffset, JumpIfImm, JumpIfOffset, CallImm, place_with, line_with, FitsBefore, IsBeyond, EndsWord, IsOutOfRange}
+use Rattle.pb_asm.specs.Codes.{asm_code}
+use Rattle.pb_asm.specs.Texts.{with_insn_line}
 use Rattle.pb_asm.proofs.OneSpelling.{there_ok, behind_whole, before_whole, around_whole, reg_is, word_is, operand_is, place_is, comma_is}
-use Rattle.pb_asm.proofs.FaultsTold.{moved}
+use Rattle.pb_asm.proofs.FaultsTold.{failed, moved, own_told}
 use Rattle.pb_asm.proofs.NumbersBeyond.{range_told}
 
 -- ---- what a reading that ended out of range has read
@@ -318,3 +321,30 @@ line_beyond line h = subst IsOutOfRange (join_with_byte-slice_split 32 line) (wo
 
 pub range_is : (line : List ℕ) → (line_of line ≡ Err code.Range) ↔ IsOutOfRange line
 range_is line = (line_beyond line, λ h. ap line_of h.parts ∙ range_told h.place h.number h.rest h.fits h.beyond h.ends)
+
+-- ---- the code as it is told
+
+range_number : (c : Code) → asm_code c ≡ 82 → c ≡ code.Range
+range_number code.Memory h = let no : ⊥ = omega (arith, h) in absurd no
+range_number code.Word h = let no : ⊥ = omega (arith, h) in absurd no
+range_number code.Form h = let no : ⊥ = omega (arith, h) in absurd no
+range_number code.Range h = refl
+range_number code.TooLong h = let no : ⊥ = omega (arith, h) in absurd no
+range_number code.Nothing h = let no : ⊥ = omega (arith, h) in absurd no
+
+abbrev told_as : (A : Type 0) → ℕ × ℕ → Result A (ℕ × ℕ)
+told_as A fault = Err fault
+
+same_fault : (A : Type 0) (f g : ℕ × ℕ) → told_as A f ≡ told_as A g → f ≡ g
+same_fault A f g h = cc
+
+told_range : (n : ℕ) (r : Result (List Insn) Code) → numbered asm_code n r ≡ Err (n + 1, 82) → IsOver r
+told_range n (Ok is) h = absurd cc
+told_range n (Err c) h = ap (failed (List Insn)) (range_number c (ap (λ (f : ℕ × ℕ). f.1) (same_fault (List Insn) (n + 1, asm_code c) (n + 1, 82) h)))
+
+own_beyond : (line : List ℕ) → (code.Range ≡ code.TooLong) ⊎ IsOver (line_of line) → IsOutOfRange line
+own_beyond line (inl h) = absurd cc
+own_beyond line (inr h) = line_beyond line h
+
+pub told_only : (n : ℕ) (before : List Insn) (line : List ℕ) → numbered asm_code n (with_insn_line before line) ≡ Err (n + 1, 82) → IsOutOfRange line
+told_only n before line h = own_beyond line (own_told before line code.Range (told_range n (with_insn_line before line) h))

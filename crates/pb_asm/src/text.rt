@@ -138,7 +138,8 @@ pub fn fault_is_first()
 /// An unknown word is told exactly where what stands before the first blank, or the whole line where there is none, is
 /// no instruction's name; too many slots exactly where the line is a listing's and its instruction ends past the last
 /// slot that a program may have; and no instruction at all exactly where each line is empty or a remark. Of a line by
-/// itself an unknown word, operands that are not of the form and a number out of range are told, and nothing else.
+/// itself an unknown word, operands that are not of the form and a number out of range are told, and nothing else; of a
+/// line after others the same, but for too many slots.
 pub fn faults_are_told_where_they_are()
     ensures word { (line : List ℕ) → (line_of line ≡ Err code.Word)
         ↔ ((w : Word) → before_first (λ b. b == 32) line ≢ name w) }
@@ -147,13 +148,17 @@ pub fn faults_are_told_where_they_are()
     ensures nothing { (text : List ℕ) → (program_of_text text ≡ Err (0, 84)) ↔ (instruction_lines text ≡ []) }
     ensures line { (line : List ℕ) (c : Code) → line_of line ≡ Err c
         → (c ≡ code.Word) ⊎ (c ≡ code.Form) ⊎ (c ≡ code.Range) }
+    ensures own { (before : List Insn) (line : List ℕ) (c : Code) → with_insn_line before line ≡ Err c
+        → (c ≡ code.TooLong) ⊎ (line_of line ≡ Err c) }
 {}
 
 /// A line is out of range exactly where it is an instruction's up to a number that has its form and goes beyond its
-/// field, whatever comes behind the number's word; code 82 is told of it.
+/// field, whatever comes behind the number's word; code 82 is told of it, and of no other line.
 pub fn numbers_out_of_range_are_told()
     ensures read { (line : List ℕ) → (line_of line ≡ Err code.Range) ↔ IsOutOfRange line }
     ensures told { (n : ℕ) (before : List Insn) (place : NumberPlace) (number rest : List ℕ) → FitsBefore place
         → IsBeyond place number → EndsWord rest
         → numbered asm_code n (with_insn_line before (line_with place number rest)) ≡ Err (n + 1, 82) }
+    ensures only { (n : ℕ) (before : List Insn) (line : List ℕ)
+        → numbered asm_code n (with_insn_line before line) ≡ Err (n + 1, 82) → IsOutOfRange line }
 {}
