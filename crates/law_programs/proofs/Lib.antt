@@ -5,3 +5,4 @@ pub mod Broken
 pub mod Listed
 pub mod ByCode
 pub mod Reached
+pub mod Following

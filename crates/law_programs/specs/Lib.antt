@@ -4,3 +4,4 @@ pub mod Touches
 pub mod Targets
 pub mod Breaks
 pub mod Reached
+pub mod Following

@@ -2,6 +2,7 @@
 #![tactic(auto)]
 
 ghost use Rattle.law_programs.specs.Breaks.{RulesAreByCode};
+ghost use Rattle.law_programs.specs.Following.{FramesAfterAreTold};
 ghost use Rattle.law_programs.specs.Reached.{FaultsAreTold, ReachedAreTold, UnreachableIsTold};
 ghost use Rattle.law_programs.specs.RecordParts.{RecordsHaveParts};
 
@@ -37,5 +38,14 @@ pub fn faults_are_told()
 {
     frames_are_meets();
     jumps_lead_on();
+    rules_are_by_code();
+}
+
+/// After an instruction whose rules hold, its destination is known to be what it was set to, a call's result a number and R1 to
+/// R5 unset; all other registers are known to be what they were; and the written bytes are those of before and those that it
+/// wrote.
+pub fn frames_after_are_told()
+    ensures { FramesAfterAreTold }
+{
     rules_are_by_code();
 }
