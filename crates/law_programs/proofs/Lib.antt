@@ -6,3 +6,4 @@ pub mod Listed
 pub mod ByCode
 pub mod Reached
 pub mod Following
+pub mod Verdicts

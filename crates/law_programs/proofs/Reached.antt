@@ -20,7 +20,7 @@ use Rattle.pb_verify.specs.Forward.{LeadsAreLater}
 use Rattle.pb_verify.specs.Ways.{IsWay, Fact, HasKind, Says, IsMeetOfWays, FramesAreMeets}
 use Rattle.law_programs.specs.Targets.{JumpsTo, next_slot}
 use Rattle.law_programs.specs.Breaks.{Breaks, RulesAreByCode}
-use Rattle.law_programs.specs.Reached.{LeadsTo, IsUnreached, IsReachable, First, Next, TellsReached, IsToldAt}
+use Rattle.law_programs.specs.Reached.{LeadsTo, IsUnreached, IsReachable, ByEntry, ByStep, TellsReached, IsToldAt}
 use Rattle.law_programs.proofs.Told.{each_one, stands_one}
 
 -- ---- where instructions lead
@@ -135,8 +135,8 @@ module _ (p : List Insn) (meets : IsMeetOfWays p) where
     lead_later m n l = later m n l.insn ((follows m n l.insn).1 l.leads)
 
     has_frame : (n : ℕ) → IsReachable p n → in_at p n ≢ None
-    has_frame n First = λ e. let f = meets.first in cc
-    has_frame n (Next m k r l) = let h = has_frame m r in λ e. (to_unreached n e).none m (lead_later m n l) h l
+    has_frame n ByEntry = λ e. let f = meets.first in cc
+    has_frame n (ByStep m k r l) = let h = has_frame m r in λ e. (to_unreached n e).none m (lead_later m n l) h l
 
     -- whether a slot that has a frame leads there
     sends : (m n : ℕ) → ((in_at p m ≢ None) × LeadsTo p m n) ⊎ (in_at p m ≢ None → ¬ (LeadsTo p m n))
@@ -166,11 +166,11 @@ module _ (p : List Insn) (meets : IsMeetOfWays p) where
 
     reachable : (b n : ℕ) → n < b → in_at p n ≢ None → IsReachable p n
     reachable zero n l some = absurd (omega arith)
-    reachable (suc b) zero l some = First
+    reachable (suc b) zero l some = ByEntry
     reachable (suc b) (suc n) l some = by (reachable b) (search_first (suc n) (suc n))
       where
         by : ((m : ℕ) → m < b → in_at p m ≢ None → IsReachable p m) → ((m : ℕ) × (in_at p m ≢ None) × LeadsTo p m (suc n)) ⊎ ((m : ℕ) → m < suc n → in_at p m ≢ None → ¬ (LeadsTo p m (suc n))) → IsReachable p (suc n)
-        by each (inl h) = let e = lead_later h.0 (suc n) h.2 in Next h.0 (suc n) (each h.0 (omega arith) h.1) h.2
+        by each (inl h) = let e = lead_later h.0 (suc n) h.2 in ByStep h.0 (suc n) (each h.0 (omega arith) h.1) h.2
         by each (inr h) = absurd (some (from_unreached (suc n) (record { later = omega arith; none = h })))
 
     tells : TellsReached p

@@ -5,3 +5,4 @@ pub mod Targets
 pub mod Breaks
 pub mod Reached
 pub mod Following
+pub mod Verdicts

@@ -17,15 +17,16 @@ pub record LeadsTo (p : List Insn) (m n : ℕ) : Type 0 where
   pub there : insn_at p m ≡ Some insn
   pub leads : (next_slot m insn ≡ Some n) ⊎ JumpsTo m insn n
 
--- not the first slot, and no earlier one that has a frame leads to it
+-- not the first slot, and no earlier one that has a frame leads to it. In `exit; mov64 r0, 0; exit` the second leads to the
+-- third, and has no frame itself
 pub record IsUnreached (p : List Insn) (n : ℕ) : Type 0 where
   pub later : 0 < n
   pub none : (m : ℕ) → m < n → in_at p m ≢ None → ¬ (LeadsTo p m n)
 
 -- reached from the first slot in steps, each to where an instruction leads
 pub data IsReachable (p : List Insn) : ℕ → Type 0 where
-  First : IsReachable p 0
-  Next : (m n : ℕ) → IsReachable p m → LeadsTo p m n → IsReachable p n
+  ByEntry : IsReachable p 0
+  ByStep : (m n : ℕ) → IsReachable p m → LeadsTo p m n → IsReachable p n
 
 -- the slots that have a frame are those that are reached
 pub record TellsReached (p : List Insn) : Type 0 where

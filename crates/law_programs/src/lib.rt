@@ -5,8 +5,9 @@ ghost use Rattle.law_programs.specs.Breaks.{RulesAreByCode};
 ghost use Rattle.law_programs.specs.Following.{FramesAfterAreTold};
 ghost use Rattle.law_programs.specs.Reached.{FaultsAreTold, ReachedAreTold, UnreachableIsTold};
 ghost use Rattle.law_programs.specs.RecordParts.{RecordsHaveParts};
+ghost use Rattle.law_programs.specs.Verdicts.{VerdictsAreTold};
 
-use pb_verify::{frames_are_meets, jumps_lead_on};
+use pb_verify::{codes_rise, frames_are_meets, jumps_lead_on};
 
 /// In a change record row, column, start and commit of the change, 1 for a value or 0 for none, and the acknowledged timestamp
 /// stand at 0, 8, 16, 24, 32 and 40 as 8 bytes with the lowest first, and the value or zeros at 48. In version 2 the same of
@@ -48,4 +49,13 @@ pub fn frames_after_are_told()
     ensures { FramesAfterAreTold }
 {
     rules_are_by_code();
+}
+
+/// A program is accepted exactly where no code is told at any of its slots, and refused with the first slot at which one is,
+/// and the lowest there.
+pub fn verdicts_are_told()
+    ensures { VerdictsAreTold }
+{
+    codes_rise();
+    faults_are_told();
 }

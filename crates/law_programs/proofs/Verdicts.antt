@@ -1,0 +1,111 @@
+-- What is told of a program, in the words of the codes.
+use Rattle.std.proofs.Common.{◌≡◌, ℕ, ◌-◌, ◌≤◌, List, [], ◌∷◌, Option, Some, None, get_or, refl, sym, ap, subst, ◌∙◌, arith}
+use Rattle.std.specs.List.{All, Contains}
+use Rattle.std.proofs.lemmas.List.Elements.{All-nil, All-cons, All-contains, All-weaker}
+use Rattle.pb_isa.specs.declared.insn.Insn.{Insn}
+use Rattle.pb_isa.specs.Programs.{JudgedOf}
+use Rattle.pb_isa.specs.Slots.{insn_at}
+use Rattle.pb_kinds.specs.declared.frame.Frame.{Frame}
+use Rattle.pb_helpers.specs.declared.code.Code.{Code}
+use Rattle.pb_helpers.specs.declared.code.Code.TheVariants.{ReadsUnset, WritesR10, PointerArithmetic, PointerStored, OutsideStack, UnwrittenByte, OutsideRecord, WritesRecord, ThroughNumber, NotDeclared, WrongArgument, BackwardJump, JumpOutside, JumpIntoPair, Unreachable, FallsOff, ExitsWithPointer, PointerCompared}
+use Rattle.pb_helpers.specs.Codes.{code_number, lowest_code, CodesRiseWithin}
+use Rattle.pb_verify.specs.Rules.{CodesRise}
+use Rattle.pb_verify.specs.Arriving.{in_at, codes_at, faults}
+use Rattle.law_programs.specs.Reached.{FaultsAreTold}
+use Rattle.law_programs.specs.Verdicts.{VerdictsAreTold}
+
+-- ---- codes by their numbers
+
+-- the code of a number
+abbrev code_from : ℕ → Code
+code_from n = get_or (ReadsUnset ∷ WritesR10 ∷ PointerArithmetic ∷ PointerStored ∷ OutsideStack ∷ UnwrittenByte ∷ OutsideRecord ∷ WritesRecord ∷ ThroughNumber ∷ NotDeclared ∷ WrongArgument ∷ BackwardJump ∷ JumpOutside ∷ JumpIntoPair ∷ Unreachable ∷ FallsOff ∷ ExitsWithPointer ∷ PointerCompared ∷ []) (n - 21) ReadsUnset
+
+from_number : (c : Code) → code_from (code_number c) ≡ c
+from_number ReadsUnset = refl
+from_number WritesR10 = refl
+from_number PointerArithmetic = refl
+from_number PointerStored = refl
+from_number OutsideStack = refl
+from_number UnwrittenByte = refl
+from_number OutsideRecord = refl
+from_number WritesRecord = refl
+from_number ThroughNumber = refl
+from_number NotDeclared = refl
+from_number WrongArgument = refl
+from_number BackwardJump = refl
+from_number JumpOutside = refl
+from_number JumpIntoPair = refl
+from_number Unreachable = refl
+from_number FallsOff = refl
+from_number ExitsWithPointer = refl
+from_number PointerCompared = refl
+
+one_code : (c d : Code) → code_number c ≡ code_number d → c ≡ d
+one_code c d e = sym (from_number c) ∙ ap code_from e ∙ from_number d
+
+-- ---- lists that rise
+
+rises : (low high : ℕ) (cs : List Code) → CodesRiseWithin low high cs → All (λ d. low ≤ code_number d) cs
+rises low high [] h = All-nil (λ d. low ≤ code_number d)
+rises low high (c ∷ cs) h =
+    All-cons (λ d. low ≤ code_number d) c cs h.0
+    (All-weaker (λ d. code_number c ≤ code_number d) (λ d. low ≤ code_number d) (λ d l. let m = h.0 in omega arith) cs (rises (code_number c) high cs h.1))
+
+-- ---- one slot
+
+none_in : (c : Code) → ¬ (Contains [] c)
+none_in c k = omega arith
+
+-- the first of a list that rises is the least of it
+first_least : (cs : List Code) (c : Code) → CodesRiseWithin 21 38 cs → lowest_code cs ≡ Some c → Contains cs c × ((d : Code) → Contains cs d → code_number c ≤ code_number d)
+first_least [] c h e = cc
+first_least (x ∷ xs) c h e = of x (let is : x ≡ c = cc in is) h
+  where
+    of : (x : Code) → x ≡ c → CodesRiseWithin 21 38 (x ∷ xs) → Contains (x ∷ xs) c × ((d : Code) → Contains (x ∷ xs) d → code_number c ≤ code_number d)
+    of x is h = subst (λ y. Contains (x ∷ xs) y × ((d : Code) → Contains (x ∷ xs) d → code_number y ≤ code_number d)) is (
+      (0, omega arith, refl),
+      (λ d k. All-contains (λ d. code_number x ≤ code_number d) (x ∷ xs) d (rises (code_number x) 38 (x ∷ xs) (omega arith, h.1)) k),
+    )
+
+least_first : (cs : List Code) (c : Code) → CodesRiseWithin 21 38 cs → Contains cs c → ((d : Code) → Contains cs d → code_number c ≤ code_number d) → lowest_code cs ≡ Some c
+least_first [] c h k least = absurd (none_in c k)
+least_first (x ∷ xs) c h k least =
+    let f = (first_least (x ∷ xs) x h refl).1 c k in
+    let g = least x (0, omega arith, refl) in
+    ap Some (one_code x c (omega arith))
+
+empty_or : (cs : List Code) → ((c : Code) → ¬ (Contains cs c)) → cs ≡ []
+empty_or [] h = refl
+empty_or (x ∷ xs) h = absurd (h x (0, omega arith, refl))
+
+none_of : (cs : List Code) (c : Code) → cs ≡ [] → ¬ (Contains cs c)
+none_of cs c e k = none_in c (subst (λ ds. Contains ds c) e k)
+
+faults_rise : CodesRise → (j : JudgedOf) (n : ℕ) → CodesRiseWithin 21 38 (faults j n)
+faults_rise rise j n = by (insn_at j.program.insns n) (in_at j.program.insns n)
+  where
+    by : (i : Option Insn) (f : Option Frame) → CodesRiseWithin 21 38 (codes_at j n i f)
+    by None f = omega arith
+    by (Some i) None = (omega arith, omega arith)
+    by (Some i) (Some f) = rise j n f i
+
+pub verdicts_are_told : CodesRise → FaultsAreTold → VerdictsAreTold
+verdicts_are_told rise told j = record {
+  accepts = (
+    (λ a n c l t. none_of (faults j n) c (a n l) ((told c j n).1 t)),
+    (λ h n l. empty_or (faults j n) (λ c k. h n c l ((told c j n).0 k))),
+  );
+  refuses = λ n c. (
+    (λ r. let f = first_least (faults j n) c (faults_rise rise j n) r.code in record {
+      inside = r.inside;
+      told = (told c j n).0 f.0;
+      lowest = λ d t. f.1 d ((told d j n).1 t);
+      before = λ m d l t. none_of (faults j m) d (r.before m l) ((told d j m).1 t);
+    }),
+    (λ r. record {
+      inside = r.inside;
+      code = least_first (faults j n) c (faults_rise rise j n) ((told c j n).1 r.told) (λ d k. r.lowest d ((told d j n).0 k));
+      before = λ m l. empty_or (faults j m) (λ d k. r.before m d l ((told d j m).0 k));
+    }),
+  );
+}
