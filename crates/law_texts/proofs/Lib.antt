@@ -1,0 +1,4 @@
+pub mod LowerHex
+pub mod Parts
+pub mod OperationsWritten
+pub mod OperationsRead

@@ -1,0 +1,104 @@
+-- A write's operation is read as the write.
+use Rattle.std.proofs.Common.{◌≡◌, ℕ, ◌-◌, ◌*◌, ◌^◌, ◌<◌, ◌≤◌, Bool, true, false, cond, List, [], ◌∷◌, ◌++◌, length, Result, Ok, Err, refl, sym, ap, subst, ◌∙◌, arith}
+use Rattle.std.specs.Prelude.{◌==◌, ◌||◌, codes, nat_le, nat_lt}
+use Rattle.std.specs.Char.{is_ascii_uppercase}
+use Rattle.std.specs.Fmt.{decimal}
+use Rattle.std.specs.List.{join_with_byte, list_any}
+use Rattle.std.specs.Str.Parse.{digits_value}
+use Rattle.std.proofs.lemmas.Bool.{le-leb, le-ltb}
+use Rattle.std.proofs.lemmas.List.{drop-replicate}
+use Rattle.hex.specs.Hex.{decode_of, encode_lower, lower_digits}
+use Rattle.hex.proofs.HexLemmas.{decode_of-encode_lower, length-encode_with}
+use Rattle.pb_base.specs.declared.names.Row.{Row}
+use Rattle.pb_base.specs.declared.cell.Cell.{Cell}
+use Rattle.pb_base.specs.declared.cell.Cell.TheVariants.{Data, Ack}
+use Rattle.pb_base.specs.declared.content.Content.{Content}
+use Rattle.pb_base.specs.declared.content.Content.TheVariants.{Value, Deleted, Stamp}
+use Rattle.pb_base.specs.Reading.{words_of}
+use Rattle.pb_parse.specs.declared.script.code.Code.{Code}
+use Rattle.pb_parse.specs.declared.script.code.Code.TheVariants.{Hex}
+use Rattle.pb_parse.specs.ScriptWords.{number_upto, padded, content_of, cell_at, put_of, del_of, write_of, operation}
+use Rattle.pb_parse.proofs.Numerals.{numeral_of, value_of}
+use Rattle.law_texts.specs.OperationTexts.{AreDigitsOf, IsPlace, IsOperationOf}
+use Rattle.law_texts.proofs.LowerHex.{digit_of, digits_hold, none_upper}
+use Rattle.law_texts.proofs.Parts.{Lacks, IsNoDigit, decimal_lacks, joined_parts}
+
+number_back : (greatest n : ℕ) → greatest < 2 ^ 64 → n ≤ greatest → number_upto greatest (decimal n) ≡ Ok n
+number_back greatest n lt high =
+    let small : n < 2 ^ 64 = omega (arith, lt, high) in
+    let v : digits_value 10 (decimal n) ≡ n = value_of n small in
+    let e : nat_le (digits_value 10 (decimal n)) greatest ≡ true = le-leb _ _ (omega (arith, v, high)) in
+    rw (numeral_of n small, e, v) refl
+
+place_back : (row : Row) (column : ℕ) (rest : List (List ℕ)) → IsPlace row column → cell_at (decimal row.0 ∷ decimal column ∷ rest) ≡ Ok (Data row column, rest)
+unfolding cell_at
+place_back row column rest fits =
+    let wide = fits.0 in
+    let few = fits.1 in
+    rw (number_back (2 ^ 64 - 1) row.0 (omega arith) (omega (arith, wide)), number_back 15 column (omega arith) (omega (arith, few))) refl
+
+-- ---- values
+
+not_zero : (n : ℕ) → 1 ≤ n → (n == 0) ≡ false
+not_zero n h = grind arith
+
+tested : (a b c : Bool) (r : Result (List ℕ) Code) → a ≡ false → b ≡ false → c ≡ false → cond (a || (b || c)) (Err Hex) r ≡ r
+tested a b c r p q s = rw (p, q, s) refl
+
+digits_back : (value digits : List ℕ) → AreDigitsOf value digits → content_of digits ≡ Ok value
+digits_back value digits d =
+    let twice : length (encode_lower d.bytes) ≡ 2 * length d.bytes = length-encode_with lower_digits d.bytes in
+    let some = d.some in
+    let few = d.few in
+    let full : (length (encode_lower d.bytes) == 0) ≡ false = not_zero _ (omega (arith, twice, some)) in
+    let short : nat_lt 64 (length (encode_lower d.bytes)) ≡ false = le-ltb _ _ (omega (arith, twice, few)) in
+    ap content_of d.written
+    ∙ tested (length (encode_lower d.bytes) == 0) (nat_lt 64 (length (encode_lower d.bytes))) (list_any is_ascii_uppercase (encode_lower d.bytes)) (padded (decode_of (encode_lower d.bytes))) full short (none_upper d.bytes d.fit)
+    ∙ ap padded (decode_of-encode_lower d.bytes d.fit)
+    ∙ ap (λ (zeros : List ℕ). Ok (d.bytes ++ zeros)) (drop-replicate (length d.bytes) 32 0)
+    ∙ ap Ok (sym d.padded)
+
+put_back : (row : Row) (column : ℕ) (value digits : List ℕ) → IsPlace row column → AreDigitsOf value digits → write_of (codes "put" ∷ decimal row.0 ∷ decimal column ∷ digits ∷ []) ≡ Ok (Data row column, Value value)
+unfolding write_of put_of
+put_back row column value digits fits d = rw (place_back row column (digits ∷ []) fits, digits_back value digits d) refl
+
+del_back : (row : Row) (column : ℕ) → IsPlace row column → write_of (codes "del" ∷ decimal row.0 ∷ decimal column ∷ []) ≡ Ok (Data row column, Deleted)
+unfolding write_of del_of
+del_back row column fits = rw (place_back row column [] fits) refl
+
+-- ---- words
+
+-- no digit, decimal or hexadecimal
+abbrev IsNoHexDigit : ℕ → Type 0
+IsNoHexDigit c = (v : ℕ) → v < 16 → (digit_of v == c) ≡ false
+
+digits_lack : (c : ℕ) (value digits : List ℕ) → IsNoHexDigit c → AreDigitsOf value digits → Lacks c digits
+digits_lack c value digits none d = subst (Lacks c) (sym d.written) (digits_hold (λ b. (b == c) ≡ false) none d.bytes d.fit)
+
+row_lacks : (c : ℕ) (row : Row) (column : ℕ) → IsNoDigit c → IsPlace row column → Lacks c (decimal row.0)
+row_lacks c row column none fits = decimal_lacks c row.0 none fits.0
+
+column_lacks : (c : ℕ) (row : Row) (column : ℕ) → IsNoDigit c → IsPlace row column → Lacks c (decimal column)
+column_lacks c row column none fits = let few = fits.1 in decimal_lacks c column none (omega (arith, few))
+
+blank_no_digit : IsNoDigit 32
+blank_no_digit n lt = grind arith
+
+blank_no_hex_digit : IsNoHexDigit 32
+blank_no_hex_digit v lt = grind arith
+
+put_cut : (row : Row) (column : ℕ) (value digits : List ℕ) → IsPlace row column → AreDigitsOf value digits → words_of (join_with_byte 32 (codes "put" ∷ decimal row.0 ∷ decimal column ∷ digits ∷ [])) ≡ codes "put" ∷ decimal row.0 ∷ decimal column ∷ digits ∷ []
+put_cut row column value digits fits d =
+    joined_parts 32 (codes "put") (decimal row.0 ∷ decimal column ∷ digits ∷ []) (refl, (refl, (refl, tt)))
+    (row_lacks 32 row column blank_no_digit fits, (column_lacks 32 row column blank_no_digit fits, (digits_lack 32 value digits blank_no_hex_digit d, tt)))
+
+del_cut : (row : Row) (column : ℕ) → IsPlace row column → words_of (join_with_byte 32 (codes "del" ∷ decimal row.0 ∷ decimal column ∷ [])) ≡ codes "del" ∷ decimal row.0 ∷ decimal column ∷ []
+del_cut row column fits =
+    joined_parts 32 (codes "del") (decimal row.0 ∷ decimal column ∷ []) (refl, (refl, (refl, tt)))
+    (row_lacks 32 row column blank_no_digit fits, (column_lacks 32 row column blank_no_digit fits, tt))
+
+pub operation_read : (text : List ℕ) (x : Cell) (content : Content) → IsOperationOf x content text → operation text ≡ Ok (x, content)
+operation_read text (Data row column) (Value value) h = ap operation h.3 ∙ ap write_of (put_cut row column value h.1 h.0 h.2) ∙ put_back row column value h.1 h.0 h.2
+operation_read text (Data row column) Deleted h = ap operation h.1 ∙ ap write_of (del_cut row column h.0) ∙ del_back row column h.0
+operation_read text (Data row column) (Stamp time) h = absurd h
+operation_read text (Ack observer row column) content h = absurd h

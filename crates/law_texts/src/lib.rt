@@ -1,0 +1,6 @@
+//! What scripts are read as, in the words of their format.
+#![tactic(auto)]
+
+mod scripts;
+
+pub use scripts::operations_are_read_as_written;
