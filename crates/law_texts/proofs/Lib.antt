@@ -1,4 +1,6 @@
 pub mod LowerHex
 pub mod Parts
+pub mod Joints
 pub mod OperationsWritten
 pub mod OperationsRead
+pub mod LinesRead

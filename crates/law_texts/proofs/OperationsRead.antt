@@ -21,7 +21,7 @@ use Rattle.pb_parse.specs.ScriptWords.{number_upto, padded, content_of, cell_at,
 use Rattle.pb_parse.proofs.Numerals.{numeral_of, value_of}
 use Rattle.law_texts.specs.OperationTexts.{AreDigitsOf, IsPlace, IsOperationOf}
 use Rattle.law_texts.proofs.LowerHex.{digit_of, digits_hold, none_upper}
-use Rattle.law_texts.proofs.Parts.{Lacks, IsNoDigit, decimal_lacks, joined_parts}
+use Rattle.law_texts.proofs.Parts.{Lacks, AreParts, IsNoDigit, decimal_lacks, joined_parts, lacks_joined}
 
 number_back : (greatest n : ℕ) → greatest < 2 ^ 64 → n ≤ greatest → number_upto greatest (decimal n) ≡ Ok n
 number_back greatest n lt high =
@@ -87,15 +87,41 @@ blank_no_digit n lt = grind arith
 blank_no_hex_digit : IsNoHexDigit 32
 blank_no_hex_digit v lt = grind arith
 
-put_cut : (row : Row) (column : ℕ) (value digits : List ℕ) → IsPlace row column → AreDigitsOf value digits → words_of (join_with_byte 32 (codes "put" ∷ decimal row.0 ∷ decimal column ∷ digits ∷ [])) ≡ codes "put" ∷ decimal row.0 ∷ decimal column ∷ digits ∷ []
-put_cut row column value digits fits d =
-    joined_parts 32 (codes "put") (decimal row.0 ∷ decimal column ∷ digits ∷ []) (refl, (refl, (refl, tt)))
-    (row_lacks 32 row column blank_no_digit fits, (column_lacks 32 row column blank_no_digit fits, (digits_lack 32 value digits blank_no_hex_digit d, tt)))
+semicolon_no_digit : IsNoDigit 59
+semicolon_no_digit n lt = grind arith
 
-del_cut : (row : Row) (column : ℕ) → IsPlace row column → words_of (join_with_byte 32 (codes "del" ∷ decimal row.0 ∷ decimal column ∷ [])) ≡ codes "del" ∷ decimal row.0 ∷ decimal column ∷ []
+semicolon_no_hex_digit : IsNoHexDigit 59
+semicolon_no_hex_digit v lt = grind arith
+
+-- the words of an operation
+abbrev put_words : Row → ℕ → List ℕ → List (List ℕ)
+put_words row column digits = codes "put" ∷ decimal row.0 ∷ decimal column ∷ digits ∷ []
+
+abbrev del_words : Row → ℕ → List (List ℕ)
+del_words row column = codes "del" ∷ decimal row.0 ∷ decimal column ∷ []
+
+put_parts : (c : ℕ) (row : Row) (column : ℕ) (value digits : List ℕ) → Lacks c (codes "put") → IsNoDigit c → IsNoHexDigit c → IsPlace row column → AreDigitsOf value digits → AreParts c (put_words row column digits)
+put_parts c row column value digits verb none no_hex fits d = (verb, (row_lacks c row column none fits, (column_lacks c row column none fits, (digits_lack c value digits no_hex d, tt))))
+
+del_parts : (c : ℕ) (row : Row) (column : ℕ) → Lacks c (codes "del") → IsNoDigit c → IsPlace row column → AreParts c (del_words row column)
+del_parts c row column verb none fits = (verb, (row_lacks c row column none fits, (column_lacks c row column none fits, tt)))
+
+put_cut : (row : Row) (column : ℕ) (value digits : List ℕ) → IsPlace row column → AreDigitsOf value digits → words_of (join_with_byte 32 (put_words row column digits)) ≡ put_words row column digits
+put_cut row column value digits fits d =
+    let parts = put_parts 32 row column value digits (refl, (refl, (refl, tt))) blank_no_digit blank_no_hex_digit fits d in
+    joined_parts 32 (codes "put") (decimal row.0 ∷ decimal column ∷ digits ∷ []) parts.0 parts.1
+
+del_cut : (row : Row) (column : ℕ) → IsPlace row column → words_of (join_with_byte 32 (del_words row column)) ≡ del_words row column
 del_cut row column fits =
-    joined_parts 32 (codes "del") (decimal row.0 ∷ decimal column ∷ []) (refl, (refl, (refl, tt)))
-    (row_lacks 32 row column blank_no_digit fits, (column_lacks 32 row column blank_no_digit fits, tt))
+    let parts = del_parts 32 row column (refl, (refl, (refl, tt))) blank_no_digit fits in
+    joined_parts 32 (codes "del") (decimal row.0 ∷ decimal column ∷ []) parts.0 parts.1
+
+-- an operation has no semicolon
+pub no_semicolon : (x : Cell) (content : Content) (text : List ℕ) → IsOperationOf x content text → Lacks 59 text
+no_semicolon (Data row column) (Value value) text h = subst (Lacks 59) (sym h.3) (lacks_joined 59 32 (put_words row column h.1) refl (put_parts 59 row column value h.1 (refl, (refl, (refl, tt))) semicolon_no_digit semicolon_no_hex_digit h.0 h.2))
+no_semicolon (Data row column) Deleted text h = subst (Lacks 59) (sym h.1) (lacks_joined 59 32 (del_words row column) refl (del_parts 59 row column (refl, (refl, (refl, tt))) semicolon_no_digit h.0))
+no_semicolon (Data row column) (Stamp time) text h = absurd h
+no_semicolon (Ack observer row column) content text h = absurd h
 
 pub operation_read : (text : List ℕ) (x : Cell) (content : Content) → IsOperationOf x content text → operation text ≡ Ok (x, content)
 operation_read text (Data row column) (Value value) h = ap operation h.3 ∙ ap write_of (put_cut row column value h.1 h.0 h.2) ∙ put_back row column value h.1 h.0 h.2

@@ -1,1 +1,2 @@
 pub mod OperationTexts
+pub mod LineTexts

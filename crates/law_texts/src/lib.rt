@@ -3,4 +3,4 @@
 
 mod scripts;
 
-pub use scripts::operations_are_read_as_written;
+pub use scripts::{lines_are_read_as_written, operations_are_read_as_written};

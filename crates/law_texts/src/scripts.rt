@@ -2,8 +2,13 @@
 ghost use Rattle.std.specs.Prelude.{◌≡◌, ◌↔◌, ℕ, List, Ok};
 ghost use Rattle.pb_base.specs.declared.cell.Cell.{Cell};
 ghost use Rattle.pb_base.specs.declared.content.Content.{Content};
+ghost use Rattle.pb_base.specs.Batch.{Writes};
 ghost use Rattle.pb_parse.specs.ScriptWords.{operation};
+ghost use Rattle.pb_parse.specs.ScriptLines.{batch_of};
 ghost use Rattle.law_texts.specs.OperationTexts.{IsOperationOf};
+ghost use Rattle.law_texts.specs.LineTexts.{IsLineOf};
+
+use pb_parse::reads_operations;
 
 /// An operation is read as a write exactly where its text is the write's, character for character: `put`, row, column and
 /// 1 to 32 bytes in lower-case hexadecimal, with zeros behind them in the value; or `del`, row and column. Rows have 64
@@ -12,3 +17,11 @@ pub fn operations_are_read_as_written()
     ensures { (text : List ℕ) (x : Cell) (content : Content)
         → (operation text ≡ Ok (x, content)) ↔ IsOperationOf x content text }
 {}
+
+/// A line is read as a transaction exactly where it is the operations of the transaction's writes in their order, with `; `
+/// between them, character for character. They are 1 to 16, and each is to another cell.
+pub fn lines_are_read_as_written()
+    ensures { (line : List ℕ) (batch : Writes) → (batch_of line ≡ Ok batch) ↔ IsLineOf batch line }
+{
+    reads_operations();
+}

@@ -1,0 +1,94 @@
+-- A line is read as a transaction exactly where it is the transaction's line.
+use Rattle.std.proofs.Common.{◌≡◌, ◌↔◌, ℕ, ◌<◌, ◌≤◌, true, List, [], ◌∷◌, length, Ok, refl, sym, ap, subst, ◌∙◌, arith}
+use Rattle.std.specs.Prelude.{nat_le, nat_lt}
+use Rattle.std.specs.List.{AllZip, list_all}
+use Rattle.std.proofs.lemmas.Bool.{and_parts, le-leb, leb-true, lt-ltb, ltb-true}
+use Rattle.pb_base.specs.declared.limits.TheConstants.{MAX_CELLS}
+use Rattle.pb_base.specs.declared.cell.Cell.{Cell}
+use Rattle.pb_base.specs.declared.cell.Cell.TheVariants.{Data, Ack}
+use Rattle.pb_base.specs.declared.content.Content.{Content}
+use Rattle.pb_base.specs.declared.content.Content.TheVariants.{Value, Deleted, Stamp}
+use Rattle.pb_base.specs.Batch.{Writes, is_data_write, are_distinct, is_batch}
+use Rattle.pb_parse.specs.ScriptWords.{operation}
+use Rattle.pb_parse.specs.ScriptLines.{cut, batch_of}
+use Rattle.pb_parse.specs.Operations.{Say}
+use Rattle.law_texts.specs.OperationTexts.{IsOperationOf}
+use Rattle.law_texts.specs.LineTexts.{IsLineOf}
+use Rattle.law_texts.proofs.Parts.{AreParts}
+use Rattle.law_texts.proofs.Joints.{joined, joined_cut, cut_joined}
+use Rattle.law_texts.proofs.OperationsWritten.{operation_written}
+use Rattle.law_texts.proofs.OperationsRead.{operation_read, no_semicolon}
+
+-- what pb_parse's law says of lines
+abbrev pub ReadsOperations : Type 0
+ReadsOperations = (line : List ℕ) (batch : Writes) → (batch_of line ≡ Ok batch) ↔ (Say (cut line) batch × (is_batch batch ≡ true))
+
+abbrev AreOperations : Writes → List (List ℕ) → Type 0
+AreOperations ws texts = AllZip (λ w text. IsOperationOf w.0 w.1 text) ws texts
+
+-- ---- what is read
+
+first_said : (text : List ℕ) (texts : List (List ℕ)) (w : Cell × Content) (ws : Writes) → Say (text ∷ texts) (w ∷ ws) → (operation text ≡ Ok w) × Say texts ws
+first_said text texts w ws said = (cc, cc)
+
+are_written : (texts : List (List ℕ)) (ws : Writes) → Say texts ws → AreOperations ws texts
+are_written [] [] said = tt
+are_written [] (w ∷ ws) said = absurd cc
+are_written (text ∷ texts) [] said = absurd cc
+are_written (text ∷ texts) (w ∷ ws) said =
+    let p = first_said text texts w ws said in
+    (operation_written text w.0 w.1 p.0, are_written texts ws p.1)
+
+line_written : ReadsOperations → (line : List ℕ) (batch : Writes) → batch_of line ≡ Ok batch → IsLineOf batch line
+line_written reads line batch h =
+    let r = (reads line batch).0 h in
+    let p = and_parts _ (are_distinct batch) r.1 in
+    let q = and_parts _ (list_all is_data_write batch) p.0 in
+    let s = and_parts (nat_lt 0 (length batch)) (nat_le (length batch) MAX_CELLS) q.0 in
+    let some : 0 < length batch = ltb-true _ _ s.0 in
+    record { texts = cut line; operations = are_written (cut line) batch r.0; joined = sym (joined_cut line); distinct = p.1; some = omega (arith, some); few = leb-true _ _ s.1 }
+
+-- ---- what is written
+
+say_more : (text : List ℕ) (texts : List (List ℕ)) (w : Cell × Content) (ws : Writes) → operation text ≡ Ok w → Say texts ws → Say (text ∷ texts) (w ∷ ws)
+say_more text texts w ws is said = λ i. is i ∷ said i
+
+say_all : (ws : Writes) (texts : List (List ℕ)) → AreOperations ws texts → Say texts ws
+say_all [] [] h = refl
+say_all [] (text ∷ texts) h = absurd h
+say_all (w ∷ ws) [] h = absurd h
+say_all (w ∷ ws) (text ∷ texts) h = say_more text texts w ws (operation_read text w.0 w.1 h.0) (say_all ws texts h.1)
+
+no_semicolons : (ws : Writes) (texts : List (List ℕ)) → AreOperations ws texts → AreParts 59 texts
+no_semicolons [] [] h = tt
+no_semicolons [] (text ∷ texts) h = absurd h
+no_semicolons (w ∷ ws) [] h = absurd h
+no_semicolons (w ∷ ws) (text ∷ texts) h = (no_semicolon w.0 w.1 text h.0, no_semicolons ws texts h.1)
+
+to_data : (x : Cell) (content : Content) (text : List ℕ) → IsOperationOf x content text → is_data_write (x, content) ≡ true
+to_data (Data row column) (Value value) text h = refl
+to_data (Data row column) Deleted text h = refl
+to_data (Data row column) (Stamp time) text h = absurd h
+to_data (Ack observer row column) content text h = absurd h
+
+all_to_data : (ws : Writes) (texts : List (List ℕ)) → AreOperations ws texts → list_all is_data_write ws ≡ true
+all_to_data [] [] h = refl
+all_to_data [] (text ∷ texts) h = absurd h
+all_to_data (w ∷ ws) [] h = absurd h
+all_to_data (w ∷ ws) (text ∷ texts) h = rw (to_data w.0 w.1 text h.0) (all_to_data ws texts h.1)
+
+cut_again : (ws : Writes) (texts : List (List ℕ)) → 1 ≤ length ws → AreOperations ws texts → cut (joined texts) ≡ texts
+cut_again [] texts some h = absurd (omega arith)
+cut_again (w ∷ ws) [] some h = absurd h
+cut_again (w ∷ ws) (text ∷ texts) some h = let parts = no_semicolons (w ∷ ws) (text ∷ texts) h in cut_joined text texts parts.0 parts.1
+
+line_back : ReadsOperations → (line : List ℕ) (batch : Writes) → IsLineOf batch line → batch_of line ≡ Ok batch
+line_back reads line batch l =
+    let some = l.some in
+    let same : cut line ≡ l.texts = ap cut l.joined ∙ cut_again batch l.texts some l.operations in
+    let said : Say (cut line) batch = subst (λ (texts : List (List ℕ)). Say texts batch) (sym same) (say_all batch l.texts l.operations) in
+    let whole : is_batch batch ≡ true = rw (lt-ltb 0 (length batch) (omega (arith, some)), le-leb (length batch) MAX_CELLS l.few, all_to_data batch l.texts l.operations, l.distinct) refl in
+    (reads line batch).1 (said, whole)
+
+pub line_is : ReadsOperations → (line : List ℕ) (batch : Writes) → (batch_of line ≡ Ok batch) ↔ IsLineOf batch line
+line_is reads line batch = (line_written reads line batch, line_back reads line batch)
