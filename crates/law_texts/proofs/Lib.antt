@@ -4,3 +4,4 @@ pub mod Joints
 pub mod OperationsWritten
 pub mod OperationsRead
 pub mod LinesRead
+pub mod ScriptsRead

@@ -31,7 +31,7 @@ passed : {A : Type 0} (b : Bool) (r : Result A Code) (fault : Code) (x : A) → 
 passed true r fault x h = (refl, h)
 passed false r fault x h = absurd cc
 
-not_refused : {A : Type 0} (b : Bool) (r : Result A Code) (fault : Code) (x : A) → cond b (Err fault) r ≡ Ok x → (b ≡ false) × (r ≡ Ok x)
+pub not_refused : {A : Type 0} (b : Bool) (r : Result A Code) (fault : Code) (x : A) → cond b (Err fault) r ≡ Ok x → (b ≡ false) × (r ≡ Ok x)
 not_refused true r fault x h = absurd cc
 not_refused false r fault x h = (refl, h)
 

@@ -1,2 +1,3 @@
 pub mod OperationTexts
 pub mod LineTexts
+pub mod ScriptTexts

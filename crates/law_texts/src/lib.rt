@@ -3,4 +3,6 @@
 
 mod scripts;
 
-pub use scripts::{lines_are_read_as_written, operations_are_read_as_written};
+pub use scripts::{
+    lines_are_read_as_written, operations_are_read_as_written, scripts_are_read_as_written,
+};

@@ -4,9 +4,10 @@ ghost use Rattle.pb_base.specs.declared.cell.Cell.{Cell};
 ghost use Rattle.pb_base.specs.declared.content.Content.{Content};
 ghost use Rattle.pb_base.specs.Batch.{Writes};
 ghost use Rattle.pb_parse.specs.ScriptWords.{operation};
-ghost use Rattle.pb_parse.specs.ScriptLines.{batch_of};
+ghost use Rattle.pb_parse.specs.ScriptLines.{Batches, batch_of, script_of};
 ghost use Rattle.law_texts.specs.OperationTexts.{IsOperationOf};
 ghost use Rattle.law_texts.specs.LineTexts.{IsLineOf};
+ghost use Rattle.law_texts.specs.ScriptTexts.{IsScriptOf};
 
 use pb_parse::reads_operations;
 
@@ -24,4 +25,12 @@ pub fn lines_are_read_as_written()
     ensures { (line : List ℕ) (batch : Writes) → (batch_of line ≡ Ok batch) ↔ IsLineOf batch line }
 {
     reads_operations();
+}
+
+/// A text is read as transactions exactly where those of its lines that are neither empty nor begin with `#` are the lines
+/// of these transactions, in their order, and they are at most 10,000. A newline stands between two lines.
+pub fn scripts_are_read_as_written()
+    ensures { (text : List ℕ) (batches : Batches) → (script_of text ≡ Ok batches) ↔ IsScriptOf batches text }
+{
+    lines_are_read_as_written();
 }
