@@ -19,7 +19,7 @@ use Rattle.law_texts.proofs.Joints.{joined, joined_cut, cut_joined}
 use Rattle.law_texts.proofs.OperationsWritten.{operation_written}
 use Rattle.law_texts.proofs.OperationsRead.{operation_read, no_semicolon}
 
--- what pb_parse's law says of lines
+-- what the law `reads_operations` says
 abbrev pub ReadsOperations : Type 0
 ReadsOperations = (line : List ℕ) (batch : Writes) → (batch_of line ≡ Ok batch) ↔ (Say (cut line) batch × (is_batch batch ≡ true))
 
@@ -28,16 +28,14 @@ AreOperations ws texts = AllZip (λ w text. IsOperationOf w.0 w.1 text) ws texts
 
 -- ---- what is read
 
-first_said : (text : List ℕ) (texts : List (List ℕ)) (w : Cell × Content) (ws : Writes) → Say (text ∷ texts) (w ∷ ws) → (operation text ≡ Ok w) × Say texts ws
-first_said text texts w ws said = (cc, cc)
-
 are_written : (texts : List (List ℕ)) (ws : Writes) → Say texts ws → AreOperations ws texts
 are_written [] [] said = tt
 are_written [] (w ∷ ws) said = absurd cc
 are_written (text ∷ texts) [] said = absurd cc
 are_written (text ∷ texts) (w ∷ ws) said =
-    let p = first_said text texts w ws said in
-    (operation_written text w.0 w.1 p.0, are_written texts ws p.1)
+    let here : operation text ≡ Ok w = cc in
+    let others : Say texts ws = cc in
+    (operation_written text w.0 w.1 here, are_written texts ws others)
 
 line_written : ReadsOperations → (line : List ℕ) (batch : Writes) → batch_of line ≡ Ok batch → IsLineOf batch line
 line_written reads line batch h =

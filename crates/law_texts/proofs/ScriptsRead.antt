@@ -137,7 +137,7 @@ back n (l ∷ ls) before batches lines most = back_line n before batches l ls (i
 
 -- ---- whole texts
 
--- what the law of lines says
+-- what the law `lines_are_read_as_written` says
 abbrev pub ReadsLines : Type 0
 ReadsLines = (line : List ℕ) (batch : Writes) → (batch_of line ≡ Ok batch) ↔ IsLineOf batch line
 

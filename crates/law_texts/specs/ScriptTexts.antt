@@ -10,8 +10,8 @@ abbrev pub is_told : List ℕ → Bool
 is_told [] = false
 is_told (b ∷ bs) = not (b == 35)
 
--- Lines with a newline between them. Those that are neither empty nor remarks are the lines of the transactions, in their
--- order, and these are at most 10,000.
+-- Lines with a newline between them. Those that are neither empty nor remarks are the lines of the transactions, in
+-- their order, and these are at most 10,000.
 pub record IsScriptOf (batches : Batches) (text : List ℕ) : Type 0 where
   pub lines : List (List ℕ)
   pub parted : All (λ line. All (λ b. b ≢ 10) line) lines
