@@ -1,0 +1,6 @@
+mod Machines
+mod Jobs
+mod Events
+mod Runs
+mod Stops
+mod Opened

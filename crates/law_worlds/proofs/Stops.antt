@@ -1,0 +1,77 @@
+-- No run goes past an event that can't happen, so events stop at one, or at none.
+use Rattle.std.proofs.Common.{◌≡◌, ◌≢◌, ◌⊎◌, ℕ, zero, suc, ◌≤◌, List, [], ◌∷◌, length, take, inl, inr, refl, sym, ◌∙◌, ap, subst, arith, Some, None, slice_get}
+use Rattle.std.proofs.Math.Seq.{take-length}
+use Rattle.std.proofs.lemmas.Option.{none-some, slice_get_within}
+use Rattle.pb_parse.specs.declared.event.Event.{Event}
+use Rattle.pb_world.specs.declared.fault.EventFault.{EventFault}
+use Rattle.pb_world.specs.declared.fault.EventFault.TheVariants.{NoMemory}
+use Rattle.pb_world.specs.declared.note.Note.{Note}
+use Rattle.pb_world.specs.Faults.{fault_code}
+use Rattle.pb_world.specs.Events.{WorldOf, fault_of, RunsTo, StopsAtEvent}
+use Rattle.pb_world.specs.Sound.{IsSound, EventsKeepSound}
+use Rattle.law_worlds.specs.Outcomes.{AreOneFault, EventsHaveOneOutcome, RunsHaveOneOutcome, FaultsHaveOnePlace, WholeRunsHaveNoFault}
+use Rattle.law_worlds.proofs.Events.{one_value}
+
+-- after the events before it, the event of this place is at fault, with this number
+record IsAtFault (w : WorldOf) (es : List Event) (at code : ℕ) (v : WorldOf) : Type 0 where
+  notes : List Note
+  before : RunsTo w (take at es) notes v
+  within : at ≤ length es
+  event : Event
+  fault : EventFault
+  there : slice_get es at ≡ Some event
+  can : fault_of v event ≡ Some fault
+  told : code ≡ fault_code fault
+
+fault_in : (w : WorldOf) (es : List Event) (at code : ℕ) (v : WorldOf) → StopsAtEvent w es at code v → (code ≡ fault_code NoMemory) ⊎ IsAtFault w es at code v
+fault_in w es at code v s = elim s.why [
+  | inl memory ↦ inl memory.0
+  | inr f ↦ inr (record { notes = s.notes; before = s.before; within = s.within; event = f.0; fault = f.1; there = f.2; can = f.3; told = f.4 })
+]
+
+fault_of_other : (w : WorldOf) (es : List Event) (at code : ℕ) (v : WorldOf) → code ≢ fault_code NoMemory → StopsAtEvent w es at code v → IsAtFault w es at code v
+fault_of_other w es at code v other s = elim (fault_in w es at code v s) [ inl memory ↦ absurd (other memory) | inr f ↦ f ]
+
+module _ (one : EventsHaveOneOutcome) (keep : EventsKeepSound) where
+  not_past : (w : WorldOf) (es : List Event) (at : ℕ) (ns : List Note) (v : WorldOf) (by : ℕ) (ms : List Note) (u : WorldOf) (e : Event) (f : EventFault) → IsSound w
+      → RunsTo w (take at es) ns v → slice_get es at ≡ Some e → fault_of v e ≡ Some f → by ≤ length es → RunsTo w (take by es) ms u → by ≤ at
+  not_past w es at ns v zero ms u e f s x there can le y = omega arith
+  not_past w [] at ns v (suc by) ms u e f s x there can le y = absurd (none-some e there)
+  not_past w (d ∷ es) zero ns v (suc by) [] u e f s x there can le y = absurd y
+  not_past w (d ∷ es) zero (n ∷ ns) v (suc by) (m ∷ ms) u e f s x there can le y = absurd x
+  not_past w (d ∷ es) zero [] v (suc by) (m ∷ ms) u e f s x there can le y =
+      let same : d ≡ e = cc in
+      let none : fault_of v e ≡ None = subst (λ z. fault_of v z ≡ None) same (subst (λ z. fault_of z d ≡ None) (sym x) y.1.can) in
+      absurd (none-some f (sym none ∙ can))
+  not_past w (d ∷ es) (suc at) [] v (suc by) ms u e f s x there can le y = absurd x
+  not_past w (d ∷ es) (suc at) (n ∷ ns) v (suc by) [] u e f s x there can le y = absurd y
+  not_past w (d ∷ es) (suc at) (n ∷ ns) v (suc by) (m ∷ ms) u e f s x there can le y =
+      let first = one w d n x.0 m y.0 s x.1 y.1 in
+      let sound : IsSound x.0 = keep w (d ∷ []) (n ∷ []) x.0 s (x.0, x.1, refl) in
+      let rest = not_past x.0 es at ns v by ms u e f sound x.2 there can (omega (arith, le)) (subst (λ z. RunsTo z (take by es) ms u) (sym first.world) y.2) in
+      omega (arith, rest)
+
+  pub faults_once : RunsHaveOneOutcome → FaultsHaveOnePlace
+  faults_once runs w es at code v by number u s x y not also = by_parts (fault_of_other w es at code v not x) (fault_of_other w es by number u also y)
+    where
+      by_parts : IsAtFault w es at code v → IsAtFault w es by number u → AreOneFault at code v by number u
+      by_parts p q =
+          let low : by ≤ at = not_past w es at p.notes v by q.notes u p.event p.fault s p.before p.there p.can q.within q.before in
+          let high : at ≤ by = not_past w es by q.notes u at p.notes v q.event q.fault s q.before q.there q.can p.within p.before in
+          let place : by ≡ at = omega (arith, low, high) in
+          let world : v ≡ u = (runs w (take at es) p.notes v q.notes u s p.before (subst (λ k. RunsTo w (take k es) q.notes u) place q.before)).world in
+          let there : slice_get es at ≡ Some q.event = subst (λ k. slice_get es k ≡ Some q.event) place q.there in
+          let event : p.event ≡ q.event = one_value (slice_get es at) p.event q.event p.there there in
+          let can : fault_of v p.event ≡ Some q.fault = (λ i. fault_of (world i) (event i)) ∙ q.can in
+          let fault : p.fault ≡ q.fault = one_value (fault_of v p.event) p.fault q.fault p.can can in
+          record { place = sym place; told = p.told ∙ (ap fault_code fault ∙ sym q.told); world = world }
+
+  pub whole_runs : WholeRunsHaveNoFault
+  whole_runs w es ns v at code u s x y = elim (fault_in w es at code u y) [
+    | inl memory ↦ memory
+    | inr f ↦
+        let all : RunsTo w (take (length es) es) ns v = subst (λ l. RunsTo w l ns v) (sym (take-length es)) x in
+        let past : length es ≤ at = not_past w es at f.notes u (length es) ns v f.event f.fault s f.before f.there f.can (omega arith) all in
+        let within = slice_get_within es at f.event f.there in
+        absurd (omega (arith, past, within))
+  ]

@@ -1,0 +1,46 @@
+-- What comes of an event, and of a list of events.
+use Rattle.std.specs.Prelude.{◌≡◌, ◌≢◌, ℕ, List}
+use Rattle.pb_parse.specs.declared.event.Event.{Event}
+use Rattle.pb_world.specs.declared.fault.EventFault.TheVariants.{NoMemory}
+use Rattle.pb_world.specs.declared.note.Note.{Note}
+use Rattle.pb_world.specs.Faults.{fault_code}
+use Rattle.pb_world.specs.Events.{WorldOf, Happens, RunsTo, StopsAtEvent}
+use Rattle.pb_world.specs.Sound.{IsSound}
+use Rattle.pb_world.specs.Headline.{IsOpened}
+
+-- two notes, each with the world that is left, are the same
+pub record AreOneEvent (n : Note) (v : WorldOf) (m : Note) (u : WorldOf) : Type 0 where
+  pub note : n ≡ m
+  pub world : v ≡ u
+
+-- two lists of notes, each with the world that is left, are the same
+pub record AreOneRun (ns : List Note) (v : WorldOf) (ms : List Note) (u : WorldOf) : Type 0 where
+  pub notes : ns ≡ ms
+  pub world : v ≡ u
+
+-- two events that are at fault, each with its number and the world that is left, are the same
+pub record AreOneFault (at code : ℕ) (v : WorldOf) (by number : ℕ) (u : WorldOf) : Type 0 where
+  pub place : at ≡ by
+  pub told : code ≡ number
+  pub world : v ≡ u
+
+-- ---- laws
+
+abbrev pub OpenedWorldsAreSound : Type 0
+OpenedWorldsAreSound = (w : WorldOf) → IsOpened w → IsSound w
+
+abbrev pub EventsHaveOneOutcome : Type 0
+EventsHaveOneOutcome = (w : WorldOf) (e : Event) (n : Note) (v : WorldOf) (m : Note) (u : WorldOf) → IsSound w → Happens w e n v → Happens w e m u → AreOneEvent n v m u
+
+abbrev pub RunsHaveOneOutcome : Type 0
+RunsHaveOneOutcome = (w : WorldOf) (es : List Event) (ns : List Note) (v : WorldOf) (ms : List Note) (u : WorldOf) → IsSound w → RunsTo w es ns v → RunsTo w es ms u → AreOneRun ns v ms u
+
+-- where events stop for another reason than memory, it is at one event, with one number
+abbrev pub FaultsHaveOnePlace : Type 0
+FaultsHaveOnePlace =
+    (w : WorldOf) (es : List Event) (at code : ℕ) (v : WorldOf) (by number : ℕ) (u : WorldOf) → IsSound w → StopsAtEvent w es at code v → StopsAtEvent w es by number u
+    → code ≢ fault_code NoMemory → number ≢ fault_code NoMemory → AreOneFault at code v by number u
+
+-- events that happen to the last stop for memory alone
+abbrev pub WholeRunsHaveNoFault : Type 0
+WholeRunsHaveNoFault = (w : WorldOf) (es : List Event) (ns : List Note) (v : WorldOf) (at code : ℕ) (u : WorldOf) → IsSound w → RunsTo w es ns v → StopsAtEvent w es at code u → code ≡ fault_code NoMemory
