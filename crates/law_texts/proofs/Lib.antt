@@ -3,5 +3,6 @@ pub mod Parts
 pub mod Joints
 pub mod OperationsWritten
 pub mod OperationsRead
+pub mod DistinctWrites
 pub mod LinesRead
 pub mod ScriptsRead

@@ -15,6 +15,7 @@ use Rattle.pb_parse.specs.Operations.{Say}
 use Rattle.law_texts.specs.OperationTexts.{IsOperationOf}
 use Rattle.law_texts.specs.LineTexts.{IsLineOf}
 use Rattle.law_texts.proofs.Parts.{AreParts}
+use Rattle.law_texts.proofs.DistinctWrites.{distinct_is}
 use Rattle.law_texts.proofs.Joints.{joined, joined_cut, cut_joined}
 use Rattle.law_texts.proofs.OperationsWritten.{operation_written}
 use Rattle.law_texts.proofs.OperationsRead.{operation_read, no_semicolon}
@@ -44,7 +45,7 @@ line_written reads line batch h =
     let q = and_parts _ (list_all is_data_write batch) p.0 in
     let s = and_parts (nat_lt 0 (length batch)) (nat_le (length batch) MAX_CELLS) q.0 in
     let some : 0 < length batch = ltb-true _ _ s.0 in
-    record { texts = cut line; operations = are_written (cut line) batch r.0; joined = sym (joined_cut line); distinct = p.1; some = omega (arith, some); few = leb-true _ _ s.1 }
+    record { texts = cut line; operations = are_written (cut line) batch r.0; joined = sym (joined_cut line); distinct = (distinct_is batch).0 p.1; some = omega (arith, some); few = leb-true _ _ s.1 }
 
 -- ---- what is written
 
@@ -85,7 +86,7 @@ line_back reads line batch l =
     let some = l.some in
     let same : cut line ≡ l.texts = ap cut l.joined ∙ cut_again batch l.texts some l.operations in
     let said : Say (cut line) batch = subst (λ (texts : List (List ℕ)). Say texts batch) (sym same) (say_all batch l.texts l.operations) in
-    let whole : is_batch batch ≡ true = rw (lt-ltb 0 (length batch) (omega (arith, some)), le-leb (length batch) MAX_CELLS l.few, all_to_data batch l.texts l.operations, l.distinct) refl in
+    let whole : is_batch batch ≡ true = rw (lt-ltb 0 (length batch) (omega (arith, some)), le-leb (length batch) MAX_CELLS l.few, all_to_data batch l.texts l.operations, (distinct_is batch).1 l.distinct) refl in
     (reads line batch).1 (said, whole)
 
 pub line_is : ReadsOperations → (line : List ℕ) (batch : Writes) → (batch_of line ≡ Ok batch) ↔ IsLineOf batch line
