@@ -6,3 +6,4 @@ pub mod OperationsRead
 pub mod DistinctWrites
 pub mod LinesRead
 pub mod ScriptsRead
+pub mod LastReport

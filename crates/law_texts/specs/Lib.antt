@@ -1,3 +1,4 @@
 pub mod OperationTexts
 pub mod LineTexts
 pub mod ScriptTexts
+pub mod LastReport

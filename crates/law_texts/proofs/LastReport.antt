@@ -1,0 +1,29 @@
+-- A table's report is that at the greatest timestamp that its journal gave out.
+use Rattle.std.proofs.Common.{◌≡◌, ℕ, List, [], ◌∷◌, sym, subst, ◌∙◌, arith}
+use Rattle.pb_history.specs.Laws.{ClockIsLastGiven}
+use Rattle.pb_history.specs.Timestamps.{timestamps}
+use Rattle.pb_history.specs.LastGiven.{IsLastGiven}
+use Rattle.pb_core.specs.Calls.{SharedOf}
+use Rattle.pb_core.specs.Histories.{IsLegalTable}
+use Rattle.pb_script.specs.TableReports.{IsReportIn}
+use Rattle.law_texts.specs.LastReport.{IsReportAt, ReportsAreOfTheLastGiven}
+
+one_last : (clock : ℕ) (ts : List ℕ) (a b : ℕ) → IsLastGiven clock ts a → IsLastGiven clock ts b → a ≡ b
+one_last clock [] a b p q = p ∙ sym q
+one_last clock (t ∷ ts) a b p q =
+    let above = q.1 a p.0 in
+    let below = p.1 b q.0 in
+    omega (arith, above, below)
+
+at_clock : (s : SharedOf) (text : List ℕ) → IsReportIn s text → IsReportAt s.state.clock s text
+at_clock s text r = record { runs = r.runs; tallied = r.tallied; reported = r.reported }
+
+in_table : (s : SharedOf) (text : List ℕ) → IsReportAt s.state.clock s text → IsReportIn s text
+in_table s text r = record { runs = r.runs; tallied = r.tallied; reported = r.reported }
+
+pub last_reported : ClockIsLastGiven → ReportsAreOfTheLastGiven
+last_reported law s text last legal is =
+    let given = law s.state.observers s.state.seats s.opened s.journal s.state legal in
+    let same = one_last s.opened (timestamps s.journal) s.state.clock last given is in
+    (λ r. subst (λ t. IsReportAt t s text) same (at_clock s text r),
+     λ r. in_table s text (subst (λ t. IsReportAt t s text) (sym same) r))

@@ -1,0 +1,27 @@
+-- The report of a table, by the timestamp that it is of.
+use Rattle.std.specs.Prelude.{◌↔◌, ℕ, List}
+use Rattle.std.specs.FinMap as finite
+use Rattle.pb_steps.specs.Readings.{lock_count}
+use Rattle.pb_history.specs.Timestamps.{timestamps}
+use Rattle.pb_history.specs.LastGiven.{IsLastGiven}
+use Rattle.pb_core.specs.Calls.{SharedOf}
+use Rattle.pb_core.specs.Histories.{IsLegalTable}
+use Rattle.pb_script.specs.ReportLines.{Tallies}
+use Rattle.pb_script.specs.Reports.{IsReportOf}
+use Rattle.pb_script.specs.Committed.{IsSeenAt}
+use Rattle.pb_script.specs.Tallies.{AreTallies}
+use Rattle.pb_script.specs.TableReports.{IsReportIn}
+
+-- What the snapshot at a timestamp has of each data cell, how many runs of each observer are committed, and the marks and
+-- locks that stand.
+pub record IsReportAt (at : ℕ) (s : SharedOf) (text : List ℕ) : Type 0 where
+  pub runs : Tallies
+  pub tallied : AreTallies s.state.observers s.journal 0 s.state.observers runs
+  pub reported :
+    IsReportOf (IsSeenAt s.state.observers s.journal at) runs (finite.len s.state.marks) (lock_count s.state.entries) text
+
+-- a table's report is that at the greatest timestamp that its journal gave out
+abbrev pub ReportsAreOfTheLastGiven : Type 0
+ReportsAreOfTheLastGiven =
+    (s : SharedOf) (text : List ℕ) (last : ℕ) → IsLegalTable s → IsLastGiven s.opened (timestamps s.journal) last →
+    IsReportIn s text ↔ IsReportAt last s text
