@@ -13,7 +13,7 @@ use Rattle.pb_parse.specs.ScriptWords.{operation}
 use Rattle.pb_parse.specs.ScriptLines.{cut, batch_of}
 use Rattle.pb_parse.specs.Operations.{Say}
 use Rattle.law_texts.specs.OperationTexts.{IsOperationOf}
-use Rattle.law_texts.specs.LineTexts.{IsLineOf}
+use Rattle.law_texts.specs.LineTexts.{IsBatchLine}
 use Rattle.law_texts.proofs.Parts.{AreParts}
 use Rattle.law_texts.proofs.DistinctWrites.{distinct_is}
 use Rattle.law_texts.proofs.Joints.{joined, joined_cut, cut_joined}
@@ -38,7 +38,7 @@ are_written (text ∷ texts) (w ∷ ws) said =
     let others : Say texts ws = cc in
     (operation_written text w.0 w.1 here, are_written texts ws others)
 
-line_written : ReadsOperations → (line : List ℕ) (batch : Writes) → batch_of line ≡ Ok batch → IsLineOf batch line
+line_written : ReadsOperations → (line : List ℕ) (batch : Writes) → batch_of line ≡ Ok batch → IsBatchLine batch line
 line_written reads line batch h =
     let r = (reads line batch).0 h in
     let p = and_parts _ (are_distinct batch) r.1 in
@@ -81,7 +81,7 @@ cut_again [] texts some h = absurd (omega arith)
 cut_again (w ∷ ws) [] some h = absurd h
 cut_again (w ∷ ws) (text ∷ texts) some h = let parts = no_semicolons (w ∷ ws) (text ∷ texts) h in cut_joined text texts parts.0 parts.1
 
-line_back : ReadsOperations → (line : List ℕ) (batch : Writes) → IsLineOf batch line → batch_of line ≡ Ok batch
+line_back : ReadsOperations → (line : List ℕ) (batch : Writes) → IsBatchLine batch line → batch_of line ≡ Ok batch
 line_back reads line batch l =
     let some = l.some in
     let same : cut line ≡ l.texts = ap cut l.joined ∙ cut_again batch l.texts some l.operations in
@@ -89,5 +89,5 @@ line_back reads line batch l =
     let whole : is_batch batch ≡ true = rw (lt-ltb 0 (length batch) (omega (arith, some)), le-leb (length batch) MAX_CELLS l.few, all_to_data batch l.texts l.operations, (distinct_is batch).1 l.distinct) refl in
     (reads line batch).1 (said, whole)
 
-pub line_is : ReadsOperations → (line : List ℕ) (batch : Writes) → (batch_of line ≡ Ok batch) ↔ IsLineOf batch line
+pub line_is : ReadsOperations → (line : List ℕ) (batch : Writes) → (batch_of line ≡ Ok batch) ↔ IsBatchLine batch line
 line_is reads line batch = (line_written reads line batch, line_back reads line batch)

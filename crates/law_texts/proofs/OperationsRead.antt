@@ -19,7 +19,7 @@ use Rattle.pb_parse.specs.declared.script.code.Code.{Code}
 use Rattle.pb_parse.specs.declared.script.code.Code.TheVariants.{Hex}
 use Rattle.pb_parse.specs.ScriptWords.{number_upto, padded, content_of, cell_at, put_of, del_of, write_of, operation}
 use Rattle.pb_parse.proofs.Numerals.{numeral_of, value_of}
-use Rattle.law_texts.specs.OperationTexts.{AreDigitsOf, IsPlace, IsOperationOf}
+use Rattle.law_texts.specs.OperationTexts.{AreDigitsOf, AreInRange, IsOperationOf}
 use Rattle.law_texts.proofs.LowerHex.{digit_of, digits_hold, none_upper}
 use Rattle.law_texts.proofs.Parts.{Lacks, AreParts, IsNoDigit, decimal_lacks, joined_parts, lacks_joined}
 
@@ -30,7 +30,7 @@ number_back greatest n lt high =
     let e : nat_le (digits_value 10 (decimal n)) greatest ≡ true = le-leb _ _ (omega (arith, v, high)) in
     rw (numeral_of n small, e, v) refl
 
-place_back : (row : Row) (column : ℕ) (rest : List (List ℕ)) → IsPlace row column → cell_at (decimal row.0 ∷ decimal column ∷ rest) ≡ Ok (Data row column, rest)
+place_back : (row : Row) (column : ℕ) (rest : List (List ℕ)) → AreInRange row column → cell_at (decimal row.0 ∷ decimal column ∷ rest) ≡ Ok (Data row column, rest)
 unfolding cell_at
 place_back row column rest fits =
     let wide = fits.0 in
@@ -58,11 +58,11 @@ digits_back value digits d =
     ∙ ap (λ (zeros : List ℕ). Ok (d.bytes ++ zeros)) (drop-replicate (length d.bytes) 32 0)
     ∙ ap Ok (sym d.padded)
 
-put_back : (row : Row) (column : ℕ) (value digits : List ℕ) → IsPlace row column → AreDigitsOf value digits → write_of (codes "put" ∷ decimal row.0 ∷ decimal column ∷ digits ∷ []) ≡ Ok (Data row column, Value value)
+put_back : (row : Row) (column : ℕ) (value digits : List ℕ) → AreInRange row column → AreDigitsOf value digits → write_of (codes "put" ∷ decimal row.0 ∷ decimal column ∷ digits ∷ []) ≡ Ok (Data row column, Value value)
 unfolding write_of put_of
 put_back row column value digits fits d = rw (place_back row column (digits ∷ []) fits, digits_back value digits d) refl
 
-del_back : (row : Row) (column : ℕ) → IsPlace row column → write_of (codes "del" ∷ decimal row.0 ∷ decimal column ∷ []) ≡ Ok (Data row column, Deleted)
+del_back : (row : Row) (column : ℕ) → AreInRange row column → write_of (codes "del" ∷ decimal row.0 ∷ decimal column ∷ []) ≡ Ok (Data row column, Deleted)
 unfolding write_of del_of
 del_back row column fits = rw (place_back row column [] fits) refl
 
@@ -75,10 +75,10 @@ IsNoHexDigit c = (v : ℕ) → v < 16 → (digit_of v == c) ≡ false
 digits_lack : (c : ℕ) (value digits : List ℕ) → IsNoHexDigit c → AreDigitsOf value digits → Lacks c digits
 digits_lack c value digits none d = subst (Lacks c) (sym d.written) (digits_hold (λ b. (b == c) ≡ false) none d.bytes d.fit)
 
-row_lacks : (c : ℕ) (row : Row) (column : ℕ) → IsNoDigit c → IsPlace row column → Lacks c (decimal row.0)
+row_lacks : (c : ℕ) (row : Row) (column : ℕ) → IsNoDigit c → AreInRange row column → Lacks c (decimal row.0)
 row_lacks c row column none fits = decimal_lacks c row.0 none fits.0
 
-column_lacks : (c : ℕ) (row : Row) (column : ℕ) → IsNoDigit c → IsPlace row column → Lacks c (decimal column)
+column_lacks : (c : ℕ) (row : Row) (column : ℕ) → IsNoDigit c → AreInRange row column → Lacks c (decimal column)
 column_lacks c row column none fits = let few = fits.1 in decimal_lacks c column none (omega (arith, few))
 
 blank_no_digit : IsNoDigit 32
@@ -100,18 +100,18 @@ put_words row column digits = codes "put" ∷ decimal row.0 ∷ decimal column �
 abbrev del_words : Row → ℕ → List (List ℕ)
 del_words row column = codes "del" ∷ decimal row.0 ∷ decimal column ∷ []
 
-put_parts : (c : ℕ) (row : Row) (column : ℕ) (value digits : List ℕ) → Lacks c (codes "put") → IsNoDigit c → IsNoHexDigit c → IsPlace row column → AreDigitsOf value digits → AreParts c (put_words row column digits)
+put_parts : (c : ℕ) (row : Row) (column : ℕ) (value digits : List ℕ) → Lacks c (codes "put") → IsNoDigit c → IsNoHexDigit c → AreInRange row column → AreDigitsOf value digits → AreParts c (put_words row column digits)
 put_parts c row column value digits verb none no_hex fits d = (verb, (row_lacks c row column none fits, (column_lacks c row column none fits, (digits_lack c value digits no_hex d, tt))))
 
-del_parts : (c : ℕ) (row : Row) (column : ℕ) → Lacks c (codes "del") → IsNoDigit c → IsPlace row column → AreParts c (del_words row column)
+del_parts : (c : ℕ) (row : Row) (column : ℕ) → Lacks c (codes "del") → IsNoDigit c → AreInRange row column → AreParts c (del_words row column)
 del_parts c row column verb none fits = (verb, (row_lacks c row column none fits, (column_lacks c row column none fits, tt)))
 
-put_cut : (row : Row) (column : ℕ) (value digits : List ℕ) → IsPlace row column → AreDigitsOf value digits → words_of (join_with_byte 32 (put_words row column digits)) ≡ put_words row column digits
+put_cut : (row : Row) (column : ℕ) (value digits : List ℕ) → AreInRange row column → AreDigitsOf value digits → words_of (join_with_byte 32 (put_words row column digits)) ≡ put_words row column digits
 put_cut row column value digits fits d =
     let parts = put_parts 32 row column value digits (refl, (refl, (refl, tt))) blank_no_digit blank_no_hex_digit fits d in
     joined_parts 32 (codes "put") (decimal row.0 ∷ decimal column ∷ digits ∷ []) parts.0 parts.1
 
-del_cut : (row : Row) (column : ℕ) → IsPlace row column → words_of (join_with_byte 32 (del_words row column)) ≡ del_words row column
+del_cut : (row : Row) (column : ℕ) → AreInRange row column → words_of (join_with_byte 32 (del_words row column)) ≡ del_words row column
 del_cut row column fits =
     let parts = del_parts 32 row column (refl, (refl, (refl, tt))) blank_no_digit fits in
     joined_parts 32 (codes "del") (decimal row.0 ∷ decimal column ∷ []) parts.0 parts.1

@@ -24,7 +24,7 @@ use Rattle.pb_parse.specs.ScriptWords.{number_upto, padded, content_of, cell_at,
 use Rattle.pb_parse.proofs.Batches.{bind_ok, ok_same, chosen}
 use Rattle.pb_parse.proofs.Numerals.{decimal_of}
 use Rattle.pb_parse.proofs.Steps.{same_text}
-use Rattle.law_texts.specs.OperationTexts.{AreDigitsOf, IsPlace, IsOperationOf}
+use Rattle.law_texts.specs.OperationTexts.{AreDigitsOf, AreInRange, IsOperationOf}
 use Rattle.law_texts.proofs.LowerHex.{lower_written}
 
 passed : {A : Type 0} (b : Bool) (r : Result A Code) (fault : Code) (x : A) → cond b r (Err fault) ≡ Ok x → (b ≡ true) × (r ≡ Ok x)
@@ -58,7 +58,7 @@ record TakesPlace (x : Cell) (words rest : List (List ℕ)) : Type 0 where
   column : ℕ
   cell : Data row column ≡ x
   written : words ≡ decimal row.0 ∷ decimal column ∷ rest
-  fits : IsPlace row column
+  fits : AreInRange row column
 
 place_is : (words : List (List ℕ)) (x : Cell × List (List ℕ)) → cell_at words ≡ Ok x → TakesPlace x.0 words x.1
 unfolding cell_at

@@ -13,18 +13,18 @@ use Rattle.pb_parse.specs.declared.script.code.Code.{Code}
 use Rattle.pb_parse.specs.declared.script.code.Code.TheVariants.{TooMany}
 use Rattle.pb_parse.specs.ScriptLines.{Batches, batch_of, with_line, script_of}
 use Rattle.pb_parse.proofs.Batches.{bind_ok, ok_same}
-use Rattle.law_texts.specs.LineTexts.{IsLineOf}
-use Rattle.law_texts.specs.ScriptTexts.{is_told, IsScriptOf}
+use Rattle.law_texts.specs.LineTexts.{IsBatchLine}
+use Rattle.law_texts.specs.ScriptTexts.{is_transaction, IsScriptOf}
 use Rattle.law_texts.proofs.Parts.{Lacks, AreParts, parts_are, joined_parts}
 use Rattle.law_texts.proofs.OperationsWritten.{not_refused}
 
 abbrev kept : List (List ℕ) → List (List ℕ)
-kept ls = filter is_told ls
+kept ls = filter is_transaction ls
 
-kept_not : (l : List ℕ) (ls : List (List ℕ)) → is_told l ≡ false → kept (l ∷ ls) ≡ kept ls
+kept_not : (l : List ℕ) (ls : List (List ℕ)) → is_transaction l ≡ false → kept (l ∷ ls) ≡ kept ls
 kept_not l ls is = ap (λ (b : Bool). cond b (l ∷ kept ls) (kept ls)) is
 
-kept_one : (l : List ℕ) (ls : List (List ℕ)) → is_told l ≡ true → kept (l ∷ ls) ≡ l ∷ kept ls
+kept_one : (l : List ℕ) (ls : List (List ℕ)) → is_transaction l ≡ true → kept (l ∷ ls) ≡ l ∷ kept ls
 kept_one l ls is = ap (λ (b : Bool). cond b (l ∷ kept ls) (kept ls)) is
 
 -- ---- one line
@@ -36,18 +36,18 @@ or_alone : (a b c : Bool) → a ≡ false → not b ≡ c → (a || b) ≡ not c
 or_alone a true c is e = rw (is, sym e) refl
 or_alone a false c is e = rw (is, sym e) refl
 
-skipped_is : (l : List ℕ) → is_skipped l ≡ not (is_told l)
+skipped_is : (l : List ℕ) → is_skipped l ≡ not (is_transaction l)
 skipped_is [] = refl
 skipped_is (b ∷ bs) = or_alone (length (b ∷ bs) == 0) (b == 35) (not (b == 35)) (some_length (length bs)) refl
 
 abbrev added : Batches → Writes → Result Batches Code
 added before batch = cond (nat_le MAX_CHANGES (length before)) (Err TooMany) (Ok (before ++ batch ∷ []))
 
-skip_line : (before : Batches) (l : List ℕ) → is_told l ≡ false → with_line before l ≡ Ok before
+skip_line : (before : Batches) (l : List ℕ) → is_transaction l ≡ false → with_line before l ≡ Ok before
 unfolding with_line
 skip_line before l is = rw (skipped_is l, is) refl
 
-told_line : (before : Batches) (l : List ℕ) → is_told l ≡ true → with_line before l ≡ (batch_of l >>= added before)
+told_line : (before : Batches) (l : List ℕ) → is_transaction l ≡ true → with_line before l ≡ (batch_of l >>= added before)
 unfolding with_line
 told_line before l is = rw (skipped_is l, is) refl
 
@@ -57,7 +57,7 @@ record Taken (before after : Batches) (l : List ℕ) : Type 0 where
   few : length after ≤ MAX_CHANGES
   whole : before ++ batch ∷ [] ≡ after
 
-take_line : (before after : Batches) (l : List ℕ) → is_told l ≡ true → with_line before l ≡ Ok after → Taken before after l
+take_line : (before after : Batches) (l : List ℕ) → is_transaction l ≡ true → with_line before l ≡ Ok after → Taken before after l
 take_line before after l is h =
     let a = bind_ok (batch_of l) _ after (sym (told_line before l is) ∙ h) in
     let p = not_refused (nat_le MAX_CHANGES (length before)) (Ok (before ++ a.0 ∷ [])) TooMany after a.2 in
@@ -80,7 +80,7 @@ record Reading (before after : Batches) (ls : List (List ℕ)) : Type 0 where
   whole : after ≡ before ++ batches
   few : length after ≤ MAX_CHANGES
 
-one_more : (before p after : Batches) (l : List ℕ) (ls : List (List ℕ)) (b : Bool) → is_told l ≡ b → with_line before l ≡ Ok p → length before ≤ MAX_CHANGES → (length p ≤ MAX_CHANGES → Reading p after ls) → Reading before after (l ∷ ls)
+one_more : (before p after : Batches) (l : List ℕ) (ls : List (List ℕ)) (b : Bool) → is_transaction l ≡ b → with_line before l ≡ Ok p → length before ≤ MAX_CHANGES → (length p ≤ MAX_CHANGES → Reading p after ls) → Reading before after (l ∷ ls)
 one_more before p after l ls false is h most others =
     let same : before ≡ p = ok_same {E = Code} before p (sym (skip_line before l is) ∙ h) in
     let f = others (subst (λ (bs : Batches). length bs ≤ MAX_CHANGES) same most) in
@@ -98,7 +98,7 @@ one_more before p after l ls true is h most others =
 step : (n : ℕ) (before after : Batches) (l : List ℕ) (ls : List (List ℕ)) (r : Result Batches Code) → with_line before l ≡ r → (numbered script_code n r >>= λ p. lines_from (n + 1) p ls) ≡ Ok after → length before ≤ MAX_CHANGES
     → ((p : Batches) → lines_from (n + 1) p ls ≡ Ok after → length p ≤ MAX_CHANGES → Reading p after ls) → Reading before after (l ∷ ls)
 step n before after l ls (Err e) is h most others = absurd cc
-step n before after l ls (Ok p) is h most others = one_more before p after l ls (is_told l) refl is most (others p h)
+step n before after l ls (Ok p) is h most others = one_more before p after l ls (is_transaction l) refl is most (others p h)
 
 read : (n : ℕ) (before after : Batches) (ls : List (List ℕ)) → lines_from n before ls ≡ Ok after → length before ≤ MAX_CHANGES → Reading before after ls
 read n before after [] h most =
@@ -118,7 +118,7 @@ go_on n before p after l ls is h = ap (λ (r : Result Batches Code). numbered sc
 add_one : (before : Batches) (batch : Writes) → length before < MAX_CHANGES → added before batch ≡ Ok (before ++ batch ∷ [])
 add_one before batch room = rw (lt-leb MAX_CHANGES (length before) room) refl
 
-back_line : (n : ℕ) (before batches : Batches) (l : List ℕ) (ls : List (List ℕ)) (b : Bool) → is_told l ≡ b → AllZip Reads batches (kept (l ∷ ls)) → length (before ++ batches) ≤ MAX_CHANGES → ReadOn (n + 1) ls → lines_from n before (l ∷ ls) ≡ Ok (before ++ batches)
+back_line : (n : ℕ) (before batches : Batches) (l : List ℕ) (ls : List (List ℕ)) (b : Bool) → is_transaction l ≡ b → AllZip Reads batches (kept (l ∷ ls)) → length (before ++ batches) ≤ MAX_CHANGES → ReadOn (n + 1) ls → lines_from n before (l ∷ ls) ≡ Ok (before ++ batches)
 back_line n before batches l ls false is lines most others =
     go_on n before before (before ++ batches) l ls (skip_line before l is) (others before batches (subst (AllZip Reads batches) (kept_not l ls is) lines) most)
 back_line n before [] l ls true is lines most others = let none : AllZip Reads [] (l ∷ kept ls) = subst (AllZip Reads []) (kept_one l ls is) lines in absurd none
@@ -133,21 +133,21 @@ back_line n before (b ∷ bs) l ls true is lines most others =
 back : (n : ℕ) (ls : List (List ℕ)) → ReadOn n ls
 back n [] before [] lines most = ap Ok (sym (append-nil before))
 back n [] before (b ∷ bs) lines most = absurd lines
-back n (l ∷ ls) before batches lines most = back_line n before batches l ls (is_told l) refl lines most (back (n + 1) ls)
+back n (l ∷ ls) before batches lines most = back_line n before batches l ls (is_transaction l) refl lines most (back (n + 1) ls)
 
 -- ---- whole texts
 
 -- what the law `lines_are_read_as_written` says
 abbrev pub ReadsLines : Type 0
-ReadsLines = (line : List ℕ) (batch : Writes) → (batch_of line ≡ Ok batch) ↔ IsLineOf batch line
+ReadsLines = (line : List ℕ) (batch : Writes) → (batch_of line ≡ Ok batch) ↔ IsBatchLine batch line
 
-are_lines : ReadsLines → (batches : Batches) (ls : List (List ℕ)) → AllZip Reads batches ls → AllZip IsLineOf batches ls
+are_lines : ReadsLines → (batches : Batches) (ls : List (List ℕ)) → AllZip Reads batches ls → AllZip IsBatchLine batches ls
 are_lines law [] [] h = tt
 are_lines law [] (l ∷ ls) h = absurd h
 are_lines law (b ∷ bs) [] h = absurd h
 are_lines law (b ∷ bs) (l ∷ ls) h = ((law l b).0 h.0, are_lines law bs ls h.1)
 
-are_read : ReadsLines → (batches : Batches) (ls : List (List ℕ)) → AllZip IsLineOf batches ls → AllZip Reads batches ls
+are_read : ReadsLines → (batches : Batches) (ls : List (List ℕ)) → AllZip IsBatchLine batches ls → AllZip Reads batches ls
 are_read law [] [] h = tt
 are_read law [] (l ∷ ls) h = absurd h
 are_read law (b ∷ bs) [] h = absurd h
@@ -181,7 +181,7 @@ text_written law text batches h =
 text_back : ReadsLines → (text : List ℕ) (batches : Batches) → IsScriptOf batches text → script_of text ≡ Ok batches
 text_back law text batches s =
     let same : kept (lines_of text) ≡ kept s.lines = ap (λ (t : List ℕ). kept (lines_of t)) s.joined ∙ kept_again s.lines (are_parts s.lines s.parted) in
-    back 0 (lines_of text) [] batches (are_read law batches (kept (lines_of text)) (subst (AllZip IsLineOf batches) (sym same) s.told)) s.few
+    back 0 (lines_of text) [] batches (are_read law batches (kept (lines_of text)) (subst (AllZip IsBatchLine batches) (sym same) s.told)) s.few
 
 pub text_is : ReadsLines → (text : List ℕ) (batches : Batches) → (script_of text ≡ Ok batches) ↔ IsScriptOf batches text
 text_is law text batches = (text_written law text batches, text_back law text batches)

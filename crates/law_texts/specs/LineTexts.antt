@@ -6,7 +6,7 @@ use Rattle.pb_base.specs.Batch.{Writes}
 use Rattle.law_texts.specs.OperationTexts.{IsOperationOf}
 
 -- the operations of 1 to 16 writes to distinct cells, in their order, with `; ` between them
-pub record IsLineOf (batch : Writes) (line : List ℕ) : Type 0 where
+pub record IsBatchLine (batch : Writes) (line : List ℕ) : Type 0 where
   pub texts : List (List ℕ)
   pub operations : AllZip (λ w text. IsOperationOf w.0 w.1 text) batch texts
   pub joined : line ≡ join_by (λ text. text) (codes "; ") texts

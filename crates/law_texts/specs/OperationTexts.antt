@@ -20,15 +20,15 @@ pub record AreDigitsOf (value digits : List ℕ) : Type 0 where
   pub padded : value ≡ bytes ++ replicate (32 - length bytes) 0
 
 -- a row of 64 bits, and one of the columns
-abbrev pub IsPlace : Row → ℕ → Type 0
-IsPlace row column = (row.0 < 2 ^ 64) × (column < COLUMNS)
+abbrev pub AreInRange : Row → ℕ → Type 0
+AreInRange row column = (row.0 < 2 ^ 64) × (column < COLUMNS)
 
 -- the text of an operation: its words with one blank between them
 abbrev pub IsOperationOf : Cell → Content → List ℕ → Type 0
 IsOperationOf (Data row column) (Value value) text =
-    IsPlace row column × (digits : List ℕ) × AreDigitsOf value digits
+    AreInRange row column × (digits : List ℕ) × AreDigitsOf value digits
     × (text ≡ join_with_byte 32 (codes "put" ∷ decimal row.0 ∷ decimal column ∷ digits ∷ []))
 IsOperationOf (Data row column) Deleted text =
-    IsPlace row column × (text ≡ join_with_byte 32 (codes "del" ∷ decimal row.0 ∷ decimal column ∷ []))
+    AreInRange row column × (text ≡ join_with_byte 32 (codes "del" ∷ decimal row.0 ∷ decimal column ∷ []))
 IsOperationOf (Data row column) (Stamp time) text = ⊥
 IsOperationOf (Ack observer row column) content text = ⊥

@@ -3,12 +3,12 @@ use Rattle.std.specs.Prelude.{◌≡◌, ◌≢◌, ◌≤◌, ◌==◌, ℕ, Bo
 use Rattle.std.specs.List.{All, AllZip, filter, join_with_byte}
 use Rattle.pb_base.specs.declared.limits.TheConstants.{MAX_CHANGES}
 use Rattle.pb_parse.specs.ScriptLines.{Batches}
-use Rattle.law_texts.specs.LineTexts.{IsLineOf}
+use Rattle.law_texts.specs.LineTexts.{IsBatchLine}
 
 -- neither empty nor a remark, which begins with `#`
-abbrev pub is_told : List ℕ → Bool
-is_told [] = false
-is_told (b ∷ bs) = not (b == 35)
+abbrev pub is_transaction : List ℕ → Bool
+is_transaction [] = false
+is_transaction (b ∷ bs) = not (b == 35)
 
 -- Lines with a newline between them. Those that are neither empty nor remarks are the lines of the transactions, in
 -- their order, and these are at most 10,000.
@@ -16,5 +16,5 @@ pub record IsScriptOf (batches : Batches) (text : List ℕ) : Type 0 where
   pub lines : List (List ℕ)
   pub parted : All (λ line. All (λ b. b ≢ 10) line) lines
   pub joined : text ≡ join_with_byte 10 lines
-  pub told : AllZip IsLineOf batches (filter is_told lines)
+  pub told : AllZip IsBatchLine batches (filter is_transaction lines)
   pub few : length batches ≤ MAX_CHANGES

@@ -6,7 +6,7 @@ ghost use Rattle.pb_base.specs.Batch.{Writes};
 ghost use Rattle.pb_parse.specs.ScriptWords.{operation};
 ghost use Rattle.pb_parse.specs.ScriptLines.{Batches, batch_of, script_of};
 ghost use Rattle.law_texts.specs.OperationTexts.{IsOperationOf};
-ghost use Rattle.law_texts.specs.LineTexts.{IsLineOf};
+ghost use Rattle.law_texts.specs.LineTexts.{IsBatchLine};
 ghost use Rattle.law_texts.specs.ScriptTexts.{IsScriptOf};
 
 use pb_parse::reads_operations;
@@ -22,7 +22,7 @@ pub fn operations_are_read_as_written()
 /// A line is read as a transaction exactly where it is the operations of the transaction's writes in their order, with
 /// `; ` between them, character for character. They are 1 to 16, and each is to another cell.
 pub fn lines_are_read_as_written()
-    ensures { (line : List ℕ) (batch : Writes) → (batch_of line ≡ Ok batch) ↔ IsLineOf batch line }
+    ensures { (line : List ℕ) (batch : Writes) → (batch_of line ≡ Ok batch) ↔ IsBatchLine batch line }
 {
     reads_operations();
 }
