@@ -1,5 +1,6 @@
 //! Calls on batches, steps, tables and states.
-ghost use Rattle.std.specs.Prelude.{◌≡◌, ◌≤◌, length, IfOk};
+ghost use Rattle.std.specs.Prelude.{◌≡◌, ◌≤◌, length, IfOk, IfSome};
+ghost use Rattle.pb_steps.specs.Answers.{CanAnswer};
 ghost use Rattle.pb_store.specs.Contents.{nothing};
 
 use crate::same::{are_seats_same, are_shared_same, are_states_same};
@@ -188,33 +189,50 @@ pub fn state_takes(alloc: Global) -> Result<bool, NoMemory> {
     Ok(held)
 }
 
-fn takes(state: &mut State<ListTablet>, other: &mut State<ListTablet>, step: &Step) -> bool {
+// The answer of a step, also where it is refused once; what the state is then, the other is too.
+fn first_taken(
+    state: &mut State<ListTablet>,
+    other: &State<ListTablet>,
+    step: &Step,
+) -> Option<Answer> {
     if state.refused(0, step).is_some() {
-        return false;
+        return None;
     }
-    let answer = match state.take(0, step) {
-        Ok(answer) => answer,
+    match state.take(0, step) {
+        Ok(answer) => Some(answer),
         Err(_) => {
             if !are_states_same(state, other) || state.refused(0, step).is_some() {
-                return false;
+                return None;
             }
-            match state.take(0, step) {
-                Ok(answer) => answer,
-                Err(_) => return false,
-            }
+            state.take(0, step).ok()
         }
-    };
+    }
+}
+
+// The same of the other state, which takes the step after the first.
+fn other_taken(other: &mut State<ListTablet>, step: &Step) -> Option<Answer> {
     if other.refused(0, step).is_some() {
-        return false;
+        return None;
     }
-    // It may be this one that is refused.
-    if other.take(0, step).is_err() {
-        if other.refused(0, step).is_some() {
-            return false;
+    match other.take(0, step) {
+        Ok(answer) => Some(answer),
+        Err(_) => {
+            if other.refused(0, step).is_some() {
+                return None;
+            }
+            other.take(0, step).ok()
         }
-        return other.take(0, step) == Ok(answer);
     }
-    are_states_same(state, other)
+}
+
+fn takes(state: &mut State<ListTablet>, other: &mut State<ListTablet>, step: &Step) -> bool {
+    let Some(answer) = first_taken(state, other, step) else {
+        return false;
+    };
+    let Some(told) = other_taken(other, step) else {
+        return false;
+    };
+    told == answer && are_states_same(state, other)
 }
 
 /// Two tables that take the same calls, each with its seats.
@@ -308,7 +326,9 @@ pub fn shared_calls(alloc: Global) -> Result<bool, NoMemory> {
 }
 
 // The answer of a call, also where it is refused once; what its table is then, the other is too.
-fn first_called(twins: &mut Twins, step: &Step) -> Option<Answer> {
+fn first_called(twins: &mut Twins, step: &Step) -> Option<Answer>
+    ensures can { IfSome result (CanAnswer step.now) }
+{
     let seat = twins.seats.first_mut()?;
     let other = twins.others.first()?;
     match twins.shared.call(seat, step) {
@@ -319,7 +339,10 @@ fn first_called(twins: &mut Twins, step: &Step) -> Option<Answer> {
             if refusal.0 != 1 || !is_same {
                 return None;
             }
-            twins.shared.call(seat, step).ok()
+            match twins.shared.call(seat, step) {
+                Ok(answer) => Some(answer),
+                Err(_) => None,
+            }
         }
     }
 }
@@ -335,7 +358,9 @@ fn other_called(twins: &mut Twins, step: &Step) -> Option<Answer> {
 
 /// The answer of both tables to the first seat's call. Where one is refused for memory, nothing of it has changed, and the
 /// same call again makes it what the other is.
-pub fn called(twins: &mut Twins, step: &Step) -> Option<Answer> {
+pub fn called(twins: &mut Twins, step: &Step) -> Option<Answer>
+    ensures can { IfSome result (CanAnswer step.now) }
+{
     let answer = first_called(twins, step)?;
     let told = other_called(twins, step)?;
     let seat = twins.seats.first()?;
