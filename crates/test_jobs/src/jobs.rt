@@ -15,6 +15,7 @@ use pb_store::Tablet;
 use pb_txn::ChangeJob;
 use std::alloc::{AllocError, Global};
 use std::process::Abort;
+use std::rt::HostRuntime;
 use std::sync::Arc;
 use test_fixtures::opened;
 use told::table_text;
@@ -223,9 +224,9 @@ fn told_after<T: Tablet>(
     }
 }
 
-/// Takes turns with these jobs over a table of one observer, whose program this is, and tells what the journal has of the
-/// seats from that one on, and how many marks and locks are left; and besides the first turn that didn't go as it says.
-pub fn told_by(
+// Takes turns with these jobs over a table of one observer, whose program this is, and tells what the journal has of the
+// seats from that one on, and how many marks and locks are left; and besides the first turn that didn't go as it says.
+fn told_by(
     rt: &impl Abort,
     alloc: Global,
     digits: &str,
@@ -240,4 +241,19 @@ pub fn told_by(
     }
     let opened = opened(alloc, observers_of(alloc, observer)?, 3, Ts(0), 1000)?;
     Ok(told_after(alloc, opened, jobs, turns, from)?)
+}
+
+/// Takes turns with these jobs over a table of one observer, whose program this is: each goes as it says, and from that
+/// seat on the journal has this, and so many marks and locks are left.
+pub fn goes(
+    rt: &HostRuntime,
+    digits: &str,
+    tasks: &[Task],
+    turns: &[Turn],
+    from: u32,
+    text: &str,
+) -> Result<(), NoMemory> {
+    let told = told_by(rt, rt.alloc(), digits, tasks, turns, from)?;
+    assert!(rt; told.as_str() == text, "{told}");
+    Ok(())
 }

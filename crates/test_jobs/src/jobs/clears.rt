@@ -1,5 +1,5 @@
 //! Locks that the reads of a run meet, each cleared in one way.
-use super::{Task, Turn, told_by};
+use super::{Task, Turn, goes};
 use crate::tables::WATCH;
 use pb_base::NoMemory;
 use pb_notify::JobEnd;
@@ -31,9 +31,7 @@ fn a_committed_lock_is_cleared_at_once(rt: HostRuntime) -> Result<(), NoMemory> 
         Turn::Ends(1, JobEnd::Ran(0)),
         Turn::Calls(0, 1),
     ];
-    let told = told_by(&rt, rt.alloc(), WATCH, &tasks, &turns, 1)?;
-    assert!(rt; told.as_str() == COMMITTED, "{told}");
-    Ok(())
+    goes(&rt, WATCH, &tasks, &turns, 1, COMMITTED)
 }
 
 // The lock of a change whose primary was settled.
@@ -55,9 +53,7 @@ fn a_settled_lock_is_cleared_at_once(rt: HostRuntime) -> Result<(), NoMemory> {
         Turn::Calls(1, 5),
         Turn::Ends(1, JobEnd::Clean),
     ];
-    let told = told_by(&rt, rt.alloc(), WATCH, &tasks, &turns, 1)?;
-    assert!(rt; told.as_str() == ROLLED_BACK, "{told}");
-    Ok(())
+    goes(&rt, WATCH, &tasks, &turns, 1, ROLLED_BACK)
 }
 
 // The lock of a change whose primary is locked, which the run settles.
@@ -88,9 +84,7 @@ fn a_lock_that_waits_is_settled(rt: HostRuntime) -> Result<(), NoMemory> {
         Turn::Ends(1, JobEnd::Clean),
         Turn::Calls(0, 3),
     ];
-    let told = told_by(&rt, rt.alloc(), WATCH, &tasks, &turns, 0)?;
-    assert!(rt; told.as_str() == WAITED, "{told}");
-    Ok(())
+    goes(&rt, WATCH, &tasks, &turns, 0, WAITED)
 }
 
 // The change commits before the run settles its primary.
@@ -121,9 +115,7 @@ fn a_lock_that_waits_may_be_committed(rt: HostRuntime) -> Result<(), NoMemory> {
         Turn::Calls(1, 4),
         Turn::Ends(1, JobEnd::Clean),
     ];
-    let told = told_by(&rt, rt.alloc(), WATCH, &tasks, &turns, 0)?;
-    assert!(rt; told.as_str() == OUTRUN, "{told}");
-    Ok(())
+    goes(&rt, WATCH, &tasks, &turns, 0, OUTRUN)
 }
 
 // The change commits the cell itself before the run clears it.
@@ -160,9 +152,7 @@ fn a_lock_that_is_gone_is_cleared_in_vain(rt: HostRuntime) -> Result<(), NoMemor
         Turn::Calls(1, 5),
         Turn::Ends(1, JobEnd::Ran(0)),
     ];
-    let told = told_by(&rt, rt.alloc(), WATCH, &tasks, &turns, 0)?;
-    assert!(rt; told.as_str() == GONE, "{told}");
-    Ok(())
+    goes(&rt, WATCH, &tasks, &turns, 0, GONE)
 }
 
 // A lock of a later start is none for the run.
@@ -185,7 +175,5 @@ fn a_later_lock_is_not_met(rt: HostRuntime) -> Result<(), NoMemory> {
         Turn::Calls(0, 2),
         Turn::Ends(0, JobEnd::Clean),
     ];
-    let told = told_by(&rt, rt.alloc(), WATCH, &tasks, &turns, 0)?;
-    assert!(rt; told.as_str() == LATER, "{told}");
-    Ok(())
+    goes(&rt, WATCH, &tasks, &turns, 0, LATER)
 }

@@ -1,5 +1,5 @@
 //! How many locks the reads of a run may meet.
-use super::{ASK, Task, Turn, told_by};
+use super::{ASK, Task, Turn, goes};
 use pb_base::NoMemory;
 use pb_notify::JobEnd;
 use std::alloc::Global;
@@ -117,6 +117,11 @@ impl Story {
         self.text.push_str(line.as_str())?;
         Ok(())
     }
+
+    // It goes as it was told so far.
+    fn goes(&self, rt: &HostRuntime, tasks: &[Task]) -> Result<(), NoMemory> {
+        goes(rt, ASK, tasks, &self.turns, 2, self.text.as_str())
+    }
 }
 
 // A run goes on up to its declaration.
@@ -163,8 +168,7 @@ fn a_run_gets_by_63_locks(rt: HostRuntime) -> Result<(), NoMemory> {
         story.finds_acknowledgment()?;
         story.clears(second, 65, ASKED)?;
         story.ends(0)?;
-        let told = told_by(&rt, rt.alloc(), ASK, &tasks, &story.turns, 2)?;
-        assert!(rt; told == story.text, "{first} {second} {told}");
+        story.goes(&rt, &tasks)?;
     }
     Ok(())
 }
@@ -176,9 +180,7 @@ fn the_64th_lock_on_its_cell_blocks_a_run(rt: HostRuntime) -> Result<(), NoMemor
     story.clears(2, 65, CELL)?;
     story.meets(65, CELL)?;
     story.is_blocked(1)?;
-    let told = told_by(&rt, rt.alloc(), ASK, &tasks, &story.turns, 2)?;
-    assert!(rt; told == story.text, "{told}");
-    Ok(())
+    story.goes(&rt, &tasks)
 }
 
 #[test]
@@ -191,8 +193,7 @@ fn the_64th_lock_on_its_acknowledgment_blocks_a_run(rt: HostRuntime) -> Result<(
         story.clears(first, 65, ACKNOWLEDGMENT)?;
         story.meets(65, ACKNOWLEDGMENT)?;
         story.is_blocked(1)?;
-        let told = told_by(&rt, rt.alloc(), ASK, &tasks, &story.turns, 2)?;
-        assert!(rt; told == story.text, "{first} {told}");
+        story.goes(&rt, &tasks)?;
     }
     Ok(())
 }
@@ -209,8 +210,7 @@ fn the_64th_lock_on_what_it_asks_for_blocks_a_run(rt: HostRuntime) -> Result<(),
         story.clears(second, 65, ASKED)?;
         story.meets(65, ASKED)?;
         story.is_blocked(1)?;
-        let told = told_by(&rt, rt.alloc(), ASK, &tasks, &story.turns, 2)?;
-        assert!(rt; told == story.text, "{first} {second} {told}");
+        story.goes(&rt, &tasks)?;
     }
     Ok(())
 }
@@ -245,9 +245,7 @@ fn a_lock_that_settling_meets_does_not_count(rt: HostRuntime) -> Result<(), NoMe
     story.finds_cell()?;
     story.finds_acknowledgment()?;
     story.ends(2)?;
-    let told = told_by(&rt, rt.alloc(), ASK, &tasks, &story.turns, 2)?;
-    assert!(rt; told == story.text, "{told}");
-    Ok(())
+    story.goes(&rt, &tasks)
 }
 
 #[test]
@@ -257,7 +255,5 @@ fn the_next_lock_after_that_blocks_a_run(rt: HostRuntime) -> Result<(), NoMemory
     settles_around(&mut story)?;
     story.meets(66, CELL)?;
     story.is_blocked(3)?;
-    let told = told_by(&rt, rt.alloc(), ASK, &tasks, &story.turns, 2)?;
-    assert!(rt; told == story.text, "{told}");
-    Ok(())
+    story.goes(&rt, &tasks)
 }

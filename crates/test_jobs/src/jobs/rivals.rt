@@ -1,5 +1,5 @@
 //! Runs of two seats that are in one another's way, and changes in the way of a run.
-use super::{COPY, Task, Turn, told_by};
+use super::{COPY, Task, Turn, goes};
 use crate::tables::WATCH;
 use pb_base::NoMemory;
 use pb_notify::JobEnd;
@@ -50,9 +50,7 @@ fn the_second_of_two_runs_conflicts(rt: HostRuntime) -> Result<(), NoMemory> {
         Turn::Calls(1, 3),
         Turn::Ends(1, JobEnd::Ran(0)),
     ];
-    let told = told_by(&rt, rt.alloc(), WATCH, &tasks, &turns, 1)?;
-    assert!(rt; told.as_str() == IN_TURNS, "{told}");
-    Ok(())
+    goes(&rt, WATCH, &tasks, &turns, 1, IN_TURNS)
 }
 
 // It meets the write record of the first.
@@ -86,9 +84,7 @@ fn a_run_conflicts_with_a_committed_one(rt: HostRuntime) -> Result<(), NoMemory>
         Turn::Calls(2, 2),
         Turn::Ends(2, JobEnd::Conflicted),
     ];
-    let told = told_by(&rt, rt.alloc(), WATCH, &tasks, &turns, 1)?;
-    assert!(rt; told.as_str() == AFTER_IT, "{told}");
-    Ok(())
+    goes(&rt, WATCH, &tasks, &turns, 1, AFTER_IT)
 }
 
 // A change has a lock on the last of three cells, so that the run undoes the others.
@@ -126,9 +122,7 @@ fn a_conflict_on_a_later_cell_undoes_a_run(rt: HostRuntime) -> Result<(), NoMemo
         Turn::Calls(2, 3),
         Turn::Ends(2, JobEnd::Conflicted),
     ];
-    let told = told_by(&rt, rt.alloc(), DELETE_TWO, &tasks, &turns, 0)?;
-    assert!(rt; told.as_str() == ON_ITS_WAY, "{told}");
-    Ok(())
+    goes(&rt, DELETE_TWO, &tasks, &turns, 0, ON_ITS_WAY)
 }
 
 // Another settles the acknowledgment once the run has its commit timestamp.
@@ -183,9 +177,7 @@ fn a_settled_run_is_lost(rt: HostRuntime) -> Result<(), NoMemory> {
         Turn::Calls(1, 2),
         Turn::Ends(1, JobEnd::Lost),
     ];
-    let told = told_by(&rt, rt.alloc(), COPY, &tasks, &turns, 0)?;
-    assert!(rt; told.as_str() == SETTLED, "{told}");
-    Ok(())
+    goes(&rt, COPY, &tasks, &turns, 0, SETTLED)
 }
 
 #[test]
@@ -200,9 +192,7 @@ fn a_run_settled_between_its_cells_is_lost(rt: HostRuntime) -> Result<(), NoMemo
         Turn::Calls(1, 4),
         Turn::Ends(1, JobEnd::Lost),
     ];
-    let told = told_by(&rt, rt.alloc(), COPY, &tasks, &turns, 0)?;
-    assert!(rt; told.as_str() == SETTLED_EARLY, "{told}");
-    Ok(())
+    goes(&rt, COPY, &tasks, &turns, 0, SETTLED_EARLY)
 }
 
 // The second of two runs takes the lock of the first off the acknowledgment.
@@ -248,7 +238,5 @@ fn a_later_run_takes_over(rt: HostRuntime) -> Result<(), NoMemory> {
         Turn::Calls(2, 7),
         Turn::Ends(2, JobEnd::Ran(0)),
     ];
-    let told = told_by(&rt, rt.alloc(), COPY, &tasks, &turns, 1)?;
-    assert!(rt; told.as_str() == TAKEN_OVER, "{told}");
-    Ok(())
+    goes(&rt, COPY, &tasks, &turns, 1, TAKEN_OVER)
 }

@@ -1,5 +1,5 @@
 //! Runs where nobody is in the way: they commit, or there is nothing newer for them.
-use super::{ASK, COPY, Task, Turn, told_by};
+use super::{ASK, COPY, Task, Turn, goes};
 use crate::tables::WATCH;
 use pb_base::NoMemory;
 use pb_notify::JobEnd;
@@ -34,9 +34,7 @@ fn a_run_commits(rt: HostRuntime) -> Result<(), NoMemory> {
         Turn::Calls(1, 5),
         Turn::Ends(1, JobEnd::Ran(0)),
     ];
-    let told = told_by(&rt, rt.alloc(), WATCH, &tasks, &turns, 0)?;
-    assert!(rt; told.as_str() == WATCHED, "{told}");
-    Ok(())
+    goes(&rt, WATCH, &tasks, &turns, 0, WATCHED)
 }
 
 // A run that writes a cell besides.
@@ -64,9 +62,7 @@ fn a_run_commits_what_it_writes(rt: HostRuntime) -> Result<(), NoMemory> {
         Turn::Calls(1, 7),
         Turn::Ends(1, JobEnd::Ran(0)),
     ];
-    let told = told_by(&rt, rt.alloc(), COPY, &tasks, &turns, 1)?;
-    assert!(rt; told.as_str() == COPIED, "{told}");
-    Ok(())
+    goes(&rt, COPY, &tasks, &turns, 1, COPIED)
 }
 
 // A run that ends with this result.
@@ -96,8 +92,8 @@ fn a_run_ends_with_register_0(rt: HostRuntime) -> Result<(), NoMemory> {
             Turn::Calls(1, 5),
             Turn::Ends(1, JobEnd::Ran(end)),
         ];
-        let told = told_by(&rt, rt.alloc(), digits, &tasks, &turns, 1)?;
-        assert!(rt; told == ended_with(rt.alloc(), end)?, "{told}");
+        let text = ended_with(rt.alloc(), end)?;
+        goes(&rt, digits, &tasks, &turns, 1, text.as_str())?;
     }
     Ok(())
 }
@@ -142,9 +138,7 @@ fn a_run_asks_for_an_absent_cell(rt: HostRuntime) -> Result<(), NoMemory> {
         Turn::Calls(1, 5),
         Turn::Ends(1, JobEnd::Ran(1)),
     ];
-    let told = told_by(&rt, rt.alloc(), ASK, &tasks, &turns, 1)?;
-    assert!(rt; told.as_str() == ASKED, "{told}");
-    Ok(())
+    goes(&rt, ASK, &tasks, &turns, 1, ASKED)
 }
 
 #[test]
@@ -159,9 +153,7 @@ fn a_run_asks_for_a_value(rt: HostRuntime) -> Result<(), NoMemory> {
         Turn::Calls(1, 5),
         Turn::Ends(1, JobEnd::Ran(0)),
     ];
-    let told = told_by(&rt, rt.alloc(), ASK, &tasks, &turns, 1)?;
-    assert!(rt; told.as_str() == TOLD, "{told}");
-    Ok(())
+    goes(&rt, ASK, &tasks, &turns, 1, TOLD)
 }
 
 // A change that commits while a run goes on, which the next run handles.
@@ -215,9 +207,7 @@ fn a_change_during_a_run_is_handled_by_the_next(rt: HostRuntime) -> Result<(), N
         Turn::Calls(3, 5),
         Turn::Ends(3, JobEnd::Ran(0)),
     ];
-    let told = told_by(&rt, rt.alloc(), WATCH, &tasks, &turns, 0)?;
-    assert!(rt; told.as_str() == CHANGED_AGAIN, "{told}");
-    Ok(())
+    goes(&rt, WATCH, &tasks, &turns, 0, CHANGED_AGAIN)
 }
 
 // The cell has no version.
@@ -232,9 +222,7 @@ marks 0 locks 0
 fn a_run_of_an_absent_cell_is_clean(rt: HostRuntime) -> Result<(), NoMemory> {
     let tasks = [Task::Runs(1)];
     let turns = [Turn::Calls(0, 3), Turn::Ends(0, JobEnd::Clean)];
-    let told = told_by(&rt, rt.alloc(), WATCH, &tasks, &turns, 0)?;
-    assert!(rt; told.as_str() == NOT_THERE, "{told}");
-    Ok(())
+    goes(&rt, WATCH, &tasks, &turns, 0, NOT_THERE)
 }
 
 // It has none in the snapshot of the run.
@@ -259,9 +247,7 @@ fn a_run_does_not_see_a_later_change(rt: HostRuntime) -> Result<(), NoMemory> {
         Turn::Calls(0, 2),
         Turn::Ends(0, JobEnd::Clean),
     ];
-    let told = told_by(&rt, rt.alloc(), WATCH, &tasks, &turns, 0)?;
-    assert!(rt; told.as_str() == TOO_LATE, "{told}");
-    Ok(())
+    goes(&rt, WATCH, &tasks, &turns, 0, TOO_LATE)
 }
 
 // A run that stops before its sweep, which another takes over.
@@ -294,7 +280,5 @@ fn a_run_of_an_acknowledged_change_is_clean(rt: HostRuntime) -> Result<(), NoMem
         Turn::Calls(1, 1),
         Turn::Ends(1, JobEnd::Ran(0)),
     ];
-    let told = told_by(&rt, rt.alloc(), WATCH, &tasks, &turns, 1)?;
-    assert!(rt; told.as_str() == ACKNOWLEDGED, "{told}");
-    Ok(())
+    goes(&rt, WATCH, &tasks, &turns, 1, ACKNOWLEDGED)
 }
