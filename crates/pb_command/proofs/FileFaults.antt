@@ -4,14 +4,22 @@ use Rattle.pb_replay.specs.declared.fault.ReplayFault.{ReplayFault}
 use Rattle.pb_command.specs.declared.fault.Fault.{Fault}
 use Rattle.pb_command.specs.declared.fault.Fault.TheVariants as faults
 use Rattle.pb_command.specs.Files.{Text, Held}
-use Rattle.pb_command.specs.PathFaults.{IsFileFault}
+use Rattle.pb_command.specs.PathFaults.{IsFirstUnread, IsFirstNoText, IsFileFault}
 use Rattle.pb_command.specs.Commands.{ReplayFails}
 
+never_unread : (before : Held) (paths : List Text) (f : ReplayFault) → IsFirstUnread before paths (faults.Replay f) → ⊥
+never_unread before [] f e = e
+never_unread before (path ∷ paths) f (inl e) = e
+never_unread before (path ∷ paths) f (inr more) = never_unread before paths f more.1
+
+never_no_text : (before : Held) (paths : List Text) (f : ReplayFault) → IsFirstNoText before paths (faults.Replay f) → ⊥
+never_no_text before [] f e = e
+never_no_text before (path ∷ paths) f (inl n) = n.no_text
+never_no_text before (path ∷ paths) f (inr more) = never_no_text before paths f more.1
+
 no_replay : (before : Held) (paths : List Text) (f : ReplayFault) → IsFileFault before paths (faults.Replay f) → ⊥
-no_replay before [] f e = e
-no_replay before (path ∷ paths) f (inl (inl e)) = e
-no_replay before (path ∷ paths) f (inl (inr n)) = n.no_text
-no_replay before (path ∷ paths) f (inr more) = no_replay before paths f more
+no_replay before paths f (inl unread) = never_unread before paths f unread
+no_replay before paths f (inr read) = never_no_text before paths f read.1
 
 pub file_fails : (before : Held) (manifest script schedule : Text) (clock : ℕ) (old : Option (List ℕ)) (failed : Bool) (f : Fault) → failed ≡ false → IsFileFault before (manifest ∷ script ∷ schedule ∷ []) f → ReplayFails before manifest script schedule clock old old failed f
 file_fails before m s e clock old failed (faults.Unreadable p) quiet is = (refl, quiet, is)

@@ -1,1 +1,4 @@
 pub mod FileFaults
+pub mod KnownFiles
+pub mod FirstFaults
+pub mod ProgramFaults

@@ -21,8 +21,8 @@ use Rattle.pb_command.specs.Programs.{AsmLeaves, AnswerLeaves, Lists, Checks}
 pub record RanFrom (before : Held) (manifest script : Text) (old now : Option (List ℕ)) (failed : Bool) (result : Result (Unit {0}) RunFault) : Type 0 where
   pub manifest_text : List ℕ
   pub script_text : List ℕ
-  pub manifest_held : IsKnownAs (before manifest) manifest_text
-  pub script_held : IsKnownAs (before script) script_text
+  pub manifest_held : IsKnownAs (before manifest) (Ok manifest_text)
+  pub script_held : IsKnownAs (before script) (Ok script_text)
   pub ran : RunsTexts manifest_text script_text 0 old now failed result
 
 -- the texts ran to this fault; or there was none to run, and nothing was written
@@ -42,9 +42,9 @@ pub record ReplayedFrom (before : Held) (manifest script schedule : Text) (clock
   pub manifest_text : List ℕ
   pub script_text : List ℕ
   pub schedule_text : List ℕ
-  pub manifest_held : IsKnownAs (before manifest) manifest_text
-  pub script_held : IsKnownAs (before script) script_text
-  pub schedule_held : IsKnownAs (before schedule) schedule_text
+  pub manifest_held : IsKnownAs (before manifest) (Ok manifest_text)
+  pub script_held : IsKnownAs (before script) (Ok script_text)
+  pub schedule_held : IsKnownAs (before schedule) (Ok schedule_text)
   pub replayed : ReplaysTexts manifest_text script_text schedule_text clock old now failed result
 
 -- the texts were replayed to this fault; or there was none to replay, and nothing was written

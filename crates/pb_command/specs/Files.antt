@@ -1,18 +1,28 @@
--- What the paths of files hold, where that is known.
-use Rattle.std.specs.Prelude.{◌≡◌, ◌≢◌, ℕ, List, Option, Some, None}
+-- What reading the paths of files answers, where that is known.
+use Rattle.std.specs.Prelude.{◌≡◌, ◌≢◌, ◌⊎◌, ℕ, List, Option, Some, None, Result, Err}
+use Rattle.pb_command.specs.declared.paths.PathFault.{PathFault}
+use Rattle.pb_command.specs.declared.paths.PathFault.TheVariants.{NoMemory}
 
 abbrev pub Text : Type 0
 Text = List ℕ
 
--- what each path holds
+-- what reading a path answers: the bytes of its file, or why they aren't read
+abbrev pub ReadAnswer : Type 0
+ReadAnswer = Result (List ℕ) PathFault
+
+-- what reading each path answers
 abbrev pub Held : Type 0
-Held = Text → Option (List ℕ)
+Held = Text → Option ReadAnswer
 
--- bytes are those that a path holds, where these are known
-abbrev pub IsKnownAs : Option (List ℕ) → List ℕ → Type 0
-IsKnownAs None bytes = Unit {0}
-IsKnownAs (Some held) bytes = bytes ≡ held
+-- this is what reading a path answers, where that is known
+abbrev pub IsKnownAs : Option ReadAnswer → ReadAnswer → Type 0
+IsKnownAs None answer = Unit {0}
+IsKnownAs (Some known) answer = answer ≡ known
 
--- each other path holds what it held
+-- this is why a path isn't read: memory may be refused at any time, and else it is what is known
+abbrev pub IsFaultKnownAs : Option ReadAnswer → PathFault → Type 0
+IsFaultKnownAs known fault = (fault ≡ NoMemory) ⊎ IsKnownAs known (Err fault)
+
+-- reading each other path answers what it answered
 abbrev pub KeepsOthers : Held → Held → Text → Type 0
 KeepsOthers before after path = (other : Text) → other ≢ path → after other ≡ before other

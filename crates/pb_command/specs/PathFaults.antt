@@ -1,28 +1,60 @@
--- What is told of a file that can't be read, or isn't text.
-use Rattle.std.specs.Prelude.{◌≡◌, ◌⊎◌, ℕ, List, [], ◌∷◌, Option, IsUtf8}
+-- What is told of the first file that can't be read, or isn't text.
+use Rattle.std.specs.Prelude.{◌≡◌, ◌⊎◌, ℕ, List, [], ◌∷◌, Option, Ok, Err, IsUtf8}
+use Rattle.pb_command.specs.declared.paths.PathFault.TheVariants.{Failed, TooLarge}
 use Rattle.pb_command.specs.declared.fault.Fault.{Fault}
 use Rattle.pb_command.specs.declared.fault.Fault.TheVariants as faults
-use Rattle.pb_command.specs.Files.{Text, Held, IsKnownAs}
+use Rattle.pb_command.specs.Files.{Text, ReadAnswer, Held, IsKnownAs}
 
--- the file at the path wasn't read
-abbrev pub IsUnreadAt : List ℕ → Fault → Type 0
-IsUnreadAt path (faults.Unreadable p) = p.now ≡ path
-IsUnreadAt path (faults.TooLarge p) = p.now ≡ path
-IsUnreadAt path faults.NoMemory = Unit {0}
-IsUnreadAt path _ = ⊥
+-- ---- a file
+
+-- reading the path answers this fault, which is told of it; or memory was refused
+abbrev pub IsUnreadAt : Option ReadAnswer → Text → Fault → Type 0
+IsUnreadAt known path (faults.Unreadable p) = (p.now ≡ path) × IsKnownAs known (Err Failed)
+IsUnreadAt known path (faults.TooLarge p) = (p.now ≡ path) × IsKnownAs known (Err TooLarge)
+IsUnreadAt known path faults.NoMemory = Unit {0}
+IsUnreadAt known path _ = ⊥
 
 -- the bytes of the file at the path aren't text
 abbrev pub IsNoTextAt : List ℕ → List ℕ → Fault → Type 0
 IsNoTextAt path bytes (faults.NotText p) = (p.now ≡ path) × (IsUtf8 bytes → ⊥)
 IsNoTextAt path bytes _ = ⊥
 
--- the bytes that the path holds are no text
-pub record IsNoText (held : Option (List ℕ)) (path : Text) (f : Fault) : Type 0 where
+-- reading a path answers bytes
+pub record IsRead (known : Option ReadAnswer) : Type 0 where
   pub bytes : List ℕ
-  pub bytes_held : IsKnownAs held bytes
+  pub bytes_held : IsKnownAs known (Ok bytes)
+
+-- reading a path answers text
+pub record IsText (known : Option ReadAnswer) : Type 0 where
+  pub bytes : List ℕ
+  pub bytes_held : IsKnownAs known (Ok bytes)
+  pub text : IsUtf8 bytes
+
+-- reading the path answers bytes that are no text
+pub record IsNoText (known : Option ReadAnswer) (path : Text) (f : Fault) : Type 0 where
+  pub bytes : List ℕ
+  pub bytes_held : IsKnownAs known (Ok bytes)
   pub no_text : IsNoTextAt path bytes f
 
--- the file at one of the paths wasn't read, or isn't text
+-- ---- files in their order
+
+-- each of the paths is read
+abbrev pub AreRead : Held → List Text → Type 0
+AreRead before [] = Unit {0}
+AreRead before (path ∷ paths) = IsRead (before path) × AreRead before paths
+
+-- the fault of the first path that isn't read
+abbrev pub IsFirstUnread : Held → List Text → Fault → Type 0
+IsFirstUnread before [] f = ⊥
+IsFirstUnread before (path ∷ paths) f =
+    IsUnreadAt (before path) path f ⊎ (IsRead (before path) × IsFirstUnread before paths f)
+
+-- the fault of the first path whose bytes are no text
+abbrev pub IsFirstNoText : Held → List Text → Fault → Type 0
+IsFirstNoText before [] f = ⊥
+IsFirstNoText before (path ∷ paths) f =
+    IsNoText (before path) path f ⊎ (IsText (before path) × IsFirstNoText before paths f)
+
+-- the first fault of files that are all read before any is taken as text
 abbrev pub IsFileFault : Held → List Text → Fault → Type 0
-IsFileFault before [] f = ⊥
-IsFileFault before (path ∷ paths) f = (IsUnreadAt path f ⊎ IsNoText (before path) path f) ⊎ IsFileFault before paths f
+IsFileFault before paths f = IsFirstUnread before paths f ⊎ (AreRead before paths × IsFirstNoText before paths f)

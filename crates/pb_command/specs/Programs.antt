@@ -16,16 +16,16 @@ use Rattle.pb_command.specs.declared.answer.Verdict.{Verdict}
 use Rattle.pb_command.specs.declared.answer.Verdict.TheVariants.{Accepted, Refused}
 use Rattle.pb_command.specs.declared.fault.Fault.{Fault}
 use Rattle.pb_command.specs.declared.fault.Fault.TheVariants as faults
-use Rattle.pb_command.specs.Files.{Text, Held, IsKnownAs, KeepsOthers}
+use Rattle.pb_command.specs.Files.{Text, ReadAnswer, Held, IsKnownAs, KeepsOthers}
 use Rattle.pb_command.specs.PathFaults.{IsUnreadAt, IsNoText}
 
 -- ---- assembling
 
 -- the bytes are those of the program whose text the path holds
-pub record Assembles (input : Option (List ℕ)) (bytes : List ℕ) : Type 0 where
+pub record Assembles (input : Option ReadAnswer) (bytes : List ℕ) : Type 0 where
   pub text : List ℕ
   pub program : ProgramOf
-  pub text_held : IsKnownAs input text
+  pub text_held : IsKnownAs input (Ok text)
   pub read : program_of_text text ≡ Ok program
   pub encoded : Encodes bytes program
 
@@ -33,7 +33,7 @@ pub record Assembles (input : Option (List ℕ)) (bytes : List ℕ) : Type 0 whe
 pub record Assembled (before after : Held) (input output : Text) : Type 0 where
   pub bytes : List ℕ
   pub assembles : Assembles (before input) bytes
-  pub written : IsKnownAs (after output) bytes
+  pub written : IsKnownAs (after output) (Ok bytes)
   pub others : KeepsOthers before after output
 
 -- the text is a program's, whose bytes could not be written
@@ -43,16 +43,16 @@ pub record Unwritten (before after : Held) (input output : Text) : Type 0 where
   pub others : KeepsOthers before after output
 
 -- the text that the path holds is no program's, and this is its first fault
-pub record IsFaultyText (held : Option (List ℕ)) (line code : ℕ) : Type 0 where
+pub record IsFaultyText (held : Option ReadAnswer) (line code : ℕ) : Type 0 where
   pub text : List ℕ
-  pub text_held : IsKnownAs held text
+  pub text_held : IsKnownAs held (Ok text)
   pub fault : program_of_text text ≡ Err (line, code)
 
--- the file at the path is no program's text, or wasn't read, and this tells it
-abbrev pub IsNoProgramText : Option (List ℕ) → Text → Fault → Type 0
+-- the file at the path isn't read, or is no program's text, and this tells it
+abbrev pub IsNoProgramText : Option ReadAnswer → Text → Fault → Type 0
 IsNoProgramText held path (faults.Text f) = IsFaultyText held f.line f.code
 IsNoProgramText held path (faults.NotText p) = IsNoText held path (faults.NotText p)
-IsNoProgramText held path f = IsUnreadAt path f
+IsNoProgramText held path f = IsUnreadAt held path f
 
 -- Why nothing was assembled, and whether a write to a path has failed: only where one did is it told of the output.
 abbrev pub AsmFails : Held → Held → Bool → Bool → Text → Text → Fault → Type 0
@@ -91,29 +91,29 @@ Checks bytes Accepted text = (j : JudgedOf) × IsAcceptedCode bytes all_helpers 
 Checks bytes Refused text = (slot code : ℕ) × IsRefusedCode bytes all_helpers slot code × (text ≡ refusal_line slot code)
 
 -- the bytes at a path were judged so, and the whole text was written
-pub record Answered (judges : Judges) (held : Option (List ℕ)) (old now : Option (List ℕ)) (failed : Bool) (verdict : Verdict) : Type 0 where
+pub record Answered (judges : Judges) (held : Option ReadAnswer) (old now : Option (List ℕ)) (failed : Bool) (verdict : Verdict) : Type 0 where
   pub bytes : List ℕ
   pub text : List ℕ
-  pub bytes_held : IsKnownAs held bytes
+  pub bytes_held : IsKnownAs held (Ok bytes)
   pub judged : judges bytes verdict text
   pub written : Appends old now text
   pub unfailed : failed ≡ false
 
 -- the bytes at a path were judged, and a write failed, with a beginning of the text written
-pub record Cut (judges : Judges) (held : Option (List ℕ)) (old now : Option (List ℕ)) (failed : Bool) : Type 0 where
+pub record Cut (judges : Judges) (held : Option ReadAnswer) (old now : Option (List ℕ)) (failed : Bool) : Type 0 where
   pub bytes : List ℕ
   pub text : List ℕ
   pub verdict : Verdict
-  pub bytes_held : IsKnownAs held bytes
+  pub bytes_held : IsKnownAs held (Ok bytes)
   pub judged : judges bytes verdict text
   pub part : AppendsPart old now text
   pub unwritten : failed ≡ true
 
-abbrev pub AnswerFails : Judges → Option (List ℕ) → Text → Option (List ℕ) → Option (List ℕ) → Bool → Fault → Type 0
+abbrev pub AnswerFails : Judges → Option ReadAnswer → Text → Option (List ℕ) → Option (List ℕ) → Bool → Fault → Type 0
 AnswerFails judges held path old now failed faults.Output = Cut judges held old now failed
-AnswerFails judges held path old now failed f = (now ≡ old) × (failed ≡ false) × IsUnreadAt path f
+AnswerFails judges held path old now failed f = (now ≡ old) × (failed ≡ false) × IsUnreadAt held path f
 
-abbrev pub AnswerLeaves : Judges → Option (List ℕ) → Text → Option (List ℕ) → Option (List ℕ) → Bool → Result Verdict Fault → Type 0
+abbrev pub AnswerLeaves : Judges → Option ReadAnswer → Text → Option (List ℕ) → Option (List ℕ) → Bool → Result Verdict Fault → Type 0
 AnswerLeaves judges held path old now failed (Ok verdict) = Answered judges held old now failed verdict
 AnswerLeaves judges held path old now failed (Err f) = AnswerFails judges held path old now failed f
 

@@ -4,9 +4,11 @@
 mod answer;
 mod carry;
 mod fault;
+mod laws;
 mod paths;
 mod programs;
 mod reading;
 
 pub use carry::command;
+pub use laws::{first_file_fault_is_told, known_programs_are_judged};
 pub use paths::{PathFault, Paths};

@@ -1,6 +1,6 @@
 //! Where files are read and written.
-ghost use Rattle.std.specs.Prelude.{◌≡◌, true, Bool, List, ℕ, Option, IfOk, OnOk, OnErr};
-ghost use Rattle.pb_command.specs.Files.{IsKnownAs, KeepsOthers};
+ghost use Rattle.std.specs.Prelude.{◌≡◌, true, Bool, IfOk, IfErr, OnOk, OnErr};
+ghost use Rattle.pb_command.specs.Files.{Held, IsKnownAs, IsFaultKnownAs, KeepsOthers};
 
 /// Why a file isn't read or written.
 #[derive(Clone, Copy, Debug, PartialEq, Eq, Drop)]
@@ -13,22 +13,23 @@ pub enum PathFault {
     NoMemory,
 }
 
-/// Reads and writes files by their paths, and tells what a path holds, where that is known, and whether a write has
-/// failed.
+/// Reads and writes files by their paths, and tells what reading a path answers, where that is known, and whether a
+/// write has failed.
 pub trait Paths {
-    ghost held: { Self → List ℕ → Option (List ℕ) };
+    ghost held: { Self → Held };
 
     ghost failed: { Self → Bool };
 
     /// The bytes of the file at a path.
     fn read(&mut self, path: &str) -> Result<Vec<u8>, PathFault>
-        ensures bytes { IfOk result (λ v. IsKnownAs (held self.old path.now) v.items) }
+        ensures bytes { IfOk result (λ v. IsKnownAs (held self.old path.now) (Ok v.items)) }
+        ensures fault { IfErr result (IsFaultKnownAs (held self.old path.now)) }
         ensures same { held self.new ≡ held self.old }
         ensures quiet { failed self.new ≡ failed self.old };
 
     /// Makes the bytes the whole file at a path. Where that fails, the path may hold anything.
     fn write(&mut self, path: &str, bytes: &[u8]) -> Result<(), PathFault>
-        ensures bytes { OnOk result (IsKnownAs (held self.new path.now) bytes.now) }
+        ensures bytes { OnOk result (IsKnownAs (held self.new path.now) (Ok bytes.now)) }
         ensures others { KeepsOthers (held self.old) (held self.new) path.now }
         ensures quiet { OnOk result (failed self.new ≡ failed self.old) }
         ensures fails { OnErr result (failed self.new ≡ true) };

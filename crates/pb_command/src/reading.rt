@@ -1,5 +1,5 @@
 //! Files as bytes and as text.
-ghost use Rattle.std.specs.Prelude.{◌≡◌, ◌∷◌, [], IfOk, IfErr, string_bytes};
+ghost use Rattle.std.specs.Prelude.{◌≡◌, ◌∷◌, [], IfOk, IfErr, IsUtf8, string_bytes};
 ghost use Rattle.pb_command.specs.Files.{IsKnownAs};
 ghost use Rattle.pb_command.specs.PathFaults.{IsUnreadAt, IsNoTextAt, IsFileFault};
 
@@ -8,10 +8,10 @@ use crate::paths::{PathFault, Paths};
 
 /// The bytes of a file.
 pub fn bytes_at<'a, P: Paths>(paths: &mut P, path: &'a str) -> Result<Vec<u8>, Fault<'a>>
-    ensures bytes { IfOk result (λ v. IsKnownAs (P.held paths.old path.now) v.items) }
+    ensures bytes { IfOk result (λ v. IsKnownAs (P.held paths.old path.now) (Ok v.items)) }
     ensures same { P.held paths.new ≡ P.held paths.old }
     ensures quiet { P.failed paths.new ≡ P.failed paths.old }
-    ensures fault { IfErr result (IsUnreadAt path.now) }
+    ensures fault { IfErr result (IsUnreadAt (P.held paths.old path.now) path.now) }
 {
     match paths.read(path) {
         Ok(bytes) => Ok(bytes),
@@ -24,6 +24,7 @@ pub fn bytes_at<'a, P: Paths>(paths: &mut P, path: &'a str) -> Result<Vec<u8>, F
 /// The bytes as text.
 pub fn text_of<'a>(bytes: Vec<u8>, path: &'a str) -> Result<String, Fault<'a>>
     ensures text { IfOk result (λ s. string_bytes s ≡ bytes.items) }
+    ensures utf8 { IfOk result (λ _. IsUtf8 bytes.items) }
     ensures fault { IfErr result (IsNoTextAt path.now bytes.items) }
 {
     match String::from_utf8(bytes) {
@@ -38,8 +39,8 @@ pub fn texts_at<'a, P: Paths>(
     manifest: &'a str,
     script: &'a str,
 ) -> Result<(String, String), Fault<'a>>
-    ensures manifest { IfOk result (λ t. IsKnownAs (P.held paths.old manifest.now) (string_bytes t.0)) }
-    ensures script { IfOk result (λ t. IsKnownAs (P.held paths.old script.now) (string_bytes t.1)) }
+    ensures manifest { IfOk result (λ t. IsKnownAs (P.held paths.old manifest.now) (Ok (string_bytes t.0))) }
+    ensures script { IfOk result (λ t. IsKnownAs (P.held paths.old script.now) (Ok (string_bytes t.1))) }
     ensures same { P.held paths.new ≡ P.held paths.old }
     ensures quiet { P.failed paths.new ≡ P.failed paths.old }
     ensures fault { IfErr result (IsFileFault (P.held paths.old) (manifest.now ∷ script.now ∷ [])) }
@@ -58,9 +59,9 @@ pub fn three_texts_at<'a, P: Paths>(
     script: &'a str,
     schedule: &'a str,
 ) -> Result<(String, String, String), Fault<'a>>
-    ensures manifest { IfOk result (λ t. IsKnownAs (P.held paths.old manifest.now) (string_bytes t.0)) }
-    ensures script { IfOk result (λ t. IsKnownAs (P.held paths.old script.now) (string_bytes t.1)) }
-    ensures schedule { IfOk result (λ t. IsKnownAs (P.held paths.old schedule.now) (string_bytes t.2)) }
+    ensures manifest { IfOk result (λ t. IsKnownAs (P.held paths.old manifest.now) (Ok (string_bytes t.0))) }
+    ensures script { IfOk result (λ t. IsKnownAs (P.held paths.old script.now) (Ok (string_bytes t.1))) }
+    ensures schedule { IfOk result (λ t. IsKnownAs (P.held paths.old schedule.now) (Ok (string_bytes t.2))) }
     ensures same { P.held paths.new ≡ P.held paths.old }
     ensures quiet { P.failed paths.new ≡ P.failed paths.old }
     ensures fault { IfErr result (IsFileFault (P.held paths.old) (manifest.now ∷ script.now ∷ schedule.now ∷ [])) }

@@ -8,7 +8,9 @@ use std::io::{self, ErrorKind, Read};
 /// The most bytes that a file may have.
 const LIMIT: u64 = 16_777_216;
 
-/// The files of the system. What they hold isn't known before they are read.
+/// The files of the system. No contract says what they hold, and they may change between two readings: so of none is it
+/// known what reading it answers (`held` is `None` at each path), and the clauses of `Paths` on known answers say
+/// nothing here. `command` is proved over any paths, also where all is known, and can't tell which it is given.
 #[derive(Drop)]
 pub struct Files<'a> {
     rt: &'a HostRuntime,

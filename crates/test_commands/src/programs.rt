@@ -1,6 +1,7 @@
 //! `asm` and `dis`, over paths and sinks in memory.
-ghost use Rattle.std.specs.Prelude.{◌≡◌, ◌∷◌, [], true, IfOk};
+ghost use Rattle.std.specs.Prelude.{◌≡◌, ◌∷◌, [], true, IfOk, IfErr};
 ghost use Rattle.std.specs.Str.{bytes_eq};
+ghost use Rattle.pb_command.specs.declared.paths.PathFault.TheVariants as faults;
 
 use crate::carried::{Outcome, carry, has_told};
 use pb_base::NoMemory;
@@ -11,7 +12,7 @@ use std::rt::HostRuntime;
 
 const LISTING: Options = Options::Dis { file: "i" };
 
-// A file to be read at the path `i`, and what was written to the path `o`.
+// A file to be read at the path `i`, and what was written to the path `o`. No other path can be read or written.
 #[derive(Drop)]
 pub(crate) struct Folder<'a> {
     alloc: Global,
@@ -23,20 +24,25 @@ pub(crate) struct Folder<'a> {
 }
 
 impl<'a> Paths for Folder<'a> {
-    ghost use Rattle.std.specs.Prelude.{None, [], ◌∷◌, if◌then◌else◌};
-    ghost use Rattle.std.specs.Option.{option_map};
-    ghost use Rattle.std.specs.Result.{result_ok};
+    ghost use Rattle.std.specs.Prelude.{Some, Err, [], ◌∷◌, if◌then◌else◌};
+    ghost use Rattle.std.specs.Option.{option_map, ok_or};
+    ghost use Rattle.std.specs.Result.{result_map_both};
     ghost use Rattle.std.specs.Str.{bytes_eq};
+    ghost use Rattle.pb_command.specs.declared.paths.PathFault.TheVariants.{Failed};
 
-    ghost held = { λ f path. if bytes_eq path (105 ∷ []) then option_map (λ r. r.now) (result_ok f.input) else if bytes_eq path (111 ∷ []) then option_map (λ v. v.items) f.output else None };
+    ghost held = { λ f path. Some (if bytes_eq path (105 ∷ []) then result_map_both (λ r. r.now) (λ e. e) f.input
+        else if bytes_eq path (111 ∷ []) then ok_or (option_map (λ v. v.items) f.output) Failed else Err Failed) };
 
     ghost failed = { λ f. f.failed };
 
     fn read(&mut self, path: &str) -> Result<Vec<u8>, PathFault> {
-        if path != "i" {
-            return Err(PathFault::Failed);
+        if path == "i" {
+            return copied(self.alloc, self.input?);
         }
-        copied(self.alloc, self.input?)
+        match &self.output {
+            Some(output) if path == "o" => copied(self.alloc, output),
+            _ => Err(PathFault::Failed),
+        }
     }
 
     fn write(&mut self, path: &str, bytes: &[u8]) -> Result<(), PathFault> {
@@ -69,7 +75,8 @@ impl<'a> Folder<'a> {
 }
 
 fn copied(alloc: Global, bytes: &[u8]) -> Result<Vec<u8>, PathFault>
-    ensures { IfOk result (λ v. v.items ≡ bytes.now) }
+    ensures copy { IfOk result (λ v. v.items ≡ bytes.now) }
+    ensures memory { IfErr result (λ f. f ≡ faults.NoMemory) }
 {
     let mut copy = Vec::new(alloc);
     match copy.extend_from_slice(bytes) {
@@ -115,6 +122,31 @@ fn memory_for_bytes_is_refused(rt: HostRuntime) {
     // The first fault is told.
     folder.refuses = Some(PathFault::Failed);
     assert!(rt; tells(&rt, &mut folder, "no memory\n"));
+}
+
+#[test]
+fn bytes_are_not_read(rt: HostRuntime) {
+    let table = [
+        (PathFault::Failed, "cannot read i\n"),
+        (PathFault::TooLarge, "too large i\n"),
+        (PathFault::NoMemory, "no memory\n"),
+    ];
+    for (fault, line) in table {
+        let mut folder = holding(rt.alloc(), b"");
+        folder.input = Err(fault);
+        assert!(rt; tells(&rt, &mut folder, line), "{line}");
+    }
+}
+
+#[test]
+fn what_was_written_is_read(rt: HostRuntime) {
+    let mut folder = holding(rt.alloc(), b"exit");
+    let outcome = asm(&rt, &mut folder).expect(&rt, "memory");
+    assert!(rt; outcome.status == 0);
+    let listing = Options::Dis { file: "o" };
+    let outcome = carry(&rt, &listing, &mut folder, usize::MAX, true).expect(&rt, "memory");
+    assert!(rt; outcome.status == 0);
+    assert!(rt; outcome.out.as_slice() == b"exit\n".as_slice());
 }
 
 #[test]

@@ -24,12 +24,12 @@ struct Three<'a> {
 }
 
 impl<'a> Paths for Three<'a> {
-    ghost use Rattle.std.specs.Prelude.{[], ◌∷◌, if◌then◌else◌};
-    ghost use Rattle.std.specs.Option.{option_map};
-    ghost use Rattle.std.specs.Result.{result_ok};
+    ghost use Rattle.std.specs.Prelude.{Some, [], ◌∷◌, if◌then◌else◌};
+    ghost use Rattle.std.specs.Result.{result_map_both};
     ghost use Rattle.std.specs.Str.{bytes_eq};
 
-    ghost held = { λ h path. option_map (λ r. r.now) (result_ok (if bytes_eq path (109 ∷ []) then h.manifest else if bytes_eq path (115 ∷ []) then h.script else h.schedule)) };
+    ghost held = { λ h path. Some (result_map_both (λ r. r.now) (λ e. e)
+        (if bytes_eq path (109 ∷ []) then h.manifest else if bytes_eq path (115 ∷ []) then h.script else h.schedule)) };
 
     ghost failed = { λ _. true };
 

@@ -19,12 +19,12 @@ struct Held<'a> {
 }
 
 impl<'a> Paths for Held<'a> {
-    ghost use Rattle.std.specs.Prelude.{[], ◌∷◌, if◌then◌else◌, true};
-    ghost use Rattle.std.specs.Option.{option_map};
-    ghost use Rattle.std.specs.Result.{result_ok};
+    ghost use Rattle.std.specs.Prelude.{Some, [], ◌∷◌, if◌then◌else◌, true};
+    ghost use Rattle.std.specs.Result.{result_map_both};
     ghost use Rattle.std.specs.Str.{bytes_eq};
 
-    ghost held = { λ h path. option_map (λ r. r.now) (result_ok (if bytes_eq path (109 ∷ []) then h.manifest else h.script)) };
+    ghost held = { λ h path. Some (result_map_both (λ r. r.now) (λ e. e)
+        (if bytes_eq path (109 ∷ []) then h.manifest else h.script)) };
 
     ghost failed = { λ _. true };
 

@@ -1,0 +1,67 @@
+-- The first of known files that is at fault is told.
+use Rattle.std.proofs.Common.{◌≡◌, sym, subst, ℕ, List, [], ◌∷◌, ◌++◌, Some, Ok, Err, inl, inr, IsUtf8}
+use Rattle.std.specs.List.{All}
+use Rattle.std.proofs.lemmas.List.Elements.{All-head, All-tail}
+use Rattle.pb_command.specs.declared.paths.PathFault.{PathFault}
+use Rattle.pb_command.specs.declared.fault.Fault.{Fault}
+use Rattle.pb_command.specs.declared.fault.Fault.TheVariants as faults
+use Rattle.pb_command.specs.Files.{Text, Held}
+use Rattle.pb_command.specs.PathFaults.{AreRead, IsFirstUnread, IsFirstNoText}
+use Rattle.pb_command.specs.FirstFaults.{IsKnownRead, IsKnownText, TellsUnread, TellsNoText, FirstUnreadIsTold, FirstNoTextIsTold, TextsAreNoFault}
+use Rattle.pb_command.proofs.KnownFiles.{own_fault, not_read, only_memory, own_text, text_is_text, not_text}
+
+not_all_read : (before : Held) (front back : List Text) (path : Text) (fault : PathFault) → before path ≡ Some (Err fault) → AreRead before (front ++ (path ∷ back)) → ⊥
+not_all_read before [] back path fault e r = not_read (before path) fault e r.0
+not_all_read before (q ∷ front) back path fault e r = not_all_read before front back path fault e r.1
+
+first_unread : (before : Held) (front back : List Text) (path : Text) (fault : PathFault) (f : Fault) → All (IsKnownRead before) front → before path ≡ Some (Err fault) → IsFirstUnread before (front ++ (path ∷ back)) f → TellsUnread path fault f
+first_unread before [] back path fault f all e (inl u) = own_fault (before path) path fault f e u
+first_unread before [] back path fault f all e (inr more) = absurd (not_read (before path) fault e more.0)
+first_unread before (q ∷ front) back path fault f all e (inl u) =
+    let k = All-head (IsKnownRead before) q front all in
+    subst (λ (g : Fault). TellsUnread path fault g) (sym (only_memory (before q) k.0 q f k.1 u)) tt
+first_unread before (q ∷ front) back path fault f all e (inr more) =
+    first_unread before front back path fault f (All-tail (IsKnownRead before) q front all) e more.1
+
+pub first_unread_is_told : FirstUnreadIsTold
+first_unread_is_told before front back path fault f all e (inl unread) = first_unread before front back path fault f all e unread
+first_unread_is_told before front back path fault f all e (inr read) = absurd (not_all_read before front back path fault e read.0)
+
+read_memory : (before : Held) (paths : List Text) (f : Fault) → All (IsKnownRead before) paths → IsFirstUnread before paths f → f ≡ faults.NoMemory
+read_memory before [] f all u = absurd u
+read_memory before (q ∷ paths) f all (inl u) = let k = All-head (IsKnownRead before) q paths all in only_memory (before q) k.0 q f k.1 u
+read_memory before (q ∷ paths) f all (inr more) = read_memory before paths f (All-tail (IsKnownRead before) q paths all) more.1
+
+memory_among : (before : Held) (front back : List Text) (path : Text) (bytes : List ℕ) (f : Fault) → All (IsKnownText before) front → before path ≡ Some (Ok bytes) → All (IsKnownRead before) back → IsFirstUnread before (front ++ (path ∷ back)) f → f ≡ faults.NoMemory
+memory_among before [] back path bytes f all e rest (inl u) = only_memory (before path) bytes path f e u
+memory_among before [] back path bytes f all e rest (inr more) = read_memory before back f rest more.1
+memory_among before (q ∷ front) back path bytes f all e rest (inl u) = let k = All-head (IsKnownText before) q front all in only_memory (before q) k.0 q f k.1 u
+memory_among before (q ∷ front) back path bytes f all e rest (inr more) =
+    memory_among before front back path bytes f (All-tail (IsKnownText before) q front all) e rest more.1
+
+first_no_text : (before : Held) (front back : List Text) (path : Text) (bytes : List ℕ) (f : Fault) → All (IsKnownText before) front → before path ≡ Some (Ok bytes) → (IsUtf8 bytes → ⊥) → IsFirstNoText before (front ++ (path ∷ back)) f → TellsNoText path f
+first_no_text before [] back path bytes f all e bad (inl n) = own_text (before path) path f n
+first_no_text before [] back path bytes f all e bad (inr more) = absurd (not_text (before path) bytes e bad more.0)
+first_no_text before (q ∷ front) back path bytes f all e bad (inl n) =
+    let k = All-head (IsKnownText before) q front all in absurd (text_is_text (before q) k.0 q f k.1 k.2 n)
+first_no_text before (q ∷ front) back path bytes f all e bad (inr more) =
+    first_no_text before front back path bytes f (All-tail (IsKnownText before) q front all) e bad more.1
+
+pub first_no_text_is_told : FirstNoTextIsTold
+first_no_text_is_told before front back path bytes f all e bad rest (inl unread) =
+    subst (λ (g : Fault). TellsNoText path g) (sym (memory_among before front back path bytes f all e rest unread)) tt
+first_no_text_is_told before front back path bytes f all e bad rest (inr read) = first_no_text before front back path bytes f all e bad read.1
+
+text_memory : (before : Held) (paths : List Text) (f : Fault) → All (IsKnownText before) paths → IsFirstUnread before paths f → f ≡ faults.NoMemory
+text_memory before [] f all u = absurd u
+text_memory before (q ∷ paths) f all (inl u) = let k = All-head (IsKnownText before) q paths all in only_memory (before q) k.0 q f k.1 u
+text_memory before (q ∷ paths) f all (inr more) = text_memory before paths f (All-tail (IsKnownText before) q paths all) more.1
+
+all_text : (before : Held) (paths : List Text) (f : Fault) → All (IsKnownText before) paths → IsFirstNoText before paths f → ⊥
+all_text before [] f all n = n
+all_text before (q ∷ paths) f all (inl n) = let k = All-head (IsKnownText before) q paths all in text_is_text (before q) k.0 q f k.1 k.2 n
+all_text before (q ∷ paths) f all (inr more) = all_text before paths f (All-tail (IsKnownText before) q paths all) more.1
+
+pub texts_are_no_fault : TextsAreNoFault
+texts_are_no_fault before paths f all (inl unread) = text_memory before paths f all unread
+texts_are_no_fault before paths f all (inr read) = absurd (all_text before paths f all read.1)

@@ -1,0 +1,47 @@
+-- Where it is known of files what reading them answers, the first that is at fault is told.
+use Rattle.std.specs.Prelude.{◌≡◌, ℕ, List, ◌∷◌, ◌++◌, Some, Ok, Err, IsUtf8}
+use Rattle.std.specs.List.{All}
+use Rattle.pb_command.specs.declared.paths.PathFault.{PathFault}
+use Rattle.pb_command.specs.declared.paths.PathFault.TheVariants.{Failed, TooLarge}
+use Rattle.pb_command.specs.declared.fault.Fault.{Fault}
+use Rattle.pb_command.specs.declared.fault.Fault.TheVariants as faults
+use Rattle.pb_command.specs.Files.{Text, Held}
+use Rattle.pb_command.specs.PathFaults.{IsFileFault}
+
+-- the path is known to be read
+abbrev pub IsKnownRead : Held → Text → Type 0
+IsKnownRead before path = (bytes : List ℕ) × (before path ≡ Some (Ok bytes))
+
+-- the path is known to be text
+abbrev pub IsKnownText : Held → Text → Type 0
+IsKnownText before path = (bytes : List ℕ) × (before path ≡ Some (Ok bytes)) × IsUtf8 bytes
+
+-- this tells why the path isn't read, or that memory was refused
+abbrev pub TellsUnread : Text → PathFault → Fault → Type 0
+TellsUnread path fault (faults.Unreadable p) = (p.now ≡ path) × (fault ≡ Failed)
+TellsUnread path fault (faults.TooLarge p) = (p.now ≡ path) × (fault ≡ TooLarge)
+TellsUnread path fault faults.NoMemory = Unit {0}
+TellsUnread path fault _ = ⊥
+
+-- this tells that the path is no text, or that memory was refused
+abbrev pub TellsNoText : Text → Fault → Type 0
+TellsNoText path (faults.NotText p) = p.now ≡ path
+TellsNoText path faults.NoMemory = Unit {0}
+TellsNoText path _ = ⊥
+
+-- a path behind those that are read, with its own fault, whatever comes after it
+abbrev pub FirstUnreadIsTold : Type 0
+FirstUnreadIsTold = (before : Held) (front back : List Text) (path : Text) (fault : PathFault) (f : Fault) →
+    All (IsKnownRead before) front → before path ≡ Some (Err fault) →
+    IsFileFault before (front ++ (path ∷ back)) f → TellsUnread path fault f
+
+-- a path that is no text, behind those that are, where those after it are read
+abbrev pub FirstNoTextIsTold : Type 0
+FirstNoTextIsTold = (before : Held) (front back : List Text) (path : Text) (bytes : List ℕ) (f : Fault) →
+    All (IsKnownText before) front → before path ≡ Some (Ok bytes) → (IsUtf8 bytes → ⊥) →
+    All (IsKnownRead before) back → IsFileFault before (front ++ (path ∷ back)) f → TellsNoText path f
+
+-- paths that are all text have no fault of their own
+abbrev pub TextsAreNoFault : Type 0
+TextsAreNoFault = (before : Held) (paths : List Text) (f : Fault) →
+    All (IsKnownText before) paths → IsFileFault before paths f → f ≡ faults.NoMemory
