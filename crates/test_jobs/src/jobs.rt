@@ -15,7 +15,6 @@ use pb_store::Tablet;
 use pb_txn::ChangeJob;
 use std::alloc::{AllocError, Global};
 use std::process::Abort;
-use std::rt::HostRuntime;
 use std::sync::Arc;
 use test_fixtures::opened;
 use told::table_text;
@@ -246,14 +245,15 @@ fn told_by(
 /// Takes turns with these jobs over a table of one observer, whose program this is: each goes as it says, and from that
 /// seat on the journal has this, and so many marks and locks are left.
 pub fn goes(
-    rt: &HostRuntime,
+    rt: &impl Abort,
+    alloc: Global,
     digits: &str,
     tasks: &[Task],
     turns: &[Turn],
     from: u32,
     text: &str,
 ) -> Result<(), NoMemory> {
-    let told = told_by(rt, rt.alloc(), digits, tasks, turns, from)?;
+    let told = told_by(rt, alloc, digits, tasks, turns, from)?;
     assert!(rt; told.as_str() == text, "{told}");
     Ok(())
 }

@@ -31,7 +31,7 @@ fn a_committed_lock_is_cleared_at_once(rt: HostRuntime) -> Result<(), NoMemory> 
         Turn::Ends(1, JobEnd::Ran(0)),
         Turn::Calls(0, 1),
     ];
-    goes(&rt, WATCH, &tasks, &turns, 1, COMMITTED)
+    goes(&rt, rt.alloc(), WATCH, &tasks, &turns, 1, COMMITTED)
 }
 
 // The lock of a change whose primary was settled.
@@ -53,7 +53,7 @@ fn a_settled_lock_is_cleared_at_once(rt: HostRuntime) -> Result<(), NoMemory> {
         Turn::Calls(1, 5),
         Turn::Ends(1, JobEnd::Clean),
     ];
-    goes(&rt, WATCH, &tasks, &turns, 1, ROLLED_BACK)
+    goes(&rt, rt.alloc(), WATCH, &tasks, &turns, 1, ROLLED_BACK)
 }
 
 // The lock of a change whose primary is locked, which the run settles.
@@ -84,7 +84,7 @@ fn a_lock_that_waits_is_settled(rt: HostRuntime) -> Result<(), NoMemory> {
         Turn::Ends(1, JobEnd::Clean),
         Turn::Calls(0, 3),
     ];
-    goes(&rt, WATCH, &tasks, &turns, 0, WAITED)
+    goes(&rt, rt.alloc(), WATCH, &tasks, &turns, 0, WAITED)
 }
 
 // The change commits before the run settles its primary.
@@ -115,7 +115,7 @@ fn a_lock_that_waits_may_be_committed(rt: HostRuntime) -> Result<(), NoMemory> {
         Turn::Calls(1, 4),
         Turn::Ends(1, JobEnd::Clean),
     ];
-    goes(&rt, WATCH, &tasks, &turns, 0, OUTRUN)
+    goes(&rt, rt.alloc(), WATCH, &tasks, &turns, 0, OUTRUN)
 }
 
 // The change commits the cell itself before the run clears it.
@@ -152,7 +152,7 @@ fn a_lock_that_is_gone_is_cleared_in_vain(rt: HostRuntime) -> Result<(), NoMemor
         Turn::Calls(1, 5),
         Turn::Ends(1, JobEnd::Ran(0)),
     ];
-    goes(&rt, WATCH, &tasks, &turns, 0, GONE)
+    goes(&rt, rt.alloc(), WATCH, &tasks, &turns, 0, GONE)
 }
 
 // A lock of a later start is none for the run.
@@ -175,5 +175,5 @@ fn a_later_lock_is_not_met(rt: HostRuntime) -> Result<(), NoMemory> {
         Turn::Calls(0, 2),
         Turn::Ends(0, JobEnd::Clean),
     ];
-    goes(&rt, WATCH, &tasks, &turns, 0, LATER)
+    goes(&rt, rt.alloc(), WATCH, &tasks, &turns, 0, LATER)
 }

@@ -3,6 +3,7 @@ use super::{ASK, Task, Turn, goes};
 use pb_base::NoMemory;
 use pb_notify::JobEnd;
 use std::alloc::Global;
+use std::process::Abort;
 use std::rt::HostRuntime;
 
 const CELL: &str = "7 0";
@@ -119,8 +120,16 @@ impl Story {
     }
 
     // It goes as it was told so far.
-    fn goes(&self, rt: &HostRuntime, tasks: &[Task]) -> Result<(), NoMemory> {
-        goes(rt, ASK, tasks, &self.turns, 2, self.text.as_str())
+    fn goes(&self, rt: &impl Abort, tasks: &[Task]) -> Result<(), NoMemory> {
+        goes(
+            rt,
+            self.alloc,
+            ASK,
+            tasks,
+            &self.turns,
+            2,
+            self.text.as_str(),
+        )
     }
 }
 

@@ -50,7 +50,7 @@ fn the_second_of_two_runs_conflicts(rt: HostRuntime) -> Result<(), NoMemory> {
         Turn::Calls(1, 3),
         Turn::Ends(1, JobEnd::Ran(0)),
     ];
-    goes(&rt, WATCH, &tasks, &turns, 1, IN_TURNS)
+    goes(&rt, rt.alloc(), WATCH, &tasks, &turns, 1, IN_TURNS)
 }
 
 // It meets the write record of the first.
@@ -84,7 +84,7 @@ fn a_run_conflicts_with_a_committed_one(rt: HostRuntime) -> Result<(), NoMemory>
         Turn::Calls(2, 2),
         Turn::Ends(2, JobEnd::Conflicted),
     ];
-    goes(&rt, WATCH, &tasks, &turns, 1, AFTER_IT)
+    goes(&rt, rt.alloc(), WATCH, &tasks, &turns, 1, AFTER_IT)
 }
 
 // A change has a lock on the last of three cells, so that the run undoes the others.
@@ -122,7 +122,7 @@ fn a_conflict_on_a_later_cell_undoes_a_run(rt: HostRuntime) -> Result<(), NoMemo
         Turn::Calls(2, 3),
         Turn::Ends(2, JobEnd::Conflicted),
     ];
-    goes(&rt, DELETE_TWO, &tasks, &turns, 0, ON_ITS_WAY)
+    goes(&rt, rt.alloc(), DELETE_TWO, &tasks, &turns, 0, ON_ITS_WAY)
 }
 
 // Another settles the acknowledgment once the run has its commit timestamp.
@@ -177,7 +177,7 @@ fn a_settled_run_is_lost(rt: HostRuntime) -> Result<(), NoMemory> {
         Turn::Calls(1, 2),
         Turn::Ends(1, JobEnd::Lost),
     ];
-    goes(&rt, COPY, &tasks, &turns, 0, SETTLED)
+    goes(&rt, rt.alloc(), COPY, &tasks, &turns, 0, SETTLED)
 }
 
 #[test]
@@ -192,7 +192,7 @@ fn a_run_settled_between_its_cells_is_lost(rt: HostRuntime) -> Result<(), NoMemo
         Turn::Calls(1, 4),
         Turn::Ends(1, JobEnd::Lost),
     ];
-    goes(&rt, COPY, &tasks, &turns, 0, SETTLED_EARLY)
+    goes(&rt, rt.alloc(), COPY, &tasks, &turns, 0, SETTLED_EARLY)
 }
 
 // The second of two runs takes the lock of the first off the acknowledgment.
@@ -238,5 +238,5 @@ fn a_later_run_takes_over(rt: HostRuntime) -> Result<(), NoMemory> {
         Turn::Calls(2, 7),
         Turn::Ends(2, JobEnd::Ran(0)),
     ];
-    goes(&rt, COPY, &tasks, &turns, 1, TAKEN_OVER)
+    goes(&rt, rt.alloc(), COPY, &tasks, &turns, 1, TAKEN_OVER)
 }

@@ -34,7 +34,7 @@ fn a_run_commits(rt: HostRuntime) -> Result<(), NoMemory> {
         Turn::Calls(1, 5),
         Turn::Ends(1, JobEnd::Ran(0)),
     ];
-    goes(&rt, WATCH, &tasks, &turns, 0, WATCHED)
+    goes(&rt, rt.alloc(), WATCH, &tasks, &turns, 0, WATCHED)
 }
 
 // A run that writes a cell besides.
@@ -62,7 +62,7 @@ fn a_run_commits_what_it_writes(rt: HostRuntime) -> Result<(), NoMemory> {
         Turn::Calls(1, 7),
         Turn::Ends(1, JobEnd::Ran(0)),
     ];
-    goes(&rt, COPY, &tasks, &turns, 1, COPIED)
+    goes(&rt, rt.alloc(), COPY, &tasks, &turns, 1, COPIED)
 }
 
 // A run that ends with this result.
@@ -93,7 +93,7 @@ fn a_run_ends_with_register_0(rt: HostRuntime) -> Result<(), NoMemory> {
             Turn::Ends(1, JobEnd::Ran(end)),
         ];
         let text = ended_with(rt.alloc(), end)?;
-        goes(&rt, digits, &tasks, &turns, 1, text.as_str())?;
+        goes(&rt, rt.alloc(), digits, &tasks, &turns, 1, text.as_str())?;
     }
     Ok(())
 }
@@ -138,7 +138,7 @@ fn a_run_asks_for_an_absent_cell(rt: HostRuntime) -> Result<(), NoMemory> {
         Turn::Calls(1, 5),
         Turn::Ends(1, JobEnd::Ran(1)),
     ];
-    goes(&rt, ASK, &tasks, &turns, 1, ASKED)
+    goes(&rt, rt.alloc(), ASK, &tasks, &turns, 1, ASKED)
 }
 
 #[test]
@@ -153,7 +153,7 @@ fn a_run_asks_for_a_value(rt: HostRuntime) -> Result<(), NoMemory> {
         Turn::Calls(1, 5),
         Turn::Ends(1, JobEnd::Ran(0)),
     ];
-    goes(&rt, ASK, &tasks, &turns, 1, TOLD)
+    goes(&rt, rt.alloc(), ASK, &tasks, &turns, 1, TOLD)
 }
 
 // A change that commits while a run goes on, which the next run handles.
@@ -207,7 +207,7 @@ fn a_change_during_a_run_is_handled_by_the_next(rt: HostRuntime) -> Result<(), N
         Turn::Calls(3, 5),
         Turn::Ends(3, JobEnd::Ran(0)),
     ];
-    goes(&rt, WATCH, &tasks, &turns, 0, CHANGED_AGAIN)
+    goes(&rt, rt.alloc(), WATCH, &tasks, &turns, 0, CHANGED_AGAIN)
 }
 
 // The cell has no version.
@@ -222,7 +222,7 @@ marks 0 locks 0
 fn a_run_of_an_absent_cell_is_clean(rt: HostRuntime) -> Result<(), NoMemory> {
     let tasks = [Task::Runs(1)];
     let turns = [Turn::Calls(0, 3), Turn::Ends(0, JobEnd::Clean)];
-    goes(&rt, WATCH, &tasks, &turns, 0, NOT_THERE)
+    goes(&rt, rt.alloc(), WATCH, &tasks, &turns, 0, NOT_THERE)
 }
 
 // It has none in the snapshot of the run.
@@ -247,7 +247,7 @@ fn a_run_does_not_see_a_later_change(rt: HostRuntime) -> Result<(), NoMemory> {
         Turn::Calls(0, 2),
         Turn::Ends(0, JobEnd::Clean),
     ];
-    goes(&rt, WATCH, &tasks, &turns, 0, TOO_LATE)
+    goes(&rt, rt.alloc(), WATCH, &tasks, &turns, 0, TOO_LATE)
 }
 
 // A run that stops before its sweep, which another takes over.
@@ -280,5 +280,5 @@ fn a_run_of_an_acknowledged_change_is_clean(rt: HostRuntime) -> Result<(), NoMem
         Turn::Calls(1, 1),
         Turn::Ends(1, JobEnd::Ran(0)),
     ];
-    goes(&rt, WATCH, &tasks, &turns, 1, ACKNOWLEDGED)
+    goes(&rt, rt.alloc(), WATCH, &tasks, &turns, 1, ACKNOWLEDGED)
 }
