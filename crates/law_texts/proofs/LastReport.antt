@@ -24,6 +24,7 @@ in_table s text r = record { runs = r.runs; tallied = r.tallied; reported = r.re
 pub last_reported : ClockIsLastGiven → ReportsAreOfTheLastGiven
 last_reported law s text last legal is =
     let given = law s.state.observers s.state.seats s.opened s.journal s.state legal in
-    let same = one_last s.opened (timestamps s.journal) s.state.clock last given is in
-    (λ r. subst (λ t. IsReportAt t s text) same (at_clock s text r),
-     λ r. in_table s text (subst (λ t. IsReportAt t s text) (sym same) r))
+    let same = one_last s.opened (timestamps s.journal) s.state.clock last given is in (
+      λ r. subst (λ t. IsReportAt t s text) same (at_clock s text r),
+      λ r. in_table s text (subst (λ t. IsReportAt t s text) (sym same) r),
+    )

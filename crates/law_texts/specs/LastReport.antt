@@ -18,7 +18,7 @@ pub record IsReportAt (at : ℕ) (s : SharedOf) (text : List ℕ) : Type 0 where
   pub runs : Tallies
   pub tallied : AreTallies s.state.observers s.journal 0 s.state.observers runs
   pub reported :
-    IsReportOf (IsSeenAt s.state.observers s.journal at) runs (finite.len s.state.marks) (lock_count s.state.entries) text
+      IsReportOf (IsSeenAt s.state.observers s.journal at) runs (finite.len s.state.marks) (lock_count s.state.entries) text
 
 -- a table's report is that at the greatest timestamp that its journal gave out
 abbrev pub ReportsAreOfTheLastGiven : Type 0
