@@ -6,7 +6,6 @@ use Rattle.pb_base.specs.declared.names.Row.{Row}
 use Rattle.pb_base.specs.declared.names.Ts.{Ts}
 use Rattle.pb_base.specs.declared.content.Revision.{Revision}
 use Rattle.pb_isa.specs.Programs.{JudgedOf}
-use Rattle.pb_helpers.specs.OldRecord.{tells_old}
 use Rattle.pb_steps.specs.Declarations.{old_at}
 use Rattle.pb_helpers.specs.declared.ask.Ask.{Ask}
 use Rattle.pb_vm.specs.declared.moved.Phase.TheVariants as phases
@@ -34,7 +33,7 @@ use Rattle.pb_notify.specs.declared.place.Place.TheVariants.{Beginning, Observin
 use Rattle.pb_notify.specs.Looks.{look_after, locked_after}
 use Rattle.pb_notify.specs.Steps.{Steps}
 use Rattle.pb_notify.specs.Places.{place_after, locked_at, after_begin, if_found, after_cell, if_recalled, seen_so_far, after_acknowledgment, after_recall, after_ask, by_outcome, place_of, Comes, ComesFrom, AtPlace, step_at}
-use Rattle.pb_notify.specs.Runs.{RunOf, answered, need_at}
+use Rattle.pb_notify.specs.Runs.{need_at}
 use Rattle.pb_notify.specs.declared.need.Need.TheVariants as needs
 use Rattle.pb_notify.proofs.PlansFit.{fits_after, next_is}
 
@@ -132,10 +131,6 @@ at_computed locked o judged x (Computing s v) next comes at = at_come locked o s
 at_computed locked o judged x _ next comes at = absurd comes
 
 -- ---- the whole job
-
-pub answered_is : (j : RunOf) (a : Answer) (n : ℕ) (place : Place) → n ≡ locked_at j.locked j.place a → place ≡ place_after (tells_old j.judged) j.locked j.place a
-    → record j { locked = n; place = place } ≡ answered j a
-answered_is j a n place n-is place-is = λ i. record j { locked = n-is i; place = place-is i }
 
 -- where it needs an answer there is a next step
 pub call_has_next : (o : ℕ) (row : Row) (column locked : ℕ) (place : Place) → AtPlace locked place → need_at place ≡ needs.Call → (s : Step) × (step_at o row column place ≡ Some s)

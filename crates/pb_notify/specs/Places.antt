@@ -200,6 +200,11 @@ IsLocal (Starting s seen) = Unit {0}
 IsLocal (Computing s v) = v.phase ≡ phases.Going
 IsLocal place = ⊥
 
+-- its plan is next
+abbrev pub IsPlanning : Place → Type 0
+IsPlanning (Planning r p) = Unit {0}
+IsPlanning place = ⊥
+
 -- where its plan is next, the answer is one that the plan's step can have
 abbrev pub CanTakeAt : Place → Answer → Type 0
 CanTakeAt (Planning r p) a = CanTake (plans.next_of p) a

@@ -1,6 +1,8 @@
 //! Jobs of observers.
 use crate::need::Need;
-use crate::place::{Place, compute, locked_at, move_on, place_after, step_at, tells_old, waiting};
+use crate::place::{
+    Place, compute, keep_step, locked_at, move_on, step_at, take, tells_old, wait_at,
+};
 use pb_base::{Cell, Column, NoMemory, ObserverNo, Row};
 use pb_steps::{Answer, Step, Work};
 use pb_verify::Accepted;
@@ -91,13 +93,19 @@ impl ObserverJob {
         ensures answered { self.new ≡ answered self.old answer }
         ensures told { HearsLook self.old answer self.new }
     {
-        let place = mem::replace(&mut self.place, Place::Beginning);
-        let locked = locked_at(self.locked, &place, &answer);
+        let locked = locked_at(self.locked, &self.place, &answer);
         let second = tells_old(&self.accepted);
-        let place = place_after(second, self.locked, place, answer);
-        self.next = step_at(self.observer, self.row, self.column, &place);
+        if take(second, self.locked, &mut self.place, answer) {
+            return;
+        }
+        keep_step(
+            &mut self.next,
+            self.observer,
+            self.row,
+            self.column,
+            &self.place,
+        );
         self.locked = locked;
-        self.place = place;
     }
 
     /// Does one instruction of its machine, which it starts before the first. The exit also makes what it declares and its
@@ -110,11 +118,14 @@ impl ObserverJob {
         match move_on(&mut self.place) {
             Some(Moved::Went) => Ok(()),
             Some(Moved::Asks(ask)) => {
-                let place = mem::replace(&mut self.place, Place::Beginning);
-                let place = waiting(place, ask);
-                let asked = step_at(self.observer, self.row, self.column, &place);
-                self.next = asked;
-                self.place = place;
+                wait_at(&mut self.place, ask);
+                keep_step(
+                    &mut self.next,
+                    self.observer,
+                    self.row,
+                    self.column,
+                    &self.place,
+                );
                 Ok(())
             }
             Some(Moved::Ended(_)) => unreachable!(),
@@ -123,6 +134,7 @@ impl ObserverJob {
     }
 
     // Does the first instruction, or the exit.
+    #[inline(never)]
     fn compute(&mut self, alloc: Global) -> Result<(), NoMemory>
         requires { need_of self.old ≡ Local }
         ensures ok { OnOk result (Computes self.old self.new) }

@@ -1,9 +1,10 @@
 //! Where a job stands, and where an answer or an instruction leads.
-ghost use Rattle.std.specs.Prelude.{◌≡◌, ◌<◌, ℕ, length, IfOk, IfErr, MatchOption};
+ghost use Rattle.std.specs.Prelude.{◌≡◌, ◌<◌, ℕ, Some, length, IfOk, IfErr, IsTrue, MatchOption};
 ghost use Rattle.pb_helpers.specs.OldRecord as versions;
+ghost use Rattle.pb_txn.specs.Plans.{PlanOf};
 ghost use Rattle.pb_txn.specs.Plans as plans;
 ghost use Rattle.pb_notify.specs.declared.place.Place.TheVariants as places;
-ghost use Rattle.pb_notify.specs.Places.{stored_step, place_after, locked_at, place_of, CanTakeAt, AtPlace, IsLocal, IsToldBy, IsToldAt, Starts, Comes, ComesFrom, MovesAt, GoesAt, waiting};
+ghost use Rattle.pb_notify.specs.Places.{stored_step, place_after, locked_at, place_of, CanTakeAt, AtPlace, IsLocal, IsToldBy, IsToldAt, Starts, Comes, ComesFrom, MovesAt, GoesAt, waiting, by_outcome, IsPlanning};
 ghost use Rattle.pb_notify.specs.declared.place.Place.{Place};
 ghost use Rattle.pb_vm.specs.declared.moved.Moved.TheVariants.{Ended};
 ghost use Rattle.pb_vm.specs.declared.moved.Phase.TheVariants.{Going, Asking};
@@ -70,6 +71,20 @@ pub fn step_at(observer: ObserverNo, row: Row, column: Column, place: &Place) ->
         Place::Sweeping(_) => Some(Step::Sweep(Cell::Data(row, column))),
         Place::Starting(..) | Place::Computing(..) | Place::Planning(..) | Place::Over(_) => None,
     }
+}
+
+/// Keeps the step at a place, but for those of a plan.
+#[inline(never)]
+pub fn keep_step(
+    next: &mut Option<Step>,
+    observer: ObserverNo,
+    row: Row,
+    column: Column,
+    place: &Place,
+)
+    ensures { next.new ≡ stored_step observer row column place.now }
+{
+    *next = step_at(observer, row, column, place);
 }
 
 /// How many reads met a lock after this answer.
@@ -157,24 +172,31 @@ fn after_ask(start: Ts, machine: Machine, ask: Ask, looked: Looked) -> Place
     }
 }
 
-// An answer to the plan.
-fn after_plan(end: u64, mut plan: Plan, answer: Answer) -> Place
-    requires { plans.CanTake (plans.next_of plan) answer }
-    ensures { result ≡ Rattle.pb_notify.specs.Places.after_plan end (plans.answered plan answer) }
+// An answer to a plan where it stands, and how it ended, if it is over.
+fn plan_takes(plan: &mut Plan, answer: Answer) -> Option<Outcome>
+    requires { plans.CanTake (plans.next_of plan.old) answer }
+    ensures took { plan.new ≡ plans.answered plan.old answer }
+    ensures outcome { result ≡ plans.outcome_of (plans.answered plan.old answer) }
 {
     plan.took(answer);
-    match plan.outcome() {
-        None => Place::Planning(end, plan),
-        Some(Outcome::Committed(_)) => Place::Sweeping(JobEnd::Ran(end)),
-        Some(Outcome::Conflicted) => Place::Over(JobEnd::Conflicted),
-        Some(Outcome::Lost) => Place::Over(JobEnd::Lost),
+    plan.outcome()
+}
+
+// Where a plan leads that is over so.
+fn after_outcome(end: u64, outcome: Outcome) -> Place
+    ensures { (p : PlanOf) → result ≡ by_outcome end p (Some outcome) }
+{
+    match outcome {
+        Outcome::Committed(_) => Place::Sweeping(JobEnd::Ran(end)),
+        Outcome::Conflicted => Place::Over(JobEnd::Conflicted),
+        Outcome::Lost => Place::Over(JobEnd::Lost),
     }
 }
 
-/// Where the answer of the next step leads.
-pub fn place_after(second: bool, locked: u8, place: Place, answer: Answer) -> Place
+// Where the answer of the next step leads, but for those of a plan.
+fn place_after(second: bool, locked: u8, place: Place, answer: Answer) -> Place
     requires at { AtPlace locked place }
-    requires can { CanTakeAt place answer }
+    requires other { IsPlanning place → ⊥ }
     ensures place { result ≡ place_after second locked place answer }
     ensures told { IsToldAt locked place answer result }
 {
@@ -195,9 +217,47 @@ pub fn place_after(second: bool, locked: u8, place: Place, answer: Answer) -> Pl
         Place::Asking(start, machine, ask, look) => {
             after_ask(start, machine, ask, look_after(locked, look, answer))
         }
-        Place::Planning(end, plan) => after_plan(end, plan, answer),
+        Place::Planning(..) => unreachable!(),
         Place::Sweeping(end) => Place::Over(end),
         Place::Over(end) => Place::Over(end),
+    }
+}
+
+// Takes the answer of the next step of a look or a sweep.
+#[inline(never)]
+fn look_at(second: bool, locked: u8, place: &mut Place, answer: Answer)
+    requires at { AtPlace locked place.old }
+    requires other { IsPlanning place.old → ⊥ }
+    ensures place { place.new ≡ place_after second locked place.old answer }
+    ensures told { IsToldAt locked place.old answer place.new }
+{
+    let before = mem::replace(place, Place::Beginning);
+    *place = place_after(second, locked, before, answer);
+}
+
+/// Takes the answer of the next step where the place stands, and tells whether it is a plan, which goes on.
+pub fn take(second: bool, locked: u8, place: &mut Place, answer: Answer) -> bool
+    requires at { AtPlace locked place.old }
+    requires can { CanTakeAt place.old answer }
+    ensures place { place.new ≡ place_after second locked place.old answer }
+    ensures told { IsToldAt locked place.old answer place.new }
+    ensures plans { IsTrue result → IsPlanning place.old × IsPlanning place.new }
+{
+    match place {
+        Place::Planning(end, plan) => {
+            match plan_takes(plan, answer) {
+                None => true,
+                Some(outcome) => {
+                    let end = *end;
+                    *place = after_outcome(end, outcome);
+                    false
+                }
+            }
+        }
+        _ => {
+            look_at(second, locked, place, answer);
+            false
+        }
     }
 }
 
@@ -285,6 +345,16 @@ fn before_exit(place: Place) -> Place
     }
 }
 
+// The same where it stands.
+#[inline(never)]
+fn go_back(place: &mut Place)
+    requires { (old : Place) × (r : ℕ) × MovesAt old (Ended r) place.old }
+    ensures { (old : Place) (r : ℕ) → MovesAt old (Ended r) place.old → place.new ≡ old }
+{
+    let ended = mem::replace(place, Place::Beginning);
+    *place = before_exit(ended);
+}
+
 /// Does the next instruction of a machine where it stands, if it is neither the first nor the exit, and tells what it did:
 /// a job is moved to another place at these two and at asks alone.
 pub fn move_on(place: &mut Place) -> Option<Moved>
@@ -293,21 +363,29 @@ pub fn move_on(place: &mut Place) -> Option<Moved>
 {
     let moved = move_at(place);
     if let Some(Moved::Ended(_)) = moved {
-        let ended = mem::replace(place, Place::Beginning);
-        *place = before_exit(ended);
+        go_back(place);
         return None;
     }
     moved
 }
 
-/// The place of a machine that asked where it stands.
-pub fn waiting(place: Place, ask: Ask) -> Place
+// The place of a machine that asked where it stands.
+fn waiting(place: Place, ask: Ask) -> Place
     ensures { result ≡ waiting place ask }
 {
     match place {
         Place::Computing(start, machine) => Place::Asking(start, machine, ask, Look::Reading),
         place => place,
     }
+}
+
+/// Lets a machine wait that asked where it stands.
+#[inline(never)]
+pub fn wait_at(place: &mut Place, ask: Ask)
+    ensures { place.new ≡ waiting place.old ask }
+{
+    let asking = mem::replace(place, Place::Beginning);
+    *place = waiting(asking, ask);
 }
 
 /// Where the next instruction leads, for the run of this observer, whose program this is, on this cell. Refused for memory,

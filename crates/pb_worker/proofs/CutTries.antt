@@ -22,29 +22,29 @@ use Rattle.pb_txn.specs.Forms.{IsWhole, AreCleared, committed, conflicted_first,
 use Rattle.pb_txn.specs.Changes.{ChangeOf, new_change, Talks}
 use Rattle.pb_txn.proofs.ChangeTalk.{HasBegun, begins as has_begun}
 use Rattle.pb_txn.proofs.Talk.{SoFar, declaring, prewriting, stamping, committing, finishing, settling, clearing, over, said_all}
-use Rattle.pb_worker.specs.Tries.{is_commit, has_commit}
+use Rattle.pb_worker.specs.Tries.{is_committed, is_commit, has_commit}
 use Rattle.pb_worker.proofs.Committing.{HasCommitted, has_right}
 
 -- ---- truths
 
-left_false : (a b : Bool) → (a || b) ≡ false → a ≡ false
+pub left_false : (a b : Bool) → (a || b) ≡ false → a ≡ false
 left_false true b e = e
 left_false false b e = refl
 
-both_false : (a b : Bool) → a ≡ false → b ≡ false → (a || b) ≡ false
+pub both_false : (a b : Bool) → a ≡ false → b ≡ false → (a || b) ≡ false
 both_false a b p q = rw p q
 
 or_assoc : (a b c : Bool) → (a || (b || c)) ≡ ((a || b) || c)
 or_assoc true b c = refl
 or_assoc false b c = refl
 
-not_both : (b : Bool) → b ≡ true → b ≡ false → ⊥
+pub not_both : (b : Bool) → b ≡ true → b ≡ false → ⊥
 not_both true p q = cc
 not_both false p q = cc
 
 -- ---- answers and steps in a list
 
-commit_in : (xs ys : List Received) → has_commit (xs ++ ys) ≡ (has_commit xs || has_commit ys)
+pub commit_in : (xs ys : List Received) → has_commit (xs ++ ys) ≡ (has_commit xs || has_commit ys)
 commit_in [] ys = refl
 commit_in (x ∷ xs) ys = ap (λ b. is_commit x.answer || b) (commit_in xs ys) ∙ or_assoc (is_commit x.answer) (has_commit xs) (has_commit ys)
 
@@ -105,14 +105,21 @@ are_cleared [] (y ∷ ys) rs c = rw c (refl, tt, are_cleared [] ys [] refl)
 are_cleared (x ∷ xs) ys [] c = absurd c
 are_cleared (x ∷ xs) ys (r ∷ rs) c = (c.0, c.1, are_cleared xs ys rs c.2)
 
+-- a whole conversation that ended otherwise has no commit
+pub uncommitted : (s : Ts) (what : Declared) (cells : List Cell) (said : List Received) (o : Outcome) → is_committed o ≡ false → IsWhole s what cells said o → has_commit said ≡ false
+uncommitted s what cells said o otherwise (committed x others c) = cc
+uncommitted s what cells said o otherwise (conflicted_first x after) = refl
+uncommitted s what cells said o otherwise (conflicted_later x y before after a cs can c) =
+    none_after s (x ∷ before) (told (Prewrite s y) Conflict ∷ told (Settle x) a ∷ cs) (both_false (is_commit a) (has_commit cs) (settle_answer x a can) (cleared before cs c))
+uncommitted s what cells said o otherwise (lost x others c cs k) = none_after s (x ∷ others) (told (Stamp s) (At c) ∷ told (CommitPrimary s) Lost ∷ cs) (cleared others cs k)
+
 -- a whole conversation has no commit, or clears nothing
 by_form : (s : Ts) (what : Declared) (cells : List Cell) (said : List Received) (o : Outcome) → IsWhole s what cells said o → (has_commit said ≡ false) ⊎ (has_clear said ≡ false)
 by_form s what cells said o (committed x others c) =
     inr (clear_in (prewrites s (x ∷ others)) (told (Stamp s) (At c) ∷ told (CommitPrimary s) Committed ∷ secondaries s others) ∙ both_false (has_clear (prewrites s (x ∷ others))) (has_clear (secondaries s others)) (prewrites_clear s (x ∷ others)) (secondaries_clear s others))
 by_form s what cells said o (conflicted_first x after) = inl refl
-by_form s what cells said o (conflicted_later x y before after a cs can c) =
-    inl (none_after s (x ∷ before) (told (Prewrite s y) Conflict ∷ told (Settle x) a ∷ cs) (both_false (is_commit a) (has_commit cs) (settle_answer x a can) (cleared before cs c)))
-by_form s what cells said o (lost x others c cs k) = inl (none_after s (x ∷ others) (told (Stamp s) (At c) ∷ told (CommitPrimary s) Lost ∷ cs) (cleared others cs k))
+by_form s what cells said o (conflicted_later x y before after a cs can c) = inl (uncommitted s what _ _ _ refl (conflicted_later x y before after a cs can c))
+by_form s what cells said o (lost x others c cs k) = inl (uncommitted s what _ _ _ refl (lost x others c cs k))
 
 -- ---- at a place
 
@@ -127,15 +134,14 @@ paid s what xs c more =
 whole_commits : (s : Ts) (what : Declared) (cells : List Cell) (said : List Received) (o : Outcome) → IsWhole s what cells said o → has_commit said ≡ true → Commits s what said
 whole_commits s what cells said o (committed x others c) e = paid s what (x ∷ others) c (secondaries s others)
 whole_commits s what cells said o (conflicted_first x after) e = cc
-whole_commits s what cells said o (conflicted_later x y before after a cs can c) e =
-    absurd (not_both _ e (none_after s (x ∷ before) (told (Prewrite s y) Conflict ∷ told (Settle x) a ∷ cs) (both_false (is_commit a) (has_commit cs) (settle_answer x a can) (cleared before cs c))))
-whole_commits s what cells said o (lost x others c cs k) e = absurd (not_both _ e (none_after s (x ∷ others) (told (Stamp s) (At c) ∷ told (CommitPrimary s) Lost ∷ cs) (cleared others cs k)))
+whole_commits s what cells said o (conflicted_later x y before after a cs can c) e = absurd (not_both _ e (uncommitted s what _ _ _ refl (conflicted_later x y before after a cs can c)))
+whole_commits s what cells said o (lost x others c cs k) e = absurd (not_both _ e (uncommitted s what _ _ _ refl (lost x others c cs k)))
 
 clears_some : (y : Cell) (left : List Cell) → has_clear (clears (y ∷ left)) ≡ true
 unfolding clears
 clears_some y left = refl
 
-true_right : (a b : Bool) → b ≡ true → (a || b) ≡ true
+pub true_right : (a b : Bool) → b ≡ true → (a || b) ≡ true
 true_right true b e = refl
 true_right false b e = e
 
@@ -167,7 +173,7 @@ module _ (s : Ts) (what : Declared) (x : Cell) (others : List Cell) where
   at_place p all (clearing o done y left more said cs at c ends) e = absurd (clearing_none o done y left said cs c ends e)
   at_place p said (over o said' w) e = whole_commits s what (x ∷ others) said o w e
 
-of_begun : (batch : Writes) (r : Received) (rest : List Received) (q : ChangeOf) → batch ≢ [] → HasBegun batch r rest q → has_commit (r ∷ rest) ≡ true → HasCommitted batch (r ∷ rest)
+of_begun : (batch : Writes) (r : Received) (rest : List Received) (q : ChangeOf) → batch ≢ [] → HasBegun batch r rest q → has_commit (r ∷ rest) ≡ true → (start : Ts) × HasCommitted batch start (r ∷ rest)
 of_begun [] r rest q some b e = absurd (some refl)
 of_begun (w ∷ ws) r rest q some b e =
     let batch : Writes = w ∷ ws in
@@ -175,8 +181,8 @@ of_begun (w ∷ ws) r rest q some b e =
     let first : has_commit (told (Begin works.Script) (At s) ∷ rest) ≡ true = ap (λ (z : Received). has_commit (z ∷ rest)) (sym b.first) ∙ e in
     let so = said_all s (declared.Script batch) w.0 _ refl (fresh b.s (declared.Script batch)) b.plan [] rest refl refl declaring b.said in
     let k = at_place s (declared.Script batch) w.0 _ b.plan.place rest so first in
-    record { start = s; commit = k.0; begun = inl b.first; declared = inr k.1; stamped = inr k.2; committed = inr k.3 }
+    (s, record { commit = k.0; begun = inl b.first; declared = inr k.1; stamped = inr k.2; committed = inr k.3 })
 
-pub cut_commits : (batch : Writes) (part : List Received) (q : ChangeOf) → batch ≢ [] → Talks (new_change batch) part q → has_commit part ≡ true → HasCommitted batch part
+pub cut_commits : (batch : Writes) (part : List Received) (q : ChangeOf) → batch ≢ [] → Talks (new_change batch) part q → has_commit part ≡ true → (start : Ts) × HasCommitted batch start part
 cut_commits batch [] q some t e = cc
 cut_commits batch (r ∷ rest) q some t e = of_begun batch r rest q some (has_begun batch r rest q t) e

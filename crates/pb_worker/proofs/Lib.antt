@@ -7,6 +7,12 @@ pub mod PassAlong
 pub mod WorkAlong
 pub mod Joined
 pub mod Walks
+pub mod Cursors
 pub mod Committing
 pub mod CutTries
+pub mod OneTransaction
+pub mod RunCommits
+pub mod TryCommits
+pub mod Starts
+pub mod SeatEntries
 pub mod Making

@@ -1,137 +1,38 @@
--- A change of which a try committed is a committed transaction of the journal.
-use Rattle.std.proofs.Common.{◌≡◌, ◌≢◌, ℕ, zero, suc, ◌+◌, ◌-◌, ◌*◌, ◌/◌, ◌%◌, ◌<◌, ◌⊎◌, Bool, true, false, cond, eqb, List, [], ◌∷◌, ◌++◌, length, Option, Some, None, inl, inr, refl, sym, ap, subst, ◌∙◌, arith}
-use Rattle.std.specs.Prelude.{slice_get, slice_index_or, ◌==◌}
-use Rattle.std.proofs.lemmas.Bool.{eqb-true, eqb-false}
+-- The committed script transactions of the journal are the changes of which a try committed, each once.
+use Rattle.std.proofs.Common.{◌≡◌, ◌≢◌, ℕ, zero, suc, ◌+◌, ◌-◌, ◌*◌, ◌/◌, ◌%◌, ◌<◌, ◌⊎◌, Bool, true, false, cond, eqb, List, [], ◌∷◌, ◌++◌, length, Option, Some, None, inl, inr, refl, sym, ap, subst, ◌∙◌, add_comm, arith}
+use Rattle.std.specs.Prelude.{slice_get, slice_index_or}
+use Rattle.std.proofs.lemmas.Bool.{eqb-true, eqb-false, cases_lt, cases_order}
+use Rattle.std.proofs.lemmas.Nat.{div-mul-add, mod-mul-add}
 use Rattle.std.proofs.lemmas.Option.{slice_get_within}
 use Rattle.std.proofs.Math.Nat.{mod-add-div', mod-lt}
-use Rattle.pb_worker.proofs.Joined.{numbered}
+use Rattle.pb_base.specs.declared.names.Row.{Row}
 use Rattle.pb_base.specs.declared.names.Ts.{Ts}
 use Rattle.pb_base.specs.declared.refusal.Refusal.{Refusal}
-use Rattle.pb_base.specs.declared.cell.Cell.{Cell}
 use Rattle.pb_base.specs.Batch.{Writes}
-use Rattle.pb_steps.specs.declared.step.Step.TheVariants.{Declare, Stamp, CommitPrimary}
-use Rattle.pb_steps.specs.declared.step.Answer.TheVariants.{At, Done, Committed}
+use Rattle.pb_steps.specs.declared.step.Step.TheVariants.{Begin}
+use Rattle.pb_steps.specs.declared.step.Answer.TheVariants.{At}
 use Rattle.pb_steps.specs.declared.step.Work.TheVariants as works
 use Rattle.pb_steps.specs.declared.step.Declared.TheVariants as declared
 use Rattle.pb_steps.specs.Observers.{ObserverOf}
+use Rattle.pb_steps.specs.State.{opening}
 use Rattle.pb_history.specs.declared.entry.Entry.{Entry}
 use Rattle.pb_history.specs.declared.entry.Received.{Received}
 use Rattle.pb_history.specs.Places.{entries_of}
-use Rattle.pb_history.specs.History.{Has, IsEntry}
-use Rattle.pb_core.specs.Calls.{SeatOf}
-use Rattle.pb_txn.specs.declared.place.Outcome.{Outcome}
-use Rattle.pb_txn.specs.Places.{declared_cells}
+use Rattle.pb_history.specs.History.{Has, IsEntry, Member, InHistory}
+use Rattle.pb_history.specs.Laws.{TransactionsAreTold}
+use Rattle.pb_history.specs.TransactionsTold.{TellsTransactions}
+use Rattle.pb_core.specs.Calls.{SharedOf, SeatOf, AreSeats, AreSeatsFrom}
+use Rattle.pb_core.specs.Histories.{IsLegalTable}
 use Rattle.pb_txn.specs.Talks.{told}
-use Rattle.pb_txn.specs.Forms.{IsWhole, committed, conflicted_first, conflicted_later, lost, prewrites, secondaries}
-use Rattle.pb_txn.specs.Changes.{IsWholeChange}
-use Rattle.pb_worker.specs.Tries.{is_committed, IsDone, AreTries, AreTried, before_all, tried}
-use Rattle.pb_worker.specs.Work.{IsWork, IsPart, in_changes, in_passes, is_done, undone_below}
-use Rattle.pb_worker.specs.Stops.{TriesStop, ChangesStop}
-use Rattle.pb_worker.specs.Laws.{ChangesAreMade}
-use Rattle.pb_worker.proofs.Committing.{has_left, has_right, Within, HasCommitted}
-use Rattle.pb_worker.proofs.CutTries.{cut_commits}
-
--- ---- what a seat received stands in the journal
-
-has_entry : (b : Bool) (seat : ℕ) (e : Entry) (es : List Entry) (r : Received) → (b ≡ true → e.seat ≡ seat) → Has (cond b (record { step = e.step; answer = e.answer } ∷ entries_of seat es) (entries_of seat es)) r
-    → (Has (entries_of seat es) r → IsEntry es seat r.step r.answer) → IsEntry (e ∷ es) seat r.step r.answer
-has_entry true seat e es r own (inl is) more = inl (λ i. record { seat = own refl i; step = (is i).step; answer = (is i).answer })
-has_entry true seat e es r own (inr h) more = inr (more h)
-has_entry false seat e es r own h more = inr (more h)
-
-in_journal : (seat : ℕ) (j : List Entry) (r : Received) → Has (entries_of seat j) r → IsEntry j seat r.step r.answer
-in_journal seat [] r h = absurd h
-in_journal seat (e ∷ es) r h = has_entry (e.seat == seat) seat e es r (λ t. eqb-true e.seat seat t) h (in_journal seat es r)
-
--- ---- a committed try
-
-by_form : (batch : Writes) (start : Ts) (cells : List Cell) (rest : List Received) (o : Outcome) → is_committed o ≡ true → IsWhole start (declared.Script batch) cells rest o
-    → (c : Ts) × Has rest (told (Declare start (declared.Script batch)) Done) × Has rest (told (Stamp start) (At c)) × Has rest (told (CommitPrimary start) Committed)
-by_form batch start cells rest o is (committed x others c) = (
-  c,
-  inl refl,
-  inr (has_right (prewrites start (x ∷ others)) (told (Stamp start) (At c) ∷ told (CommitPrimary start) Committed ∷ secondaries start others) (told (Stamp start) (At c)) (inl refl)),
-  inr (has_right (prewrites start (x ∷ others)) (told (Stamp start) (At c) ∷ told (CommitPrimary start) Committed ∷ secondaries start others) (told (CommitPrimary start) Committed) (inr (inl refl))),
-)
-by_form batch start cells rest o is (conflicted_first x after) = cc
-by_form batch start cells rest o is (conflicted_later x y before after a cs can cleared) = cc
-by_form batch start cells rest o is (lost x others c cs cleared) = cc
-
-by_change : (batch : Writes) (start : Ts) (said : List Received) (o : Outcome) → is_committed o ≡ true → IsWholeChange batch start said o → HasCommitted batch said
-by_change batch start said o is w =
-    let f = by_form batch start (declared_cells (declared.Script batch)) w.rest o is w.whole in
-    subst (HasCommitted batch) (sym w.said_is) (record { start = start; commit = f.0; begun = inl refl; declared = inr f.1; stamped = inr f.2; committed = inr f.3 })
-
-within : (batch : Writes) (part said : List Received) → Within part said → HasCommitted batch part → HasCommitted batch said
-within batch part said into h = record { start = h.start; commit = h.commit; begun = into _ h.begun; declared = into _ h.declared; stamped = into _ h.stamped; committed = into _ h.committed }
-
-by_tries : (batch : Writes) (said : List Received) → IsDone batch said → HasCommitted batch said
-by_tries batch said d =
-    let t = d.commits in
-    subst (HasCommitted batch) (sym d.said_is) (within batch d.last (d.vain ++ d.last) (λ r h. has_right d.vain d.last r h) (by_change batch t.start d.last t.outcome t.ended t.whole))
-
--- ---- among the changes of a worker
-
-last_flag : (done : List Bool) (b : Bool) (j : ℕ) → slice_index_or (done ++ b ∷ []) j false ≡ true → (slice_index_or done j false ≡ true) ⊎ ((j ≡ length done) × (b ≡ true))
-last_flag [] b zero e = inr (refl, e)
-last_flag [] b (suc j) e = inl e
-last_flag (d ∷ ds) b zero e = inl e
-last_flag (d ∷ ds) b (suc j) e = elim (last_flag ds b j e) [ inl h ↦ inl h | inr h ↦ inr (ap suc h.0, h.1) ]
-
-record HasMade (batches : List Writes) (n first j : ℕ) (said : List Received) : Type 0 where
-  pub batch : Writes
-  pub at : slice_get batches (first + j * n) ≡ Some batch
-  pub made : HasCommitted batch said
-
-by_flag : (batches : List Writes) (n first : ℕ) (done : List Bool) (said : List Received) → AreTried batches n first done said → (j : ℕ) → slice_index_or done j false ≡ true → HasMade batches n first j said
-by_flag batches n first done said before_all j e = absurd (empty j e)
-  where
-    empty : (j : ℕ) → slice_index_or [] j false ≡ true → ⊥
-    empty zero e = cc
-    empty (suc j) e = cc
-by_flag batches n first flags all (tried done said batch flag more before at tries) j e = elim (last_flag done flag j e) [
-  | inl h ↦ let m = by_flag batches n first done said before j h in record { batch = m.batch; at = m.at; made = within m.batch said (said ++ more) (λ r k. has_left said more r k) m.made }
-  | inr h ↦ record {
-    batch = batch;
-    at = subst (λ k. slice_get batches (first + k * n) ≡ Some batch) (sym h.0) at;
-    made = within batch more (said ++ more) (λ r k. has_right said more r k) (by_tries batch more (subst (λ b. AreTries batch b more) h.1 tries));
-  }
-]
-
--- whether it was stopped or not, each of its flags tells of a change that was made
-abbrev Tells : List Writes → ℕ → ℕ → List Bool → List Received → Type 0
-Tells batches n first done said = (j : ℕ) → slice_index_or done j false ≡ true → HasMade batches n first j said
-
-tells_on : (batches : List Writes) (n first : ℕ) (done : List Bool) (said more : List Received) → Tells batches n first done said → Tells batches n first done (said ++ more)
-tells_on batches n first done said more t j e = let m = t j e in record { batch = m.batch; at = m.at; made = within m.batch said (said ++ more) (λ r k. has_left said more r k) m.made }
-
-of_cut : (seat : ℕ) (batch : Writes) (committed : Bool) (r : Refusal) (said : List Received) → TriesStop seat batch committed r said → batch ≢ [] → committed ≡ true → HasCommitted batch said
-of_cut seat batch flag r said t some is =
-    let s = t.stops in
-    subst (HasCommitted batch) (sym t.said_is) (within batch t.part (t.vain ++ t.part) (λ r' k. has_right t.vain t.part r' k) (cut_commits batch t.part s.job some s.talks (sym s.told ∙ is)))
-
-of_change_stop : (seat : ℕ) (batches : List Writes) (n first : ℕ) (done : List Bool) (r : Refusal) (said : List Received) → ((i : ℕ) (b : Writes) → slice_get batches i ≡ Some b → b ≢ []) → ChangesStop seat batches n first done r said → Tells batches n first done said
-of_change_stop seat batches n first done r said some c j e =
-    subst (HasMade batches n first j) (sym c.said_is) (elim c.done_is [
-      | inl is ↦ by_last (last_flag c.flags c.committed j (subst (λ (fs : List Bool). slice_index_or fs j false ≡ true) is e))
-      | inr is ↦ tells_on batches n first c.flags c.before c.part (by_flag batches n first c.flags c.before c.tried) j (subst (λ (fs : List Bool). slice_index_or fs j false ≡ true) is.0 e)
-    ])
-  where
-    by_last : (slice_index_or c.flags j false ≡ true) ⊎ ((j ≡ length c.flags) × (c.committed ≡ true)) → HasMade batches n first j (c.before ++ c.part)
-    by_last (inl h) = tells_on batches n first c.flags c.before c.part (by_flag batches n first c.flags c.before c.tried) j h
-    by_last (inr h) = record {
-      batch = c.batch;
-      at = subst (λ k. slice_get batches (first + k * n) ≡ Some c.batch) (sym h.0) c.next;
-      made = within c.batch c.part (c.before ++ c.part) (λ r' k. has_right c.before c.part r' k) (of_cut seat c.batch c.committed r c.part c.stops (some _ c.batch c.next) h.1);
-    }
-
-of_part : (seat : ℕ) (observers : List ObserverOf) (batches : List Writes) (n first : ℕ) (done : List Bool) (r : Refusal) (said : List Received) → ((i : ℕ) (b : Writes) → slice_get batches i ≡ Some b → b ≢ []) → IsPart seat observers batches n first done r said → Tells batches n first done said
-of_part seat observers batches n first done r said some (in_changes said' s) = of_change_stop seat batches n first done r said some s
-of_part seat observers batches n first done r all some (in_passes said part t d) = tells_on batches n first done said part (by_flag batches n first done said t.tried)
-
-of_work : (seat : ℕ) (observers : List ObserverOf) (batches : List Writes) (n first : ℕ) (done : List Bool) (r : Option Refusal) (said : List Received) → ((i : ℕ) (b : Writes) → slice_get batches i ≡ Some b → b ≢ []) → IsWork seat observers batches n first done r said → Tells batches n first done said
-of_work seat observers batches n first done None said some w = λ j e. subst (HasMade batches n first j) (sym w.said_is) (tells_on batches n first done w.changes w.passes (by_flag batches n first done w.changes w.tried.tried) j e)
-of_work seat observers batches n first done (Some r) said some w = of_part seat observers batches n first done r said some w
+use Rattle.pb_worker.specs.Gains.{Gains}
+use Rattle.pb_worker.specs.Work.{IsWork, IsLastDrain, WorkedOn, is_done, undone_below}
+use Rattle.pb_worker.specs.Agrees.{Agree}
+use Rattle.pb_worker.specs.Laws.{IsMade, IsFinished, ChangesAreMade}
+use Rattle.pb_worker.proofs.Joined.{numbered}
+use Rattle.pb_worker.proofs.Committing.{has_left, has_right, has_which, commit_of}
+use Rattle.pb_worker.proofs.RunCommits.{HasBegunRun, of_last_drain}
+use Rattle.pb_worker.proofs.Starts.{AreStarts, IsStart, of_work}
+use Rattle.pb_worker.proofs.SeatEntries.{in_journal, in_list, same_begin, begun_once, begun_by_seat}
 
 -- ---- unfinished changes
 
@@ -155,45 +56,199 @@ flag_of done n i unfinished is lt not = by (done i) refl
     by true d = refl
     by false d = absurd (not (subst (λ us. Has us i) (sym is) (has_undone done n i lt d)))
 
--- ---- all together
+undone_in : (done : ℕ → Bool) (k i : ℕ) → (Has (undone_below done k) i → done i ≡ false) → (b : Bool) → done k ≡ b → Has (cond b (undone_below done k) (undone_below done k ++ k ∷ [])) i → done i ≡ false
+undone_in done k i more true d h = more h
+undone_in done k i more false d h = elim (has_which (undone_below done k) (k ∷ []) i h) [ inl g ↦ more g | inr g ↦ elim g [ inl same ↦ ap done (sym same) ∙ d | inr none ↦ absurd none ] ]
+
+not_done : (done : ℕ → Bool) (n i : ℕ) → Has (undone_below done n) i → done i ≡ false
+not_done done zero i h = absurd h
+not_done done (suc k) i h = undone_in done k i (not_done done k i) (done k) refl h
+
+neither : (b : Bool) → b ≡ true → b ≡ false → ⊥
+neither b p q = cc
+
+-- ---- seats
+
+-- the lists with which seats come
+listed : (from : ℕ) (journal : List Entry) (seats : List SeatOf) → AreSeatsFrom from journal seats → (k : ℕ) (d : SeatOf) → k < length seats → (slice_index_or seats k d).received ≡ entries_of (from + k) journal
+listed from j [] a k d lt = absurd (omega (arith, lt))
+listed from j (s ∷ ss) a zero d lt = let same : from ≡ from + 0 = omega arith in a.1 ∙ ap (λ m. entries_of m j) same
+listed from j (s ∷ ss) a (suc k) d lt =
+    let next : (from + 1) + k ≡ from + suc k = omega arith in
+    listed (from + 1) j ss a.2 k d (omega arith) ∙ ap (λ m. entries_of m j) next
+
+-- the first, or that of a worker
+main_or_worker : (k : ℕ) → (k ≡ 0) ⊎ ((w : ℕ) × (k ≡ w + 1))
+main_or_worker zero = inl refl
+main_or_worker (suc w) = inr (w, omega arith)
 
 same_some : (a b : Writes) → Some a ≡ Some b → a ≡ b
 same_some a b e = cc
 
-pub changes_are_made : ChangesAreMade
-changes_are_made observers batches olds news refusals unfinished before table are some w agree i batch at not =
-    let n = length olds - 1 in
-    let wk = i % n in
-    let j = i / n in
-    let d : SeatOf = record { number = 0; received = [] } in
-    let below : i < length batches = slice_get_within batches i batch at in
-    let flag : slice_index_or (w.done wk) j false ≡ true = flag_of (is_done w.done n) (length batches) i unfinished w.unfinished_are below not in
-    let some_n : 0 < n = omega (arith, some) in
-    let small : wk < n = mod-lt i some_n in
-    let lt : wk + 1 < length olds = omega (arith, small, some) in
-    let g = w.workers wk d lt in
-    let old = slice_index_or olds (wk + 1) d in
-    let new = slice_index_or news (wk + 1) d in
-    let h = of_work (wk + 1) observers batches n wk (w.done wk) (slice_index_or refusals (wk + 1) None) g.said w.filled g.are_such j flag in
-    let place : wk + j * n ≡ i = mod-add-div' i n in
-    let same : h.batch ≡ batch = same_some h.batch batch (sym h.at ∙ ap (slice_get batches) place ∙ at) in
-    let told = agree.told (wk + 1) d (subst (λ k. wk + 1 < k) (sym w.seats) lt) in
-    let number : new.number ≡ wk + 1 = g.number ∙ (numbered 0 before.journal olds are.each (wk + 1) d lt ∙ omega arith) in
-    let into : Within g.said new.received = λ r k. subst (λ l. Has l r) (sym g.received) (has_right old.received g.said r k) in
-    let entered : (r : Received) → Has g.said r → IsEntry table.journal (wk + 1) r.step r.answer = λ r k. subst (λ m. IsEntry table.journal m r.step r.answer) number (in_journal new.number table.journal r (subst (λ l. Has l r) (sym told.same) (into r k))) in
-    let c = h.made in (
-      record { start = c.start.0; commit = c.commit.0; seat = wk + 1; work = works.Script; writes = h.batch },
-      record {
-        there = record {
-          begun = entered _ c.begun;
-          what = declared.Script h.batch;
-          declared = entered _ c.declared;
-          writes_are = refl;
-          stamped = entered _ c.stamped;
-          committed = entered _ c.committed;
-        };
-        seat = refl;
-        work = refl;
-        writes = same;
-      },
-    )
+no_script : (o : ℕ) (row : Row) → works.Script ≡ works.Run o row → ⊥
+no_script o row e = cc
+
+abbrev ts : ℕ → Ts
+ts s = record { 0 = s }
+
+same_ts : (s t : Ts) → s.0 ≡ t.0 → s ≡ t
+same_ts s t e = ap ts e
+
+-- ---- all together
+
+module _ (observers : List ObserverOf) (batches : List Writes) (olds news : List SeatOf) (refusals : List (Option Refusal)) (unfinished : List ℕ) (before table : SharedOf) (empty : before.journal ≡ []) (are : AreSeats before olds) (some : 1 < length olds) (w : WorkedOn observers batches olds news refusals unfinished) (legal : IsLegalTable table) (agree : Agree table news) (tells : TellsTransactions table.journal table.state) where
+  abbrev n : ℕ
+  n = length olds - 1
+
+  abbrev nobody : SeatOf
+  nobody = record { number = 0; received = [] }
+
+  abbrev list_of : ℕ → List Received
+  list_of seat = entries_of seat table.journal
+
+  some_n : 0 < n
+  some_n = omega (arith, some)
+
+  -- what a seat gained are its entries of the journal
+  gained : (P : List Received → Type 0) (k : ℕ) → k < length olds → Gains P (slice_index_or olds k nobody) (slice_index_or news k nobody) → P (list_of k)
+  gained P k lt g =
+      let old = slice_index_or olds k nobody in
+      let new = slice_index_or news k nobody in
+      let plain : 0 + k ≡ k = omega arith in
+      let number : new.number ≡ k = g.number ∙ (numbered 0 before.journal olds are.each k nobody lt ∙ plain) in
+      let bare : old.received ≡ [] = listed 0 before.journal olds are.each k nobody lt ∙ ap (λ j. entries_of (0 + k) j) empty in
+      let its = agree.told k nobody (subst (λ m. k < m) (sym w.seats) lt) in
+      let whole : list_of k ≡ g.said = ap list_of (sym number) ∙ its.same ∙ g.received ∙ ap (λ l. l ++ g.said) bare in
+      subst P (sym whole) g.are_such
+
+  -- the starts of a worker's changes
+  starts : (wk : ℕ) → (start : ℕ → Ts) × (wk < n → AreStarts batches n wk (w.done wk) (list_of (wk + 1)) start)
+  starts wk = elim (cases_lt wk n) [
+    | inl lt ↦
+        let within : wk + 1 < length olds = omega (arith, lt, some) in
+        let refusal = slice_index_or refusals (wk + 1) None in
+        let work : IsWork (wk + 1) observers batches n wk (w.done wk) refusal (list_of (wk + 1)) = gained (IsWork (wk + 1) observers batches n wk (w.done wk) refusal) (wk + 1) within (w.workers wk nobody within) in
+        let s = of_work batches n wk w.filled (wk + 1) observers (w.done wk) refusal (list_of (wk + 1)) work in
+        (s.0, λ less. s.1)
+    | inr ge ↦ (λ j. ts 0, λ less. absurd (omega (arith, less, ge)))
+  ]
+
+  abbrev start_of : ℕ → Ts
+  start_of i = (starts (i % n)).0 (i / n)
+
+  small : (i : ℕ) → i % n < n
+  small i = mod-lt i some_n
+
+  flagged : (i : ℕ) (batch : Writes) → IsFinished batches unfinished i batch → slice_index_or (w.done (i % n)) (i / n) false ≡ true
+  flagged i batch f = flag_of (is_done w.done n) (length batches) i unfinished w.unfinished_are (slice_get_within batches i batch f.there) f.not_named
+
+  made : (i : ℕ) (batch : Writes) → IsFinished batches unfinished i batch → (m : Member) × IsMade table n i batch m × (m.start ≡ (start_of i).0)
+  made i batch f =
+      let wk = i % n in
+      let h = ((starts wk).1 (small i)).made (i / n) (flagged i batch f) in
+      let place : wk + i / n * n ≡ i = mod-add-div' i n in
+      let same : h.batch ≡ batch = same_some h.batch batch (sym h.at ∙ ap (slice_get batches) place ∙ f.there) in
+      let entered : (r : Received) → Has (list_of (wk + 1)) r → IsEntry table.journal (wk + 1) r.step r.answer = λ r k. in_journal (wk + 1) table.journal r k in
+      let c = h.made in (
+        record { start = (start_of i).0; commit = c.commit.0; seat = wk + 1; work = works.Script; writes = h.batch },
+        record {
+          there = record {
+            begun = entered _ c.begun;
+            what = declared.Script h.batch;
+            declared = entered _ c.declared;
+            writes_are = refl;
+            stamped = entered _ c.stamped;
+            committed = entered _ c.committed;
+          };
+          seat = refl;
+          work = refl;
+          writes = same;
+        },
+        refl,
+      )
+
+  -- ---- no others
+
+  not_run : (k : ℕ) (u : Ts) → IsEntry table.journal k (Begin works.Script) (At u) → HasBegunRun (list_of k) u → ⊥
+  not_run k u h r =
+      let run : IsEntry table.journal k (Begin (works.Run r.o r.row)) (At u) = in_journal k table.journal (told (Begin (works.Run r.o r.row)) (At u)) r.begun in
+      no_script r.o r.row (same_begin table.journal table.state tells u k k works.Script (works.Run r.o r.row) h run).1
+
+  abbrev IsChange : Ts → Type 0
+  IsChange u = (i : ℕ) × (batch : Writes) × IsFinished batches unfinished i batch × (u.0 ≡ (start_of i).0)
+
+  of_start : (wk : ℕ) (u : Ts) → wk < n → IsStart (w.done wk) (starts wk).0 u → IsChange u
+  of_start wk u lt s =
+      let i = wk + s.j * n in
+      let turned : i ≡ s.j * n + wk = add_comm wk (s.j * n) in
+      let worker : i % n ≡ wk = ap (λ k. k % n) turned ∙ mod-mul-add s.j n wk lt in
+      let place : i / n ≡ s.j = ap (λ k. k / n) turned ∙ div-mul-add s.j n wk lt in
+      let h = ((starts wk).1 lt).made s.j s.flag in
+      let flag : is_done w.done n i ≡ slice_index_or (w.done wk) s.j false = λ k. slice_index_or (w.done (worker k)) (place k) false in
+      let start : start_of i ≡ (starts wk).0 s.j = λ k. (starts (worker k)).0 (place k) in (
+        i,
+        h.batch,
+        record { there = h.at; not_named = λ has. neither (is_done w.done n i) (flag ∙ s.flag) (not_done (is_done w.done n) (length batches) i (subst (λ us. Has us i) w.unfinished_are has)) },
+        ap (λ (t : Ts). t.0) (s.same ∙ sym start),
+      )
+
+  by_seat : (k : ℕ) (u : Ts) → k < length olds → IsEntry table.journal k (Begin works.Script) (At u) → Has (list_of k) (commit_of u) → (k ≡ 0) ⊎ ((wk : ℕ) × (k ≡ wk + 1)) → IsChange u
+  by_seat k u lt h c (inl is) =
+      let first : 0 < length olds = omega (arith, some) in
+      let refusal = slice_index_or refusals 0 None in
+      let passes = of_last_drain 0 observers refusal (list_of 0) (gained (IsLastDrain 0 observers refusal) 0 first (w.main nobody)) in
+      absurd (not_run 0 u (subst (λ m. IsEntry table.journal m (Begin works.Script) (At u)) is h) (passes.each u (subst (λ m. Has (list_of m) (commit_of u)) is c)))
+  by_seat k u lt h c (inr p) =
+      let wk = p.0 in
+      let is = p.1 in
+      let low : wk < n = omega (arith, lt, is, some) in
+      elim (((starts wk).1 low).only u (subst (λ m. Has (list_of m) (commit_of u)) is c)) [
+        | inl s ↦ of_start wk u low s
+        | inr r ↦ absurd (not_run (wk + 1) u (subst (λ m. IsEntry table.journal m (Begin works.Script) (At u)) is h) r)
+      ]
+
+  only : (m : Member) → InHistory table.state.observers table.journal m → m.work ≡ works.Script → IsChange (ts m.start)
+  only m h script =
+      let u : Ts = ts m.start in
+      let begun : IsEntry table.journal m.seat (Begin works.Script) (At u) = subst (λ v. IsEntry table.journal m.seat (Begin v) (At u)) script h.begun in
+      let below : m.seat < table.state.seats = begun_by_seat (opening table.state.observers table.state.seats table.opened) table.journal table.state m.seat works.Script u legal.run begun in
+      let seats : table.state.seats ≡ length olds = sym agree.counted ∙ w.seats in
+      by_seat m.seat u (subst (λ k. m.seat < k) seats below) begun (in_list m.seat table.journal (commit_of u) h.committed) (main_or_worker m.seat)
+
+  -- ---- each once
+
+  begins_at : (i : ℕ) (batch : Writes) → IsFinished batches unfinished i batch → IsEntry table.journal (i % n + 1) (Begin works.Script) (At (start_of i))
+  begins_at i batch f = in_journal (i % n + 1) table.journal (told (Begin works.Script) (At (start_of i))) (((starts (i % n)).1 (small i)).made (i / n) (flagged i batch f)).made.begun
+
+  -- not two of one worker
+  not_both : (wk i j : ℕ) → wk < n → i < j → slice_index_or (w.done wk) i false ≡ true → slice_index_or (w.done wk) j false ≡ true → (starts wk).0 i ≡ (starts wk).0 j → ⊥
+  not_both wk i j lt less e f same = begun_once table.journal table.state tells ((starts wk).0 i) (wk + 1) works.Script (((starts wk).1 lt).apart i j less e f same)
+
+  one_place : (wk i j : ℕ) → wk < n → slice_index_or (w.done wk) i false ≡ true → slice_index_or (w.done wk) j false ≡ true → (starts wk).0 i ≡ (starts wk).0 j → i ≡ j
+  one_place wk i j lt e f same = elim (cases_order i j) [
+    | inl is ↦ is
+    | inr o ↦ elim o [ inl less ↦ absurd (not_both wk i j lt less e f same) | inr more ↦ absurd (not_both wk j i lt more f e (sym same)) ]
+  ]
+
+  once : (i j : ℕ) (a b : Writes) → IsFinished batches unfinished i a → IsFinished batches unfinished j b → (start_of i).0 ≡ (start_of j).0 → i ≡ j
+  once i j a b f g e =
+      let same : start_of i ≡ start_of j = same_ts (start_of i) (start_of j) e in
+      let first : IsEntry table.journal (i % n + 1) (Begin works.Script) (At (start_of j)) = subst (λ s. IsEntry table.journal (i % n + 1) (Begin works.Script) (At s)) same (begins_at i a f) in
+      let seats = (same_begin table.journal table.state tells (start_of j) (i % n + 1) (j % n + 1) works.Script works.Script first (begins_at j b g)).0 in
+      let worker : j % n ≡ i % n = omega (arith, seats) in
+      let its : (starts (j % n)).0 (j / n) ≡ (starts (i % n)).0 (j / n) = ap (λ k. (starts k).0 (j / n)) worker in
+      let place : i / n ≡ j / n = one_place (i % n) (i / n) (j / n) (small i) (flagged i a f) (subst (λ k. slice_index_or (w.done k) (j / n) false ≡ true) worker (flagged j b g)) (same ∙ its) in
+      let left : i % n + i / n * n ≡ i = mod-add-div' i n in
+      let right : j % n + j / n * n ≡ j = mod-add-div' j n in
+      let joined : j % n + j / n * n ≡ i % n + i / n * n = λ k. worker k + sym place k * n in
+      sym left ∙ sym joined ∙ right
+
+pub changes_are_made : TransactionsAreTold → ChangesAreMade
+changes_are_made tell observers batches olds news refusals unfinished before table empty are some w legal agree =
+    let tells = tell table.state.observers table.state.seats table.opened table.journal table.state legal in
+    record {
+      start = λ i. (start_of observers batches olds news refusals unfinished before table empty are some w legal agree tells i).0;
+      made = made observers batches olds news refusals unfinished before table empty are some w legal agree tells;
+      only = only observers batches olds news refusals unfinished before table empty are some w legal agree tells;
+      once = once observers batches olds news refusals unfinished before table empty are some w legal agree tells;
+    }

@@ -1,5 +1,5 @@
 -- Passes over the marked cells on their way.
-use Rattle.std.proofs.Common.{◌≡◌, ◌≢◌, ℕ, ◌+◌, ◌<◌, Bool, true, false, List, [], ◌∷◌, ◌++◌, Option, Some, None, refl, sym, ap, subst, ◌∙◌, inl, inr}
+use Rattle.std.proofs.Common.{◌≡◌, ◌≢◌, ℕ, ◌+◌, ◌<◌, Bool, true, false, List, [], ◌∷◌, ◌++◌, Option, Some, None, refl, sym, ap, subst, ◌∙◌, inl}
 use Rattle.std.specs.Prelude.{is_some}
 use Rattle.pb_base.specs.declared.cell.Cell.{Cell}
 use Rattle.pb_base.specs.declared.refusal.Refusal.{Refusal}
@@ -16,7 +16,7 @@ use Rattle.pb_worker.specs.Gains.{Gains, Told, MayRefuse}
 use Rattle.pb_worker.specs.Passes.{IsRun, IsOfOther, AreRuns, before_all, runs as ran_then, passes_by, AreAllRuns, IsWalk, at_beginning, found as found_then, IsPass, IsPassThat, ArePasses, at_first, one_more, IsDrain}
 use Rattle.pb_worker.specs.Stops.{RunStops, RunsStop, PassStops, at_a_mark, in_runs, DrainStops}
 use Rattle.pb_worker.proofs.Refusing.{stops_at}
-use Rattle.pb_worker.proofs.Gaining.{append_assoc, append_nil, gains_none, gains_more, gains_on, gains_as, renumbered}
+use Rattle.pb_worker.proofs.Gaining.{append_assoc, gains_none, gains_more, gains_on, gains_as, renumbered}
 
 -- ---- the observers of a cell, one after another
 
@@ -87,9 +87,6 @@ module _ (observers : List ObserverOf) (count : ℕ) (a b : SeatOf) (before : Ga
   pub last_pass : count < MAX_PASSES → (c : SeatOf) (marked : Bool) → marked ≡ false → Gains (IsPassThat observers marked) b c → Gains (IsDrain observers) a c
   last_pass few c true is h = cc
   last_pass few c false is h = gains_on a b c before h (λ said more p r. record { count = count; before = said; passes = p; rest = more; said_is = refl; ends = inl (few, r) })
-
-  pub passes_end : count ≡ MAX_PASSES → Gains (IsDrain observers) a b
-  passes_end all = gains_as a b (λ said p. record { count = count; before = said; passes = p; rest = []; said_is = sym (append_nil said); ends = inr (all, refl) }) before
 
   pub passes_stop : count < MAX_PASSES → (c : SeatOf) (r : Refusal) → Gains (PassStops b.number observers r) b c → Gains (DrainStops a.number observers r) a c
   passes_stop few c r h = gains_on a b c before (renumbered (λ m. PassStops m observers r) b c b.number a.number before.number h) (λ said more p s. record { count = count; few = few; before = said; passes = p; part = more; stops = s; said_is = refl })

@@ -1,11 +1,12 @@
 -- What the workers' lists and the journal tell together.
-use Rattle.std.specs.Prelude.{◌≡◌, ◌≢◌, ℕ, ◌+◌, ◌-◌, ◌%◌, ◌<◌, List, [], length, Option, Some, slice_get}
+use Rattle.std.specs.Prelude.{◌≡◌, ℕ, ◌+◌, ◌-◌, ◌%◌, ◌<◌, List, [], length, Option, Some, slice_get}
 use Rattle.pb_base.specs.declared.refusal.Refusal.{Refusal}
 use Rattle.pb_base.specs.Batch.{Writes}
 use Rattle.pb_steps.specs.declared.step.Work.TheVariants as works
 use Rattle.pb_steps.specs.Observers.{ObserverOf}
 use Rattle.pb_history.specs.History.{Has, Member, InHistory}
 use Rattle.pb_core.specs.Calls.{SharedOf, SeatOf, AreSeats}
+use Rattle.pb_core.specs.Histories.{IsLegalTable}
 use Rattle.pb_worker.specs.Agrees.{Agree}
 use Rattle.pb_worker.specs.Work.{WorkedOn}
 
@@ -16,12 +17,22 @@ pub record IsMade (table : SharedOf) (n i : ℕ) (batch : Writes) (m : Member) :
   pub work : m.work ≡ works.Script
   pub writes : m.writes ≡ batch
 
--- each change that isn't unfinished is committed
-abbrev pub TellsChanges : SharedOf → ℕ → List Writes → List ℕ → Type 0
-TellsChanges table n batches unfinished = (i : ℕ) (batch : Writes) → slice_get batches i ≡ Some batch → (Has unfinished i → ⊥) → (m : Member) × IsMade table n i batch m
+-- the change of this number has this batch, and isn't named as unfinished
+pub record IsFinished (batches : List Writes) (unfinished : List ℕ) (i : ℕ) (batch : Writes) : Type 0 where
+  pub there : slice_get batches i ≡ Some batch
+  pub not_named : Has unfinished i → ⊥
 
--- where the seats agree with the journal after a run of workers
+-- The committed script transactions of the journal are the changes that aren't named as unfinished, each once: of each change
+-- there is the start of the transaction that made it.
+pub record MakesChanges (table : SharedOf) (n : ℕ) (batches : List Writes) (unfinished : List ℕ) : Type 0 where
+  pub start : ℕ → ℕ
+  pub made : (i : ℕ) (batch : Writes) → IsFinished batches unfinished i batch → (m : Member) × IsMade table n i batch m × (m.start ≡ start i)
+  pub only : (m : Member) → InHistory table.state.observers table.journal m → m.work ≡ works.Script → (i : ℕ) × (batch : Writes) × IsFinished batches unfinished i batch × (m.start ≡ start i)
+  pub once : (i j : ℕ) (a b : Writes) → IsFinished batches unfinished i a → IsFinished batches unfinished j b → start i ≡ start j → i ≡ j
+
+-- where the seats agree with the journal after a run of workers on a fresh table
 abbrev pub ChangesAreMade : Type 0
 ChangesAreMade =
     (observers : List ObserverOf) (batches : List Writes) (olds news : List SeatOf) (refusals : List (Option Refusal)) (unfinished : List ℕ) (before table : SharedOf)
-    → AreSeats before olds → 1 < length olds → WorkedOn observers batches olds news refusals unfinished → Agree table news → TellsChanges table (length olds - 1) batches unfinished
+    → before.journal ≡ [] → AreSeats before olds → 1 < length olds → WorkedOn observers batches olds news refusals unfinished → IsLegalTable table → Agree table news
+    → MakesChanges table (length olds - 1) batches unfinished

@@ -4,4 +4,5 @@ pub mod Tries
 pub mod Stops
 pub mod Work
 pub mod Agrees
+pub mod Cursors
 pub mod Laws

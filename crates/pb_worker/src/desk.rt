@@ -1,36 +1,57 @@
 //! Calls of a table under its lock.
-ghost use Rattle.std.specs.Prelude.{◌≡◌, IfOk, IfErr, OnErr};
+ghost use Rattle.std.specs.Prelude.{◌≡◌, Err, Some, None, IfOk, IfErr, OnErr};
+ghost use Rattle.pb_base.specs.Reasons.{refusal_by};
+ghost use Rattle.pb_base.specs.declared.refusal.Reason.TheVariants as reasons;
 ghost use Rattle.pb_steps.specs.Answers.{CanAnswer};
+ghost use Rattle.pb_core.specs.Calls.{SharedOf, Calls, call_reason};
+ghost use Rattle.pb_core.specs.Histories.{IsLegalTable};
 ghost use Rattle.pb_worker.specs.Gains.{Told, MayRefuse};
 
 use crate::gate::Gate;
-use crate::named::{Held, Opening};
 use pb_base::Refusal;
 use pb_core::{Answer, Seat, Shared, Step};
 use pb_store::Tablet;
 use std::sync::{Mutex, Wait};
 
+/// A shared table, by itself or within what keeps more of it, that takes calls.
+pub trait Callee {
+    ghost table: { Self → SharedOf };
+
+    /// Takes one step for a seat, as [`Shared::call`] does: its journal was legal, and refused, it leaves table and seat as
+    /// they were.
+    fn take(&mut self, seat: &mut Seat, step: &Step) -> Result<Answer, Refusal>
+        ensures legal { IsLegalTable (table self.old) }
+        ensures refused { (r : _) → call_reason (table self.old) seat.old.number step.now ≡ Some r
+            → result ≡ Err (refusal_by r) }
+        ensures allowed { call_reason (table self.old) seat.old.number step.now ≡ None
+            → IfErr result (λ r. r ≡ refusal_by reasons.NoMemory) }
+        ensures taken { IfOk result (λ a. Calls (table self.old) seat.old step.now a (table self.new) seat.new) }
+        ensures can { IfOk result (λ a. CanAnswer step.now a) }
+        ensures table { OnErr result (table self.new ≡ table self.old) }
+        ensures seat { OnErr result (seat.new ≡ seat.old) };
+}
+
+impl<T: Tablet> Callee for Shared<T> {
+    ghost table = { λ s. s };
+
+    fn take(&mut self, seat: &mut Seat, step: &Step) -> Result<Answer, Refusal> {
+        // For the proof: the journal is legal.
+        let _ = self.journal();
+        self.call(seat, step)
+    }
+}
+
 /// Where seats take their turns at a table.
 pub struct Desk;
 
 // One call, and why it is refused.
-pub(crate) fn call<T: Tablet>(
-    shared: &mut Shared<T>,
-    seat: &mut Seat,
-    step: &Step,
-) -> Result<Answer, Refusal>
+fn call<C: Callee>(shared: &mut C, seat: &mut Seat, step: &Step) -> Result<Answer, Refusal>
     ensures told { IfOk result (λ a. Told seat.old step.now a seat.new) }
     ensures can { IfOk result (λ a. CanAnswer step.now a) }
     ensures refused { IfErr result (λ r. MayRefuse seat.old.number step.now r) }
     ensures seat { OnErr result (seat.new ≡ seat.old) }
-    ensures observers { shared.new.state.observers ≡ shared.old.state.observers }
-    ensures seats { shared.new.state.seats ≡ shared.old.state.seats }
-    ensures opened { shared.new.opened ≡ shared.old.opened }
-    ensures limit { shared.new.limit ≡ shared.old.limit }
 {
-    // For the proof: the journal is legal.
-    let _ = shared.journal();
-    shared.call(seat, step)
+    shared.take(seat, step)
 }
 
 impl Desk {
@@ -39,9 +60,12 @@ impl Desk {
     ghost use Rattle.pb_worker.specs.Gains.{Told, MayRefuse};
 
     /// Takes the lock, makes one call and gives the lock back. Refused, it leaves the seat as it was.
-    pub fn call<R: Wait, T: Tablet, J: Opening>(
+    ///
+    /// Under the lock stands a [`Shared`] itself, as in `Mutex::new(shared)`, or what keeps more of one, as under the lock of
+    /// [`crate::run_workers`]: workers make this very call.
+    pub fn call<R: Wait, C: Callee>(
         rt: &R,
-        shared: &Mutex<Held<T, J>>,
+        shared: &Mutex<C>,
         seat: &mut Seat,
         step: &Step,
     ) -> Result<Answer, Refusal>
@@ -50,14 +74,14 @@ impl Desk {
         ensures refused { IfErr result (λ r. MayRefuse seat.old.number step.now r) }
         ensures seat { OnErr result (seat.new ≡ seat.old) }
     {
-        shared.lock(rt).call(seat, step)
+        call(&mut *shared.lock(rt), seat, step)
     }
 }
 
 // The gate, and then the call.
-pub(crate) fn ask<R: Wait, T: Tablet, J: Opening, G: Gate>(
+pub(crate) fn ask<R: Wait, C: Callee, G: Gate>(
     rt: &R,
-    shared: &Mutex<Held<T, J>>,
+    shared: &Mutex<C>,
     seat: &mut Seat,
     step: &Step,
     gate: &G,

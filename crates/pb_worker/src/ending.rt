@@ -1,13 +1,18 @@
 //! The end of a run: each seat's list is the journal's part.
-ghost use Rattle.std.specs.Prelude.{◌≡◌, ◌<◌, ◌≤◌, ◌↔◌, ◌==◌, IsTrue, IsOk, IfOk, IfErr, length};
+ghost use Rattle.std.specs.Prelude.{◌≡◌, ◌≢◌, ◌<◌, ◌≤◌, ◌+◌, ◌↔◌, ◌==◌, IsTrue, IsOk, IfOk, IfErr, IfSome, Some, None, length, slice_get};
 ghost use Rattle.std.specs.List.{list_any};
-ghost use Rattle.pb_history.specs.Places.{entries_of};
-ghost use Rattle.pb_worker.specs.Agrees.{Agree, IsTold, EachTold, no_twice};
+ghost use Rattle.pb_base.specs.declared.limits.TheConstants.{MAX_SEATS};
+ghost use Rattle.pb_worker.specs.Agrees.{Agree, EachTold, no_twice};
+ghost use Rattle.pb_worker.specs.Cursors.{told_by, AreBelow, ArePlaces, IsAt, HasNone, AreAtEnd};
 
 use crate::same::is_same;
+use pb_base::MAX_SEATS;
 use pb_core::{Entry, Received, Seat, Shared};
 use pb_store::Tablet;
 use std::marker::Model;
+
+// As many as there are seats at most.
+const SEATS: usize = MAX_SEATS as usize;
 
 /// A table whose seats agree with its journal. It ends by `close` alone.
 pub struct Ended<T: Tablet> {
@@ -27,33 +32,12 @@ impl<T: Tablet> Model for Ended<T> {
     ghost invariant = { λ e. Agree e.shared e.seats.items };
 }
 
-// The list is the seat's entries in the journal.
-fn is_list_of(seat: u32, journal: &[Entry], list: &[Received]) -> bool
-    ensures { IsTrue result ↔ (entries_of seat journal.now ≡ list.now) }
-{
-    let mut next = 0;
-    for e in journal {
-        if e.seat == seat {
-            if next >= list.len() || !is_same(e, &list[next]) {
-                return false;
-            }
-            next += 1;
-        }
-    }
-    next == list.len()
-}
-
-fn is_told(count: u32, journal: &[Entry], seat: &Seat) -> bool
-    ensures { IsTrue result ↔ IsTold count journal.now seat.now }
-{
-    seat.number() < count && is_list_of(seat.number(), journal, seat.received())
-}
-
-fn are_told(count: u32, journal: &[Entry], seats: &[Seat]) -> bool
-    ensures { IsTrue result ↔ EachTold count journal.now seats.now }
+// Each seat is one of so many.
+fn are_seated(count: u32, seats: &[Seat]) -> bool
+    ensures { IsTrue result ↔ AreBelow count seats.now }
 {
     for seat in seats {
-        if !is_told(count, journal, seat) {
+        if seat.number() >= count {
             return false;
         }
     }
@@ -78,6 +62,80 @@ fn are_distinct(seats: &[Seat]) -> bool
     true
 }
 
+// By its number, the place of each seat among these.
+fn places_of(seats: &[Seat]) -> [usize; SEATS]
+    requires few { AreBelow MAX_SEATS seats.now }
+    requires distinct { IsTrue (no_twice seats.now) }
+    ensures { ArePlaces result seats.now }
+{
+    let mut places = [0; SEATS];
+    for k in 0..seats.len() {
+        places[seats[k].number() as usize] = k;
+    }
+    places
+}
+
+// Where the seat of this number stands, if it is among these.
+fn place_of(number: u32, seats: &[Seat], places: &[usize; SEATS]) -> Option<usize>
+    requires { ArePlaces places.now seats.now }
+    ensures some { IfSome result (IsAt seats.now number) }
+    ensures none { result ≡ None → HasNone seats.now number }
+{
+    if number >= MAX_SEATS {
+        return None;
+    }
+    let place = places[number as usize];
+    if place < seats.len() && seats[place].number() == number {
+        return Some(place);
+    }
+    None
+}
+
+// Behind this item of the list, if there is one and it is what the entry tells.
+fn behind(e: &Entry, list: &[Received], next: usize) -> Option<usize>
+    ensures some { IfSome result (λ n. (slice_get list.now next ≡ Some (told_by e.now)) × (n ≡ next + 1)) }
+    ensures none { result ≡ None → slice_get list.now next ≢ Some (told_by e.now) }
+{
+    if next < list.len() && is_same(e, &list[next]) {
+        return Some(next + 1);
+    }
+    None
+}
+
+// Each cursor has come to the end of its seat's list.
+fn are_at_end(seats: &[Seat], cursors: &[usize; SEATS]) -> bool
+    requires { length seats.now ≤ MAX_SEATS }
+    ensures { IsTrue result ↔ AreAtEnd seats.now cursors.now }
+{
+    for k in 0..seats.len() {
+        if cursors[k] != seats[k].received().len() {
+            return false;
+        }
+    }
+    true
+}
+
+// Each list is the journal's entries of its seat. One pass along the journal has a cursor in each list.
+fn are_told(count: u32, journal: &[Entry], seats: &[Seat]) -> bool
+    requires few { count ≤ MAX_SEATS }
+    requires counted { length seats.now ≡ count }
+    requires seated { AreBelow count seats.now }
+    requires distinct { IsTrue (no_twice seats.now) }
+    ensures { IsTrue result ↔ EachTold count journal.now seats.now }
+{
+    let places = places_of(seats);
+    let mut cursors = [0; SEATS];
+    for e in journal {
+        if let Some(place) = place_of(e.seat, seats, &places) {
+            match behind(e, seats[place].received(), cursors[place]) {
+                Some(next) => cursors[place] = next,
+                None => return false,
+            }
+        }
+    }
+    are_at_end(seats, &cursors)
+}
+
 fn do_agree<T: Tablet>(shared: &Shared<T>, seats: &[Seat]) -> bool
     ensures { IsTrue result ↔ Agree shared.now seats.now }
 {
@@ -85,11 +143,15 @@ fn do_agree<T: Tablet>(shared: &Shared<T>, seats: &[Seat]) -> bool
     if seats.len() != count as usize {
         return false;
     }
-    are_told(count, shared.journal(), seats) && are_distinct(seats)
+    if !are_seated(count, seats) || !are_distinct(seats) {
+        return false;
+    }
+    are_told(count, shared.journal(), seats)
 }
 
 /// Accepts where each seat of the table is there once, in whatever order, and each list is the journal's entries of that seat.
-/// Else it hands both back: refusal 48. It takes no memory.
+/// Else it hands both back: refusal 48. It takes no memory, and looks at each entry of the journal once, however many seats
+/// there are.
 pub fn finish<T: Tablet>(
     shared: Shared<T>,
     seats: Vec<Seat>,

@@ -4,13 +4,11 @@ ghost use Rattle.pb_worker.specs.Gains.{Gains, IsWant};
 ghost use Rattle.pb_worker.specs.Passes.{HasColumn, IsJobOn, IsComputed, IsRun, ReachesOn};
 ghost use Rattle.pb_worker.specs.Stops.{RunStops};
 
-use crate::desk::ask;
+use crate::desk::{Callee, ask};
 use crate::gate::Gate;
-use crate::named::{Held, Opening};
 use pb_base::{Cell, NoMemory, ObserverNo, Reason, Refusal};
 use pb_core::{Observer, Seat};
 use pb_notify::{Need, ObserverJob, jobs_talk};
-use pb_store::Tablet;
 use std::alloc::Global;
 use std::sync::{Arc, Mutex, Wait};
 
@@ -49,10 +47,10 @@ fn compute_on(alloc: Global, job: &mut ObserverJob) -> Result<(), Refusal>
 }
 
 /// Runs an observer on a cell of its column, from its first step to its end.
-pub(crate) fn run_one<R: Wait, T: Tablet, J: Opening, G: Gate>(
+pub(crate) fn run_one<R: Wait, C: Callee, G: Gate>(
     rt: &R,
     alloc: Global,
-    shared: &Mutex<Held<T, J>>,
+    shared: &Mutex<C>,
     seat: &mut Seat,
     observers: &[Observer],
     number: ObserverNo,

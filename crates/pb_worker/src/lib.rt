@@ -14,7 +14,7 @@ mod spares;
 mod tries;
 mod worker;
 
-pub use desk::Desk;
+pub use desk::{Callee, Desk};
 pub use ending::{Ended, finish};
 pub use gate::{Gate, Open};
 pub use laws::changes_are_made;

@@ -1,9 +1,7 @@
 //! A table under a lock of which it is known which observers it has.
-ghost use Rattle.std.specs.Prelude.{◌≡◌, IfOk, IfErr, OnErr};
-ghost use Rattle.pb_steps.specs.Answers.{CanAnswer};
-ghost use Rattle.pb_worker.specs.Gains.{Told, MayRefuse};
+ghost use Rattle.std.specs.Prelude.{◌≡◌};
 
-use crate::desk::call;
+use crate::desk::Callee;
 use pb_base::Refusal;
 use pb_core::{Answer, Seat, Shared, Step};
 use pb_store::Tablet;
@@ -46,14 +44,11 @@ pub struct Held<T: Tablet, J: Opening> {
     ghost limit_is: { shared.limit ≡ J.limit },
 }
 
-impl<T: Tablet, J: Opening> Held<T, J> {
-    pub(crate) fn call(&mut self, seat: &mut Seat, step: &Step) -> Result<Answer, Refusal>
-        ensures told { IfOk result (λ a. Told seat.old step.now a seat.new) }
-        ensures can { IfOk result (λ a. CanAnswer step.now a) }
-        ensures refused { IfErr result (λ r. MayRefuse seat.old.number step.now r) }
-        ensures seat { OnErr result (seat.new ≡ seat.old) }
-    {
-        call(&mut self.shared, seat, step)
+impl<T: Tablet, J: Opening> Callee for Held<T, J> {
+    ghost table = { λ h. h.shared };
+
+    fn take(&mut self, seat: &mut Seat, step: &Step) -> Result<Answer, Refusal> {
+        self.shared.take(seat, step)
     }
 }
 

@@ -5,13 +5,11 @@ ghost use Rattle.pb_worker.specs.Gains.{Gains};
 ghost use Rattle.pb_worker.specs.Passes.{HasColumn, IsOfOther, AreAllRuns, IsPassThat, IsDrain};
 ghost use Rattle.pb_worker.specs.Stops.{RunsStop, PassStops, DrainStops};
 
-use crate::desk::ask;
+use crate::desk::{Callee, ask};
 use crate::gate::Gate;
 use crate::job::run_one;
-use crate::named::{Held, Opening};
 use pb_base::{Cell, ObserverNo, Refusal};
-use pb_core::{Answer, Observer, Seat, Shared, Step};
-use pb_store::Tablet;
+use pb_core::{Answer, Observer, Seat, Step};
 use std::alloc::Global;
 use std::sync::{Mutex, Wait};
 
@@ -34,10 +32,10 @@ fn is_observer_of(observers: &[Observer], place: usize, cell: &Cell) -> bool
 }
 
 // Runs each observer of the cell's column, in file order.
-fn run_all<R: Wait, T: Tablet, J: Opening, G: Gate>(
+fn run_all<R: Wait, C: Callee, G: Gate>(
     rt: &R,
     alloc: Global,
-    shared: &Mutex<Held<T, J>>,
+    shared: &Mutex<C>,
     seat: &mut Seat,
     observers: &[Observer],
     cell: &Cell,
@@ -59,10 +57,10 @@ fn run_all<R: Wait, T: Tablet, J: Opening, G: Gate>(
 }
 
 // One pass, from mark to mark up to where there is none, and whether it found one.
-fn pass<R: Wait, T: Tablet, J: Opening, G: Gate>(
+fn pass<R: Wait, C: Callee, G: Gate>(
     rt: &R,
     alloc: Global,
-    shared: &Mutex<Held<T, J>>,
+    shared: &Mutex<C>,
     seat: &mut Seat,
     observers: &[Observer],
     gate: &G,
@@ -84,10 +82,10 @@ fn pass<R: Wait, T: Tablet, J: Opening, G: Gate>(
 }
 
 /// Makes passes until one finds no mark, or so many as may be made.
-pub(crate) fn drain<R: Wait, T: Tablet, J: Opening, G: Gate>(
+pub(crate) fn drain<R: Wait, C: Callee, G: Gate>(
     rt: &R,
     alloc: Global,
-    shared: &Mutex<Held<T, J>>,
+    shared: &Mutex<C>,
     seat: &mut Seat,
     observers: &[Observer],
     gate: &G,

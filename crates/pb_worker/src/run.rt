@@ -4,6 +4,7 @@ ghost use Rattle.pb_base.specs.declared.limits.TheConstants.{MAX_SEATS, MAX_OBSE
 ghost use Rattle.pb_core.specs.Calls.{AreSeats};
 ghost use Rattle.pb_worker.specs.Work.{Works, EachWorks, AllWork, HasRooms, WorkedOn, AreFilled, KeepsOpening, seats_in, refusals_in, flags_in, is_done, undone_below};
 
+use crate::desk::Callee;
 use crate::gate::Gate;
 use crate::named::{Held, Opening, hold, released};
 use crate::worker::{Worker, drain_last, work};
@@ -159,15 +160,10 @@ fn note_unfinished(workers: &[Worker], changes: usize, unfinished: &mut Vec<usiz
 }
 
 // Each worker in a thread of its own, or on a thread that there is.
-pub(crate) fn in_threads<
-    R: Threads + Wait + Sync,
-    T: Tablet + Send,
-    J: Opening + Send + Sync,
-    G: Gate,
->(
+pub(crate) fn in_threads<R: Threads + Wait + Sync, C: Callee + Send, G: Gate>(
     rt: &R,
     alloc: Global,
-    shared: &Mutex<Held<T, J>>,
+    shared: &Mutex<C>,
     workers: &mut [Worker],
     observers: &[Observer],
     batches: &[Batch],
@@ -197,10 +193,10 @@ pub(crate) fn in_threads<
 }
 
 // The workers, and after them the last passes of the main seat.
-fn run_all<R: Threads + Wait + Sync, T: Tablet + Send, J: Opening + Send + Sync, G: Gate>(
+fn run_all<R: Threads + Wait + Sync, C: Callee + Send, G: Gate>(
     rt: &R,
     alloc: Global,
-    shared: &Mutex<Held<T, J>>,
+    shared: &Mutex<C>,
     workers: &mut [Worker],
     observers: &[Observer],
     batches: &[Batch],

@@ -6,12 +6,10 @@ ghost use Rattle.pb_worker.specs.Gains.{Gains, IsWant};
 ghost use Rattle.pb_worker.specs.Tries.{IsTry, AreTries, AreAllTried, committed_in, is_commit};
 ghost use Rattle.pb_worker.specs.Stops.{TryStops, TriesStop, ChangesStop};
 
-use crate::desk::ask;
+use crate::desk::{Callee, ask};
 use crate::gate::Gate;
-use crate::named::{Held, Opening};
 use pb_base::{Batch, NoMemory, Reason, Refusal};
 use pb_core::{Answer, Seat};
-use pb_store::Tablet;
 use pb_txn::{ChangeJob, Outcome, changes_talk, plans_talk};
 use std::alloc::Global;
 use std::sync::{Mutex, Wait};
@@ -63,10 +61,10 @@ fn has_committed(job: &ChangeJob) -> bool
 
 // One try of a change, and whether it committed. It may be left with its transaction committed, and some of its cells still
 // locked.
-fn try_once<R: Wait, T: Tablet, J: Opening, G: Gate>(
+fn try_once<R: Wait, C: Callee, G: Gate>(
     rt: &R,
     alloc: Global,
-    shared: &Mutex<Held<T, J>>,
+    shared: &Mutex<C>,
     seat: &mut Seat,
     batch: &Batch,
     gate: &G,
@@ -103,10 +101,10 @@ fn try_once<R: Wait, T: Tablet, J: Opening, G: Gate>(
 }
 
 // Tries a change until it commits, or so often as may be, and tells whether it committed.
-fn try_all<R: Wait, T: Tablet, J: Opening, G: Gate>(
+fn try_all<R: Wait, C: Callee, G: Gate>(
     rt: &R,
     alloc: Global,
-    shared: &Mutex<Held<T, J>>,
+    shared: &Mutex<C>,
     seat: &mut Seat,
     batch: &Batch,
     gate: &G,
@@ -145,10 +143,10 @@ fn note(done: &mut Vec<bool>, committed: bool)
 
 /// Tries the changes of one of so many workers, its first at this number and each later one so many further. It notes of
 /// each whether it committed.
-pub(crate) fn change_all<R: Wait, T: Tablet, J: Opening, G: Gate>(
+pub(crate) fn change_all<R: Wait, C: Callee, G: Gate>(
     rt: &R,
     alloc: Global,
-    shared: &Mutex<Held<T, J>>,
+    shared: &Mutex<C>,
     seat: &mut Seat,
     batches: &[Batch],
     count: usize,

@@ -4,13 +4,12 @@ ghost use Rattle.pb_base.specs.declared.limits.TheConstants.{MAX_SEATS, MAX_OBSE
 ghost use Rattle.pb_worker.specs.Gains.{Gains};
 ghost use Rattle.pb_worker.specs.Work.{IsWhole, IsPart, Works, Drains};
 
+use crate::desk::Callee;
 use crate::gate::Gate;
-use crate::named::{Held, Opening};
 use crate::passes::drain;
 use crate::tries::change_all;
 use pb_base::{Batch, Refusal};
 use pb_core::{Observer, Seat};
-use pb_store::Tablet;
 use std::alloc::Global;
 use std::sync::{Mutex, Wait};
 
@@ -23,10 +22,10 @@ pub(crate) struct Worker {
 }
 
 // Its changes, and then passes.
-fn work_on<R: Wait, T: Tablet, J: Opening, G: Gate>(
+fn work_on<R: Wait, C: Callee, G: Gate>(
     rt: &R,
     alloc: Global,
-    shared: &Mutex<Held<T, J>>,
+    shared: &Mutex<C>,
     seat: &mut Seat,
     observers: &[Observer],
     batches: &[Batch],
@@ -49,10 +48,10 @@ fn work_on<R: Wait, T: Tablet, J: Opening, G: Gate>(
 }
 
 /// All that one of so many workers does, its first change at this number.
-pub(crate) fn work<R: Wait, T: Tablet, J: Opening, G: Gate>(
+pub(crate) fn work<R: Wait, C: Callee, G: Gate>(
     rt: &R,
     alloc: Global,
-    shared: &Mutex<Held<T, J>>,
+    shared: &Mutex<C>,
     worker: &mut Worker,
     observers: &[Observer],
     batches: &[Batch],
@@ -82,10 +81,10 @@ pub(crate) fn work<R: Wait, T: Tablet, J: Opening, G: Gate>(
 }
 
 /// The last passes, of the main seat.
-pub(crate) fn drain_last<R: Wait, T: Tablet, J: Opening, G: Gate>(
+pub(crate) fn drain_last<R: Wait, C: Callee, G: Gate>(
     rt: &R,
     alloc: Global,
-    shared: &Mutex<Held<T, J>>,
+    shared: &Mutex<C>,
     main: &mut Worker,
     observers: &[Observer],
     gate: &G,

@@ -17,8 +17,8 @@ pub returns-in-Some-Asks-clause-ok : goal.returns-in-Some-Asks-clause-ok
 returns-in-Some-Asks-clause-ok c =
     let i = c.self.inside in
     let goes = subst (λ m. GoesAt i.place m c.move_on.new.place) c.in-Some-Asks.field-0-is c.in-Some-Asks.ensures in
-    let waits : c.waiting-place.result ≡ waiting c.move_on.new.place c.in-Some-Asks.ask = search rules in
-    let k : RunOf = record { observer = i.observer; judged = i.accepted.value; row = i.row; column = i.column; locked = i.locked; place = c.waiting-place.result } in
+    let waits : c.wait_at.new.place ≡ waiting c.move_on.new.place c.in-Some-Asks.ask = search rules in
+    let k : RunOf = record { observer = i.observer; judged = i.accepted.value; row = i.row; column = i.column; locked = i.locked; place = c.wait_at.new.place } in
     subst (λ (j : RunOf). Computes j k) c.self.view_is
     (record {
       comes = subst (ComesFrom i.observer i.accepted.value (Data i.row i.column) i.place) (sym waits) (asks_comes i.observer i.accepted.value (Data i.row i.column) i.place c.move_on.new.place c.in-Some-Asks.ask goes);
@@ -29,5 +29,5 @@ pub invariant_of-self-in-Some-Asks : goal.invariant_of-self-in-Some-Asks
 invariant_of-self-in-Some-Asks c =
     let i = c.self.inside in
     let goes = subst (λ m. GoesAt i.place m c.move_on.new.place) c.in-Some-Asks.field-0-is c.in-Some-Asks.ensures in
-    let waits : c.waiting-place.result ≡ waiting c.move_on.new.place c.in-Some-Asks.ask = search rules in
-    record { stored = c.step_at-asked.ensures; at = subst (AtPlace i.locked) (sym waits) (asks_at i.locked i.place c.move_on.new.place c.in-Some-Asks.ask c.self.invariant.at goes) }
+    let waits : c.wait_at.new.place ≡ waiting c.move_on.new.place c.in-Some-Asks.ask = search rules in
+    record { stored = c.keep_step.ensures; at = subst (AtPlace i.locked) (sym waits) (asks_at i.locked i.place c.move_on.new.place c.in-Some-Asks.ask c.self.invariant.at goes) }

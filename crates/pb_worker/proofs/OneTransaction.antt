@@ -1,0 +1,174 @@
+-- A conversation of a change or of a run begins its transaction first, and commits no other.
+use Rattle.std.proofs.Common.{◌≡◌, ℕ, inl, inr, Bool, List, [], ◌∷◌, ◌++◌, Option, Some, None, refl, sym, ap, subst}
+use Rattle.pb_base.specs.declared.cell.Cell.{Cell}
+use Rattle.pb_base.specs.declared.cell.Cell.TheVariants.{Data, Ack}
+use Rattle.pb_base.specs.declared.content.Revision.{Revision}
+use Rattle.pb_base.specs.declared.names.Row.{Row}
+use Rattle.pb_base.specs.declared.names.Ts.{Ts}
+use Rattle.pb_base.specs.Batch.{Writes}
+use Rattle.pb_isa.specs.Programs.{JudgedOf}
+use Rattle.pb_isa.specs.Meaning.{Talk}
+use Rattle.pb_vm.specs.Finished.{Meant}
+use Rattle.pb_steps.specs.declared.seen.Seen.{Seen}
+use Rattle.pb_steps.specs.declared.step.Work.{Work}
+use Rattle.pb_steps.specs.declared.step.Work.TheVariants as works
+use Rattle.pb_steps.specs.declared.step.Declared.{Declared}
+use Rattle.pb_steps.specs.declared.step.Step.{Step}
+use Rattle.pb_steps.specs.declared.step.Step.TheVariants.{Begin, Declare, Prewrite, Stamp, CommitPrimary, CommitSecondary, Settle, Clear, Sweep}
+use Rattle.pb_steps.specs.declared.step.Answer.{Answer}
+use Rattle.pb_steps.specs.declared.step.Answer.TheVariants.{At, Done, Conflict, Committed, Lost, Locked, Waits}
+use Rattle.pb_steps.specs.Declarations.{old_at}
+use Rattle.pb_steps.specs.Read.{read_step}
+use Rattle.pb_steps.specs.Reads.{asked_cell}
+use Rattle.pb_history.specs.declared.entry.Received.{Received}
+use Rattle.pb_history.specs.History.{Has}
+use Rattle.pb_txn.specs.declared.place.Outcome.{Outcome}
+use Rattle.pb_txn.specs.Talks.{told}
+use Rattle.pb_txn.specs.Forms.{IsWhole, AreCleared, committed, conflicted_first, conflicted_later, lost, prewrites, secondaries}
+use Rattle.pb_txn.specs.Changes.{IsWholeChange}
+use Rattle.pb_notify.specs.declared.need.JobEnd.{JobEnd}
+use Rattle.pb_notify.specs.Forms.{IsRound, cleared, settled, AreRounds, at_first, one_more, IsLooked, its_begin, IsObserved, IsAcknowledged, IsRecalled, AreAsked, dirty, asked, LooksFrom, at_cell, at_acknowledgment, at_old, at_ask}
+use Rattle.pb_notify.specs.Forms.{IsRunTalk, absent, clean, ran, conflicted, lost as lost_run, blocked}
+use Rattle.pb_worker.proofs.Committing.{has_which}
+
+-- ---- lists
+
+-- it commits no other transaction than that of this start
+abbrev IsNoOther : Ts → Step → Type 0
+IsNoOther s step = (u : Ts) → step ≡ CommitPrimary u → u ≡ s
+
+-- none of them does
+pub record CommitNoOther (s : Ts) (said : List Received) : Type 0 where
+  pub each : (r : Received) → Has said r → IsNoOther s r.step
+
+nothing : (s : Ts) → CommitNoOther s []
+nothing s = record { each = λ r h. absurd h }
+
+and_first : (s : Ts) (r : Received) (rs : List Received) → IsNoOther s r.step → CommitNoOther s rs → CommitNoOther s (r ∷ rs)
+and_first s r rs one more = record { each = by }
+  where
+    by : (q : Received) → Has (r ∷ rs) q → IsNoOther s q.step
+    by q (inl e) = subst (λ (z : Received). IsNoOther s z.step) e one
+    by q (inr h) = more.each q h
+
+only_one : (s : Ts) (r : Received) → IsNoOther s r.step → CommitNoOther s (r ∷ [])
+only_one s r one = and_first s r [] one (nothing s)
+
+both : (s : Ts) (xs ys : List Received) → CommitNoOther s xs → CommitNoOther s ys → CommitNoOther s (xs ++ ys)
+both s xs ys h k = record { each = λ r has. elim (has_which xs ys r has) [ inl a ↦ h.each r a | inr b ↦ k.each r b ] }
+
+-- ---- a whole conversation of a transaction
+
+prewrites_none : (s : Ts) (xs : List Cell) → CommitNoOther s (prewrites s xs)
+prewrites_none s [] = nothing s
+prewrites_none s (x ∷ xs) = and_first s (told (Prewrite s x) Done) (prewrites s xs) (λ u e. cc) (prewrites_none s xs)
+
+secondaries_none : (s : Ts) (xs : List Cell) → CommitNoOther s (secondaries s xs)
+secondaries_none s [] = nothing s
+secondaries_none s (x ∷ xs) = and_first s (told (CommitSecondary s x) Done) (secondaries s xs) (λ u e. cc) (secondaries_none s xs)
+
+clear_none : (s : Ts) (x : Cell) → IsNoOther s (Clear x)
+clear_none s x u e = cc
+
+cleared_none : (s : Ts) (xs : List Cell) (rs : List Received) → AreCleared xs rs → CommitNoOther s rs
+cleared_none s [] rs c = subst (CommitNoOther s) (sym c) (nothing s)
+cleared_none s (x ∷ xs) [] c = absurd c
+cleared_none s (x ∷ xs) (r ∷ rs) c = and_first s r rs (subst (IsNoOther s) (sym c.0) (clear_none s x)) (cleared_none s xs rs c.2)
+
+whole_own : (s : Ts) (what : Declared) (cells : List Cell) (said : List Received) (o : Outcome) → IsWhole s what cells said o → CommitNoOther s said
+whole_own s what cells said o (committed x others c) =
+    let after = and_first s (told (Stamp s) (At c)) (told (CommitPrimary s) Committed ∷ secondaries s others) (λ u e. cc) (and_first s (told (CommitPrimary s) Committed) (secondaries s others) (λ u e. cc) (secondaries_none s others)) in
+    and_first s (told (Declare s what) Done) (prewrites s (x ∷ others) ++ told (Stamp s) (At c) ∷ told (CommitPrimary s) Committed ∷ secondaries s others) (λ u e. cc) (both s (prewrites s (x ∷ others)) (told (Stamp s) (At c) ∷ told (CommitPrimary s) Committed ∷ secondaries s others) (prewrites_none s (x ∷ others)) after)
+whole_own s what cells said o (conflicted_first x after) =
+    and_first s (told (Declare s what) Done) (told (Prewrite s x) Conflict ∷ []) (λ u e. cc) (only_one s (told (Prewrite s x) Conflict) (λ u e. cc))
+whole_own s what cells said o (conflicted_later x y before after a cs can c) =
+    let later = and_first s (told (Prewrite s y) Conflict) (told (Settle x) a ∷ cs) (λ u e. cc) (and_first s (told (Settle x) a) cs (λ u e. cc) (cleared_none s before cs c)) in
+    and_first s (told (Declare s what) Done) (prewrites s (x ∷ before) ++ told (Prewrite s y) Conflict ∷ told (Settle x) a ∷ cs) (λ u e. cc) (both s (prewrites s (x ∷ before)) (told (Prewrite s y) Conflict ∷ told (Settle x) a ∷ cs) (prewrites_none s (x ∷ before)) later)
+whole_own s what cells said o (lost x others c cs k) =
+    let after = and_first s (told (Stamp s) (At c)) (told (CommitPrimary s) Lost ∷ cs) (λ u e. cc) (and_first s (told (CommitPrimary s) Lost) cs (λ u e. cc) (cleared_none s others cs k)) in
+    and_first s (told (Declare s what) Done) (prewrites s (x ∷ others) ++ told (Stamp s) (At c) ∷ told (CommitPrimary s) Lost ∷ cs) (λ u e. cc) (both s (prewrites s (x ∷ others)) (told (Stamp s) (At c) ∷ told (CommitPrimary s) Lost ∷ cs) (prewrites_none s (x ∷ others)) after)
+
+-- ---- with its begin
+
+-- it begins a transaction for this work first, with this start, and commits no other
+pub record IsOneTransaction (work : Work) (s : Ts) (said : List Received) : Type 0 where
+  pub rest : List Received
+  pub said_is : said ≡ told (Begin work) (At s) ∷ rest
+  pub own : CommitNoOther s said
+
+goes_on : (work : Work) (s : Ts) (said more : List Received) → IsOneTransaction work s said → CommitNoOther s more → IsOneTransaction work s (said ++ more)
+goes_on work s said more i m = record { rest = i.rest ++ more; said_is = ap (λ l. l ++ more) i.said_is; own = both s said more i.own m }
+
+begins : (work : Work) (s : Ts) → IsOneTransaction work s (told (Begin work) (At s) ∷ [])
+begins work s = record { rest = []; said_is = refl; own = only_one s (told (Begin work) (At s)) (λ u e. cc) }
+
+pub of_change : (batch : Writes) (start : Ts) (said : List Received) (o : Outcome) → IsWholeChange batch start said o → IsOneTransaction works.Script start said
+of_change batch start said o w = record {
+  rest = w.rest;
+  said_is = w.said_is;
+  own = subst (CommitNoOther start) (sym w.said_is) (and_first start (told (Begin works.Script) (At start)) w.rest (λ u e. cc) (whole_own start _ _ w.rest o w.whole));
+}
+
+-- ---- a run
+
+read_none : (s t : Ts) (x : Cell) (at : Option Ts) → IsNoOther s (read_step t x at)
+read_none s t x None u e = cc
+read_none s t x (Some v) u e = cc
+
+round_none : (s : Ts) (x : Cell) (at : Option Ts) (round : List Received) → IsRound s x at round → CommitNoOther s round
+round_none s x at round (cleared t primary a can goes) =
+    and_first s (told (read_step s x at) (Locked t primary)) (told (Clear x) a ∷ []) (read_none s s x at) (only_one s (told (Clear x) a) (λ u e. cc))
+round_none s x at round (settled t primary a b can also) =
+    and_first s (told (read_step s x at) (Locked t primary)) (told (Clear x) Waits ∷ told (Settle primary) a ∷ told (Clear x) b ∷ []) (read_none s s x at)
+    (and_first s (told (Clear x) Waits) (told (Settle primary) a ∷ told (Clear x) b ∷ []) (λ u e. cc) (and_first s (told (Settle primary) a) (told (Clear x) b ∷ []) (λ u e. cc) (only_one s (told (Clear x) b) (λ u e. cc))))
+
+module _ (o : ℕ) (row : Row) (column : ℕ) (s : Ts) where
+  abbrev IsOfRun : List Received → Type 0
+  IsOfRun said = IsOneTransaction (works.Run o row) s said
+
+  with_rounds : (x : Cell) (at : Option Ts) (m : ℕ) (base : List Received) (n : ℕ) (said : List Received) → AreRounds s x at m base n said → IsOfRun base → IsOfRun said
+  with_rounds x at m base n said at_first i = i
+  with_rounds x at m base k all (one_more n said round before r) i = goes_on (works.Run o row) s said round (with_rounds x at m base n said before i) (round_none s x at round r)
+
+  with_look : (x : Cell) (at : Option Ts) (m : ℕ) (base : List Received) (n : ℕ) (said : List Received) (a : Answer) → IsLooked s x at m base n said a → IsOfRun base → IsOfRun said
+  with_look x at m base n said a l i =
+      let last = only_one s (told (read_step s x at) a) (read_none s s x at) in
+      subst (IsOneTransaction (works.Run o row) s) (sym l.said_is) (goes_on (works.Run o row) s l.before (told (read_step s x at) a ∷ []) (with_rounds x at m base n l.before l.rounds i) last)
+
+  observed : (found : Revision) (n : ℕ) (said : List Received) → IsObserved o row column s found n said → IsOfRun said
+  observed found n said b = with_look (Data row column) None 0 (its_begin o row s) n said b.answer b.look (begins (works.Run o row) s)
+
+  acknowledged : (seen : Seen) (n : ℕ) (said : List Received) → IsAcknowledged o row column s seen n said → IsOfRun said
+  acknowledged seen n said k = with_look (Ack o row column) None k.met k.base n said k.answer k.look (observed seen.version k.met k.base k.observed)
+
+  recalled : (seen : Seen) (t : Option Ts) (n : ℕ) (said : List Received) → IsRecalled o row column s seen t n said → IsOfRun said
+  recalled seen None n said k = acknowledged seen n said k.1
+  recalled seen (Some t) n said k = with_look (Data row column) (Some t) k.0 k.1 n said k.2 k.4 (acknowledged seen k.0 k.1 k.3)
+
+  after_asks : (second : Bool) (seen : Seen) (talk : Talk) (n : ℕ) (said : List Received) → AreAsked o second row column s seen talk n said → IsOfRun said
+  after_asks second seen talk m all (dirty n said r newer) = recalled seen (old_at second seen.acknowledged) n said r
+  after_asks second seen whole n all (asked talk m base q a k said before look) = with_look (asked_cell q) None m base k said a look (after_asks second seen talk m base before)
+
+  before_look : (second : Bool) (x : Cell) (at : Option Ts) (m : ℕ) (base : List Received) → LooksFrom o second row column s x at m base → IsOfRun base
+  before_look second x at m base at_cell = begins (works.Run o row) s
+  before_look second x at m base (at_acknowledgment found n said b) = observed found n said b
+  before_look second x at m base (at_old seen t n said k newer old) = acknowledged seen n said k
+  before_look second x at m base (at_ask seen talk n said q k) = after_asks second seen talk n said k
+
+  swept : (x : Cell) (w : Answer) → CommitNoOther s (told (Sweep x) w ∷ [])
+  swept x w = only_one s (told (Sweep x) w) (λ u e. cc)
+
+pub of_run : (o : ℕ) (judged : JudgedOf) (row : Row) (column : ℕ) (said : List Received) (end : JobEnd) (run : Option Meant) → IsRunTalk o judged row column said end run → (s : Ts) × IsOneTransaction (works.Run o row) s said
+of_run o judged row column all end run (absent s n said a w look none few can) =
+    (s, goes_on (works.Run o row) s said (told (Sweep (Data row column)) w ∷ []) (with_look o row column s (Data row column) None 0 (its_begin o row s) n said a look (begins (works.Run o row) s)) (swept o row column s (Data row column) w))
+of_run o judged row column all end run (clean s seen n said w k newer few can) =
+    (s, goes_on (works.Run o row) s said (told (Sweep (Data row column)) w ∷ []) (acknowledged o row column s seen n said k) (swept o row column s (Data row column) w))
+of_run o judged row column all end run (ran s seen talk n said plan f c w k few is whole can) =
+    let before = goes_on (works.Run o row) s said plan (after_asks o row column s _ seen talk n said k) (whole_own s _ _ plan _ whole) in
+    (s, goes_on (works.Run o row) s (said ++ plan) (told (Sweep (Data row column)) w ∷ []) before (swept o row column s (Data row column) w))
+of_run o judged row column all end run (conflicted s seen talk n said plan f k few is whole) =
+    (s, goes_on (works.Run o row) s said plan (after_asks o row column s _ seen talk n said k) (whole_own s _ _ plan _ whole))
+of_run o judged row column all end run (lost_run s seen talk n said plan f k few is whole) =
+    (s, goes_on (works.Run o row) s said plan (after_asks o row column s _ seen talk n said k) (whole_own s _ _ plan _ whole))
+of_run o judged row column all end run (blocked s x at m base n said t primary from rounds last) =
+    (s, goes_on (works.Run o row) s said (told (read_step s x at) (Locked t primary) ∷ []) (with_rounds o row column s x at m base n said rounds (before_look o row column s _ x at m base from)) (only_one s (told (read_step s x at) (Locked t primary)) (read_none s s x at)))

@@ -1,0 +1,123 @@
+-- What is committed in passes are runs of observers that began there.
+use Rattle.std.proofs.Common.{◌≡◌, ◌≢◌, ℕ, inl, inr, List, [], ◌∷◌, ◌++◌, Option, Some, None, refl, sym, ap, subst, ◌∙◌}
+use Rattle.pb_base.specs.declared.cell.Cell.{Cell}
+use Rattle.pb_base.specs.declared.names.Row.{Row}
+use Rattle.pb_base.specs.declared.names.Ts.{Ts}
+use Rattle.pb_base.specs.declared.refusal.Refusal.{Refusal}
+use Rattle.pb_base.specs.Cell.{row_of}
+use Rattle.pb_steps.specs.declared.step.Work.TheVariants as works
+use Rattle.pb_steps.specs.declared.step.Step.TheVariants.{Begin, CommitPrimary, NextMark}
+use Rattle.pb_steps.specs.declared.step.Answer.TheVariants.{At, Marked, NoMark}
+use Rattle.pb_steps.specs.Observers.{ObserverOf}
+use Rattle.pb_history.specs.declared.entry.Received.{Received}
+use Rattle.pb_history.specs.History.{Has}
+use Rattle.pb_txn.specs.Talks.{told}
+use Rattle.pb_worker.specs.Passes.{IsRun, AreRuns, before_all, runs, passes_by, IsWalk, at_beginning, found, IsPass, ArePasses, at_first, one_more, IsDrain}
+use Rattle.pb_worker.specs.Stops.{RunStops, RunsStop, PassStops, at_a_mark, in_runs, DrainStops}
+use Rattle.pb_worker.specs.Work.{IsLastDrain}
+use Rattle.pb_worker.proofs.Gaining.{append_nil}
+use Rattle.pb_worker.proofs.Committing.{has_left, has_right, has_which, commit_of}
+use Rattle.pb_worker.proofs.OneTransaction.{IsOneTransaction, of_run}
+
+-- a run of an observer began with this start
+pub record HasBegunRun (said : List Received) (u : Ts) : Type 0 where
+  pub o : ℕ
+  pub row : Row
+  pub begun : Has said (told (Begin (works.Run o row)) (At u))
+
+-- each transaction that was committed is a run's, and began there
+pub record CommitRuns (said : List Received) : Type 0 where
+  pub each : (u : Ts) → Has said (commit_of u) → HasBegunRun said u
+
+-- ---- lists
+
+pub run_left : (xs ys : List Received) (u : Ts) → HasBegunRun xs u → HasBegunRun (xs ++ ys) u
+run_left xs ys u b = record { o = b.o; row = b.row; begun = has_left xs ys _ b.begun }
+
+pub run_right : (xs ys : List Received) (u : Ts) → HasBegunRun ys u → HasBegunRun (xs ++ ys) u
+run_right xs ys u b = record { o = b.o; row = b.row; begun = has_right xs ys _ b.begun }
+
+nothing : CommitRuns []
+nothing = record { each = λ u h. absurd h }
+
+both : (xs ys : List Received) → CommitRuns xs → CommitRuns ys → CommitRuns (xs ++ ys)
+both xs ys h k = record { each = λ u has. elim (has_which xs ys (commit_of u) has) [ inl a ↦ run_left xs ys u (h.each u a) | inr b ↦ run_right xs ys u (k.each u b) ] }
+
+and_first : (r : Received) (rs : List Received) → ((u : Ts) → r.step ≢ CommitPrimary u) → CommitRuns rs → CommitRuns (r ∷ rs)
+and_first r rs other more = record { each = by }
+  where
+    by : (u : Ts) → Has (r ∷ rs) (commit_of u) → HasBegunRun (r ∷ rs) u
+    by u (inl e) = absurd (other u (ap (λ (z : Received). z.step) e))
+    by u (inr h) = run_right (r ∷ []) rs u (more.each u h)
+
+-- ---- a run, whole or cut off
+
+heads : (x y : Received) (xs ys : List Received) → x ∷ xs ≡ y ∷ ys → x ≡ y
+heads x y xs ys e = cc
+
+of_beginning : (o : ℕ) (row : Row) (s : Ts) (said rest : List Received) → IsOneTransaction (works.Run o row) s (said ++ rest) → CommitRuns said
+of_beginning o row s [] rest i = nothing
+of_beginning o row s (r ∷ said) rest i = record {
+  each = λ u h.
+      let own : u ≡ s = i.own.each (commit_of u) (has_left (r ∷ said) rest (commit_of u) h) u refl in
+      let first : r ≡ told (Begin (works.Run o row)) (At s) = heads r (told (Begin (works.Run o row)) (At s)) (said ++ rest) i.rest i.said_is in
+      record { o = o; row = row; begun = inl (first ∙ ap (λ (z : Ts). told (Begin (works.Run o row)) (At z)) (sym own)) };
+}
+
+run_commits : (observers : List ObserverOf) (n : ℕ) (x : Cell) (said : List Received) → IsRun observers n x said → CommitRuns said
+run_commits observers n x said r =
+    let k = of_run n r.o.program (row_of x) r.o.column said r.end r.run r.talk in
+    of_beginning n (row_of x) k.0 said [] (subst (IsOneTransaction (works.Run n (row_of x)) k.0) (sym (append_nil said)) k.1)
+
+run_stopped : (seat : ℕ) (observers : List ObserverOf) (i : ℕ) (x : Cell) (r : Refusal) (said : List Received) → RunStops seat observers i x r said → CommitRuns said
+run_stopped seat observers i x r said s =
+    let b = s.begins in
+    let k = of_run i s.o.program (row_of x) s.o.column (said ++ b.0) b.1 b.2 b.3 in
+    of_beginning i (row_of x) k.0 said b.0 k.1
+
+-- ---- passes
+
+of_runs : (observers : List ObserverOf) (x : Cell) (n : ℕ) (said : List Received) → AreRuns observers x n said → CommitRuns said
+of_runs observers x n said before_all = nothing
+of_runs observers x m all (runs n said more h r) = both said more (of_runs observers x n said h) (run_commits observers n x more r)
+of_runs observers x m all (passes_by n said h other) = of_runs observers x n said h
+
+with_mark : (after : Option Cell) (x : Cell) (more : List Received) → CommitRuns more → CommitRuns (told (NextMark after) (Marked x) ∷ more)
+with_mark after x more h = and_first (told (NextMark after) (Marked x)) more (λ u e. cc) h
+
+of_walk : (observers : List ObserverOf) (said : List Received) (last : Option Cell) → IsWalk observers said last → CommitRuns said
+of_walk observers said last at_beginning = nothing
+of_walk observers all last (found said after x more h r) =
+    both said (told (NextMark after) (Marked x) ∷ more) (of_walk observers said after h) (with_mark after x more (of_runs observers x _ more r))
+
+of_pass : (observers : List ObserverOf) (last : Option Cell) (said : List Received) → IsPass observers last said → CommitRuns said
+of_pass observers last said p =
+    let end = and_first (told (NextMark last) NoMark) [] (λ u e. cc) nothing in
+    subst CommitRuns (sym p.said_is) (both p.before (told (NextMark last) NoMark ∷ []) (of_walk observers p.before last p.walk) end)
+
+of_passes : (observers : List ObserverOf) (n : ℕ) (said : List Received) → ArePasses observers n said → CommitRuns said
+of_passes observers n said at_first = nothing
+of_passes observers m all (one_more n said more x h p) = both said more (of_passes observers n said h) (of_pass observers (Some x) more p)
+
+pub of_drain : (observers : List ObserverOf) (said : List Received) → IsDrain observers said → CommitRuns said
+of_drain observers said d =
+    subst CommitRuns (sym d.said_is) (both d.before d.rest (of_passes observers d.count d.before d.passes) (elim d.ends [ inl p ↦ of_pass observers None d.rest p.1 | inr p ↦ subst CommitRuns (sym p.1) nothing ]))
+
+-- ---- passes that stopped
+
+of_runs_stop : (seat : ℕ) (observers : List ObserverOf) (x : Cell) (r : Refusal) (said : List Received) → RunsStop seat observers x r said → CommitRuns said
+of_runs_stop seat observers x r said s =
+    subst CommitRuns (sym s.said_is) (both s.before s.part (of_runs observers x s.i s.before s.runs) (run_stopped seat observers s.i x r s.part s.stops))
+
+of_pass_stop : (seat : ℕ) (observers : List ObserverOf) (r : Refusal) (said : List Received) → PassStops seat observers r said → CommitRuns said
+of_pass_stop seat observers r said (at_a_mark said' after walk stop) = of_walk observers said after walk
+of_pass_stop seat observers r all (in_runs said after x part walk stops) =
+    both said (told (NextMark after) (Marked x) ∷ part) (of_walk observers said after walk) (with_mark after x part (of_runs_stop seat observers x r part stops))
+
+pub of_drain_stop : (seat : ℕ) (observers : List ObserverOf) (r : Refusal) (said : List Received) → DrainStops seat observers r said → CommitRuns said
+of_drain_stop seat observers r said s =
+    subst CommitRuns (sym s.said_is) (both s.before s.part (of_passes observers s.count s.before s.passes) (of_pass_stop seat observers r s.part s.stops))
+
+pub of_last_drain : (seat : ℕ) (observers : List ObserverOf) (r : Option Refusal) (said : List Received) → IsLastDrain seat observers r said → CommitRuns said
+of_last_drain seat observers None said d = of_drain observers said d
+of_last_drain seat observers (Some r) said d = of_drain_stop seat observers r said d

@@ -1,0 +1,157 @@
+-- A seat's list and the journal: what stands in one stands in the other, and each transaction begins once.
+use Rattle.std.proofs.Common.{◌≡◌, ℕ, ◌<◌, Bool, true, false, cond, not, nat_lt, ◌||◌, List, [], ◌∷◌, filter, Option, Some, None, inl, inr, refl, sym, ap, subst, ◌∙◌, eq-eqb}
+use Rattle.std.specs.Prelude.{◌==◌}
+use Rattle.std.specs.List.{list_any}
+use Rattle.std.proofs.lemmas.Bool.{eqb-true, ltb-true}
+use Rattle.pb_base.specs.declared.names.Ts.{Ts}
+use Rattle.pb_base.specs.declared.refusal.Reason.{Reason}
+use Rattle.pb_base.specs.declared.refusal.Reason.TheVariants.{OutOfTimestamps, NotOfSeat}
+use Rattle.pb_steps.specs.declared.step.Step.TheVariants.{Begin}
+use Rattle.pb_steps.specs.declared.step.Answer.TheVariants.{At}
+use Rattle.pb_steps.specs.declared.step.Work.{Work}
+use Rattle.pb_steps.specs.Reasons.{is_out}
+use Rattle.pb_steps.specs.State.{StateOf}
+use Rattle.pb_steps.specs.Steps.{step_reason}
+use Rattle.pb_history.specs.declared.entry.Entry.{Entry}
+use Rattle.pb_history.specs.declared.entry.Received.{Received}
+use Rattle.pb_history.specs.Places.{entries_of}
+use Rattle.pb_history.specs.History.{Has, IsEntry}
+use Rattle.pb_history.specs.Journals.{JournalLeads}
+use Rattle.pb_history.specs.TransactionsTold.{names_start, entries_naming, is_begin, BeginsOnce, TellsTransactions}
+use Rattle.pb_core.proofs.Keeps.{machine_seats}
+use Rattle.pb_txn.specs.Talks.{told}
+use Rattle.pb_worker.proofs.CutTries.{not_both, left_false}
+use Rattle.pb_worker.proofs.Starts.{HasTwice}
+
+-- ---- lists of which some items are kept
+
+has_kept : {A : Type 0} (b : Bool) (x : A) (xs : List A) (y : A) → Has xs y → Has (cond b (x ∷ xs) xs) y
+has_kept true x xs y h = inr h
+has_kept false x xs y h = h
+
+twice_kept : {A : Type 0} (b : Bool) (x : A) (xs : List A) (y : A) → HasTwice xs y → HasTwice (cond b (x ∷ xs) xs) y
+twice_kept true x xs y t = inr t
+twice_kept false x xs y t = t
+
+has_filtered : {A : Type 0} (p : A → Bool) (xs : List A) (x : A) → p x ≡ true → Has xs x → Has (filter p xs) x
+has_filtered p [] x is h = absurd h
+has_filtered p (y ∷ xs) x is (inl e) = subst (λ b. Has (cond b (y ∷ filter p xs) (filter p xs)) x) (sym (ap p e ∙ is)) (inl e)
+has_filtered p (y ∷ xs) x is (inr h) = has_kept (p y) y (filter p xs) x (has_filtered p xs x is h)
+
+twice_filtered : {A : Type 0} (p : A → Bool) (xs : List A) (x : A) → p x ≡ true → HasTwice xs x → HasTwice (filter p xs) x
+twice_filtered p [] x is t = absurd t
+twice_filtered p (y ∷ xs) x is (inl t) = subst (λ b. HasTwice (cond b (y ∷ filter p xs) (filter p xs)) x) (sym (ap p t.0 ∙ is)) (inl (t.0, has_filtered p xs x is t.1))
+twice_filtered p (y ∷ xs) x is (inr t) = twice_kept (p y) y (filter p xs) x (twice_filtered p xs x is t)
+
+twice_has : {A : Type 0} (xs : List A) (x : A) → HasTwice xs x → Has xs x
+twice_has [] x t = absurd t
+twice_has (y ∷ xs) x (inl t) = inr t.1
+twice_has (y ∷ xs) x (inr t) = inr (twice_has xs x t)
+
+-- ---- a seat's list
+
+-- what its seat received
+abbrev as_received : Entry → Received
+as_received e = record { step = e.step; answer = e.answer }
+
+-- the entry of this seat
+abbrev its_entry : ℕ → Received → Entry
+its_entry seat r = record { seat = seat; step = r.step; answer = r.answer }
+
+is_entry : (seat : ℕ) (e : Entry) (r : Received) → (e.seat == seat) ≡ true → as_received e ≡ r → e ≡ its_entry seat r
+is_entry seat e r own is = let same : e.seat ≡ seat = eqb-true e.seat seat own in λ i. record { seat = same i; step = (is i).step; answer = (is i).answer }
+
+has_entry : (b : Bool) (seat : ℕ) (e : Entry) (es : List Entry) (r : Received) → (e.seat == seat) ≡ b → Has (cond b (as_received e ∷ entries_of seat es) (entries_of seat es)) r
+    → (Has (entries_of seat es) r → Has es (its_entry seat r)) → Has (e ∷ es) (its_entry seat r)
+has_entry true seat e es r own (inl is) more = inl (is_entry seat e r own is)
+has_entry true seat e es r own (inr h) more = inr (more h)
+has_entry false seat e es r own h more = inr (more h)
+
+pub in_journal : (seat : ℕ) (j : List Entry) (r : Received) → Has (entries_of seat j) r → IsEntry j seat r.step r.answer
+in_journal seat [] r h = absurd h
+in_journal seat (e ∷ es) r h = has_entry (e.seat == seat) seat e es r refl h (in_journal seat es r)
+
+pub in_list : (seat : ℕ) (j : List Entry) (r : Received) → IsEntry j seat r.step r.answer → Has (entries_of seat j) r
+in_list seat [] r h = absurd h
+in_list seat (e ∷ es) r (inl is) =
+    let own : (e.seat == seat) ≡ true = eq-eqb e.seat seat (ap (λ (z : Entry). z.seat) is) in
+    subst (λ b. Has (cond b (as_received e ∷ entries_of seat es) (entries_of seat es)) r) (sym own) (inl (ap as_received is))
+in_list seat (e ∷ es) r (inr h) = has_kept (e.seat == seat) (as_received e) (entries_of seat es) r (in_list seat es r h)
+
+twice_entry : (b : Bool) (seat : ℕ) (e : Entry) (es : List Entry) (r : Received) → (e.seat == seat) ≡ b → HasTwice (cond b (as_received e ∷ entries_of seat es) (entries_of seat es)) r
+    → (HasTwice (entries_of seat es) r → HasTwice es (its_entry seat r)) → HasTwice (e ∷ es) (its_entry seat r)
+twice_entry true seat e es r own (inl t) more = inl (is_entry seat e r own t.0, in_journal seat es r t.1)
+twice_entry true seat e es r own (inr t) more = inr (more t)
+twice_entry false seat e es r own t more = inr (more t)
+
+twice_in_journal : (seat : ℕ) (j : List Entry) (r : Received) → HasTwice (entries_of seat j) r → HasTwice j (its_entry seat r)
+twice_in_journal seat [] r t = absurd t
+twice_in_journal seat (e ∷ es) r t = twice_entry (e.seat == seat) seat e es r refl t (twice_in_journal seat es r)
+
+-- ---- one begin
+
+right_false : (a b : Bool) → (a || b) ≡ false → b ≡ false
+right_false true b e = cc
+right_false false b e = e
+
+none_later : (es : List Entry) (e : Entry) → list_any (λ (d : Entry). is_begin d.step) es ≡ false → is_begin e.step ≡ true → Has es e → ⊥
+none_later [] e none is h = h
+none_later (d ∷ es) e none is (inl same) =
+    let any : Bool = list_any (λ (d : Entry). is_begin d.step) es in
+    not_both (is_begin d.step) (ap (λ (z : Entry). is_begin z.step) same ∙ is) (left_false (is_begin d.step) any none)
+none_later (d ∷ es) e none is (inr h) = none_later es e (right_false (is_begin d.step) (list_any (λ (d : Entry). is_begin d.step) es) none) is h
+
+one_begin : (es : List Entry) (d e : Entry) → BeginsOnce es → is_begin d.step ≡ true → is_begin e.step ≡ true → Has es d → Has es e → d ≡ e
+one_begin [] d e once p q h k = absurd h
+one_begin (x ∷ es) d e once p q (inl h) (inl k) = sym h ∙ k
+one_begin (x ∷ es) d e once p q (inl h) (inr k) = absurd (none_later es e once.1 q k)
+one_begin (x ∷ es) d e once p q (inr h) k = absurd (none_later es d once.1 p h)
+
+not_again : (es : List Entry) (e : Entry) → BeginsOnce es → is_begin e.step ≡ true → HasTwice es e → ⊥
+not_again [] e once is t = t
+not_again (x ∷ es) e once is (inl t) = none_later es e once.1 is t.1
+not_again (x ∷ es) e once is (inr t) = none_later es e once.1 is (twice_has es e t)
+
+module _ (journal : List Entry) (state : StateOf) (tells : TellsTransactions journal state) (u : Ts) where
+  abbrev begin_by : ℕ → Work → Entry
+  begin_by seat work = record { seat = seat; step = Begin work; answer = At u }
+
+  abbrev names : Entry → Bool
+  names e = names_start u.0 e.step e.answer
+
+  named : (u.0 == u.0) ≡ true
+  named = eq-eqb u.0 u.0 refl
+
+  -- what began with one start was of one seat, and for one work
+  pub same_begin : (j k : ℕ) (v w : Work) → IsEntry journal j (Begin v) (At u) → IsEntry journal k (Begin w) (At u) → (j ≡ k) × (v ≡ w)
+  same_begin j k v w h i =
+      let e : begin_by j v ≡ begin_by k w = one_begin (entries_naming u.0 journal) (begin_by j v) (begin_by k w) (tells.begins u.0) refl refl (has_filtered names journal (begin_by j v) named h) (has_filtered names journal (begin_by k w) named i) in
+      let step : Begin v ≡ Begin w = ap (λ (z : Entry). z.step) e in
+      (ap (λ (z : Entry). z.seat) e, cc)
+
+  pub begun_once : (seat : ℕ) (work : Work) → HasTwice (entries_of seat journal) (told (Begin work) (At u)) → ⊥
+  begun_once seat work t =
+      not_again (entries_naming u.0 journal) (begin_by seat work) (tells.begins u.0) refl (twice_filtered names journal (begin_by seat work) named (twice_in_journal seat journal (told (Begin work) (At u)) t))
+
+-- ---- a transaction is of one of the table's seats
+
+-- where none of some reasons applies, the second does not
+second_reason : (a b : Bool) (p q : Reason) (rest : Option Reason) → cond a (Some p) (cond (not b) (Some q) rest) ≡ None → b ≡ true
+second_reason true b p q rest e = cc
+second_reason false true p q rest e = refl
+second_reason false false p q rest e = cc
+
+has_seat : (state : StateOf) (seat : ℕ) (work : Work) → step_reason state seat (Begin work) ≡ None → seat < state.seats
+has_seat state seat work e = ltb-true seat state.seats (second_reason (is_out state) (nat_lt seat state.seats) OutOfTimestamps NotOfSeat _ e)
+
+seats_stay : (old : StateOf) (es : List Entry) (new : StateOf) → JournalLeads old es new → new.seats ≡ old.seats
+seats_stay old [] new r = ap (λ (z : StateOf). z.seats) r
+seats_stay old (e ∷ es) new r = seats_stay r.0 es new r.2 ∙ machine_seats old e.seat e.step e.answer r.0 r.1
+
+pub begun_by_seat : (old : StateOf) (es : List Entry) (new : StateOf) (seat : ℕ) (work : Work) (u : Ts) → JournalLeads old es new → IsEntry es seat (Begin work) (At u) → seat < new.seats
+begun_by_seat old [] new seat work u r h = absurd h
+begun_by_seat old (e ∷ es) new seat work u r (inl is) =
+    let allowed : step_reason old seat (Begin work) ≡ None = subst (λ (z : Entry). step_reason old z.seat z.step ≡ None) is r.1.allowed in
+    let all : new.seats ≡ old.seats = seats_stay old (e ∷ es) new r in
+    subst (λ n. seat < n) (sym all) (has_seat old seat work allowed)
+begun_by_seat old (e ∷ es) new seat work u r (inr h) = begun_by_seat r.0 es new seat work u r.2 h

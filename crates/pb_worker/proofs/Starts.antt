@@ -1,0 +1,198 @@
+-- Of each change of a worker that was committed, the worker's list tells one start.
+use Rattle.std.proofs.Common.{◌≡◌, ℕ, zero, suc, ◌+◌, ◌*◌, ◌<◌, ◌⊎◌, Bool, true, false, cond, eqb, List, [], ◌∷◌, ◌++◌, length, Option, Some, None, inl, inr, refl, sym, ap, subst, ◌∙◌, arith}
+use Rattle.std.specs.Prelude.{slice_get, slice_index_or}
+use Rattle.std.proofs.lemmas.Bool.{eq-eqb, ne_eqb}
+use Rattle.pb_base.specs.declared.names.Ts.{Ts}
+use Rattle.pb_base.specs.declared.refusal.Refusal.{Refusal}
+use Rattle.pb_base.specs.Batch.{Writes}
+use Rattle.pb_steps.specs.declared.step.Step.TheVariants.{Begin}
+use Rattle.pb_steps.specs.declared.step.Answer.TheVariants.{At}
+use Rattle.pb_steps.specs.declared.step.Work.TheVariants as works
+use Rattle.pb_steps.specs.Observers.{ObserverOf}
+use Rattle.pb_history.specs.declared.entry.Received.{Received}
+use Rattle.pb_history.specs.History.{Has}
+use Rattle.pb_txn.specs.Talks.{told}
+use Rattle.pb_worker.specs.Tries.{AreTried, before_all, tried}
+use Rattle.pb_worker.specs.Stops.{ChangesStop}
+use Rattle.pb_worker.specs.Work.{IsWork, IsPart, in_changes, in_passes, AreFilled}
+use Rattle.pb_worker.proofs.Committing.{has_left, has_right, has_which, commit_of, HasCommitted, within}
+use Rattle.pb_worker.proofs.RunCommits.{HasBegunRun, CommitRuns, run_left, run_right, of_drain, of_drain_stop}
+use Rattle.pb_worker.proofs.TryCommits.{TellsCommit, of_tries, of_cut}
+
+-- ---- twice in a list
+
+abbrev pub HasTwice : {A : Type 0} → List A → A → Type 0
+HasTwice [] x = ⊥
+HasTwice (y ∷ ys) x = ((y ≡ x) × Has ys x) ⊎ HasTwice ys x
+
+twice_left : {A : Type 0} (xs ys : List A) (x : A) → HasTwice xs x → HasTwice (xs ++ ys) x
+twice_left [] ys x t = absurd t
+twice_left (y ∷ xs) ys x (inl h) = inl (h.0, has_left xs ys x h.1)
+twice_left (y ∷ xs) ys x (inr t) = inr (twice_left xs ys x t)
+
+twice_across : {A : Type 0} (xs ys : List A) (x : A) → Has xs x → Has ys x → HasTwice (xs ++ ys) x
+twice_across [] ys x h k = absurd h
+twice_across (y ∷ xs) ys x (inl e) k = inl (e, has_right xs ys x k)
+twice_across (y ∷ xs) ys x (inr h) k = inr (twice_across xs ys x h k)
+
+-- ---- flags
+
+is_below : (done : List Bool) (j : ℕ) → slice_index_or done j false ≡ true → j < length done
+is_below [] zero e = cc
+is_below [] (suc j) e = cc
+is_below (d ∷ ds) zero e = omega arith
+is_below (d ∷ ds) (suc j) e = let below = is_below ds j e in omega (arith, below)
+
+flag_left : (done : List Bool) (b : Bool) (j : ℕ) → slice_index_or done j false ≡ true → slice_index_or (done ++ b ∷ []) j false ≡ true
+flag_left [] b zero e = cc
+flag_left [] b (suc j) e = cc
+flag_left (d ∷ ds) b zero e = e
+flag_left (d ∷ ds) b (suc j) e = flag_left ds b j e
+
+flag_last : (done : List Bool) (b : Bool) → slice_index_or (done ++ b ∷ []) (length done) false ≡ b
+flag_last [] b = refl
+flag_last (d ∷ ds) b = flag_last ds b
+
+which_flag : (done : List Bool) (b : Bool) (j : ℕ) → slice_index_or (done ++ b ∷ []) j false ≡ true → (slice_index_or done j false ≡ true) ⊎ ((j ≡ length done) × (b ≡ true))
+which_flag [] b zero e = inr (refl, e)
+which_flag [] b (suc j) e = inl e
+which_flag (d ∷ ds) b zero e = inl e
+which_flag (d ∷ ds) b (suc j) e = elim (which_flag ds b j e) [ inl h ↦ inl h | inr h ↦ inr (ap suc h.0, h.1) ]
+
+-- ---- starts
+
+pub record HasMade (batches : List Writes) (n first j : ℕ) (said : List Received) (start : Ts) : Type 0 where
+  pub batch : Writes
+  pub at : slice_get batches (first + j * n) ≡ Some batch
+  pub made : HasCommitted batch start said
+
+-- the transaction of this start is that of one of its changes, of which a try committed
+pub record IsStart (done : List Bool) (start : ℕ → Ts) (u : Ts) : Type 0 where
+  pub j : ℕ
+  pub flag : slice_index_or done j false ≡ true
+  pub same : u ≡ start j
+
+-- each change of which a try committed has a start, no other was committed but a run's, and no two have one
+pub record AreStarts (batches : List Writes) (n first : ℕ) (done : List Bool) (said : List Received) (start : ℕ → Ts) : Type 0 where
+  pub made : (j : ℕ) → slice_index_or done j false ≡ true → HasMade batches n first j said (start j)
+  pub only : (u : Ts) → Has said (commit_of u) → IsStart done start u ⊎ HasBegunRun said u
+  pub apart : (i j : ℕ) → i < j → slice_index_or done i false ≡ true → slice_index_or done j false ≡ true → start i ≡ start j → HasTwice said (told (Begin works.Script) (At (start i)))
+
+module _ (batches : List Writes) (n first : ℕ) where
+  made_left : (j : ℕ) (said more : List Received) (start : Ts) → HasMade batches n first j said start → HasMade batches n first j (said ++ more) start
+  made_left j said more start m = record { batch = m.batch; at = m.at; made = within m.batch start said (said ++ more) (λ r k. has_left said more r k) m.made }
+
+  abbrev StartsOf : List Bool → List Received → Type 0
+  StartsOf done said = (start : ℕ → Ts) × AreStarts batches n first done said start
+
+  at_first : StartsOf [] []
+  at_first = (λ j. record { 0 = 0 }, record { made = λ j e. absurd (no_flag j e); only = λ u h. absurd h; apart = λ i j lt e f same. absurd (no_flag i e) })
+    where
+      no_flag : (j : ℕ) → slice_index_or [] j false ≡ true → ⊥
+      no_flag zero e = cc
+      no_flag (suc j) e = cc
+
+  -- after passes
+  with_runs : (done : List Bool) (said more : List Received) → CommitRuns more → StartsOf done said → StartsOf done (said ++ more)
+  with_runs done said more runs s =
+      let a = s.1 in (
+        s.0,
+        record {
+          made = λ j e. made_left j said more (s.0 j) (a.made j e);
+          only = λ u h. elim (has_which said more (commit_of u) h) [
+            | inl k ↦ elim (a.only u k) [ inl is ↦ inl is | inr b ↦ inr (run_left said more u b) ]
+            | inr k ↦ inr (run_right said more u (runs.each u k))
+          ];
+          apart = λ i j lt e f same. twice_left said more _ (a.apart i j lt e f same);
+        },
+      )
+
+  -- after one more change
+  module _ (done : List Bool) (said : List Received) (start : ℕ → Ts) (a : AreStarts batches n first done said start) (batch : Writes) (at : slice_get batches (first + length done * n) ≡ Some batch) (is : Bool) (last : Ts) (more : List Received) (t : TellsCommit batch is last more) where
+    start' : ℕ → Ts
+    start' j = cond (eqb j (length done)) last (start j)
+
+    former : (j : ℕ) → slice_index_or done j false ≡ true → start' j ≡ start j
+    unfolding start'
+    former j e =
+        let below = is_below done j e in
+        ap (λ b. cond b last (start j)) (ne_eqb j (length done) (λ same. omega (arith, below, same)))
+
+    newest : (j : ℕ) → j ≡ length done → start' j ≡ last
+    unfolding start'
+    newest j is = ap (λ b. cond b last (start j)) (eq-eqb j (length done) is)
+
+    its_made : (j : ℕ) → slice_index_or (done ++ is ∷ []) j false ≡ true → HasMade batches n first j (said ++ more) (start' j)
+    its_made j e = elim (which_flag done is j e) [
+      | inl h ↦ subst (HasMade batches n first j (said ++ more)) (sym (former j h)) (made_left j said more (start j) (a.made j h))
+      | inr h ↦ subst (HasMade batches n first j (said ++ more)) (sym (newest j h.0)) (record {
+        batch = batch;
+        at = subst (λ k. slice_get batches (first + k * n) ≡ Some batch) (sym h.0) at;
+        made = within batch last more (said ++ more) (λ r k. has_right said more r k) (t.made h.1);
+      })
+    ]
+
+    its_only : (u : Ts) → Has (said ++ more) (commit_of u) → IsStart (done ++ is ∷ []) start' u ⊎ HasBegunRun (said ++ more) u
+    its_only u h = elim (has_which said more (commit_of u) h) [
+      | inl k ↦ elim (a.only u k) [
+        | inl s ↦ inl (record { j = s.j; flag = flag_left done is s.j s.flag; same = s.same ∙ sym (former s.j s.flag) })
+        | inr b ↦ inr (run_left said more u b)
+      ]
+      | inr k ↦ let o = t.only u k in inl (record { j = length done; flag = flag_last done is ∙ o.0; same = o.1 ∙ sym (newest (length done) refl) })
+    ]
+
+    abbrev begin_of : Ts → Received
+    begin_of s = told (Begin works.Script) (At s)
+
+    its_apart : (i j : ℕ) → i < j → slice_index_or (done ++ is ∷ []) i false ≡ true → slice_index_or (done ++ is ∷ []) j false ≡ true → start' i ≡ start' j → HasTwice (said ++ more) (begin_of (start' i))
+    its_apart i j lt e f same = elim (which_flag done is i e) [
+      | inl h ↦ elim (which_flag done is j f) [
+        | inl k ↦
+            let one : start i ≡ start j = sym (former i h) ∙ same ∙ former j k in
+            subst (λ s. HasTwice (said ++ more) (begin_of s)) (sym (former i h)) (twice_left said more (begin_of (start i)) (a.apart i j lt h k one))
+        | inr k ↦
+            let one : last ≡ start' i = sym (newest j k.0) ∙ sym same in
+            let early : Has said (begin_of (start' i)) = subst (λ s. Has said (begin_of s)) (sym (former i h)) (a.made i h).made.begun in
+            twice_across said more (begin_of (start' i)) early (subst (λ s. Has more (begin_of s)) one (t.made k.1).begun)
+      ]
+      | inr h ↦ elim (which_flag done is j f) [
+        | inl k ↦ let below = is_below done j k in let top = h.0 in absurd (omega (arith, below, top, lt))
+        | inr k ↦ let top = h.0 in let also = k.0 in absurd (omega (arith, top, also, lt))
+      ]
+    ]
+
+    one_more : StartsOf (done ++ is ∷ []) (said ++ more)
+    one_more = (start', record { made = its_made; only = its_only; apart = its_apart })
+
+  of_tried : (done : List Bool) (said : List Received) → AreTried batches n first done said → StartsOf done said
+  of_tried done said before_all = at_first
+  of_tried flags all (tried done said batch is more before at tries) =
+      let s = of_tried done said before in
+      let t = of_tries batch is more tries in
+      one_more done said s.0 s.1 batch at is t.0 more t.1
+
+  -- ---- whether it was stopped or not
+
+  module _ (filled : AreFilled batches) (seat : ℕ) (observers : List ObserverOf) (done : List Bool) where
+    of_changes_stop : (r : Refusal) (said : List Received) → ChangesStop seat batches n first done r said → StartsOf done said
+    of_changes_stop r said c =
+        let s = of_tried c.flags c.before c.tried in
+        let t = of_cut seat c.batch c.committed r c.part (filled _ c.batch c.next) c.stops in
+        let after = one_more c.flags c.before s.0 s.1 c.batch c.next c.committed t.0 c.part t.1 in
+        subst (λ l. StartsOf done l) (sym c.said_is) (elim c.done_is [
+          | inl is ↦ subst (λ (fs : List Bool). StartsOf fs (c.before ++ c.part)) (sym is) after
+          | inr is ↦
+              let none : CommitRuns c.part = record { each = λ u h. let o = t.1.only u h in absurd (neither c.committed o.0 is.1) } in
+              subst (λ (fs : List Bool). StartsOf fs (c.before ++ c.part)) (sym is.0) (with_runs c.flags c.before c.part none s)
+        ])
+      where
+        neither : (b : Bool) → b ≡ true → b ≡ false → ⊥
+        neither b p q = cc
+
+    of_part : (r : Refusal) (said : List Received) → IsPart seat observers batches n first done r said → StartsOf done said
+    of_part r said (in_changes said' c) = of_changes_stop r said c
+    of_part r all (in_passes said part t d) = with_runs done said part (of_drain_stop seat observers r part d) (of_tried done said t.tried)
+
+    pub of_work : (r : Option Refusal) (said : List Received) → IsWork seat observers batches n first done r said → StartsOf done said
+    of_work None said w = subst (λ l. StartsOf done l) (sym w.said_is) (with_runs done w.changes w.passes (of_drain observers w.passes w.drained) (of_tried done w.changes w.tried.tried))
+    of_work (Some r) said w = of_part r said w

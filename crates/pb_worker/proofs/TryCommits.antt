@@ -1,0 +1,108 @@
+-- Of all tries of a change one is committed at most, with this start.
+use Rattle.std.proofs.Common.{◌≡◌, ◌≢◌, ℕ, Bool, true, false, ◌||◌, List, [], ◌∷◌, ◌++◌, inl, inr, refl, sym, ap, subst, ◌∙◌}
+use Rattle.pb_base.specs.declared.cell.Cell.{Cell}
+use Rattle.pb_base.specs.declared.names.Ts.{Ts}
+use Rattle.pb_base.specs.declared.refusal.Refusal.{Refusal}
+use Rattle.pb_base.specs.Batch.{Writes}
+use Rattle.pb_steps.specs.declared.step.Step.TheVariants.{Declare, Stamp}
+use Rattle.pb_steps.specs.declared.step.Answer.TheVariants.{At, Done}
+use Rattle.pb_steps.specs.declared.step.Declared.TheVariants as declared
+use Rattle.pb_history.specs.declared.entry.Received.{Received}
+use Rattle.pb_history.specs.History.{Has}
+use Rattle.pb_txn.specs.declared.place.Outcome.{Outcome}
+use Rattle.pb_txn.specs.Places.{declared_cells}
+use Rattle.pb_txn.specs.Talks.{told}
+use Rattle.pb_txn.specs.Forms.{IsWhole, committed, conflicted_first, conflicted_later, lost, prewrites, secondaries}
+use Rattle.pb_txn.specs.Changes.{IsWholeChange}
+use Rattle.pb_worker.specs.Tries.{is_committed, is_commit, has_commit, IsTry, AreVain, at_first, one_more, IsDone, AreTries}
+use Rattle.pb_worker.specs.Stops.{TriesStop}
+use Rattle.pb_worker.proofs.Committing.{has_left, has_right, has_which, commit_of, HasCommitted, within}
+use Rattle.pb_worker.proofs.CutTries.{not_both, true_right, both_false, commit_in, uncommitted, cut_commits}
+use Rattle.pb_worker.proofs.OneTransaction.{of_change}
+
+-- ---- where nothing was committed
+
+has_committed : (said : List Received) (u : Ts) → Has said (commit_of u) → has_commit said ≡ true
+has_committed [] u h = absurd h
+has_committed (r ∷ rs) u (inl e) = ap (λ (z : Received). is_commit z.answer || has_commit rs) e
+has_committed (r ∷ rs) u (inr h) = true_right (is_commit r.answer) (has_commit rs) (has_committed rs u h)
+
+has_none : (said : List Received) (u : Ts) → has_commit said ≡ false → Has said (commit_of u) → ⊥
+has_none said u none h = not_both (has_commit said) (has_committed said u h) none
+
+try_in_vain : (batch : Writes) (said : List Received) → IsTry batch false said → has_commit said ≡ false
+try_in_vain batch said t =
+    let rest : has_commit t.whole.rest ≡ false = uncommitted t.start (declared.Script batch) (declared_cells (declared.Script batch)) t.whole.rest t.outcome t.ended t.whole.whole in
+    ap has_commit t.whole.said_is ∙ rest
+
+tries_in_vain : (batch : Writes) (n : ℕ) (said : List Received) → AreVain batch n said → has_commit said ≡ false
+tries_in_vain batch n said at_first = refl
+tries_in_vain batch m all (one_more n said more before t) = commit_in said more ∙ both_false (has_commit said) (has_commit more) (tries_in_vain batch n said before) (try_in_vain batch more t)
+
+-- ---- a committed try
+
+by_form : (batch : Writes) (start : Ts) (cells : List Cell) (rest : List Received) (o : Outcome) → is_committed o ≡ true → IsWhole start (declared.Script batch) cells rest o
+    → (c : Ts) × Has rest (told (Declare start (declared.Script batch)) Done) × Has rest (told (Stamp start) (At c)) × Has rest (commit_of start)
+by_form batch start cells rest o is (committed x others c) = (
+  c,
+  inl refl,
+  inr (has_right (prewrites start (x ∷ others)) (told (Stamp start) (At c) ∷ commit_of start ∷ secondaries start others) (told (Stamp start) (At c)) (inl refl)),
+  inr (has_right (prewrites start (x ∷ others)) (told (Stamp start) (At c) ∷ commit_of start ∷ secondaries start others) (commit_of start) (inr (inl refl))),
+)
+by_form batch start cells rest o is (conflicted_first x after) = cc
+by_form batch start cells rest o is (conflicted_later x y before after a cs can cleared) = cc
+by_form batch start cells rest o is (lost x others c cs cleared) = cc
+
+by_change : (batch : Writes) (start : Ts) (said : List Received) (o : Outcome) → is_committed o ≡ true → IsWholeChange batch start said o → HasCommitted batch start said
+by_change batch start said o is w =
+    let f = by_form batch start (declared_cells (declared.Script batch)) w.rest o is w.whole in
+    subst (HasCommitted batch start) (sym w.said_is) (record { commit = f.0; begun = inl refl; declared = inr f.1; stamped = inr f.2; committed = inr f.3 })
+
+-- ---- all tries of a change
+
+-- it tells whether the change was committed, and the one start at which it was
+pub record TellsCommit (batch : Writes) (is : Bool) (start : Ts) (said : List Received) : Type 0 where
+  pub made : is ≡ true → HasCommitted batch start said
+  pub only : (u : Ts) → Has said (commit_of u) → (is ≡ true) × (u ≡ start)
+
+-- after tries in vain, in a last part
+module _ (batch : Writes) (n : ℕ) (vain part said : List Received) (tries : AreVain batch n vain) (is : said ≡ vain ++ part) where
+  made_in_part : (start : Ts) → HasCommitted batch start part → HasCommitted batch start said
+  made_in_part start h = subst (HasCommitted batch start) (sym is) (within batch start part (vain ++ part) (λ r k. has_right vain part r k) h)
+
+  only_in_part : (u : Ts) → Has said (commit_of u) → Has part (commit_of u)
+  only_in_part u h = elim (has_which vain part (commit_of u) (subst (λ l. Has l (commit_of u)) is h)) [ inl k ↦ absurd (has_none vain u (tries_in_vain batch n vain tries) k) | inr k ↦ k ]
+
+of_done : (batch : Writes) (said : List Received) → IsDone batch said → (start : Ts) × TellsCommit batch true start said
+of_done batch said d =
+    let t = d.commits in
+    let own = of_change batch t.start d.last t.outcome t.whole in (
+      t.start,
+      record {
+        made = λ e. made_in_part batch d.count d.vain d.last said d.tries d.said_is t.start (by_change batch t.start d.last t.outcome t.ended t.whole);
+        only = λ u h. (refl, own.own.each (commit_of u) (only_in_part batch d.count d.vain d.last said d.tries d.said_is u h) u refl);
+      },
+    )
+
+pub of_tries : (batch : Writes) (is : Bool) (said : List Received) → AreTries batch is said → (start : Ts) × TellsCommit batch is start said
+of_tries batch true said d = of_done batch said d
+of_tries batch false said v = (record { 0 = 0 }, record { made = λ e. cc; only = λ u h. absurd (has_none said u (tries_in_vain batch _ said v) h) })
+
+-- ---- a change that was left in a try
+
+pub of_cut : (seat : ℕ) (batch : Writes) (is : Bool) (r : Refusal) (said : List Received) → batch ≢ [] → TriesStop seat batch is r said → (start : Ts) × TellsCommit batch is start said
+of_cut seat batch is r said some t =
+    let s = t.stops in
+    let b = s.begins in
+    let own = of_change batch b.0 (t.part ++ b.1) b.2 b.3 in
+    let its : (u : Ts) → Has t.part (commit_of u) → u ≡ b.0 = λ u h. own.own.each (commit_of u) (has_left t.part b.1 (commit_of u) h) u refl in (
+      b.0,
+      record {
+        made = λ e.
+            let c = cut_commits batch t.part s.job some s.talks (sym s.told ∙ e) in
+            made_in_part batch t.count t.vain t.part said t.tries t.said_is b.0 (subst (λ u. HasCommitted batch u t.part) (its c.0 c.1.committed) c.1);
+        only = λ u h.
+            let k = only_in_part batch t.count t.vain t.part said t.tries t.said_is u h in
+            (s.told ∙ has_committed t.part u k, its u k);
+      },
+    )
