@@ -1,5 +1,5 @@
 -- Passes over the marked cells on their way.
-use Rattle.std.proofs.Common.{◌≡◌, ◌≢◌, ℕ, ◌+◌, ◌<◌, Bool, true, false, not, List, [], ◌∷◌, ◌++◌, Option, Some, None, refl, sym, ap, subst, ◌∙◌, inl, inr}
+use Rattle.std.proofs.Common.{◌≡◌, ◌≢◌, ℕ, ◌+◌, ◌<◌, Bool, true, false, not, List, [], ◌∷◌, ◌++◌, Option, Some, None, refl, sym, ap, subst, ◌∙◌, inl}
 use Rattle.std.specs.Prelude.{is_some}
 use Rattle.std.proofs.lemmas.Bool.{lt-ltb}
 use Rattle.pb_base.specs.declared.cell.Cell.{Cell}
@@ -22,7 +22,7 @@ use Rattle.pb_alone.specs.Alone.{Gains}
 use Rattle.pb_alone.specs.Faults.{IsRefusedBy}
 use Rattle.pb_alone.specs.Passes.{IsRun, RunAsks, IsOfOther, AreRuns, before_all, runs as ran_then, passes_by, AreAllRuns, RunsAsk, IsWalk, at_beginning, found as found_then, IsPass, IsPassThat, PassAsks, a_mark, a_run, ArePasses, at_first, one_more, IsDrain, DrainAsks}
 use Rattle.pb_alone.specs.Stops.{StoppedAt, IfRefused}
-use Rattle.pb_alone.proofs.Going.{append_assoc, append_nil, gains_none, gains_more, gains_on, stops_on, refused_at}
+use Rattle.pb_alone.proofs.Going.{append_assoc, gains_none, gains_more, gains_on, stops_on, refused_at}
 
 -- ---- the observers of a cell, one after another
 
@@ -111,13 +111,6 @@ module _ (observers : List ObserverOf) (count : ℕ) (a b : SharedOf) (n : ℕ) 
   pub last_pass : count < MAX_PASSES → (c : SharedOf) (k : ℕ) (marked : Bool) → marked ≡ false → k ≡ n → Gains (IsPassThat observers marked) b k c → Gains (IsDrain observers) a n c
   last_pass few c k true is same h = cc
   last_pass few c k false is same h = gains_on a b c n k same before h (λ said more p r. record { count = count; before = said; passes = p; rest = more; said_is = refl; ends = inl (few, r) })
-
-  pub passes_end : count ≡ MAX_PASSES → Gains (IsDrain observers) a n b
-  passes_end all = record {
-    said = before.said;
-    journal = before.journal;
-    are_such = record { count = count; before = before.said; passes = before.are_such; rest = []; said_is = sym (append_nil before.said); ends = inr (all, refl) };
-  }
 
   pub passes_stop : count < MAX_PASSES → (c : SharedOf) (k : ℕ) (f : RunFault) → k ≡ n → IfRefused (StoppedAt (PassAsks observers) b k c) f → IfRefused (StoppedAt (DrainAsks observers) a n c) f
   passes_stop few c k f same s = stops_on (ArePasses observers count) (PassAsks observers) (DrainAsks observers) a b c n k f same before s (λ said more step p r. record { count = count; few = few; before = said; passes = p; part = more; said_is = refl; asks = r })
