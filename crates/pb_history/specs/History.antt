@@ -95,14 +95,3 @@ pub record TellsHistory (journal : List Entry) (state : StateOf) : Type 0 where
   pub committed : (m : Member) → InHistory state.observers journal m → IsCommitted state m
   pub member : (m : Member) → IsCommitted state m → InHistory state.observers journal m
   pub declared : (seat start : ℕ) (what : Declared) → IsEntry journal seat (Declare (record { 0 = start }) what) Done → IsDeclared state start what
-
--- the greatest commit so far is below the next
-abbrev pub RiseFrom : ℕ → List Member → Type 0
-RiseFrom low [] = Unit {0}
-RiseFrom low (m ∷ ms) = (low < m.commit) × RiseFrom m.commit ms
-
--- the history as a list, in the order of the commits, each transaction once
-pub record IsHistory (observers : List ObserverOf) (journal : List Entry) (ms : List Member) : Type 0 where
-  pub each : (m : Member) → Has ms m → InHistory observers journal m
-  pub whole : (m : Member) → InHistory observers journal m → Has ms m
-  pub rising : RiseFrom 0 ms

@@ -5,13 +5,15 @@ use Rattle.std.specs.Str.{bytes_eq}
 use Rattle.clap.specs.Lexer.{long_of, short_of}
 use Rattle.clap.specs.Walk.{Text, Rule, Row, Held, Waiting, idle, option, positional, Outcome, done, waits, plain, refused, Step, Walk, Names, next, trailing, subcommand, value}
 use Rattle.clap.specs.Walk.{first_of, one_of, answers_to, arg_by_long, arg_by_index, long_met, bundle, plain_word, after_flag, short_or_plain, long_or_other, subcommand_met, subcommand_or_other, word_met, to_positional, after_step, walked_from, walked, walk_from, walk, finished, nothing_held, rows_after}
-use Rattle.clap.specs.Simple.{Shape, built, built_leaf, inherited, with_leaf_noted, marked_built, argument_words, entered, names_of}
+use Rattle.clap.specs.Simple.{Shape, subcommand_of, built, built_leaf, inherited, with_leaf_noted, marked_built, argument_words, entered, names_of}
 use Rattle.clap.specs.Kinds.{check_kinds}
 use Rattle.clap.specs.Takes.{is_given}
 use Rattle.clap.specs.Faults.{fault_of, entered_fault, check_fault, walk_fault, turn_fault, word_fault, other_fault}
-use Rattle.pb_texts.specs.CommandLines.{run_app, replay_app, asm_app, dis_app, check_app, program_app, Request, Run, Replay, Asm, Dis, Check, both, all_three, clock_of, command_in, command_of}
+use Rattle.pb_texts.specs.CommandLines.{most_workers, run_app, last_clock, replay_app, asm_app, dis_app, check_app, program_app, Request, Run, Replay, Asm, Dis, Check, both, all_three, workers_of, clock_of, command_in, command_of, has_plus}
 use Rattle.pb_texts.proofs.Kept.{Each, HasNoDefault, or_else_none, level_none, unless_stopped, rows_kept}
-use Rattle.pb_texts.proofs.Filled.{HasValue, ReadsClock, help_keeps, operand_has_value, operand_keeps_clock, clock_has_value, clock_reads_clock, given_first, has_clock}
+use Rattle.pb_texts.proofs.Filled.{HasValue, ReadsNumber, help_keeps, operand_has_value, operand_keeps_number, number_has_value, number_reads, given_first, first_number, one_number}
+use Rattle.pb_texts.proofs.Clocks.{has_clock}
+use Rattle.pb_texts.proofs.Workers.{has_workers}
 
 -- ---- the top level
 
@@ -166,50 +168,64 @@ all_ask make first second third rows f e =
 
 -- what is asked for where the walk stopped at this name, with these words behind
 abbrev Asks : Text → List Text → Type 0
-Asks name words = (r : Request) × (command_in (entered (built program_app) (Some (name, words))) ≡ Some r)
+Asks name words = has_plus (entered (built program_app) (Some (name, words))) ≡ false → (r : Request) × (command_in (entered (built program_app) (Some (name, words))) ≡ Some r)
+
+-- the same where an option's number is asked for, too
+with_number : (number : Option ℕ) (ask : ℕ → Option Request) (n : ℕ) → number ≡ Some n → (r : Request) × (ask n ≡ Some r) → (r : Request) × (option_and_then ask number ≡ Some r)
+with_number number ask n e asked = (asked.0, ap (option_and_then ask) e ∙ asked.1)
+
+-- the request of a run, by so many workers
+abbrev pub run_with : List Row → ℕ → Option Request
+run_with rows workers = both (λ manifest script. Run manifest script workers) (first_of (codes "MANIFEST") rows) (first_of (codes "SCRIPT") rows)
 
 run_asks : (words : List Text) → entered_fault (built program_app) (Some (codes "run", words)) ≡ [] → Asks (codes "run") words
-run_asks words f =
+run_asks words f no_plus =
     let s = leaf run_app.top in
-    let values = rows_kept s HasValue (operand_has_value 1 (codes "MANIFEST"), (operand_has_value 2 (codes "SCRIPT"), (help_keeps HasValue, tt))) words (refl, (refl, (refl, tt))) f in
-    both_ask Run (codes "MANIFEST") (codes "SCRIPT") (rows_after s.rules [] words) values (level_none s [] nothing_held words false [] f).3
+    let name = codes "workers" in
+    let rows = rows_after s.rules [] words in
+    let bare : Each HasNoDefault s.rules = (refl, (refl, (refl, (refl, tt)))) in
+    let values = rows_kept s HasValue (operand_has_value 1 (codes "MANIFEST"), (operand_has_value 2 (codes "SCRIPT"), (number_has_value name 1 most_workers, (help_keeps HasValue, tt)))) words bare f in
+    let numbers = rows_kept s (ReadsNumber name 1 most_workers)
+    (operand_keeps_number 1 (codes "MANIFEST") name 1 most_workers (λ e. absurd cc), (operand_keeps_number 2 (codes "SCRIPT") name 1 most_workers (λ e. absurd cc), (number_reads name 1 most_workers, (help_keeps (ReadsNumber name 1 most_workers), tt))))
+    words bare f in
+    let workers = has_workers (first_of name rows) (first_number name 1 most_workers rows numbers) no_plus in
+    with_number (workers_of (first_of name rows)) (run_with rows) workers.0 workers.1
+    (both_ask (λ manifest script. Run manifest script workers.0) (codes "MANIFEST") (codes "SCRIPT") rows values (level_none s [] nothing_held words false [] f).3)
 
 -- the request of a replay, from a clock on
-abbrev replay_from : List Row → ℕ → Option Request
+abbrev pub replay_from : List Row → ℕ → Option Request
 replay_from rows clock = all_three (λ manifest script schedule. Replay manifest script schedule clock) (first_of (codes "MANIFEST") rows) (first_of (codes "SCRIPT") rows) (first_of (codes "SCHEDULE") rows)
 
-clock_asks : (clock : Option ℕ) (ask : ℕ → Option Request) (n : ℕ) → clock ≡ Some n → (r : Request) × (ask n ≡ Some r) → (r : Request) × (option_and_then ask clock ≡ Some r)
-clock_asks clock ask n e asked = (asked.0, ap (option_and_then ask) e ∙ asked.1)
-
 replay_asks : (words : List Text) → entered_fault (built program_app) (Some (codes "replay", words)) ≡ [] → Asks (codes "replay") words
-replay_asks words f =
+replay_asks words f no_plus =
     let s = leaf replay_app.top in
+    let name = codes "clock" in
     let rows = rows_after s.rules [] words in
     let bare : Each HasNoDefault s.rules = (refl, (refl, (refl, (refl, (refl, tt))))) in
     let values = rows_kept s HasValue
-    (operand_has_value 1 (codes "MANIFEST"), (operand_has_value 2 (codes "SCRIPT"), (operand_has_value 3 (codes "SCHEDULE"), (clock_has_value, (help_keeps HasValue, tt)))))
+    (operand_has_value 1 (codes "MANIFEST"), (operand_has_value 2 (codes "SCRIPT"), (operand_has_value 3 (codes "SCHEDULE"), (number_has_value name 0 last_clock, (help_keeps HasValue, tt)))))
     words bare f in
-    let clocks = rows_kept s ReadsClock
-    (operand_keeps_clock 1 (codes "MANIFEST") (λ e. absurd cc), (operand_keeps_clock 2 (codes "SCRIPT") (λ e. absurd cc), (operand_keeps_clock 3 (codes "SCHEDULE") (λ e. absurd cc), (clock_reads_clock, (help_keeps ReadsClock, tt)))))
+    let numbers = rows_kept s (ReadsNumber name 0 last_clock)
+    (operand_keeps_number 1 (codes "MANIFEST") name 0 last_clock (λ e. absurd cc), (operand_keeps_number 2 (codes "SCRIPT") name 0 last_clock (λ e. absurd cc), (operand_keeps_number 3 (codes "SCHEDULE") name 0 last_clock (λ e. absurd cc), (number_reads name 0 last_clock, (help_keeps (ReadsNumber name 0 last_clock), tt)))))
     words bare f in
-    let clock = has_clock rows clocks in
-    clock_asks (clock_of (one_of (codes "clock") rows)) (replay_from rows) clock.0 clock.1
+    let clock = has_clock (one_of name rows) (one_number name 0 last_clock rows numbers) in
+    with_number (clock_of (one_of name rows)) (replay_from rows) clock.0 clock.1
     (all_ask (λ manifest script schedule. Replay manifest script schedule clock.0) (codes "MANIFEST") (codes "SCRIPT") (codes "SCHEDULE") rows values (level_none s [] nothing_held words false [] f).3)
 
 asm_asks : (words : List Text) → entered_fault (built program_app) (Some (codes "asm", words)) ≡ [] → Asks (codes "asm") words
-asm_asks words f =
+asm_asks words f no_plus =
     let s = leaf asm_app.top in
     let values = rows_kept s HasValue (operand_has_value 1 (codes "IN"), (operand_has_value 2 (codes "OUT"), (help_keeps HasValue, tt))) words (refl, (refl, (refl, tt))) f in
     both_ask Asm (codes "IN") (codes "OUT") (rows_after s.rules [] words) values (level_none s [] nothing_held words false [] f).3
 
 dis_asks : (words : List Text) → entered_fault (built program_app) (Some (codes "dis", words)) ≡ [] → Asks (codes "dis") words
-dis_asks words f =
+dis_asks words f no_plus =
     let s = leaf dis_app.top in
     let values = rows_kept s HasValue (operand_has_value 1 (codes "FILE"), (help_keeps HasValue, tt)) words (refl, (refl, tt)) f in
     one_asks Dis (codes "FILE") (rows_after s.rules [] words) values (level_none s [] nothing_held words false [] f).3
 
 check_asks : (words : List Text) → entered_fault (built program_app) (Some (codes "check", words)) ≡ [] → Asks (codes "check") words
-check_asks words f =
+check_asks words f no_plus =
     let s = leaf check_app.top in
     let values = rows_kept s HasValue (operand_has_value 1 (codes "FILE"), (help_keeps HasValue, tt)) words (refl, (refl, tt)) f in
     one_asks Check (codes "FILE") (rows_after s.rules [] words) values (level_none s [] nothing_held words false [] f).3
@@ -219,7 +235,8 @@ renamed : (name known : Text) (words : List Text) → name ≡ known → (entere
     → entered_fault (built program_app) (Some (name, words)) ≡ [] → Asks name words
 renamed name known words e asks f = subst (λ (n : Text). entered_fault (built program_app) (Some (n, words)) ≡ [] → Asks n words) (sym e) asks f
 
-asks_at : (o : Option (Text × List Text)) → Stops o → is_some (entered (built program_app) o) ≡ true → entered_fault (built program_app) o ≡ [] → (r : Request) × (command_in (entered (built program_app) o) ≡ Some r)
+asks_at : (o : Option (Text × List Text)) → Stops o → is_some (entered (built program_app) o) ≡ true → entered_fault (built program_app) o ≡ [] → has_plus (entered (built program_app) o) ≡ false
+    → (r : Request) × (command_in (entered (built program_app) o) ≡ Some r)
 asks_at None r e f = absurd cc
 asks_at (Some q) (inl run) e f = renamed q.0 (codes "run") q.1 run (run_asks q.1) f
 asks_at (Some q) (inr (inl replay)) e f = renamed q.0 (codes "replay") q.1 replay (replay_asks q.1) f
@@ -231,8 +248,8 @@ has_one : (b : Bool) (rows : List Row) → check_fault top rows b ≡ [] → b �
 has_one true rows h = refl
 has_one false rows h = absurd cc
 
-pub asks : (words : List Text) → fault_of program_app words ≡ [] → (r : Request) × (command_of words ≡ Some r)
-asks words e =
+pub asks : (words : List Text) → fault_of program_app words ≡ [] → has_plus (subcommand_of program_app words) ≡ false → (r : Request) × (command_of words ≡ Some r)
+asks words e no_plus =
     let ws = argument_words (built program_app) words in
     let c = level_none top names nothing_held ws _ _ e in
-    asks_at (walk top.rules names nothing_held ws).stopped (walk_stops ws (walk_from nothing_held) tt c.0) (has_one _ (finished top.rules (walk top.rules names nothing_held ws).held) c.3) c.1
+    asks_at (walk top.rules names nothing_held ws).stopped (walk_stops ws (walk_from nothing_held) tt c.0) (has_one _ (finished top.rules (walk top.rules names nothing_held ws).held) c.3) c.1 no_plus

@@ -8,6 +8,7 @@ use Rattle.clap.specs.Matches.{TriesOne}
 use Rattle.clap.specs.declared.builder.value_parser.ValueParser.TheVariants.{Unsigned}
 use Rattle.clap.proofs.ValueTestLemmas.{accepts-Accepts, Accepts-accepts}
 use Rattle.pb_texts.specs.CommandLines.{last_clock, is_clock, clock_number, clock_of}
+use Rattle.pb_texts.proofs.Filled.{IsNumberIn}
 
 abbrev IsNumber : Text → Type 0
 IsNumber t = IsNumeral 10 (without_leading_plus t) × (clock_number t < 2 ^ 64)
@@ -17,6 +18,11 @@ number_passes t h = Accepts-accepts false (Unsigned 0 last_clock) t (h.0, h.1, o
 
 passes_number : (t : Text) → is_clock t ≡ true → IsNumber t
 passes_number t e = let a = accepts-Accepts false (Unsigned 0 last_clock) t e in (a.0, a.1)
+
+-- the option has a clock, given or not
+pub has_clock : (o : Option Text) → IsNumberIn 0 last_clock o → (n : ℕ) × (clock_of o ≡ Some n)
+has_clock None e = (0, refl)
+has_clock (Some t) e = (clock_number t, rw e refl)
 
 some_if : (b : Bool) (x n : ℕ) → b ≡ true → x ≡ n → Some x ≡ cond b (Some n) None
 some_if true x n e f = ap (λ y. Some y) f

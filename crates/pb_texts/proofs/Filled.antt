@@ -1,5 +1,5 @@
--- Each row of a subcommand has a value, and that of `clock` is a number.
-use Rattle.std.proofs.Common.{◌≡◌, ℕ, ◌<◌, Bool, true, false, cond, List, [], ◌∷◌, ◌++◌, length, Option, Some, None, refl, sym, ap, ◌∙◌, subst, arith, length-append, codes}
+-- Each row of a subcommand has a value, and that of an option that takes a number is one.
+use Rattle.std.proofs.Common.{◌≡◌, ℕ, ◌<◌, Bool, true, false, cond, List, [], ◌∷◌, ◌++◌, length, Option, Some, None, refl, sym, ◌∙◌, subst, arith, length-append}
 use Rattle.std.specs.Prelude.{find, option_map, option_and_then, slice_get}
 use Rattle.std.specs.Option.{option_map_or}
 use Rattle.std.specs.Str.{bytes_eq}
@@ -14,7 +14,8 @@ use Rattle.clap.specs.declared.error.kind.ErrorKind.TheVariants.{ValueValidation
 use Rattle.clap.specs.declared.parser.matches.ValueSource.TheVariants.{CommandLine}
 use Rattle.clap.specs.declared.builder.value_parser.Reading.{Reading}
 use Rattle.clap.specs.declared.builder.value_parser.Reading.TheVariants.{AsWritten}
-use Rattle.pb_texts.specs.CommandLines.{required_rule, clock_rule, is_clock, clock_number, clock_of}
+use Rattle.clap.specs.ValueTests.{is_unsigned_in}
+use Rattle.pb_texts.specs.CommandLines.{required_rule, number_rule}
 use Rattle.pb_texts.proofs.Kept.{Each, Keeps, or_else_none}
 
 -- ---- rows that change
@@ -47,8 +48,8 @@ help = filled help_rule
 abbrev pub operand : ℕ → Text → Rule
 operand position id = with_index position (filled (required_rule id))
 
-abbrev pub clock : Rule
-clock = filled clock_rule
+abbrev pub number : Text → ℕ → ℕ → Rule
+number name low high = filled (number_rule name low high)
 
 pub help_keeps : (P : Row → Type 0) → Keeps P help
 help_keeps P again values rows e g = g
@@ -71,43 +72,43 @@ pub operand_has_value : (position : ℕ) (id : Text) → Keeps HasValue (operand
 operand_has_value position id again [] rows e g = absurd cc
 operand_has_value position id again (v ∷ vs) rows e g = value_set id AsWritten v vs rows g
 
-pub clock_has_value : Keeps HasValue clock
-clock_has_value again [] rows e g = absurd cc
-clock_has_value again (v ∷ vs) rows e g = value_set (codes "clock") AsWritten v vs rows g
+pub number_has_value : (name : Text) (low high : ℕ) → Keeps HasValue (number name low high)
+number_has_value name low high again [] rows e g = absurd cc
+number_has_value name low high again (v ∷ vs) rows e g = value_set name AsWritten v vs rows g
 
--- ---- the clock
+-- ---- numbers
 
--- the first of the values is a clock
-abbrev IsFirstClock : List Text → Type 0
-IsFirstClock [] = Unit {0}
-IsFirstClock (v ∷ vs) = is_clock v ≡ true
+-- the text, where there is one, is a number from `low` to `high`, before which a plus may stand
+abbrev pub IsNumberIn : ℕ → ℕ → Option Text → Type 0
+IsNumberIn low high None = Unit {0}
+IsNumberIn low high (Some text) = is_unsigned_in low high text ≡ true
 
-abbrev pub ReadsClock : Row → Type 0
-ReadsClock r = r.id ≡ codes "clock" → (r.reading ≡ AsWritten) × IsFirstClock r.values
+abbrev pub ReadsNumber : Text → ℕ → ℕ → Row → Type 0
+ReadsNumber name low high r = r.id ≡ name → (r.reading ≡ AsWritten) × IsNumberIn low high (slice_get r.values 0)
 
 same_id : (a b : Text) → bytes_eq a b ≡ true → a ≡ b
 same_id a b e = (bytes_eq-Decides a b).0 e
 
-pub operand_keeps_clock : (position : ℕ) (id : Text) → (id ≡ codes "clock" → ⊥) → Keeps ReadsClock (operand position id)
-operand_keeps_clock position id other again [] rows e g = absurd cc
-operand_keeps_clock position id other again (v ∷ vs) rows e g =
-    each_set ReadsClock id AsWritten (v ∷ vs) (λ is. absurd (other is)) (λ r same p. ((λ is. absurd (other (sym (same_id r.id id same) ∙ is))), tt)) rows g
+pub operand_keeps_number : (position : ℕ) (id name : Text) (low high : ℕ) → (id ≡ name → ⊥) → Keeps (ReadsNumber name low high) (operand position id)
+operand_keeps_number position id name low high other again [] rows e g = absurd cc
+operand_keeps_number position id name low high other again (v ∷ vs) rows e g =
+    each_set (ReadsNumber name low high) id AsWritten (v ∷ vs) (λ is. absurd (other is)) (λ r same p. ((λ is. absurd (other (sym (same_id r.id id same) ∙ is))), tt)) rows g
 
-first_still : (xs : List Text) (v : Text) (vs : List Text) → is_clock v ≡ true → IsFirstClock xs → IsFirstClock (xs ++ v ∷ vs)
-first_still [] v vs is p = is
-first_still (x ∷ xs) v vs is p = p
+first_still : (low high : ℕ) (xs : List Text) (v : Text) (vs : List Text) → is_unsigned_in low high v ≡ true → IsNumberIn low high (slice_get xs 0) → IsNumberIn low high (slice_get (xs ++ v ∷ vs) 0)
+first_still low high [] v vs is p = is
+first_still low high (x ∷ xs) v vs is p = p
 
 taken : (b : Bool) (k : ErrorKind) → cond b [] (k ∷ []) ≡ [] → b ≡ true
 taken true k e = refl
 taken false k e = absurd cc
 
-pub clock_reads_clock : Keeps ReadsClock clock
-clock_reads_clock again [] rows e g = absurd cc
-clock_reads_clock again (v ∷ vs) rows e g =
+pub number_reads : (name : Text) (low high : ℕ) → Keeps (ReadsNumber name low high) (number name low high)
+number_reads name low high again [] rows e g = absurd cc
+number_reads name low high again (v ∷ vs) rows e g =
     let a = or_else_none _ _ e in
     let b = or_else_none _ _ a.1 in
-    let is : is_clock v ≡ true = taken (is_clock v) ValueValidation (or_else_none _ _ b.1).0 in
-    each_set ReadsClock (codes "clock") AsWritten (v ∷ vs) (λ _. (refl, is)) (λ r same p. ((λ own. ((p own).0, first_still r.values v vs is (p own).1)), tt)) rows g
+    let is : is_unsigned_in low high v ≡ true = taken (is_unsigned_in low high v) ValueValidation (or_else_none _ _ b.1).0 in
+    each_set (ReadsNumber name low high) name AsWritten (v ∷ vs) (λ _. (refl, is)) (λ r same p. ((λ own. ((p own).0, first_still low high r.values v vs is (p own).1)), tt)) rows g
 
 -- ---- what is read of a row
 
@@ -135,21 +136,26 @@ first_in rows p (Some r) f e g = first_value r.values (found_each HasValue p row
 pub given_first : (id : Text) (rows : List Row) → Each HasValue rows → is_given id rows ≡ true → (t : Text) × (first_of id rows ≡ Some t)
 given_first id rows f g = first_in rows (λ r. bytes_eq r.id id) (find (λ r. bytes_eq r.id id) rows) f refl g
 
-some_if : (b : Bool) (n : ℕ) → b ≡ true → cond b (Some n) None ≡ Some n
-some_if true n e = refl
-some_if false n e = absurd cc
+module _ (name : Text) (low high : ℕ) where
+  row_reads : (how : Reading) (o : Option Text) → how ≡ AsWritten → IsNumberIn low high o → IsNumberIn low high (option_map (read_as how) o)
+  row_reads how None e p = tt
+  row_reads how (Some text) e p = subst (λ (k : Reading). is_unsigned_in low high (read_as k text) ≡ true) (sym e) p
 
-row_clock : (how : Reading) (vs : List Text) → how ≡ AsWritten → IsFirstClock vs → (n : ℕ) × (clock_of (option_map (read_as how) (slice_get vs 0)) ≡ Some n)
-row_clock how [] e p = (0, refl)
-row_clock how (v ∷ vs) e p = (clock_number v, ap (λ (k : Reading). clock_of (Some (read_as k v))) e ∙ some_if (is_clock v) (clock_number v) p)
+  first_found : (rows : List Row) (o : Option Row) → Each (ReadsNumber name low high) rows → find (λ r. bytes_eq r.id name) rows ≡ o → IsNumberIn low high (option_and_then (λ (r : Row). slice_get r.values 0) o)
+  first_found rows None f e = tt
+  first_found rows (Some r) f e =
+      let found = found_each (ReadsNumber name low high) (λ r. bytes_eq r.id name) rows r f e in
+      (found.0 (same_id r.id name found.1)).1
 
-clock_in : (rows : List Row) (o : Option Row) → Each ReadsClock rows → find (λ r. bytes_eq r.id (codes "clock")) rows ≡ o → (n : ℕ) × (clock_of (option_and_then row_text o) ≡ Some n)
-clock_in rows None f e = (0, refl)
-clock_in rows (Some r) f e =
-    let found = found_each ReadsClock (λ r. bytes_eq r.id (codes "clock")) rows r f e in
-    let reads = found.0 (same_id r.id (codes "clock") found.1) in
-    row_clock r.reading r.values reads.0 reads.1
+  one_found : (rows : List Row) (o : Option Row) → Each (ReadsNumber name low high) rows → find (λ r. bytes_eq r.id name) rows ≡ o → IsNumberIn low high (option_and_then row_text o)
+  one_found rows None f e = tt
+  one_found rows (Some r) f e =
+      let found = found_each (ReadsNumber name low high) (λ r. bytes_eq r.id name) rows r f e in
+      let reads = found.0 (same_id r.id name found.1) in
+      row_reads r.reading (slice_get r.values 0) reads.0 reads.1
 
--- the rows have a clock, given or not
-pub has_clock : (rows : List Row) → Each ReadsClock rows → (n : ℕ) × (clock_of (one_of (codes "clock") rows) ≡ Some n)
-has_clock rows f = clock_in rows (find (λ r. bytes_eq r.id (codes "clock")) rows) f refl
+  pub first_number : (rows : List Row) → Each (ReadsNumber name low high) rows → IsNumberIn low high (first_of name rows)
+  first_number rows f = first_found rows (find (λ r. bytes_eq r.id name) rows) f refl
+
+  pub one_number : (rows : List Row) → Each (ReadsNumber name low high) rows → IsNumberIn low high (one_of name rows)
+  one_number rows f = one_found rows (find (λ r. bytes_eq r.id name) rows) f refl

@@ -1,6 +1,8 @@
 pub mod Parts
-pub mod Clocks
 pub mod Kept
 pub mod Filled
+pub mod Clocks
+pub mod Workers
 pub mod Asked
+pub mod Faults
 pub mod Taken

@@ -1,14 +1,16 @@
 -- The plain forms of the subcommands are taken.
-use Rattle.std.proofs.Common.{◌≡◌, ℕ, Bool, true, false, cond, [], ◌∷◌, Some, None, refl, sym, subst}
-use Rattle.std.specs.Prelude.{◌==◌, ◌&&◌, not, option_and_then}
+use Rattle.std.proofs.Common.{◌≡◌, ℕ, Bool, true, false, cond, [], ◌∷◌, Some, None, refl, sym, ◌∙◌, subst}
+use Rattle.std.specs.Prelude.{◌==◌, not, option_and_then}
 use Rattle.std.proofs.lemmas.Bool.{eqb-true}
 use Rattle.std.specs.Str.{bytes_eq}
 use Rattle.clap.specs.Lexer.{strip_byte}
 use Rattle.clap.specs.Walk.{Text}
-use Rattle.clap.specs.Kinds.{or_else}
+use Rattle.clap.specs.Kinds.{Kinds, or_else}
+use Rattle.clap.specs.ValueTests.{is_unsigned_in}
 use Rattle.clap.specs.declared.error.kind.ErrorKind.TheVariants.{ValueValidation}
 use Rattle.clap.proofs.OnLiterals.{clap_on_literals}
-use Rattle.pb_texts.specs.CommandLines.{is_plain_word, is_clock, clock_number, run_words, replay_words, clock_words, asm_words, dis_words, check_words, Run, Replay, Asm, Dis, Check, AskFor, HaveBadValue}
+use Rattle.pb_texts.specs.CommandLines.{most_workers, is_plain_word, is_workers, workers_number, begins_with_plus, is_clock, clock_number, run_words, workers_words, replay_words, clock_words, asm_words, dis_words, check_words, Run, Replay, Asm, Dis, Check, Request, AskFor, HaveBadValue}
+use Rattle.pb_texts.proofs.Workers.{true_not_false, and_false, false_and, false_unless, plus_no_workers, plain_workers}
 
 not_true : (b : Bool) → not b ≡ true → b ≡ false
 not_true true h = absurd cc
@@ -28,14 +30,6 @@ NoHyphen w = (strip_byte 45 w ≡ None) × (bytes_eq w (45 ∷ 45 ∷ []) ≡ fa
 plain_word : (w : Text) → is_plain_word w ≡ true → NoHyphen w
 plain_word w h = (no_hyphen w h, no_hyphens w h)
 
-and_false : (a b : Bool) → b ≡ false → (a && b) ≡ false
-and_false true b h = h
-and_false false b h = refl
-
-false_and : (a b : Bool) → a ≡ false → (a && b) ≡ false
-false_and true b h = absurd cc
-false_and false b h = refl
-
 hyphen_no_clock : (xs : Text) → is_clock (45 ∷ xs) ≡ false
 hyphen_no_clock xs = false_and _ _ (and_false _ _ refl)
 
@@ -43,30 +37,61 @@ plain_if : (b : Bool) → (b ≡ true → ⊥) → not b ≡ true
 plain_if true f = absurd (f refl)
 plain_if false f = refl
 
-true_not_false : (b : Bool) → b ≡ true → b ≡ false → ⊥
-true_not_false b t f = cc
+-- a word of a kind that no word with a hyphen is of is plain
+plain_of : (is : Text → Bool) → is [] ≡ false → ((xs : Text) → is (45 ∷ xs) ≡ false) → (t : Text) → is t ≡ true → is_plain_word t ≡ true
+plain_of is none hyphen [] h = absurd (true_not_false (is []) h none)
+plain_of is none hyphen (x ∷ xs) h = plain_if (x == 45) (λ e. true_not_false (is (x ∷ xs)) h (subst (λ y. is (y ∷ xs) ≡ false) (sym (eqb-true x 45 e)) (hyphen xs)))
 
 -- a clock begins with a digit or a plus
 clock_plain : (t : Text) → is_clock t ≡ true → is_plain_word t ≡ true
-clock_plain [] h = absurd cc
-clock_plain (x ∷ xs) h = plain_if (x == 45) (λ e. true_not_false (is_clock (x ∷ xs)) h (subst (λ y. is_clock (y ∷ xs) ≡ false) (sym (eqb-true x 45 e)) (hyphen_no_clock xs)))
+clock_plain t h = plain_of is_clock refl hyphen_no_clock t h
+
+hyphen_no_workers : (xs : Text) → is_workers (45 ∷ xs) ≡ false
+hyphen_no_workers xs = false_and _ _ (and_false _ _ refl)
+
+-- a number of workers begins with a digit
+workers_plain : (t : Text) → is_workers t ≡ true → is_plain_word t ≡ true
+workers_plain t h = plain_of is_workers refl hyphen_no_workers t h
 
 -- what a level below and the one above make of the fault of a value
-no_fault : (b : Bool) → b ≡ true → or_else (or_else (or_else (cond b [] (ValueValidation ∷ [])) []) []) [] ≡ []
-no_fault true e = refl
-no_fault false e = absurd cc
+abbrev value_fault : Bool → Kinds
+value_fault b = or_else (or_else (or_else (cond b [] (ValueValidation ∷ [])) []) []) []
 
-bad_value : (b : Bool) → b ≡ false → or_else (or_else (or_else (cond b [] (ValueValidation ∷ [])) []) []) [] ≡ ValueValidation ∷ []
-bad_value true e = absurd cc
-bad_value false e = refl
+-- the same with that of a plus
+abbrev plus_or_value_fault : Bool → Bool → Kinds
+plus_or_value_fault b plus = or_else (value_fault b) (cond plus (ValueValidation ∷ []) [])
 
-with_clock : (b : Bool) (m s e : Text) (n : ℕ) → b ≡ true → option_and_then (λ clock. Some (Replay m s e clock)) (cond b (Some n) None) ≡ Some (Replay m s e n)
-with_clock true m s e n is = refl
-with_clock false m s e n is = absurd cc
+no_fault : (b plus : Bool) → b ≡ true → plus ≡ false → plus_or_value_fault b plus ≡ []
+no_fault true false e f = refl
+no_fault true true e f = absurd cc
+no_fault false plus e f = absurd cc
 
-run_by : (program m s : Text) → NoHyphen m → NoHyphen s → AskFor (run_words program m s) (Run m s)
+bad_value : (b plus : Bool) → (plus ≡ false → b ≡ false) → plus_or_value_fault b plus ≡ ValueValidation ∷ []
+bad_value true true f = refl
+bad_value true false f = absurd (true_not_false true refl (f refl))
+bad_value false plus f = refl
+
+with_value : (b : Bool) (make : ℕ → Request) (n : ℕ) → b ≡ true → option_and_then (λ m. Some (make m)) (cond b (Some n) None) ≡ Some (make n)
+with_value true make n is = refl
+with_value false make n is = absurd cc
+
+no_plus : (t : Text) → is_workers t ≡ true → begins_with_plus t ≡ false
+no_plus t is = false_unless (begins_with_plus t) (λ h. true_not_false (is_workers t) is (plus_no_workers t h))
+
+run_by : (program m s : Text) → NoHyphen m → NoHyphen s → AskFor (run_words program m s) (Run m s 1)
 unfolding clap_on_literals
 run_by program m s a b = (simp (a.0, a.1, b.0, b.1), simp (a.0, a.1, b.0, b.1))
+
+workers_by : (program m s t : Text) → NoHyphen m → NoHyphen s → NoHyphen t → is_workers t ≡ true → AskFor (workers_words program m s t) (Run m s (workers_number t))
+unfolding clap_on_literals
+workers_by program m s t a b c is = (
+  rw (a.1, a.0, a.0, b.1, b.0, b.0, c.1, c.0, c.0) (no_fault (is_unsigned_in 1 most_workers t) (begins_with_plus t) (plain_workers t (no_plus t is) ∙ is) (no_plus t is)),
+  rw (a.1, a.0, a.0, b.1, b.0, b.0, c.1, c.0, c.0) (with_value (is_workers t) (Run m s) (workers_number t) is),
+)
+
+other_workers_by : (program m s t : Text) → NoHyphen m → NoHyphen s → NoHyphen t → is_workers t ≡ false → HaveBadValue (workers_words program m s t)
+unfolding clap_on_literals
+other_workers_by program m s t a b c is = rw (a.1, a.0, a.0, b.1, b.0, b.0, c.1, c.0, c.0) (bad_value (is_unsigned_in 1 most_workers t) (begins_with_plus t) (λ h. plain_workers t h ∙ is))
 
 replay_by : (program m s e : Text) → NoHyphen m → NoHyphen s → NoHyphen e → AskFor (replay_words program m s e) (Replay m s e 0)
 unfolding clap_on_literals
@@ -74,11 +99,11 @@ replay_by program m s e a b c = (rw (a.1, a.0, a.0, b.1, b.0, b.0, c.1, c.0, c.0
 
 clock_by : (program m s e t : Text) → NoHyphen m → NoHyphen s → NoHyphen e → NoHyphen t → is_clock t ≡ true → AskFor (clock_words program m s e t) (Replay m s e (clock_number t))
 unfolding clap_on_literals
-clock_by program m s e t a b c d is = (rw (a.1, a.0, a.0, b.1, b.0, b.0, c.1, c.0, c.0, d.1, d.0, d.0) (no_fault (is_clock t) is), rw (a.1, a.0, a.0, b.1, b.0, b.0, c.1, c.0, c.0, d.1, d.0, d.0) (with_clock (is_clock t) m s e (clock_number t) is))
+clock_by program m s e t a b c d is = (rw (a.1, a.0, a.0, b.1, b.0, b.0, c.1, c.0, c.0, d.1, d.0, d.0) (no_fault (is_clock t) false is refl), rw (a.1, a.0, a.0, b.1, b.0, b.0, c.1, c.0, c.0, d.1, d.0, d.0) (with_value (is_clock t) (Replay m s e) (clock_number t) is))
 
 other_clock_by : (program m s e t : Text) → NoHyphen m → NoHyphen s → NoHyphen e → NoHyphen t → is_clock t ≡ false → HaveBadValue (clock_words program m s e t)
 unfolding clap_on_literals
-other_clock_by program m s e t a b c d is = rw (a.1, a.0, a.0, b.1, b.0, b.0, c.1, c.0, c.0, d.1, d.0, d.0) (bad_value (is_clock t) is)
+other_clock_by program m s e t a b c d is = rw (a.1, a.0, a.0, b.1, b.0, b.0, c.1, c.0, c.0, d.1, d.0, d.0) (bad_value (is_clock t) false (λ _. is))
 
 asm_by : (program i o : Text) → NoHyphen i → NoHyphen o → AskFor (asm_words program i o) (Asm i o)
 unfolding clap_on_literals
@@ -92,8 +117,14 @@ check_by : (program f : Text) → NoHyphen f → AskFor (check_words program f) 
 unfolding clap_on_literals
 check_by program f a = (simp (a.0, a.1), simp (a.0, a.1))
 
-pub run_taken : (program m s : Text) → is_plain_word m ≡ true → is_plain_word s ≡ true → AskFor (run_words program m s) (Run m s)
+pub run_taken : (program m s : Text) → is_plain_word m ≡ true → is_plain_word s ≡ true → AskFor (run_words program m s) (Run m s 1)
 run_taken program m s p q = run_by program m s (plain_word m p) (plain_word s q)
+
+pub workers_taken : (program m s t : Text) → is_plain_word m ≡ true → is_plain_word s ≡ true → is_workers t ≡ true → AskFor (workers_words program m s t) (Run m s (workers_number t))
+workers_taken program m s t p q is = workers_by program m s t (plain_word m p) (plain_word s q) (plain_word t (workers_plain t is)) is
+
+pub other_workers_refused : (program m s t : Text) → is_plain_word m ≡ true → is_plain_word s ≡ true → is_plain_word t ≡ true → is_workers t ≡ false → HaveBadValue (workers_words program m s t)
+other_workers_refused program m s t p q u is = other_workers_by program m s t (plain_word m p) (plain_word s q) (plain_word t u) is
 
 pub replay_taken : (program m s e : Text) → is_plain_word m ≡ true → is_plain_word s ≡ true → is_plain_word e ≡ true → AskFor (replay_words program m s e) (Replay m s e 0)
 replay_taken program m s e p q r = replay_by program m s e (plain_word m p) (plain_word s q) (plain_word e r)

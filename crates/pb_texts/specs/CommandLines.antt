@@ -1,21 +1,36 @@
 -- What a command line asks for, as `clap` reads it.
-use Rattle.std.specs.Prelude.{◌≡◌, ℕ, Bool, true, not, ◌==◌, if◌then◌else◌, List, [], ◌∷◌, codes, Option, Some, None, option_map, option_and_then}
+use Rattle.std.specs.Prelude.{◌≡◌, ◌≤◌, ◌-◌, ℕ, Bool, true, false, not, ◌==◌, ◌&&◌, nat_le, if◌then◌else◌, List, [], ◌∷◌, codes, Option, Some, None, option_map, option_and_then}
+use Rattle.std.specs.Option.{option_map_or}
 use Rattle.std.specs.Str.{bytes_eq}
 use Rattle.std.specs.Str.Parse.{digits_value, without_leading_plus}
 use Rattle.clap.specs.Words.{App, Row, Rule, Text, fault_of, first_of, new_app, new_rule, one_of, subcommand_of, with_rule, with_subcommand}
-use Rattle.clap.specs.ValueTests.{is_unsigned_in}
+use Rattle.clap.specs.ValueTests.{is_numeral, is_unsigned_in}
+use Rattle.clap.specs.Kinds.{Kinds, or_else}
 use Rattle.clap.specs.declared.builder.value_parser.ValueParser.TheVariants.{Unsigned}
 use Rattle.clap.specs.declared.error.kind.ErrorKind.TheVariants.{ValueValidation}
 use Rattle.clap.specs.Simple.{on_top}
+use Rattle.pb_base.specs.declared.limits.TheConstants.{MAX_SEATS}
 use Rattle.pb_texts.specs.declared.words.choice.Options.{Options}
 use Rattle.pb_texts.specs.declared.words.choice.Options.TheVariants as options
 
 abbrev pub required_rule : Text → Rule
 required_rule id = record (new_rule id) { required = true }
 
--- `run MANIFEST SCRIPT`
+-- an option whose value is a number from `low` to `high`
+abbrev pub number_rule : Text → ℕ → ℕ → Rule
+number_rule name low high = record (new_rule name) { long = Some name; value_names = 1; parser = Some (Unsigned low high) }
+
+-- the first seat is the main thread's
+abbrev pub most_workers : ℕ
+most_workers = MAX_SEATS - 1
+
+-- `--workers N`, where N is as many workers as there are seats for
+abbrev pub workers_rule : Rule
+workers_rule = number_rule (codes "workers") 1 most_workers
+
+-- `run MANIFEST SCRIPT [--workers N]`
 abbrev pub run_app : App
-run_app = with_rule (with_rule (new_app (codes "run")) (required_rule (codes "MANIFEST"))) (required_rule (codes "SCRIPT"))
+run_app = with_rule (with_rule (with_rule (new_app (codes "run")) (required_rule (codes "MANIFEST"))) (required_rule (codes "SCRIPT"))) workers_rule
 
 -- the greatest number of `u64`
 abbrev pub last_clock : ℕ
@@ -23,7 +38,7 @@ last_clock = 18446744073709551615
 
 -- `--clock N`, where N is a number of `u64`
 abbrev pub clock_rule : Rule
-clock_rule = record (new_rule (codes "clock")) { long = Some (codes "clock"); value_names = 1; parser = Some (Unsigned 0 last_clock) }
+clock_rule = number_rule (codes "clock") 0 last_clock
 
 -- `replay MANIFEST SCRIPT SCHEDULE [--clock N]`
 abbrev pub replay_app : App
@@ -52,10 +67,10 @@ texts_app = with_subcommand (with_subcommand (with_subcommand (needs_subcommand 
 abbrev pub program_app : App
 program_app = with_subcommand (with_subcommand texts_app dis_app.top) check_app.top
 
--- what a command line can ask for: a manifest and a script to run, the same with a schedule to replay from a clock on, a
--- text to read and a path for its bytes, a file to list or to check
+-- what a command line can ask for: a manifest and a script to run by so many workers, the same two with a schedule to
+-- replay from a clock on, a text to read and a path for its bytes, a file to list or to check
 pub data Request : Type 0 where
-  Run : Text → Text → Request
+  Run : Text → Text → ℕ → Request
   Replay : Text → Text → Text → ℕ → Request
   Asm : Text → Text → Request
   Dis : Text → Request
@@ -69,6 +84,22 @@ both make (Some first) (Some second) = Some (make first second)
 abbrev pub all_three : (Text → Text → Text → Request) → Option Text → Option Text → Option Text → Option Request
 all_three make None second third = None
 all_three make (Some first) second third = both (make first) second third
+
+-- there is a worker at least, and a seat for each
+abbrev pub is_few : ℕ → Bool
+is_few workers = nat_le 1 workers && nat_le workers most_workers
+
+-- the text is a number of workers: decimal digits alone
+abbrev pub is_workers : Text → Bool
+is_workers text = is_numeral text && is_few (digits_value 10 text)
+
+abbrev pub workers_number : Text → ℕ
+workers_number text = digits_value 10 text
+
+-- the number of workers that a text names, 1 where there is no text, and none where it names none
+abbrev pub workers_of : Option Text → Option ℕ
+workers_of None = Some 1
+workers_of (Some text) = if is_workers text then Some (workers_number text) else None
 
 -- the text is a number of `u64`: decimal digits, before which a plus may stand
 abbrev pub is_clock : Text → Bool
@@ -84,7 +115,10 @@ clock_of (Some text) = if is_clock text then Some (clock_number text) else None
 
 -- what the matches of each subcommand ask for
 abbrev pub run_in : List Row → Option Request
-run_in rows = both Run (first_of (codes "MANIFEST") rows) (first_of (codes "SCRIPT") rows)
+run_in rows =
+    option_and_then (λ workers. both (λ manifest script. Run manifest script workers)
+    (first_of (codes "MANIFEST") rows) (first_of (codes "SCRIPT") rows))
+    (workers_of (first_of (codes "workers") rows))
 
 abbrev pub replay_in : List Row → Option Request
 replay_in rows =
@@ -115,12 +149,30 @@ command_in (Some p) =
 abbrev pub command_of : List Text → Option Request
 command_of words = command_in (subcommand_of program_app words)
 
+abbrev pub begins_with_plus : Text → Bool
+begins_with_plus [] = false
+begins_with_plus (x ∷ xs) = x == 43
+
+-- a plus stands before the number of workers, which `clap` takes
+abbrev pub has_plus : Option (Text × List Row) → Bool
+has_plus None = false
+has_plus (Some p) = bytes_eq p.0 (codes "run") && option_map_or begins_with_plus (first_of (codes "workers") p.1) false
+
+-- the fault that `clap` finds, or that of a plus before the number of workers
+abbrev pub words_fault : List Text → Kinds
+words_fault words = or_else (fault_of program_app words) (if has_plus (subcommand_of program_app words) then ValueValidation ∷ [] else [])
+
 abbrev pub request_of : Options → Request
-request_of (options.Run manifest script) = Run manifest.now script.now
+request_of (options.Run manifest script workers) = Run manifest.now script.now workers
 request_of (options.Replay manifest script schedule clock) = Replay manifest.now script.now schedule.now clock.0
 request_of (options.Asm input output) = Asm input.now output.now
 request_of (options.Dis file) = Dis file.now
 request_of (options.Check file) = Check file.now
+
+-- a run has a worker at least, and a seat for each
+abbrev pub HasWorkers : Options → Type 0
+HasWorkers (options.Run manifest script workers) = (1 ≤ workers) × (workers ≤ most_workers)
+HasWorkers other = Unit {0}
 
 -- the word doesn't begin with a hyphen
 abbrev pub is_plain_word : Text → Bool
@@ -131,10 +183,14 @@ is_plain_word (x ∷ xs) = not (x == 45)
 abbrev pub run_words : Text → Text → Text → List Text
 run_words program manifest script = program ∷ codes "run" ∷ manifest ∷ script ∷ []
 
+-- `run` with `--workers`
+abbrev pub workers_words : Text → Text → Text → Text → List Text
+workers_words program manifest script workers = program ∷ codes "run" ∷ manifest ∷ script ∷ codes "--workers" ∷ workers ∷ []
+
 abbrev pub replay_words : Text → Text → Text → Text → List Text
 replay_words program manifest script schedule = program ∷ codes "replay" ∷ manifest ∷ script ∷ schedule ∷ []
 
--- the same with `--clock`
+-- `replay` with `--clock`
 abbrev pub clock_words : Text → Text → Text → Text → Text → List Text
 clock_words program manifest script schedule clock = program ∷ codes "replay" ∷ manifest ∷ script ∷ schedule ∷ codes "--clock" ∷ clock ∷ []
 
@@ -149,8 +205,8 @@ check_words program file = program ∷ codes "check" ∷ file ∷ []
 
 -- the words are taken without fault, and ask for this
 abbrev pub AskFor : List Text → Request → Type 0
-AskFor words request = (fault_of program_app words ≡ []) × (command_of words ≡ Some request)
+AskFor words request = (words_fault words ≡ []) × (command_of words ≡ Some request)
 
 -- the words are refused for a value that isn't what its argument takes
 abbrev pub HaveBadValue : List Text → Type 0
-HaveBadValue words = fault_of program_app words ≡ ValueValidation ∷ []
+HaveBadValue words = words_fault words ≡ ValueValidation ∷ []

@@ -4,10 +4,11 @@ use pb_base::Ts;
 /// What the program is to do.
 #[derive(Clone, Copy, Debug)]
 pub enum Options<'a> {
-    /// Reads a manifest and a script, runs the transactions, and tells what is newest then.
+    /// Reads a manifest and a script, runs the transactions by so many workers, and tells what is newest then.
     Run {
         manifest: &'a str,
         script: &'a str,
+        workers: u32,
     },
     /// Reads a manifest, a script and a schedule, does the schedule's events with this as the last timestamp given out
     /// before them, and tells what is newest then.

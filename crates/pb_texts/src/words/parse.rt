@@ -1,14 +1,18 @@
 //! A command line, read with `clap`.
 ghost use Rattle.std.specs.Prelude.{◌≡◌, ℕ, List, true, IfOk, Some, [], false, option_map, codes};
-ghost use Rattle.clap.specs.Words.{FailsBy, app_of, fault_of, first_of, found_of, one_of, rows_of, rule_of, subcommand_of, subcommand_rows_of};
+ghost use Rattle.clap.specs.Words.{FailsBy, app_of, fault_of, first_of, found_of, kind_of, one_of, rows_of, rule_of, subcommand_of, subcommand_rows_of};
 ghost use Rattle.pb_base.specs.Reading.{texts_of};
-ghost use Rattle.pb_texts.specs.CommandLines.{required_rule, run_app, clock_rule, replay_app, asm_app, dis_app, check_app, texts_app, program_app, run_in, clock_of, replay_in, asm_in, dis_in, check_in, command_in, command_of, request_of, is_plain_word, is_clock, clock_number, run_words, replay_words, clock_words, asm_words, dis_words, check_words, Run, Replay, Asm, Dis, Check, AskFor, HaveBadValue};
+ghost use Rattle.pb_texts.specs.CommandLines.{required_rule, workers_rule, run_app, clock_rule, replay_app, asm_app, dis_app, check_app, texts_app, program_app, is_few, workers_of, run_in, clock_of, replay_in, asm_in, dis_in, check_in, command_in, command_of, words_fault, request_of, HasWorkers, is_plain_word, is_workers, workers_number, is_clock, clock_number, run_words, workers_words, replay_words, clock_words, asm_words, dis_words, check_words, Run, Replay, Asm, Dis, Check, AskFor, HaveBadValue};
 ghost use Rattle.clap.specs.declared.builder.command.Command.TheViews.{out-Command as fields_of};
 
 use crate::words::choice::Options;
+use clap::error::ErrorKind;
 use clap::{Arg, ArgMatches, Command, Error, value_parser};
-use pb_base::Ts;
+use pb_base::{MAX_SEATS, Ts};
 use std::alloc::{AllocError, Global};
+
+// The first seat is the main thread's.
+const MAX_WORKERS: u32 = MAX_SEATS - 1;
 
 fn manifest_operand<'a>(alloc: Global) -> Arg<'a>
     ensures rule { rule_of result ≡ required_rule (codes "MANIFEST") }
@@ -34,6 +38,17 @@ fn schedule_operand<'a>(alloc: Global) -> Arg<'a>
     schedule.help("A text file with the events, one a line")
 }
 
+fn workers_option<'a>(alloc: Global) -> Arg<'a>
+    ensures rule { rule_of result ≡ workers_rule }
+    ensures local { result.global ≡ false }
+{
+    Arg::new(alloc, "workers")
+        .long("workers")
+        .value_name("N")
+        .value_parser(value_parser!(u64).range(1..=i64::from(MAX_WORKERS)))
+        .help("How many threads make the changes, 1 to 63; 1 where none is named")
+}
+
 fn run_command<'a>(alloc: Global) -> Result<Command<'a>, AllocError>
     ensures app { IfOk result (λ c. app_of c ≡ run_app) }
     ensures local { IfOk result (λ c. (fields_of c).has_globals ≡ false) }
@@ -41,7 +56,8 @@ fn run_command<'a>(alloc: Global) -> Result<Command<'a>, AllocError>
     let bare = Command::new(alloc, "run");
     bare.about("Makes a script's changes, runs the observers on them, and prints the report")
         .arg(manifest_operand(alloc))?
-        .arg(script_operand(alloc))
+        .arg(script_operand(alloc))?
+        .arg(workers_option(alloc))
 }
 
 fn clock_option<'a>(alloc: Global) -> Arg<'a>
@@ -139,14 +155,46 @@ fn value_in<'a>(run: &ArgMatches<'a>, id: &str) -> Option<&'a str>
     run.get_str(id)
 }
 
+// There is a worker at least, and a seat for each.
+fn is_few(workers: u32) -> bool
+    ensures { result ≡ is_few workers }
+{
+    1 <= workers && workers <= MAX_WORKERS
+}
+
+// The number of workers that a text names. `clap` takes a plus before the digits, and so does `parse`.
+fn workers_named(text: &str) -> Option<u32>
+    ensures { result ≡ workers_of (Some text.now) }
+{
+    if text.starts_with('+') {
+        return None;
+    }
+    match text.parse::<u32>() {
+        Ok(workers) if is_few(workers) => Some(workers),
+        Ok(_) => None,
+        Err(_) => None,
+    }
+}
+
+// The number of workers that the matches of `run` name.
+fn workers_in(run: &ArgMatches) -> Option<u32>
+    ensures { result ≡ workers_of (first_of (codes "workers") (rows_of (found_of run.now))) }
+{
+    match value_in(run, "workers") {
+        Some(text) => workers_named(text),
+        None => Some(1),
+    }
+}
+
 // What the matches of `run` name.
 fn run_in<'a>(run: &ArgMatches<'a>) -> Option<Options<'a>>
     ensures { option_map request_of result ≡ run_in (rows_of (found_of run.now)) }
 {
-    match (value_in(run, "MANIFEST"), value_in(run, "SCRIPT")) {
-        (Some(manifest), Some(script)) => Some(Options::Run { manifest, script }),
-        _ => None,
-    }
+    Some(Options::Run {
+        workers: workers_in(run)?,
+        manifest: value_in(run, "MANIFEST")?,
+        script: value_in(run, "SCRIPT")?,
+    })
 }
 
 // The clock that the matches of `replay` name.
@@ -215,24 +263,44 @@ fn command_in<'a>(matches: &ArgMatches<'a>) -> Option<Options<'a>>
     }
 }
 
+// The error of a plus before the number of workers.
+fn plus_refused(alloc: Global) -> Result<Error, AllocError>
+    ensures { IfOk result (λ e. kind_of e ≡ ErrorKind.ValueValidation) }
+{
+    let mut run = run_command(alloc)?.bin_name("percobpf run")?;
+    run.error(
+        ErrorKind::ValueValidation,
+        "invalid value for '--workers <N>': a plus stands before the digits",
+    )
+}
+
 /// What the words of a command line ask for, the program's own first. The error of another command line has the text
 /// and the status to end with; where help is asked for, the help with status 0.
 pub fn options<'a>(alloc: Global, words: &'a [&'a str]) -> Result<Options<'a>, Error>
-    ensures kinds { FailsBy (fault_of program_app (texts_of words.now)) result }
+    ensures kinds { FailsBy (words_fault (texts_of words.now)) result }
     ensures read { IfOk result (λ o. command_of (texts_of words.now) ≡ Some (request_of o)) }
+    ensures workers { IfOk result HasWorkers }
 {
     let matches = matches_of(alloc, words)?;
     match command_in(&matches) {
         Some(options) => Ok(options),
-        None => unreachable!(),
+        // Of what `clap` takes, only a plus before the number of workers asks for nothing.
+        None => Err(plus_refused(alloc)?),
     }
 }
 
 /// A subcommand with as many words behind it as it has operands, none of which begins with a hyphen, is taken. So is
-/// `replay` with `--clock` and a number of `u64` behind them; with another such word there it is refused.
+/// `run` with `--workers` and a number of workers behind them, decimal digits alone, and `replay` with `--clock` and a
+/// number of `u64`; with another such word there each is refused.
 pub fn plain_words_are_taken()
     ensures run { (program manifest script : List ℕ) → is_plain_word manifest ≡ true → is_plain_word script ≡ true
-        → AskFor (run_words program manifest script) (Run manifest script) }
+        → AskFor (run_words program manifest script) (Run manifest script 1) }
+    ensures workers { (program manifest script workers : List ℕ) → is_plain_word manifest ≡ true
+        → is_plain_word script ≡ true → is_workers workers ≡ true
+        → AskFor (workers_words program manifest script workers) (Run manifest script (workers_number workers)) }
+    ensures other_workers { (program manifest script workers : List ℕ) → is_plain_word manifest ≡ true
+        → is_plain_word script ≡ true → is_plain_word workers ≡ true → is_workers workers ≡ false
+        → HaveBadValue (workers_words program manifest script workers) }
     ensures replay { (program manifest script schedule : List ℕ) → is_plain_word manifest ≡ true
         → is_plain_word script ≡ true → is_plain_word schedule ≡ true
         → AskFor (replay_words program manifest script schedule) (Replay manifest script schedule 0) }

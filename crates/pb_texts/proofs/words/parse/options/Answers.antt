@@ -1,11 +1,24 @@
-use Rattle.std.proofs.Common.{◌≡◌, Some, None, ap, ◌∙◌}
+use Rattle.std.proofs.Common.{ap, sym, ◌∙◌, subst, inr}
+use Rattle.clap.specs.Words.{IsAmong}
+use Rattle.clap.specs.declared.error.kind.ErrorKind.{ErrorKind}
+use Rattle.clap.proofs.KindLemmas.{fails_by_from}
 use Rattle.pb_base.specs.Reading.{texts_of}
-use Rattle.pb_texts.specs.CommandLines.{command_in}
-use Rattle.pb_texts.proofs.Asked.{asks}
+use Rattle.pb_texts.specs.CommandLines.{command_in, words_fault}
+use Rattle.pb_texts.proofs.Faults.{has_kind_still, asked_faultless, unasked_fault, asked_workers}
 use Rattle.pb_texts.proofs.words.parse.options.Goals as goal
 
-pub unreachable-requires : goal.unreachable-requires
-unreachable-requires c =
-    let a = asks (texts_of c.args.words.now) c.in_ok-matches.ensures.kinds in
-    let e : None ≡ Some a.0 = c.in-None.ensures ∙ ap command_in c.in_ok-matches.ensures.subcommand ∙ a.1 in
-    absurd cc
+pub returns-in_err-matches-clause-kinds : goal.returns-in_err-matches-clause-kinds
+returns-in_err-matches-clause-kinds c =
+    fails_by_from (words_fault (texts_of c.args.words.now)) c.from_residual.result c.in_err-matches.field-0.0
+    (has_kind_still _ _ c.in_err-matches.field-0.0 c.in_err-matches.ensures.kinds) c.from_residual.ensures.0 c.from_residual.ensures.1
+
+pub returns-in-Some-clause-kinds : goal.returns-in-Some-clause-kinds
+returns-in-Some-clause-kinds c = asked_faultless (texts_of c.args.words.now) _ c.in_ok-matches.ensures.kinds (ap command_in (sym c.in_ok-matches.ensures.subcommand) ∙ sym c.in-Some.ensures)
+
+pub returns-in-Some-clause-workers : goal.returns-in-Some-clause-workers
+returns-in-Some-clause-workers c = asked_workers (texts_of c.args.words.now) c.in-Some.options (ap command_in (sym c.in_ok-matches.ensures.subcommand) ∙ sym c.in-Some.ensures)
+
+pub returns-clause-kinds : goal.returns-clause-kinds
+returns-clause-kinds c =
+    inr (subst (λ (k : ErrorKind). IsAmong k (words_fault (texts_of c.args.words.now))) (sym c.in_ok-plus_refused-in-None.ensures)
+    (unasked_fault (texts_of c.args.words.now) c.in_ok-matches.ensures.kinds (ap command_in (sym c.in_ok-matches.ensures.subcommand) ∙ sym c.in-None.ensures)))

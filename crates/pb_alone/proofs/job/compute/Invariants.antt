@@ -1,8 +1,0 @@
-use Rattle.pb_alone.proofs.RunAlong.{ReachesOn, left_of}
-use Rattle.pb_alone.proofs.job.compute.Given as goal
-
-abbrev pub invariant-loop-alloc : goal.invariant-loop-alloc
-invariant-loop-alloc l = ReachesOn l.fn.job l.job
-
-abbrev pub decreases-loop-alloc : goal.decreases-loop-alloc
-decreases-loop-alloc l = left_of l.job

@@ -1,6 +1,0 @@
-pub mod Alone
-pub mod Faults
-pub mod Passes
-pub mod Stops
-pub mod Runs
-pub mod TextRuns

@@ -1,0 +1,2 @@
+pub mod ReplayEndings
+pub mod RunEndings

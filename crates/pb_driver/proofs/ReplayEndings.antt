@@ -1,0 +1,30 @@
+-- How a run of events ends, by what its calls answered.
+use Rattle.std.proofs.Common.{◌≡◌, ℕ, Bool, true, false, List, Option, Ok, Err, refl}
+use Rattle.std.specs.Prelude.{◌==◌, if◌then◌else◌}
+use Rattle.std.proofs.lemmas.Bool.{eqb-false}
+use Rattle.pb_base.specs.declared.refusal.Reason.TheVariants.{NoMemory}
+use Rattle.pb_base.specs.Reasons.{reason_code}
+use Rattle.pb_parse.specs.declared.event.Event.{Event}
+use Rattle.pb_world.specs.declared.fault.WorldFault.{WorldFault}
+use Rattle.pb_world.specs.declared.note.Note.{Note}
+use Rattle.pb_world.specs.Events.{WorldOf, RunsTo, StopsAtEvent}
+use Rattle.pb_script.specs.declared.fault.ReportFault.{ReportFault}
+use Rattle.pb_script.specs.declared.fault.ReportFault.TheVariants as ends
+use Rattle.pb_script.specs.TableReports.{Reports}
+use Rattle.pb_driver.specs.declared.fault.RunFault.TheVariants as faults
+use Rattle.pb_driver.specs.Texts.{of_report}
+use Rattle.pb_driver.specs.Replays.{of_event, EventsEnd}
+
+pub reported : (w : WorldOf) (es : List Event) (ns : List Note) (v : WorldOf) (old now : Option (List ℕ)) (failed : Bool) → RunsTo w es ns v → Reports v.shared old now failed (Ok tt) → EventsEnd w es old now failed (Ok tt)
+reported w es ns v old now failed r p = (record { notes = ns; after = v; runs = r; wrote = p.0 }, p.1)
+
+pub cut : (w : WorldOf) (es : List Event) (ns : List Note) (v : WorldOf) (old now : Option (List ℕ)) (failed : Bool) (f : ReportFault) → RunsTo w es ns v → Reports v.shared old now failed (Err f) → EventsEnd w es old now failed (Err (of_report f))
+cut w es ns v old now failed ends.Output r p = (record { notes = ns; after = v; runs = r; began = p.0 }, p.1)
+cut w es ns v old now failed ends.NoMemory r p = p
+
+pub stopped : (w : WorldOf) (es : List Event) (f : WorldFault) (v : WorldOf) (old : Option (List ℕ)) (failed : Bool) → failed ≡ false → StopsAtEvent w es f.event f.code v → EventsEnd w es old old failed (Err (of_event f))
+stopped w es f v old failed quiet s = by (f.code == reason_code NoMemory) refl
+  where
+    by : (b : Bool) → (f.code == reason_code NoMemory) ≡ b → EventsEnd w es old old failed (Err (if b then faults.NoMemory else faults.Event f))
+    by true e = (refl, quiet)
+    by false e = (record { other = eqb-false f.code (reason_code NoMemory) e; after = v; stops = s }, refl, quiet)

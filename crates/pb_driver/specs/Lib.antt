@@ -1,0 +1,3 @@
+pub mod Texts
+pub mod Replays
+pub mod Runs

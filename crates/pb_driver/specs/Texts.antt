@@ -1,0 +1,68 @@
+-- What the texts of a run and of a replay are read as, and which fault is told of them.
+use Rattle.std.specs.Prelude.{◌≡◌, ℕ, List, [], Ok, Err}
+use Rattle.pb_base.specs.declared.limits.TheConstants.{MAX_ENTRIES}
+use Rattle.pb_base.specs.Batch.{Writes}
+use Rattle.pb_steps.specs.Observers.{ObserverOf}
+use Rattle.pb_steps.specs.State.{opening}
+use Rattle.pb_core.specs.Calls.{SharedOf}
+use Rattle.pb_registry.specs.Judging.{ReadsManifest}
+use Rattle.pb_parse.specs.ScriptLines.{script_of}
+use Rattle.pb_parse.specs.declared.event.Event.{Event}
+use Rattle.pb_parse.specs.Schedules.{schedule_of}
+use Rattle.pb_script.specs.declared.fault.ReportFault.{ReportFault}
+use Rattle.pb_script.specs.declared.fault.ReportFault.TheVariants as ends
+use Rattle.pb_driver.specs.declared.fault.RunFault.{RunFault}
+use Rattle.pb_driver.specs.declared.fault.RunFault.TheVariants as faults
+
+-- the fault of a run or a replay whose report ended so
+abbrev pub of_report : ReportFault → RunFault
+of_report ends.Output = faults.Output
+of_report ends.NoMemory = faults.NoMemory
+
+-- ---- each text
+
+-- the manifest is refused with this fault, or memory was refused
+abbrev pub IsBadManifest : List ℕ → RunFault → Type 0
+IsBadManifest manifest (faults.Manifest f) = ReadsManifest manifest (Err f)
+IsBadManifest manifest faults.NoMemory = Unit {0}
+IsBadManifest manifest _ = ⊥
+
+abbrev pub IsBadScript : List ℕ → RunFault → Type 0
+IsBadScript script (faults.Script f) = script_of script ≡ Err (f.line, f.code)
+IsBadScript script faults.NoMemory = Unit {0}
+IsBadScript script _ = ⊥
+
+abbrev pub IsBadSchedule : List ObserverOf → List ℕ → RunFault → Type 0
+IsBadSchedule observers schedule (faults.Schedule f) = schedule_of observers schedule ≡ Err (f.line, f.code)
+IsBadSchedule observers schedule faults.NoMemory = Unit {0}
+IsBadSchedule observers schedule _ = ⊥
+
+-- ---- the texts of a run
+
+pub record IsRunRead (manifest script : List ℕ) (observers : List ObserverOf) (batches : List Writes) : Type 0 where
+  pub manifest_read : ReadsManifest manifest (Ok observers)
+  pub script_read : script_of script ≡ Ok batches
+
+-- the first text that isn't read tells its fault
+abbrev pub IsRunUnread : List ℕ → List ℕ → RunFault → Type 0
+IsRunUnread manifest script (faults.Manifest f) = ReadsManifest manifest (Err f)
+IsRunUnread manifest script (faults.Script f) = (observers : List ObserverOf) × ReadsManifest manifest (Ok observers) × (script_of script ≡ Err (f.line, f.code))
+IsRunUnread manifest script faults.NoMemory = Unit {0}
+IsRunUnread manifest script _ = ⊥
+
+-- ---- the texts of a replay
+
+pub record IsReplayRead (manifest script schedule : List ℕ) (observers : List ObserverOf) (batches : List Writes) (events : List Event) : Type 0 where
+  pub run_read : IsRunRead manifest script observers batches
+  pub schedule_read : schedule_of observers schedule ≡ Ok events
+
+-- the first text that isn't read tells its fault
+abbrev pub IsReplayUnread : List ℕ → List ℕ → List ℕ → RunFault → Type 0
+IsReplayUnread manifest script schedule (faults.Schedule f) = (observers : List ObserverOf) × (batches : List Writes) × IsRunRead manifest script observers batches × (schedule_of observers schedule ≡ Err (f.line, f.code))
+IsReplayUnread manifest script schedule f = IsRunUnread manifest script f
+
+-- ---- the table
+
+-- a table with these observers, so many seats and room for the most entries, as opened
+abbrev pub fresh : List ObserverOf → ℕ → ℕ → SharedOf
+fresh observers seats last = record { journal = []; state = opening observers seats last; opened = last; limit = MAX_ENTRIES }

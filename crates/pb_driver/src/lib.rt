@@ -1,0 +1,11 @@
+//! What the program does with its texts: a run of workers, or a replay of a schedule's events, and the report of what they left.
+#![tactic(auto)]
+
+mod fault;
+mod replay;
+mod run;
+mod texts;
+
+pub use fault::RunFault;
+pub use replay::replay_texts;
+pub use run::{Ran, run_texts};

@@ -1,0 +1,114 @@
+//! A replay, from its texts to its report.
+ghost use Rattle.std.specs.Prelude.{◌≡◌, false};
+ghost use Rattle.pb_store.specs.Contents.{nothing};
+ghost use Rattle.pb_core.specs.Calls.{AreSeats};
+ghost use Rattle.pb_driver.specs.Replays.{Replays, EventsEnd, ReplaysTexts};
+
+use crate::fault::RunFault;
+use crate::texts::read_replay;
+use pb_base::{Batch, MAX_ENTRIES, MAX_SEATS, Reason, Sink, Ts};
+use pb_core::{OpenRefused, Seat, Shared};
+use pb_script::{Event, report};
+use pb_store::{Table, Tablet};
+use pb_world::{World, WorldFault};
+use std::alloc::Global;
+
+// The fault of an event as one of the replay.
+fn fault_of(fault: WorldFault) -> RunFault
+    ensures { result ≡ Rattle.pb_driver.specs.Replays.of_event fault }
+{
+    if fault.code == Reason::NoMemory.code() {
+        RunFault::NoMemory
+    } else {
+        RunFault::Event(fault)
+    }
+}
+
+// Lets the events happen in a world, and writes the report.
+fn run<T: Tablet, S: Sink>(
+    alloc: Global,
+    world: &mut World<T>,
+    events: &[Event],
+    sink: &mut S,
+) -> Result<(), RunFault>
+    requires unfailed { S.failed sink.old ≡ false }
+    ensures { EventsEnd world.old events.now (S.taken sink.old) (S.taken sink.new) (S.failed sink.new) result }
+{
+    match world.run(alloc, events) {
+        Ok(_notes) => match report(alloc, sink, world.shared()) {
+            Ok(()) => Ok(()),
+            Err(fault) => Err(fault.into()),
+        },
+        Err(fault) => Err(fault_of(fault)),
+    }
+}
+
+// The same in a world of this table, which is ended.
+fn run_on<T: Tablet, S: Sink>(
+    alloc: Global,
+    shared: Shared<T>,
+    seats: Vec<Seat>,
+    batches: Vec<Batch>,
+    events: &[Event],
+    sink: &mut S,
+) -> Result<(), RunFault>
+    requires seated { AreSeats shared seats.items }
+    requires unfailed { S.failed sink.old ≡ false }
+    ensures { Replays shared seats.items batches.items events.now (S.taken sink.old) (S.taken sink.new)
+        (S.failed sink.new) result }
+{
+    match World::open(alloc, shared, seats, batches) {
+        Ok(world) => {
+            let mut world = world;
+            let outcome = run(alloc, &mut world, events, sink);
+            let (shared, _seats) = world.close();
+            shared.close();
+            outcome
+        }
+        Err((shared, _seats, _batches)) => {
+            shared.close();
+            Err(RunFault::NoMemory)
+        }
+    }
+}
+
+/// Lets a schedule's events happen in a world of a manifest's observers and a script's changes, over an empty table with
+/// [`MAX_SEATS`] seats and `last` the last timestamp given out, and writes the report of what they left.
+///
+/// The first fault is told: the manifest's, the script's, the schedule's, an event's, a failed write, or want of memory. It
+/// ends the table on every path.
+pub fn replay_texts<T: Tablet, S: Sink>(
+    alloc: Global,
+    manifest: &str,
+    script: &str,
+    schedule: &str,
+    table: Table<T>,
+    last: Ts,
+    sink: &mut S,
+) -> Result<(), RunFault>
+    requires empty { table.contents ≡ nothing }
+    requires unfailed { S.failed sink.old ≡ false }
+    ensures { ReplaysTexts manifest.now script.now schedule.now last.0 (S.taken sink.old) (S.taken sink.new)
+        (S.failed sink.new) result }
+{
+    let (observers, batches, events) = match read_replay(alloc, manifest, script, schedule) {
+        Ok(texts) => texts,
+        Err(fault) => {
+            table.close();
+            return Err(fault);
+        }
+    };
+    match Shared::open(alloc, table, observers, MAX_SEATS, last, MAX_ENTRIES) {
+        Ok((shared, seats)) => run_on(alloc, shared, seats, batches, &events, sink),
+        Err(
+            OpenRefused {
+                table,
+                observers: _,
+                code: _,
+            },
+        ) => {
+            table.close();
+            Err(RunFault::NoMemory)
+        }
+    }
+}

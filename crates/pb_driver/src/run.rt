@@ -1,0 +1,141 @@
+//! A run of workers, from its texts to its report.
+ghost use Rattle.std.specs.Prelude.{◌≡◌, ◌<◌, ◌≤◌, [], false, vec_len};
+ghost use Rattle.pb_base.specs.declared.limits.TheConstants.{MAX_SEATS};
+ghost use Rattle.pb_store.specs.Contents.{nothing};
+ghost use Rattle.pb_core.specs.Calls.{AreSeats};
+ghost use Rattle.pb_driver.specs.Runs.{Concludes, RunsOn, RunsTexts};
+
+use crate::fault::RunFault;
+use crate::texts::read_run;
+use pb_base::{Batch, MAX_ENTRIES, Refusal, Sink, Ts};
+use pb_core::{OpenRefused, Seat, Shared};
+use pb_script::report;
+use pb_store::{Table, Tablet};
+use pb_worker::{NotRun, Open, Worked, changes_are_made, finish, run_workers};
+use std::alloc::Global;
+use std::sync::Wait;
+use std::thread::Threads;
+
+/// What a run left undone, where its report was written.
+#[derive(Drop)]
+pub struct Ran {
+    /// The first refusal of each seat, the main one first.
+    pub refusals: Vec<Option<Refusal>>,
+    /// The changes of which no try committed, by their numbers from 0, in order.
+    pub unfinished: Vec<usize>,
+}
+
+// Writes the report of a table whose seats agree with its journal, and ends the table.
+fn conclude<T: Tablet, S: Sink>(
+    alloc: Global,
+    worked: Worked<T>,
+    sink: &mut S,
+) -> Result<Ran, RunFault>
+    requires unfailed { S.failed sink.old ≡ false }
+    ensures { Concludes worked.shared worked.seats.items worked.refusals.items worked.unfinished.items
+        (S.taken sink.old) (S.taken sink.new) (S.failed sink.new) result }
+{
+    let Worked {
+        shared,
+        seats,
+        refusals,
+        unfinished,
+    } = worked;
+    match finish(shared, seats) {
+        Ok(ended) => {
+            // For the proof: the journal is legal.
+            let _ = ended.shared().journal();
+            let outcome = report(alloc, sink, ended.shared());
+            ended.close();
+            match outcome {
+                Ok(()) => Ok(Ran {
+                    refusals,
+                    unfinished,
+                }),
+                Err(fault) => Err(fault.into()),
+            }
+        }
+        Err((shared, _seats)) => {
+            shared.close();
+            Err(RunFault::SeatsDiffer)
+        }
+    }
+}
+
+// Has workers make the changes on a table as opened, and writes the report of what they left.
+fn run_on<R: Threads + Wait + Sync, T: Tablet + Send, S: Sink>(
+    rt: &R,
+    alloc: Global,
+    shared: Shared<T>,
+    seats: Vec<Seat>,
+    batches: Vec<Batch>,
+    sink: &mut S,
+) -> Result<Ran, RunFault>
+    requires fresh { shared.journal ≡ [] }
+    requires seated { AreSeats shared seats.items }
+    requires some { 1 < vec_len seats }
+    requires unfailed { S.failed sink.old ≡ false }
+    ensures { RunsOn shared seats.items batches.items (S.taken sink.old) (S.taken sink.new) (S.failed sink.new)
+        result }
+{
+    // For the proof: where the seats agree, the journal's committed changes are those that aren't named as unfinished.
+    changes_are_made();
+    match run_workers(rt, alloc, shared, seats, batches, &Open) {
+        Ok(worked) => conclude(alloc, worked, sink),
+        Err(
+            NotRun {
+                shared,
+                seats: _,
+                batches: _,
+            },
+        ) => {
+            shared.close();
+            Err(RunFault::NoMemory)
+        }
+    }
+}
+
+/// Has so many workers make a script's changes and run a manifest's observers on them, over an empty table with a seat for
+/// each worker and the main one and `last` the last timestamp given out, and writes the report of what they left.
+///
+/// The first fault is told: the manifest's, the script's, seats that differ from the journal, a failed write, or want of
+/// memory. A worker that was refused, and a change that no try committed, are no fault of the run: they are told in [`Ran`],
+/// and the report is written all the same. It ends the table on every path.
+pub fn run_texts<R: Threads + Wait + Sync, T: Tablet + Send, S: Sink>(
+    rt: &R,
+    alloc: Global,
+    manifest: &str,
+    script: &str,
+    workers: u32,
+    table: Table<T>,
+    last: Ts,
+    sink: &mut S,
+) -> Result<Ran, RunFault>
+    requires some { 1 ≤ workers }
+    requires few { workers < MAX_SEATS }
+    requires empty { table.contents ≡ nothing }
+    requires unfailed { S.failed sink.old ≡ false }
+    ensures { RunsTexts manifest.now script.now workers last.0 (S.taken sink.old) (S.taken sink.new) (S.failed sink.new)
+        result }
+{
+    let (observers, batches) = match read_run(alloc, manifest, script) {
+        Ok(texts) => texts,
+        Err(fault) => {
+            table.close();
+            return Err(fault);
+        }
+    };
+    match Shared::open(alloc, table, observers, workers + 1, last, MAX_ENTRIES) {
+        Ok((shared, seats)) => run_on(rt, alloc, shared, seats, batches, sink),
+        Err(
+            OpenRefused {
+                table,
+                observers: _,
+                code: _,
+            },
+        ) => {
+            table.close();
+            Err(RunFault::NoMemory)
+        }
+    }
+}

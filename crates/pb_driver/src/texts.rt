@@ -1,0 +1,101 @@
+//! The texts of a run and of a replay.
+ghost use Rattle.std.specs.Prelude.{◌≡◌, ◌≤◌, length, Ok, IfOk, IfErr};
+ghost use Rattle.pb_base.specs.declared.limits.TheConstants.{MAX_OBSERVERS};
+ghost use Rattle.pb_registry.specs.Judging.{ReadsManifest};
+ghost use Rattle.pb_parse.specs.ScriptLines.{script_of};
+ghost use Rattle.pb_parse.specs.Schedules.{schedule_of};
+ghost use Rattle.pb_driver.specs.Texts.{IsBadManifest, IsBadScript, IsBadSchedule, IsRunRead, IsRunUnread, IsReplayRead, IsReplayUnread};
+
+use crate::fault::RunFault;
+use pb_base::{Batch, Reason};
+use pb_core::Observer;
+use pb_registry::Registry;
+use pb_script::{Event, parse_schedule, parse_script};
+use std::alloc::Global;
+
+// The manifest's observers.
+fn observers_in(alloc: Global, manifest: &str) -> Result<Vec<Observer>, RunFault>
+    ensures ok { IfOk result (λ v. ReadsManifest manifest.now (Ok v.items)) }
+    ensures few { IfOk result (λ v. length v.items ≤ MAX_OBSERVERS) }
+    ensures err { IfErr result (IsBadManifest manifest.now) }
+{
+    match Registry::from_json(alloc, manifest) {
+        Ok(registry) => match registry.into_observers(alloc) {
+            Ok(observers) => Ok(observers),
+            Err(_) => Err(RunFault::NoMemory),
+        },
+        Err(fault) => {
+            if fault.code == Reason::NoMemory.code() {
+                Err(RunFault::NoMemory)
+            } else {
+                Err(RunFault::Manifest(fault))
+            }
+        }
+    }
+}
+
+// The script's changes.
+fn changes_in(alloc: Global, script: &str) -> Result<Vec<Batch>, RunFault>
+    ensures ok { IfOk result (λ v. script_of script.now ≡ Ok v.items) }
+    ensures err { IfErr result (IsBadScript script.now) }
+{
+    match parse_script(alloc, script) {
+        Ok(batches) => Ok(batches),
+        Err(fault) => {
+            if fault.code == Reason::NoMemory.code() {
+                Err(RunFault::NoMemory)
+            } else {
+                Err(RunFault::Script(fault))
+            }
+        }
+    }
+}
+
+// The schedule's events, for these observers.
+fn events_in(alloc: Global, schedule: &str, observers: &[Observer]) -> Result<Vec<Event>, RunFault>
+    requires { length observers.now ≤ MAX_OBSERVERS }
+    ensures ok { IfOk result (λ v. schedule_of observers.now schedule.now ≡ Ok v.items) }
+    ensures err { IfErr result (IsBadSchedule observers.now schedule.now) }
+{
+    match parse_schedule(alloc, schedule, observers) {
+        Ok(events) => Ok(events),
+        Err(fault) => {
+            if fault.code == Reason::NoMemory.code() {
+                Err(RunFault::NoMemory)
+            } else {
+                Err(RunFault::Schedule(fault))
+            }
+        }
+    }
+}
+
+/// What the texts of a run are read as, each in turn.
+pub fn read_run(
+    alloc: Global,
+    manifest: &str,
+    script: &str,
+) -> Result<(Vec<Observer>, Vec<Batch>), RunFault>
+    ensures ok { IfOk result (λ t. IsRunRead manifest.now script.now t.0.items t.1.items) }
+    ensures few { IfOk result (λ t. length t.0.items ≤ MAX_OBSERVERS) }
+    ensures err { IfErr result (IsRunUnread manifest.now script.now) }
+{
+    let observers = observers_in(alloc, manifest)?;
+    let batches = changes_in(alloc, script)?;
+    Ok((observers, batches))
+}
+
+/// What the texts of a replay are read as, each in turn.
+pub fn read_replay(
+    alloc: Global,
+    manifest: &str,
+    script: &str,
+    schedule: &str,
+) -> Result<(Vec<Observer>, Vec<Batch>, Vec<Event>), RunFault>
+    ensures ok { IfOk result (λ t. IsReplayRead manifest.now script.now schedule.now t.0.items t.1.items t.2.items) }
+    ensures few { IfOk result (λ t. length t.0.items ≤ MAX_OBSERVERS) }
+    ensures err { IfErr result (IsReplayUnread manifest.now script.now schedule.now) }
+{
+    let (observers, batches) = read_run(alloc, manifest, script)?;
+    let events = events_in(alloc, schedule, &observers)?;
+    Ok((observers, batches, events))
+}
