@@ -1,7 +1,7 @@
 """Runs of observers after the changes of a script, told by whole reports.
 
-Worked out by hand from docs/TABLE.md, "Passes": each change takes two timestamps, then passes go by rows and columns, and
-each run takes two.
+Worked out by hand from docs/TABLE.md, "Passes" and "Workers": by one worker each change takes two timestamps, then passes go by
+rows and columns, and each run takes two. Of more workers no row tells a commit that isn't the same whoever comes first.
 """
 from __future__ import annotations
 
@@ -103,11 +103,12 @@ ONE_AFTER_ANOTHER = [
         "put 7 1 2a\n",
         "cell 7 0 commit 4 deleted\ncell 7 1 commit 2 value 2a\nruns watch 1\nruns delete 1\nquiet\n",
     ),
-    # each of its runs changes the cell that it observes, so that every pass finds its mark
+    # each of its runs changes the cell that it observes, so that every pass finds its mark: 1,000 of the worker, and then 1,000
+    # of the main seat
     run(
         manifest_of(observer("delete", 0, "3", DELETE)),
         ONE,
-        "cell 7 0 commit 2002 deleted\nruns delete 1000\nmarks 1 locks 0\n",
+        "cell 7 0 commit 4002 deleted\nruns delete 2000\nmarks 1 locks 0\n",
     ),
 ]
 
@@ -119,6 +120,21 @@ OTHER_RESULTS = [
     run(manifest_of(observer("many", 0, "3", SEVENTEEN)), ONE, f"{CHANGED}runs many 1\nquiet\n"),
 ]
 
+# a change takes the first two timestamps, whoever else is there; who runs the observer isn't told
+BY_MORE_WORKERS = [
+    run(WATCHED, ONE, f"{CHANGED}runs watch 1\nquiet\n", "--workers", workers) for workers in ("2", "4", "63")
+] + [
+    run(THREE, ONE, f"{CHANGED}runs watch 1\nruns start 1\nruns other 0\nquiet\n", "--workers", "4"),
+    run(WATCHED, "", "runs watch 0\nquiet\n", "--workers", "63"),
+    run(
+        WATCHED,
+        "put 7 1 2a; put 8 1 2b\n",
+        "cell 7 1 commit 2 value 2a\ncell 8 1 commit 2 value 2b\nruns watch 0\nquiet\n",
+        "--workers",
+        "8",
+    ),
+]
+
 TABLES: Tables = {
     "watches": WATCHES,
     "several observers": SEVERAL,
@@ -127,4 +143,5 @@ TABLES: Tables = {
     "counts": COUNTS,
     "one after another": ONE_AFTER_ANOTHER,
     "other results": OTHER_RESULTS,
+    "by more workers": BY_MORE_WORKERS,
 }

@@ -4,7 +4,7 @@ Worked out by hand from docs/FORMATS.md, "Words". What `clap` prints is not look
 """
 from __future__ import annotations
 
-from tables import NOBODY, ONE, WATCH, Row, Tables, files_of
+from tables import CHANGED, NOBODY, ONE, WATCH, Row, Tables, files_of
 
 
 def helps(*words: str) -> Row:
@@ -62,6 +62,41 @@ OTHER_CLOCKS = [
     wrong("replay", "m", "s", "e", "--clock", "1", "--clock", "1"),
 ]
 
+
+def manned(*words: str, report: str = f"{CHANGED}quiet\n", script: str = ONE) -> Row:
+    """A run with these words, which reports so."""
+    return Row(["run", *words], files_of(m=NOBODY, s=script), out=report.encode())
+
+
+# the option may stand before, between and behind the operands; there may be more workers than changes, and zeros before the
+# digits
+WORKERS = [
+    manned("m", "s", "--workers", "1"),
+    manned("m", "s", "--workers", "63"),
+    manned("--workers", "63", "m", "s", report="quiet\n", script=""),
+    manned("m", "--workers", "2", "s"),
+    manned("--workers=4", "m", "s"),
+    manned("m", "s", "--workers", "09"),
+]
+
+OTHER_WORKERS = [
+    *(
+        wrong("run", "m", "s", "--workers", workers)
+        for workers in ("0", "64", "+1", "+63", "x", "", "-1", "1.0", " 1", "1 ", "0x1", "4294967297", "18446744073709551617")
+    ),
+    wrong("run", "m", "s", "--workers"),
+    wrong("run", "--workers", "m", "s"),
+    wrong("run", "m", "s", "--workers=0"),
+    wrong("run", "m", "s", "--workers=+1"),
+    wrong("run", "m", "s", "--workers="),
+    wrong("run", "m", "s", "--workers", "1", "--workers", "1"),
+    wrong("run", "m", "s", "--workers", "1", "2"),
+    wrong("run", "m", "s", "--worker", "1"),
+    wrong("replay", "m", "s", "e", "--workers", "1"),
+    wrong("check", "i", "--workers", "1"),
+    wrong("--workers", "1", "run", "m", "s"),
+]
+
 COMMAND_LINES = [
     wrong(),
     wrong("walk"),
@@ -87,5 +122,7 @@ TABLES: Tables = {
     "subcommands": SUBCOMMANDS,
     "clocks": CLOCKS,
     "other clocks": OTHER_CLOCKS,
+    "workers": WORKERS,
+    "other workers": OTHER_WORKERS,
     "command lines": COMMAND_LINES,
 }

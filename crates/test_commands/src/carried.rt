@@ -1,11 +1,15 @@
 //! Commands carried out over paths and sinks in memory.
 ghost use Rattle.std.specs.Prelude.{◌≡◌, None, false};
+ghost use Rattle.pb_texts.specs.CommandLines.{HasWorkers};
+ghost use Rattle.pb_command.specs.Commands.{IsSequential};
 
 use pb_base::{NoMemory, Sink, SinkFault};
-use pb_command::{Paths, command};
+use pb_command::{Paths, command, sequential_command};
 use pb_texts::Options;
 use std::alloc::Global;
 use std::rt::HostRuntime;
+use std::sync::Wait;
+use std::thread::Threads;
 use test_fixtures::table;
 
 // A sink that takes one byte a call, so many times, and then none, or fails.
@@ -61,19 +65,44 @@ impl Sheet {
     }
 }
 
-/// Carries out a command over these paths, with an output that takes so many bytes, and then fails or takes none.
+/// Carries out a command other than `run` over these paths, with an output that takes so many bytes, and then fails or takes
+/// none.
 pub fn carry<P: Paths>(
     rt: &HostRuntime,
     options: &Options,
     paths: &mut P,
     left: usize,
     fails: bool,
-) -> Result<Outcome, NoMemory> {
+) -> Result<Outcome, NoMemory>
+    requires { IsSequential options.now }
+{
     let alloc = rt.alloc();
     let table = table(alloc)?;
     let mut out = Sheet::new(alloc, left, fails);
     let mut err = Sheet::new(alloc, usize::MAX, fails);
-    let status = command(alloc, options, paths, table, &mut out, &mut err);
+    let status = sequential_command(alloc, options, paths, table, &mut out, &mut err);
+    Ok(Outcome {
+        status,
+        out: out.bytes,
+        err: err.bytes,
+    })
+}
+
+/// The same of any command, with workers in threads of this handle.
+pub fn carry_in_threads<R: Threads + Wait + Sync, P: Paths>(
+    rt: &R,
+    alloc: Global,
+    options: &Options,
+    paths: &mut P,
+    left: usize,
+    fails: bool,
+) -> Result<Outcome, NoMemory>
+    requires { HasWorkers options.now }
+{
+    let table = table(alloc)?;
+    let mut out = Sheet::new(alloc, left, fails);
+    let mut err = Sheet::new(alloc, usize::MAX, fails);
+    let status = command(rt, alloc, options, paths, table, &mut out, &mut err);
     Ok(Outcome {
         status,
         out: out.bytes,

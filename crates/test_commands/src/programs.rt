@@ -1,6 +1,7 @@
 //! `asm` and `dis`, over paths and sinks in memory.
 ghost use Rattle.std.specs.Prelude.{◌≡◌, ◌∷◌, [], true, IfOk, IfErr};
 ghost use Rattle.std.specs.Str.{bytes_eq};
+ghost use Rattle.pb_command.specs.Commands.{IsSequential};
 ghost use Rattle.pb_command.specs.declared.paths.PathFault.TheVariants as faults;
 
 use crate::carried::{Outcome, carry, has_told};
@@ -168,9 +169,12 @@ pub(crate) fn is_cut(
     rt: &HostRuntime,
     options: &Options,
     bytes: &[u8],
-    (j, fails): (usize, bool),
+    cut: (usize, bool),
     text: &[u8],
-) -> bool {
+) -> bool
+    requires { IsSequential options.now }
+{
+    let (j, fails) = cut;
     let mut folder = holding(rt.alloc(), bytes);
     match carry(rt, options, &mut folder, j, fails) {
         Ok(outcome) => {

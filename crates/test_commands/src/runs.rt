@@ -1,12 +1,14 @@
 //! `run`, over paths and sinks in memory.
-ghost use Rattle.std.specs.Prelude.{◌≡◌};
+ghost use Rattle.std.specs.Prelude.{◌≡◌, ◌≤◌};
 
-use crate::carried::{Outcome, carry, has_told};
+use crate::carried::{Outcome, carry_in_threads, has_told};
 use pb_base::NoMemory;
 use pb_command::{PathFault, Paths};
 use pb_texts::Options;
 use std::alloc::Global;
 use std::rt::HostRuntime;
+use std::sync::Wait;
+use std::thread::Threads;
 
 const MANIFEST: &[u8] = b"{\"profile\":1,\"observers\":[]}";
 
@@ -46,13 +48,25 @@ impl<'a> Paths for Held<'a> {
     }
 }
 
-fn run(rt: &HostRuntime, files: Held, left: usize, fails: bool) -> Result<Outcome, NoMemory> {
+// A run of these files by so many workers.
+fn run<R: Threads + Wait + Sync>(
+    rt: &R,
+    alloc: Global,
+    files: Held,
+    workers: u32,
+    left: usize,
+    fails: bool,
+) -> Result<Outcome, NoMemory>
+    requires some { 1 ≤ workers }
+    requires few { workers ≤ 63 }
+{
     let mut files = files;
     let options = Options::Run {
         manifest: "m",
         script: "s",
+        workers,
     };
-    carry(rt, &options, &mut files, left, fails)
+    carry_in_threads(rt, alloc, &options, &mut files, left, fails)
 }
 
 #[test]
@@ -62,17 +76,32 @@ fn memory_for_a_manifest_is_refused(rt: HostRuntime) {
         manifest: Err(PathFault::NoMemory),
         script: Ok(b""),
     };
-    assert!(rt; has_told(run(&rt, files, usize::MAX, true), "no memory\n"));
+    assert!(rt;
+        has_told(
+            run(&rt, rt.alloc(), files, 1, usize::MAX, true),
+            "no memory\n"
+        )
+    );
+}
+
+// A script of one change.
+fn one_change<'a>(alloc: Global) -> Held<'a> {
+    Held {
+        alloc,
+        manifest: Ok(MANIFEST),
+        script: Ok(b"put 7 0 2a\n"),
+    }
 }
 
 // Whether a run whose output ends at the j-th call prints a beginning of the report, and tells it.
-fn is_cut(rt: &HostRuntime, j: usize, fails: bool, report: &[u8]) -> bool {
-    let files = Held {
-        alloc: rt.alloc(),
-        manifest: Ok(MANIFEST),
-        script: Ok(b"put 7 0 2a\n"),
-    };
-    match run(rt, files, j, fails) {
+fn is_cut<R: Threads + Wait + Sync>(
+    rt: &R,
+    alloc: Global,
+    j: usize,
+    fails: bool,
+    report: &[u8],
+) -> bool {
+    match run(rt, alloc, one_change(alloc), 1, j, fails) {
         Ok(outcome) => {
             outcome.status == 1
                 && outcome.out.len() == j
@@ -87,15 +116,17 @@ fn is_cut(rt: &HostRuntime, j: usize, fails: bool, report: &[u8]) -> bool {
 fn output_may_fail_at_any_call(rt: HostRuntime) {
     let report = b"cell 7 0 commit 2 value 2a\nquiet\n";
     for j in 0..report.len() {
-        assert!(rt; is_cut(&rt, j, true, report), "failed at {j}");
-        assert!(rt; is_cut(&rt, j, false, report), "took none at {j}");
+        assert!(rt; is_cut(&rt, rt.alloc(), j, true, report), "failed at {j}");
+        assert!(rt;
+            is_cut(&rt, rt.alloc(), j, false, report),
+            "took none at {j}"
+        );
     }
-    let files = Held {
-        alloc: rt.alloc(),
-        manifest: Ok(MANIFEST),
-        script: Ok(b"put 7 0 2a\n"),
-    };
-    let outcome = run(&rt, files, report.len(), true).expect(&rt, "memory");
-    assert!(rt; outcome.status == 0);
-    assert!(rt; outcome.out.as_slice() == report.as_slice());
+    for workers in [1, 2, 63u32] {
+        let files = one_change(rt.alloc());
+        let outcome = run(&rt, rt.alloc(), files, workers, report.len(), true);
+        let outcome = outcome.expect(&rt, "memory");
+        assert!(rt; outcome.status == 0 && outcome.err.is_empty());
+        assert!(rt; outcome.out.as_slice() == report.as_slice());
+    }
 }

@@ -14,15 +14,18 @@ mod programs;
 mod runs;
 mod same;
 mod tablets;
+mod workers;
 mod worlds;
 
 use pb_base::NoMemory;
+use std::alloc::Global;
 use std::env;
 use std::process::ExitCode;
+use std::sync::Wait;
+use std::thread::Threads;
 
 // Every check. It fails for memory only where a check's own preparation was refused.
-fn all(rt: &HostRuntime) -> Result<bool, NoMemory> {
-    let alloc = rt.alloc();
+fn all<R: Threads + Wait + Sync>(rt: &R, alloc: Global) -> Result<bool, NoMemory> {
     let copies = calls::batch_copies(alloc)? && calls::step_copies(alloc)?;
     let table = calls::table_applies(alloc)?
         && tablets::chunks_are_parted(alloc)?
@@ -32,7 +35,7 @@ fn all(rt: &HostRuntime) -> Result<bool, NoMemory> {
         && jobs::observers_run(alloc)?;
     let runs = runs::script_parses(alloc)?
         && runs::shared_opens(alloc)?
-        && runs::script_runs(alloc)?;
+        && workers::workers_run(rt, alloc)?;
     let observers = observers::programs_are_accepted(alloc)?
         && observers::manifests_are_read(alloc)?
         && observers::schedules_are_read(alloc)?
@@ -50,30 +53,39 @@ fn all(rt: &HostRuntime) -> Result<bool, NoMemory> {
     Ok(copies && table && shared && runs && observers && programs)
 }
 
-// What the words behind the program's own ask for.
-fn asked(rt: &HostRuntime) -> Result<bool, NoMemory> {
+// Whether what the words behind the program's own ask for held; none where there are no such words.
+fn asked(rt: &HostRuntime) -> Result<Option<bool>, NoMemory> {
     let Ok(args) = env::args(rt) else {
         return Err(NoMemory);
     };
     let words: Vec<String> = args.collect(rt.alloc())?;
     let Some(word) = words.get(1) else {
-        return all(rt);
+        return Ok(None);
     };
     match (word.as_str(), words.get(2)) {
-        ("start", Some(path)) => machines::file_starts(rt, path.as_str()),
-        ("run", Some(path)) => machines::file_runs(rt, path.as_str()),
-        _ => Ok(false),
+        ("start", Some(path)) => Ok(Some(machines::file_starts(rt, path.as_str())?)),
+        ("run", Some(path)) => Ok(Some(machines::file_runs(rt, path.as_str())?)),
+        _ => Ok(Some(false)),
+    }
+}
+
+// Whether that held; every check, where nothing was asked for.
+fn held<R: Threads + Wait + Sync>(
+    rt: &R,
+    alloc: Global,
+    asked: Result<Option<bool>, NoMemory>,
+) -> Result<bool, NoMemory> {
+    match asked? {
+        Some(held) => Ok(held),
+        None => all(rt, alloc),
     }
 }
 
 fn main(rt: HostRuntime) -> ExitCode {
     // Only one request is refused; the second time no preparation is.
-    let held = match asked(&rt) {
+    let held = match held(&rt, rt.alloc(), asked(&rt)) {
         Ok(held) => held,
-        Err(_) => match asked(&rt) {
-            Ok(held) => held,
-            Err(_) => false,
-        },
+        Err(_) => held(&rt, rt.alloc(), asked(&rt)) == Ok(true),
     };
     if held {
         ExitCode::SUCCESS

@@ -3,10 +3,13 @@ ghost use Rattle.std.specs.Prelude.{◌≡◌, None, false};
 
 use pb_base::{Sink, SinkFault};
 
+// How many bytes it takes.
+const ROOM: usize = 128;
+
 /// The first bytes that were written, and how many were.
 #[derive(Drop)]
 pub struct Page {
-    bytes: [u8; 64],
+    bytes: [u8; ROOM],
     count: usize,
     failed: bool,
 }
@@ -16,7 +19,7 @@ impl Page {
         ensures { result.failed ≡ false }
     {
         Page {
-            bytes: [0; 64],
+            bytes: [0; ROOM],
             count: 0,
             failed: false,
         }
@@ -24,7 +27,7 @@ impl Page {
 
     /// Whether these bytes were written, and no others.
     pub fn holds(&self, text: &[u8]) -> bool {
-        if self.count > 64 {
+        if self.count > ROOM {
             return false;
         }
         let written = &self.bytes[..self.count];
@@ -41,7 +44,7 @@ impl Sink for Page {
         if piece.is_empty() {
             return Ok(0);
         }
-        if self.count >= 64 {
+        if self.count >= ROOM {
             self.failed = true;
             return Err(SinkFault);
         }

@@ -1,15 +1,12 @@
 //! Calls on whole scripts.
-ghost use Rattle.std.specs.Prelude.{◌≡◌, false};
-
 use crate::calls::table;
-use crate::page::Page;
-use pb_alone::{RunFault, run_alone};
 use pb_base::{NoMemory, Ts};
 use pb_core::{OpenRefused, Shared};
 use pb_script::parse_script;
 use std::alloc::Global;
 
-const SCRIPT: &str = "put 7 0 2a\ndel 7 1\n";
+/// Two changes, of three cells.
+pub const SCRIPT: &str = "put 7 0 2a\ndel 7 1; put 8 0 0b\n";
 
 /// `parse_script`.
 pub fn script_parses(alloc: Global) -> Result<bool, NoMemory> {
@@ -51,46 +48,5 @@ pub fn shared_opens(alloc: Global) -> Result<bool, NoMemory> {
                 Ok(false)
             }
         },
-    }
-}
-
-// How a run of the script on a table of its own ends, and what it wrote.
-fn ran(alloc: Global, page: &mut Page) -> Result<Result<(), RunFault>, NoMemory>
-    requires { page.old.failed ≡ false }
-{
-    match Shared::open(alloc, table(alloc)?, Vec::new(alloc), 1, Ts(0), 100) {
-        Ok((shared, seats)) => {
-            let (shared, _seats, outcome) = run_alone(alloc, SCRIPT, shared, seats, page);
-            shared.close();
-            Ok(outcome)
-        }
-        Err(
-            OpenRefused {
-                table,
-                observers: _,
-                code: _,
-            },
-        ) => {
-            table.close();
-            Err(NoMemory)
-        }
-    }
-}
-
-/// `run_alone`. Refused, it has written nothing.
-pub fn script_runs(alloc: Global) -> Result<bool, NoMemory> {
-    let report = b"cell 7 0 commit 2 value 2a\ncell 7 1 commit 4 deleted\nquiet\n";
-    let mut page = Page::new();
-    match ran(alloc, &mut page)? {
-        Ok(()) => Ok(page.holds(report)),
-        Err(RunFault::NoMemory) => {
-            let is_empty = page.holds(b"");
-            let mut again = Page::new();
-            let Ok(outcome) = ran(alloc, &mut again) else {
-                return Ok(false);
-            };
-            Ok(is_empty && outcome.is_ok() && again.holds(report))
-        }
-        Err(_) => Ok(false),
     }
 }

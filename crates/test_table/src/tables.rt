@@ -43,25 +43,17 @@ pub fn deletes(rt: &impl Abort, alloc: Global, columns: &[u8]) -> Declaration {
     Declaration::new(alloc, Declared::Script(batch)).expect(rt, "memory")
 }
 
-/// The one observer of column 0, whose program may call these helpers.
-pub fn observer_with(
-    rt: &impl Abort,
-    alloc: Global,
-    digits: &str,
-    helpers: HelperTable,
-) -> Observer {
+/// The one observer of column 0, whose program may call all helpers.
+pub fn observer_of(rt: &impl Abort, alloc: Global, digits: &str) -> Observer {
     let bytes = hex::decode(alloc, digits).ok().expect(rt, "digits");
-    let program = accept(alloc, &bytes, helpers).ok().expect(rt, "accepted");
+    let program = accept(alloc, &bytes, HelperTable::all())
+        .ok()
+        .expect(rt, "accepted");
     Observer {
         name: String::from_str(alloc, "watch").expect(rt, "memory"),
         column: Column::new(0).expect(rt, "a column"),
         program: Arc::new(alloc, program).expect(rt, "memory"),
     }
-}
-
-/// The same, whose program may call all helpers.
-pub fn observer_of(rt: &impl Abort, alloc: Global, digits: &str) -> Observer {
-    observer_with(rt, alloc, digits, HelperTable::all())
 }
 
 /// A list of that observer alone.

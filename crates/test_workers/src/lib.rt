@@ -1,7 +1,20 @@
-//! The tests of workers: rows in which a gate makes two threads take turns.
+//! The tests of workers: rows in which a gate makes two threads take turns, how workers end, what `finish` accepts, and what
+//! seats received.
+//!
+//! They stand in a crate of their own, since a crate that has tests is proved twice.
 #![tactic(auto)]
 
+#[cfg(test)]
+mod changes;
+#[cfg(test)]
+mod ends;
+#[cfg(test)]
+mod entries;
+#[cfg(test)]
+mod finishes;
 #[cfg(test)]
 mod gates;
 #[cfg(test)]
 mod rows;
+#[cfg(test)]
+mod tables;

@@ -1,66 +1,14 @@
-//! Two workers whose steps a gate puts in order.
-ghost use Rattle.std.specs.Prelude.{◌≤◌, ◌<◌, length, IfOk, vec_len};
-ghost use Rattle.pb_base.specs.declared.limits.TheConstants.{MAX_OBSERVERS};
-
+//! Scripts by one worker, and by two whose steps a gate puts in order.
 use crate::gates::{Crossing, Marks, Stubborn, Together};
-use pb_base::{MAX_ENTRIES, NoMemory, Ts};
-use pb_core::{Answer, Declared, Observer, Seat, Shared, Step};
+use crate::tables::{COPY, NONE, Task, WATCH, told, worked};
+use pb_core::{Answer, Declared, Seat, Shared, Step};
 use pb_memtablet::ListTablet;
-use pb_parse::parse_script;
-use pb_registry::Registry;
-use pb_worker::{Gate, NotRun, Worked, run_workers};
+use pb_worker::{Open, Worked};
 use std::alloc::Global;
 use std::process::Abort;
 use std::sync::Wait;
 use std::sync::atomic::AtomicU64;
 use std::thread::Threads;
-use test_fixtures::opened;
-
-pub const NONE: &str = "{\"profile\":1,\"observers\":[]}";
-/// An observer of column 0 that does nothing.
-pub const WATCH: &str =
-    "{\"profile\":1,\"observers\":[{\"name\":\"watch\",\"column\":0,\"helpers\":[],\"code\":\"b7000000000000009500000000000000\"}]}";
-
-fn observers(alloc: Global, manifest: &str) -> Result<Vec<Observer>, NoMemory>
-    ensures { IfOk result (λ v. length v.items ≤ MAX_OBSERVERS) }
-{
-    match Registry::from_json(alloc, manifest) {
-        Ok(registry) => match registry.into_observers(alloc) {
-            Ok(observers) => Ok(observers),
-            Err(_) => Err(NoMemory),
-        },
-        Err(_) => Err(NoMemory),
-    }
-}
-
-// What two workers leave of a script.
-fn worked<R: Threads + Wait + Abort + Sync, G: Gate>(
-    rt: &R,
-    alloc: Global,
-    manifest: &str,
-    script: &str,
-    gate: &G,
-) -> Worked<ListTablet> {
-    let observers = observers(alloc, manifest).ok().expect(rt, "observers");
-    let batches = parse_script(alloc, script).ok().expect(rt, "batches");
-    let (shared, seats) = opened(alloc, observers, 3, Ts(0), MAX_ENTRIES)
-        .ok()
-        .expect(rt, "opened");
-    assert!(rt; seats.len() > 1, "there are workers");
-    match run_workers(rt, alloc, shared, seats, batches, gate) {
-        Ok(worked) => worked,
-        Err(
-            NotRun {
-                shared,
-                seats: _,
-                batches: _,
-            },
-        ) => {
-            shared.close();
-            panic!(rt; "not run")
-        }
-    }
-}
 
 // The answers of a seat to its stamps.
 fn stamps(rt: &impl Abort, alloc: Global, seat: &Seat) -> Vec<u64> {
@@ -84,6 +32,35 @@ fn committed(rt: &impl Abort, alloc: Global, shared: &Shared<ListTablet>) -> Vec
     all
 }
 
+// What one worker leaves of a script that has no conflict.
+fn told_by_one<R: Threads + Wait + Abort + Sync>(
+    rt: &R,
+    alloc: Global,
+    manifest: &str,
+    script: &str,
+) -> Vec<u8> {
+    let Worked {
+        shared,
+        seats,
+        refusals,
+        unfinished,
+    } = worked(rt, alloc, &Task::new(manifest, script, 1), &Open);
+    assert_eq!(rt; refusals.as_slice(), &[None, None][..]);
+    assert!(rt; unfinished.is_empty(), "all committed");
+    told(rt, alloc, shared, seats)
+}
+
+#[test]
+fn one_worker_copies(rt: HostRuntime) {
+    let report = b"cell 7 0 commit 2 value 2a\ncell 7 1 commit 4 value 2a\nruns copy 1\nquiet\n";
+    assert!(rt; told_by_one(&rt, rt.alloc(), COPY, "put 7 0 2a\n").as_slice() == report.as_slice());
+}
+
+#[test]
+fn one_worker_has_nothing_to_do(rt: HostRuntime) {
+    assert!(rt; told_by_one(&rt, rt.alloc(), NONE, "").as_slice() == b"quiet\n".as_slice());
+}
+
 #[test]
 fn second_commits_while_first_prewrites(rt: HostRuntime) {
     let alloc = rt.alloc();
@@ -91,19 +68,13 @@ fn second_commits_while_first_prewrites(rt: HostRuntime) {
         rt: &rt,
         marks: Marks::new(),
     };
-    let worked = worked(
-        &rt,
-        alloc,
-        NONE,
-        "put 1 0 01; put 1 1 02\nput 2 0 03\n",
-        &gate,
-    );
+    let task = Task::new(NONE, "put 1 0 01; put 1 1 02\nput 2 0 03\n", 2);
     let Worked {
         shared,
         seats,
         refusals,
         unfinished,
-    } = worked;
+    } = worked(&rt, alloc, &task, &gate);
     assert!(rt; gate.marks.are_in_time(), "no hold ran out");
     assert!(rt; seats.len() > 2, "each seat is there");
     assert!(rt; unfinished.is_empty(), "all committed");
@@ -111,7 +82,26 @@ fn second_commits_while_first_prewrites(rt: HostRuntime) {
     assert_eq!(rt; stamps(&rt, alloc, &seats[1]).as_slice(), &[4u64][..]);
     assert_eq!(rt; stamps(&rt, alloc, &seats[2]).as_slice(), &[3u64][..]);
     assert_eq!(rt; committed(&rt, alloc, &shared).as_slice(), &[2u32, 1][..]);
-    shared.close();
+    let report =
+        b"cell 1 0 commit 4 value 01\ncell 1 1 commit 4 value 02\ncell 2 0 commit 3 value 03\nquiet\n";
+    assert!(rt; told(&rt, alloc, shared, seats).as_slice() == report.as_slice());
+}
+
+// Whether a seat was told that it began with each of 2 to 101, and a conflict for each.
+fn are_in_conflict(seat: &Seat) -> bool {
+    let mut next = 2;
+    let mut conflicts = 0;
+    for received in seat.received() {
+        match (&received.step, &received.answer) {
+            (Step::Begin(_), Answer::At(start)) if start.0 == next && next < 102 => next += 1,
+            (Step::Begin(_), _) => return false,
+            (Step::Prewrite(start, _), Answer::Conflict)
+                if start.0 + 1 == next && conflicts < 100 => conflicts += 1,
+            (Step::Prewrite(_, _), _) => return false,
+            _ => {}
+        }
+    }
+    next == 102 && conflicts == 100
 }
 
 #[test]
@@ -121,20 +111,33 @@ fn second_tries_a_hundred_times(rt: HostRuntime) {
         rt: &rt,
         marks: Marks::new(),
     };
-    let worked = worked(&rt, alloc, NONE, "put 1 0 01\nput 1 0 02\n", &gate);
+    let task = Task::new(NONE, "put 1 0 01\nput 1 0 02\n", 2);
     let Worked {
         shared,
         seats,
         refusals,
         unfinished,
-    } = worked;
+    } = worked(&rt, alloc, &task, &gate);
     assert!(rt; gate.marks.are_in_time(), "no hold ran out");
     assert!(rt; seats.len() > 2, "each seat is there");
     assert_eq!(rt; unfinished.as_slice(), &[1usize][..]);
     assert!(rt; refusals.iter().all(|r| r.is_none()), "none refused");
     assert_eq!(rt; stamps(&rt, alloc, &seats[1]).as_slice(), &[102u64][..]);
+    assert!(rt; are_in_conflict(&seats[2]), "each try is a conflict");
+    // A try is three steps, and a pass follows.
     assert_eq!(rt; seats[2].received().len(), 301);
-    shared.close();
+    let report = b"cell 1 0 commit 102 value 01\nquiet\n";
+    assert!(rt; told(&rt, alloc, shared, seats).as_slice() == report.as_slice());
+}
+
+// How many runs a seat declared.
+fn runs_by(seat: &Seat) -> usize {
+    seat.received()
+        .iter()
+        .filter(
+            |r| matches!(&r.step, Step::Declare(_, what) if matches!(what.get(), Declared::Run(_, _))),
+        )
+        .count()
 }
 
 #[test]
@@ -146,27 +149,19 @@ fn both_run_at_once(rt: HostRuntime) {
         first: [AtomicU64::new(0), AtomicU64::new(0)],
         second: [AtomicU64::new(0), AtomicU64::new(0)],
     };
-    let worked = worked(&rt, alloc, WATCH, "put 1 0 01\nput 2 0 02\n", &gate);
+    let task = Task::new(WATCH, "put 1 0 01\nput 2 0 02\n", 2);
     let Worked {
         shared,
         seats,
         refusals,
         unfinished,
-    } = worked;
+    } = worked(&rt, alloc, &task, &gate);
     assert!(rt; gate.marks.are_in_time(), "no hold ran out");
     assert!(rt; seats.len() > 2, "each seat is there");
+    assert!(rt; refusals.iter().all(|r| r.is_none()), "none refused");
     assert!(rt; unfinished.is_empty(), "all committed");
-    assert_eq!(rt; shared.marks(), 0);
-    assert_eq!(rt; shared.locks(), 0);
-    for place in [1usize, 2] {
-        let runs = seats[place]
-            .received()
-            .iter()
-            .filter(
-                |r| matches!(&r.step, Step::Declare(_, what) if matches!(what.get(), Declared::Run(_, _))),
-            )
-            .count();
-        assert!(rt; runs > 0, "seat {place} declared a run");
-    }
-    shared.close();
+    assert!(rt; runs_by(&seats[1]) > 0, "seat 1 declared a run");
+    assert!(rt; runs_by(&seats[2]) > 0, "seat 2 declared a run");
+    let report = told(&rt, alloc, shared, seats);
+    assert!(rt; report.ends_with(b"\nruns watch 2\nquiet\n"), "as said");
 }

@@ -1,14 +1,14 @@
-//! A program to be timed: `alone COUNT` makes so many changes by one seat alone, and `N COUNT` by N workers, 1 to 63. With
-//! `busy` as a third word the manifest has an observer that copies each change. It prints how many changes there were, where
-//! all committed and no mark and no lock is left.
+//! A program to be timed: with the words `WORKERS COUNT ROWS` so many workers, 1 to 63, make so many changes, each of one cell:
+//! with `spread` of a row of its own, with `one` all of one row. With `busy` as a fourth word the manifest has an observer that
+//! copies each change. It prints how many calls were answered by a conflict, and how many changes are unfinished, where no seat
+//! was refused a step, the report is written, and no mark and no lock is left.
 #![tactic(auto)]
 
-ghost use Rattle.std.specs.Prelude.{◌≤◌, ◌<◌, length, IfOk, vec_len};
+ghost use Rattle.std.specs.Prelude.{◌≤◌, ◌<◌, length, IfOk};
 ghost use Rattle.pb_base.specs.declared.limits.TheConstants.{MAX_OBSERVERS};
 
-use pb_alone::run_alone;
 use pb_base::{MAX_ENTRIES, NoMemory, Out, Ts};
-use pb_core::Observer;
+use pb_core::{Answer, Observer, Seat};
 use pb_memtablet::ListTablet;
 use pb_parse::parse_script;
 use pb_registry::Registry;
@@ -27,6 +27,24 @@ const NONE: &str = "{\"profile\":1,\"observers\":[]}";
 const COPY: &str =
     "{\"profile\":1,\"observers\":[{\"name\":\"copy\",\"column\":0,\"helpers\":[2],\"code\":\"bf1600000000000079623000000000007b2ae0ff0000000079623800000000007b2ae8ff0000000079624000000000007b2af0ff0000000079624800000000007b2af8ff000000007961000000000000b702000001000000bfa300000000000007030000e0ffffff8500000002000000b7000000000000009500000000000000\"}]}";
 
+// What is to be done, and by how many.
+#[derive(Drop)]
+struct Task {
+    workers: u32,
+    count: u32,
+    is_spread: bool,
+    manifest: &'static str,
+    ghost some: { 1 ≤ workers },
+    ghost few: { workers < 64 },
+}
+
+// What was met.
+#[derive(Clone, Copy, Debug, Drop)]
+struct Met {
+    conflicts: usize,
+    unfinished: usize,
+}
+
 fn observers(alloc: Global, manifest: &str) -> Result<Vec<Observer>, NoMemory>
     ensures { IfOk result (λ v. length v.items ≤ MAX_OBSERVERS) }
 {
@@ -39,65 +57,73 @@ fn observers(alloc: Global, manifest: &str) -> Result<Vec<Observer>, NoMemory>
     }
 }
 
-fn script(alloc: Global, count: u32) -> Result<String, NoMemory> {
+fn script(alloc: Global, count: u32, is_spread: bool) -> Result<String, NoMemory> {
     let mut text = String::new(alloc);
     for n in 0..count {
-        let row = u64::from(n) * 48_271 % 2_147_483_647;
+        let row = if is_spread {
+            u64::from(n) * 48_271 % 2_147_483_647
+        } else {
+            0
+        };
         let line = format!(in alloc; "put {row} 0 2a\n")?;
         text.push_str(&line)?;
     }
     Ok(text)
 }
 
-// Whether one seat alone makes the changes, and writes the report.
-fn are_made_alone(alloc: Global, manifest: &str, count: u32) -> Result<bool, NoMemory> {
-    let text = script(alloc, count)?;
-    let observers = observers(alloc, manifest)?;
-    let (shared, seats) = opened(alloc, observers, 1, Ts(0), MAX_ENTRIES)?;
-    let mut sink = Out::new(Vec::new(alloc));
-    let (shared, _seats, outcome) = run_alone(alloc, &text, shared, seats, &mut sink);
-    let is_left = shared.marks() > 0 || shared.locks() > 0;
-    shared.close();
-    Ok(outcome.is_ok() && !is_left)
+// How many calls of these seats were answered by a conflict.
+fn conflicts_in(seats: &[Seat]) -> usize {
+    let mut count: usize = 0;
+    for seat in seats {
+        for received in seat.received() {
+            if received.answer == Answer::Conflict {
+                count = count.saturating_add(1);
+            }
+        }
+    }
+    count
 }
 
-// Whether so many workers make the changes, and the report is written.
-fn are_made_together<R: Threads + Wait + Sync>(
+// What the workers met, where nothing was refused and nothing is left to do.
+fn met(alloc: Global, worked: Worked<ListTablet>) -> Option<Met> {
+    let Worked {
+        shared,
+        seats,
+        refusals,
+        unfinished,
+    } = worked;
+    let mut sink = Out::new(Vec::new(alloc));
+    let is_written = report(alloc, &mut sink, &shared).is_ok();
+    let is_left = shared.marks() > 0 || shared.locks() > 0;
+    shared.close();
+    if !is_written || is_left || refusals.iter().any(|refusal| refusal.is_some()) {
+        return None;
+    }
+    Some(Met {
+        conflicts: conflicts_in(&seats),
+        unfinished: unfinished.len(),
+    })
+}
+
+// The workers make the changes.
+fn do_task<R: Threads + Wait + Sync>(
     rt: &R,
     alloc: Global,
-    manifest: &str,
-    count: u32,
-    workers: u32,
-) -> Result<bool, NoMemory>
-    requires some { 1 ≤ workers }
-    requires few { workers < 64 }
-{
-    let text = script(alloc, count)?;
-    let observers = observers(alloc, manifest)?;
+    task: &Task,
+) -> Result<Option<Met>, NoMemory> {
+    let text = script(alloc, task.count, task.is_spread)?;
+    let observers = observers(alloc, task.manifest)?;
     let batches = match parse_script(alloc, &text) {
         Ok(batches) => batches,
         Err(_) => return Err(NoMemory),
     };
-    let (shared, seats) = opened(alloc, observers, workers + 1, Ts(0), MAX_ENTRIES)?;
+    let (shared, seats) = opened(alloc, observers, task.workers + 1, Ts(0), MAX_ENTRIES)?;
     if seats.len() < 2 {
         shared.close();
-        return Ok(false);
+        return Ok(None);
     }
     match run_workers(rt, alloc, shared, seats, batches, &Open) {
-        Ok(
-            Worked {
-                shared,
-                seats: _,
-                refusals: _,
-                unfinished,
-            },
-        ) => {
-            let mut sink = Out::new(Vec::new(alloc));
-            let written = report(alloc, &mut sink, &shared);
-            let is_left = shared.marks() > 0 || shared.locks() > 0;
-            shared.close();
-            Ok(written.is_ok() && unfinished.is_empty() && !is_left)
-        }
+        Ok(worked) => Ok(met(alloc, worked)),
         Err(
             NotRun {
                 shared,
@@ -106,42 +132,38 @@ fn are_made_together<R: Threads + Wait + Sync>(
             },
         ) => {
             shared.close();
-            Ok(false)
+            Ok(None)
         }
     }
 }
 
-// Whether the changes are made by as many workers as the word says.
-fn are_made<R: Threads + Wait + Sync>(
-    rt: &R,
-    alloc: Global,
-    word: &str,
-    manifest: &str,
-    count: u32,
-) -> Option<bool> {
-    if word == "alone" {
-        return are_made_alone(alloc, manifest, count).ok();
-    }
-    let workers = word.parse::<u32>().ok()?;
-    if workers < 1 || workers > 63 {
-        return None;
-    }
-    are_made_together(rt, alloc, manifest, count, workers).ok()
-}
-
-// How many changes were made, by the words behind the program's own.
-fn timed<R: Threads + Wait + Sync>(rt: &R, alloc: Global, words: &[String]) -> Option<u32> {
-    let word = words.get(1)?.as_str();
-    let count = words.get(2)?.parse::<u32>().ok()?;
-    let manifest = match words.get(3) {
+// What the words behind the program's own ask for.
+fn task_in(words: &[String]) -> Option<Task> {
+    let workers = words.get(1)?.as_str().parse::<u32>().ok()?;
+    let count = words.get(2)?.as_str().parse::<u32>().ok()?;
+    let is_spread = match words.get(3)?.as_str() {
+        "spread" => true,
+        "one" => false,
+        _ => return None,
+    };
+    let manifest = match words.get(4) {
         Some(_) => COPY,
         None => NONE,
     };
-    if are_made(rt, alloc, word, manifest, count)? {
-        Some(count)
-    } else {
-        None
+    if workers < 1 || workers > 63 {
+        return None;
     }
+    Some(Task {
+        workers,
+        count,
+        is_spread,
+        manifest,
+    })
+}
+
+fn timed<R: Threads + Wait + Sync>(rt: &R, alloc: Global, words: &[String]) -> Option<Met> {
+    let task = task_in(words)?;
+    do_task(rt, alloc, &task).ok()?
 }
 
 fn main(rt: HostRuntime) -> ExitCode {
@@ -153,8 +175,9 @@ fn main(rt: HostRuntime) -> ExitCode {
         return ExitCode::FAILURE;
     };
     match timed(&rt, rt.alloc(), &words) {
-        Some(count) => {
-            let _ = println!(rt; "{count}");
+        Some(met) => {
+            let (conflicts, unfinished) = (met.conflicts, met.unfinished);
+            let _ = println!(rt; "{conflicts} {unfinished}");
             ExitCode::SUCCESS
         }
         None => ExitCode::FAILURE,

@@ -1,0 +1,52 @@
+//! What didn't hold.
+use pb_base::NoMemory;
+use pb_script::ReportFault;
+use std::alloc::{AllocError, AllocFailed};
+use thiserror::Error;
+
+/// What of a run didn't hold, or that memory was refused.
+#[derive(Clone, Copy, Debug, PartialEq, Eq, Drop, Error)]
+pub enum Fault {
+    #[error("no memory")]
+    NoMemory,
+    #[error("the manifest or the script isn't read")]
+    Texts,
+    #[error("the seats don't agree with the journal")]
+    Seats,
+    #[error("a seat was refused a step")]
+    Refused,
+    #[error("marks or locks are left")]
+    Left,
+    #[error("a transaction is committed that isn't declared and stamped, or two have one commit")]
+    History,
+    #[error("the committed changes aren't those that are not named as unfinished")]
+    Changes,
+    #[error("the report isn't that of the committed transactions")]
+    Report,
+    #[error("a cell isn't what its observer makes of another")]
+    Fed,
+}
+
+impl From<NoMemory> for Fault {
+    fn from(_e: NoMemory) -> Fault {
+        Fault::NoMemory
+    }
+}
+
+impl From<AllocError> for Fault {
+    fn from(_e: AllocError) -> Fault {
+        Fault::NoMemory
+    }
+}
+
+impl<T: Drop> From<AllocFailed<T>> for Fault {
+    fn from(_e: AllocFailed<T>) -> Fault {
+        Fault::NoMemory
+    }
+}
+
+impl From<ReportFault> for Fault {
+    fn from(_e: ReportFault) -> Fault {
+        Fault::Report
+    }
+}

@@ -1,0 +1,59 @@
+//! The report of a plain map of cells.
+use crate::cells::{Cells, Version};
+use crate::history::{Commits, runs_of};
+use pb_base::{Cell, Content, Value};
+use pb_core::{Entry, Observer};
+use std::alloc::{AllocError, Global};
+
+// How many bytes of a value are told: those up to the last that isn't zero, and one at least.
+fn told_bytes(value: &Value) -> usize {
+    let mut count = 1;
+    for place in 0..32 {
+        if value[place] != 0 {
+            count = place + 1;
+        }
+    }
+    count
+}
+
+fn add_cell(
+    alloc: Global,
+    text: &mut String,
+    cell: &Cell,
+    version: &Version,
+) -> Result<(), AllocError> {
+    let (row, column, commit) = (cell.row().0, cell.column().number(), version.commit);
+    let line = format!(in alloc; "cell {row} {column} commit {commit} ")?;
+    text.push_str(line.as_str())?;
+    let Content::Value(value) = &version.content else {
+        return text.push_str("deleted\n");
+    };
+    text.push_str("value ")?;
+    for byte in value.iter().take(told_bytes(value)) {
+        let digits = format!(in alloc; "{byte:02x}")?;
+        text.push_str(digits.as_str())?;
+    }
+    text.push_str("\n")
+}
+
+/// The report of these cells and runs, with no mark and no lock left.
+pub fn page_of(
+    alloc: Global,
+    cells: &Cells,
+    observers: &[Observer],
+    journal: &[Entry],
+    commits: &Commits,
+) -> Result<String, AllocError> {
+    let mut text = String::new(alloc);
+    for (cell, version) in cells {
+        add_cell(alloc, &mut text, cell, version)?;
+    }
+    for number in 0..observers.len() {
+        let name = observers[number].name.as_str();
+        let count = runs_of(journal, commits, number);
+        let line = format!(in alloc; "runs {name} {count}\n")?;
+        text.push_str(line.as_str())?;
+    }
+    text.push_str("quiet\n")?;
+    Ok(text)
+}

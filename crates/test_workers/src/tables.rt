@@ -1,0 +1,140 @@
+//! Tables that workers have worked on, and what is told of them.
+ghost use Rattle.std.specs.Prelude.{◌≤◌, length, IfOk};
+ghost use Rattle.pb_base.specs.declared.limits.TheConstants.{MAX_OBSERVERS};
+
+use pb_base::{MAX_ENTRIES, NoMemory, Out, Ts};
+use pb_core::{Observer, Seat, Shared};
+use pb_memtablet::ListTablet;
+use pb_parse::parse_script;
+use pb_registry::Registry;
+use pb_script::report;
+use pb_worker::{Ended, Gate, NotRun, Worked, finish, run_workers};
+use std::alloc::Global;
+use std::process::Abort;
+use std::sync::Wait;
+use std::thread::Threads;
+use test_fixtures::opened;
+
+pub const NONE: &str = "{\"profile\":1,\"observers\":[]}";
+
+/// An observer of column 0 that does nothing.
+pub const WATCH: &str =
+    "{\"profile\":1,\"observers\":[{\"name\":\"watch\",\"column\":0,\"helpers\":[],\"code\":\"b7000000000000009500000000000000\"}]}";
+
+/// One that copies the value of its cell to column 1.
+pub const COPY: &str =
+    "{\"profile\":1,\"observers\":[{\"name\":\"copy\",\"column\":0,\"helpers\":[2],\"code\":\"bf1600000000000079623000000000007b2ae0ff0000000079623800000000007b2ae8ff0000000079624000000000007b2af0ff0000000079624800000000007b2af8ff000000007961000000000000b702000001000000bfa300000000000007030000e0ffffff8500000002000000b7000000000000009500000000000000\"}]}";
+
+/// One that deletes the cell that it runs on, and so is due again in each pass.
+pub const AGAIN: &str =
+    "{\"profile\":1,\"observers\":[{\"name\":\"again\",\"column\":0,\"helpers\":[3],\"code\":\"7912080000000000791100000000000085000000030000009500000000000000\"}]}";
+
+/// What workers are given: two texts, how many workers there are, the last timestamp given out, and the journal's limit.
+#[derive(Clone, Copy, Debug)]
+pub struct Task<'a> {
+    pub manifest: &'a str,
+    pub script: &'a str,
+    pub workers: u32,
+    pub last: u64,
+    pub limit: usize,
+}
+
+impl<'a> Task<'a> {
+    /// One that begins with the first timestamp, and has all the room that a journal may have.
+    pub fn new(manifest: &'a str, script: &'a str, workers: u32) -> Task<'a> {
+        Task {
+            manifest,
+            script,
+            workers,
+            last: 0,
+            limit: MAX_ENTRIES,
+        }
+    }
+}
+
+fn observers(alloc: Global, manifest: &str) -> Result<Vec<Observer>, NoMemory>
+    ensures { IfOk result (λ v. length v.items ≤ MAX_OBSERVERS) }
+{
+    match Registry::from_json(alloc, manifest) {
+        Ok(registry) => match registry.into_observers(alloc) {
+            Ok(observers) => Ok(observers),
+            Err(_) => Err(NoMemory),
+        },
+        Err(_) => Err(NoMemory),
+    }
+}
+
+/// What the workers leave.
+pub fn worked<R: Threads + Wait + Abort + Sync, G: Gate>(
+    rt: &R,
+    alloc: Global,
+    task: &Task,
+    gate: &G,
+) -> Worked<ListTablet> {
+    assert!(rt; task.workers > 0 && task.workers < 64, "1 to 63 workers");
+    assert!(rt; task.limit <= MAX_ENTRIES, "the journal's limit");
+    let observers = observers(alloc, task.manifest).ok().expect(rt, "observers");
+    let batches = parse_script(alloc, task.script).ok().expect(rt, "batches");
+    let (shared, seats) = opened(
+        alloc,
+        observers,
+        task.workers + 1,
+        Ts(task.last),
+        task.limit,
+    )
+    .ok()
+    .expect(rt, "opened");
+    assert!(rt; seats.len() > 1, "there are workers");
+    match run_workers(rt, alloc, shared, seats, batches, gate) {
+        Ok(worked) => worked,
+        Err(
+            NotRun {
+                shared,
+                seats: _,
+                batches: _,
+            },
+        ) => {
+            shared.close();
+            panic!(rt; "not run")
+        }
+    }
+}
+
+/// The report of a table.
+pub fn report_of(rt: &impl Abort, alloc: Global, shared: &Shared<ListTablet>) -> Vec<u8> {
+    let mut bytes = Vec::new(alloc);
+    let mut out = Out::new(&mut bytes);
+    assert!(rt;
+        report(alloc, &mut out, shared).is_ok(),
+        "the report is written"
+    );
+    bytes
+}
+
+/// Table and seats, accepted.
+pub fn accepted(
+    rt: &impl Abort,
+    shared: Shared<ListTablet>,
+    seats: Vec<Seat>,
+) -> Ended<ListTablet> {
+    match finish(shared, seats) {
+        Ok(ended) => ended,
+        Err((shared, _seats)) => {
+            shared.close();
+            panic!(rt; "the seats don't agree with the journal")
+        }
+    }
+}
+
+/// Their report, once they are accepted.
+pub fn told(
+    rt: &impl Abort,
+    alloc: Global,
+    shared: Shared<ListTablet>,
+    seats: Vec<Seat>,
+) -> Vec<u8> {
+    let ended = accepted(rt, shared, seats);
+    let report = report_of(rt, alloc, ended.shared());
+    ended.close();
+    report
+}
