@@ -96,7 +96,7 @@ fn are_named(changes: &BTreeMap<usize, usize>, unfinished: &[usize]) -> bool {
         if changes.contains_key(&number) {
             continue;
         }
-        if unfinished.get(next) != Some(&number) {
+        if next >= unfinished.len() || unfinished[next] != number {
             return false;
         }
         next += 1;

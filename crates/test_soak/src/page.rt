@@ -49,7 +49,8 @@ pub fn page_of(
         add_cell(alloc, &mut text, cell, version)?;
     }
     for number in 0..observers.len() {
-        let name = observers[number].name.as_str();
+        let observer = &observers[number];
+        let name = observer.name.as_str();
         let count = runs_of(journal, commits, number);
         let line = format!(in alloc; "runs {name} {count}\n")?;
         text.push_str(line.as_str())?;

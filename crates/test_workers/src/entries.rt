@@ -1,6 +1,6 @@
 //! What seats received, and what the journal has of them.
 use crate::tables::{COPY, Task, accepted, worked};
-use pb_core::{Answer, Entry, Seat, Step, Work};
+use pb_core::{Answer, Entry, Received, Seat, Step, Work};
 use pb_worker::{Open, Worked};
 use std::alloc::Global;
 use std::process::Abort;
@@ -22,18 +22,21 @@ fn script(rt: &impl Abort, alloc: Global) -> String {
     text
 }
 
+// Whether a seat was told what the journal's entry says.
+fn is_told(received: &Received, entry: &Entry) -> bool {
+    received.answer == entry.answer && received.step.is_same(&entry.step)
+}
+
 // Whether a seat received the journal's entries of it, in their order, and nothing else.
 fn has_its_entries(journal: &[Entry], seat: &Seat) -> bool {
     let received = seat.received();
     let mut next = 0;
     for entry in journal {
-        if entry.seat != seat.number() {
-            continue;
-        }
-        match received.get(next) {
-            Some(told) if told.answer == entry.answer && told.step.is_same(&entry.step) => next +=
-                1,
-            _ => return false,
+        if entry.seat == seat.number() {
+            if next >= received.len() || !is_told(&received[next], entry) {
+                return false;
+            }
+            next += 1;
         }
     }
     next == received.len()
@@ -51,17 +54,16 @@ fn four_workers_received_their_entries(rt: HostRuntime) {
     } = worked(&rt, alloc, &Task::new(COPY, script.as_str(), 4), &Open);
     assert!(rt; refusals.iter().all(|r| r.is_none()), "none refused");
     assert_eq!(rt; seats.len(), 5);
-    let mut entries = 0;
+    let mut entries: usize = 0;
     for place in 0..seats.len() {
         let seat = &seats[place];
+        let received = seat.received().len();
         assert_eq!(rt; seat.number() as usize, place);
         assert!(rt; has_its_entries(shared.journal(), seat), "seat {place}");
-        // Each asked for a mark once at least, and workers began changes.
-        assert!(rt;
-            seat.received().len() > if place == 0 { 0 } else { 45 },
-            "seat {place}"
-        );
-        entries += seat.received().len();
+        // Each asks for a mark, and a worker's fifteen changes have three entries at least.
+        let least = if place == 0 { 1 } else { 46 };
+        assert!(rt; received >= least, "seat {place} has {received}");
+        entries = entries.saturating_add(received);
     }
     assert_eq!(rt; entries, shared.journal().len());
     accepted(&rt, shared, seats).close();

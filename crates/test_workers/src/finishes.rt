@@ -99,6 +99,7 @@ fn a_seat_twice_is_refused(rt: HostRuntime) {
     let (shared, mut seats) = handed_back(&rt, alloc, shared, seats);
     seats.push(idle).expect(&rt, "memory");
     let (shared, mut seats) = handed_back(&rt, alloc, shared, seats);
+    assert_eq!(rt; seats.len(), 4);
     let _ = seats.remove(2);
     assert!(rt; told(&rt, alloc, shared, seats).as_slice() == REPORT);
 }
@@ -115,12 +116,15 @@ fn seats_come_in_any_order(rt: HostRuntime) {
     ];
     for (first, then) in orders {
         let (shared, mut seats) = left(&rt, rt.alloc(), SCRIPT);
+        assert!(rt;
+            first.0 < 3 && first.1 < 3 && then.0 < 3 && then.1 < 3,
+            "places"
+        );
         seats.swap(first.0, first.1);
         seats.swap(then.0, then.1);
-        assert!(rt;
-            seats.iter().zip(0..).any(|(seat, k)| seat.number() != k),
-            "another order"
-        );
+        assert_eq!(rt; seats.len(), 3);
+        let is_same = seats[0].number() == 0 && seats[1].number() == 1;
+        assert!(rt; !is_same, "another order");
         assert!(rt; told(&rt, rt.alloc(), shared, seats).as_slice() == REPORT);
     }
 }
@@ -136,6 +140,7 @@ fn a_list_of_another_table_is_refused(rt: HostRuntime) {
         let own = seats.remove(1);
         seats.push(others.remove(1)).expect(&rt, "memory");
         let (shared, mut seats) = handed_back(&rt, alloc, shared, seats);
+        assert_eq!(rt; seats.len(), 3);
         let _ = seats.remove(2);
         seats.push(own).expect(&rt, "memory");
         assert!(rt;

@@ -87,16 +87,24 @@ fn second_commits_while_first_prewrites(rt: HostRuntime) {
     assert!(rt; told(&rt, alloc, shared, seats).as_slice() == report.as_slice());
 }
 
-// Whether a seat was told that it began with each of 2 to 101, and a conflict for each.
+// Whether a seat was told that it began with each of 2 to 101, and of a conflict for each.
 fn are_in_conflict(seat: &Seat) -> bool {
-    let mut next = 2;
-    let mut conflicts = 0;
+    let mut next: u64 = 2;
+    let mut conflicts: u64 = 0;
     for received in seat.received() {
         match (&received.step, &received.answer) {
-            (Step::Begin(_), Answer::At(start)) if start.0 == next && next < 102 => next += 1,
-            (Step::Begin(_), _) => return false,
-            (Step::Prewrite(start, _), Answer::Conflict)
-                if start.0 + 1 == next && conflicts < 100 => conflicts += 1,
+            (Step::Begin(_), Answer::At(start)) => {
+                if start.0 != next || next > 101 {
+                    return false;
+                }
+                next += 1;
+            }
+            (Step::Prewrite(start, _), Answer::Conflict) => {
+                if start.0.checked_add(1) != Some(next) || conflicts > 99 {
+                    return false;
+                }
+                conflicts += 1;
+            }
             (Step::Prewrite(_, _), _) => return false,
             _ => {}
         }
