@@ -27,7 +27,7 @@ const ENTRIES: usize = 33;
 
 // What is left: all that the script makes; or what one seat left that was refused a growth; or something else.
 #[derive(Clone, Copy, Debug, PartialEq, Eq, Drop)]
-enum Left {
+enum Remains {
     Whole,
     Short,
     Wrong,
@@ -126,34 +126,34 @@ fn shown(
     shared: &Shared<ListTablet>,
     refusals: &[Option<Refusal>],
     unfinished: &[usize],
-) -> Left {
+) -> Remains {
     let mut page = Page::new();
     if !reports(alloc, shared, &mut page) {
-        return Left::Wrong;
+        return Remains::Wrong;
     }
     match refusals {
         [None, None] => {
             let is_whole = unfinished.is_empty() && shared.journal().len() == ENTRIES;
             if is_whole && page.holds(REPORT) {
-                Left::Whole
+                Remains::Whole
             } else {
-                Left::Wrong
+                Remains::Wrong
             }
         }
         [None, Some(Refusal(1))] | [Some(Refusal(1)), None] => {
             let unmade = 2usize.saturating_sub(committed_changes(shared));
             if unfinished.len() == unmade {
-                Left::Short
+                Remains::Short
             } else {
-                Left::Wrong
+                Remains::Wrong
             }
         }
-        _ => Left::Wrong,
+        _ => Remains::Wrong,
     }
 }
 
 // What workers left.
-fn left_by(alloc: Global, worked: Worked<ListTablet>) -> Left {
+fn left_by(alloc: Global, worked: Worked<ListTablet>) -> Remains {
     let Worked {
         shared,
         seats,
@@ -168,13 +168,17 @@ fn left_by(alloc: Global, worked: Worked<ListTablet>) -> Left {
         }
         Err((shared, _seats)) => {
             shared.close();
-            Left::Wrong
+            Remains::Wrong
         }
     }
 }
 
 // What is left where a run is made again with what was handed back.
-fn left_again<R: Threads + Wait + Sync>(rt: &R, alloc: Global, handed: NotRun<ListTablet>) -> Left
+fn left_again<R: Threads + Wait + Sync>(
+    rt: &R,
+    alloc: Global,
+    handed: NotRun<ListTablet>,
+) -> Remains
     requires { AreSeats handed.shared handed.seats.items }
 {
     let held = are_handed_back(alloc, &handed);
@@ -185,7 +189,7 @@ fn left_again<R: Threads + Wait + Sync>(rt: &R, alloc: Global, handed: NotRun<Li
     } = handed;
     if held != Ok(true) || seats.len() < 2 {
         shared.close();
-        return Left::Wrong;
+        return Remains::Wrong;
     }
     match run_workers(rt, alloc, shared, seats, batches, &Open) {
         Ok(worked) => left_by(alloc, worked),
@@ -197,18 +201,18 @@ fn left_again<R: Threads + Wait + Sync>(rt: &R, alloc: Global, handed: NotRun<Li
             },
         ) => {
             shared.close();
-            Left::Wrong
+            Remains::Wrong
         }
     }
 }
 
 // What is left of the script, by one worker.
-fn left<R: Threads + Wait + Sync>(rt: &R, alloc: Global) -> Result<Left, NoMemory> {
+fn left<R: Threads + Wait + Sync>(rt: &R, alloc: Global) -> Result<Remains, NoMemory> {
     let batches = batches(alloc)?;
     let (shared, seats) = opened(alloc)?;
     if seats.len() < 2 {
         shared.close();
-        return Ok(Left::Wrong);
+        return Ok(Remains::Wrong);
     }
     match run_workers(rt, alloc, shared, seats, batches, &Open) {
         Ok(worked) => Ok(left_by(alloc, worked)),
@@ -220,8 +224,8 @@ fn left<R: Threads + Wait + Sync>(rt: &R, alloc: Global) -> Result<Left, NoMemor
 /// it names the seat, and `finish` accepts what is left. On a table of its own it is whole then.
 pub fn workers_run<R: Threads + Wait + Sync>(rt: &R, alloc: Global) -> Result<bool, NoMemory> {
     match left(rt, alloc)? {
-        Left::Whole => Ok(true),
-        Left::Short => Ok(left(rt, alloc)? == Left::Whole),
-        Left::Wrong => Ok(false),
+        Remains::Whole => Ok(true),
+        Remains::Short => Ok(left(rt, alloc)? == Remains::Whole),
+        Remains::Wrong => Ok(false),
     }
 }

@@ -85,7 +85,7 @@ fn conflicts_in(seats: &[Seat]) -> usize {
 }
 
 // What the workers met, where nothing was refused and nothing is left to do.
-fn met(alloc: Global, worked: Worked<ListTablet>) -> Option<Met> {
+fn met_by(alloc: Global, worked: Worked<ListTablet>) -> Option<Met> {
     let Worked {
         shared,
         seats,
@@ -123,7 +123,7 @@ fn do_task<R: Threads + Wait + Sync>(
         return Ok(None);
     }
     match run_workers(rt, alloc, shared, seats, batches, &Open) {
-        Ok(worked) => Ok(met(alloc, worked)),
+        Ok(worked) => Ok(met_by(alloc, worked)),
         Err(
             NotRun {
                 shared,
