@@ -1,25 +1,51 @@
--- What a replay leaves where a file is at fault.
+-- What a run or a replay leaves where a file is at fault.
 use Rattle.std.proofs.Common.{◌≡◌, refl, false, Bool, ℕ, List, [], ◌∷◌, Option, inl, inr}
-use Rattle.pb_replay.specs.declared.fault.ReplayFault.{ReplayFault}
+use Rattle.pb_driver.specs.declared.fault.RunFault.{RunFault}
+use Rattle.pb_driver.specs.declared.run.Ran.{Ran}
 use Rattle.pb_command.specs.declared.fault.Fault.{Fault}
 use Rattle.pb_command.specs.declared.fault.Fault.TheVariants as faults
 use Rattle.pb_command.specs.Files.{Text, Held}
 use Rattle.pb_command.specs.PathFaults.{IsFirstUnread, IsFirstNoText, IsFileFault}
-use Rattle.pb_command.specs.Commands.{ReplayFails}
+use Rattle.pb_command.specs.Commands.{RunFails, ReplayFails}
 
-never_unread : (before : Held) (paths : List Text) (f : ReplayFault) → IsFirstUnread before paths (faults.Replay f) → ⊥
-never_unread before [] f e = e
-never_unread before (path ∷ paths) f (inl e) = e
-never_unread before (path ∷ paths) f (inr more) = never_unread before paths f more.1
+run_unread : (before : Held) (paths : List Text) (f : RunFault) → IsFirstUnread before paths (faults.Run f) → ⊥
+run_unread before [] f e = e
+run_unread before (path ∷ paths) f (inl e) = e
+run_unread before (path ∷ paths) f (inr more) = run_unread before paths f more.1
 
-never_no_text : (before : Held) (paths : List Text) (f : ReplayFault) → IsFirstNoText before paths (faults.Replay f) → ⊥
-never_no_text before [] f e = e
-never_no_text before (path ∷ paths) f (inl n) = n.no_text
-never_no_text before (path ∷ paths) f (inr more) = never_no_text before paths f more.1
+run_no_text : (before : Held) (paths : List Text) (f : RunFault) → IsFirstNoText before paths (faults.Run f) → ⊥
+run_no_text before [] f e = e
+run_no_text before (path ∷ paths) f (inl n) = n.no_text
+run_no_text before (path ∷ paths) f (inr more) = run_no_text before paths f more.1
 
-no_replay : (before : Held) (paths : List Text) (f : ReplayFault) → IsFileFault before paths (faults.Replay f) → ⊥
-no_replay before paths f (inl unread) = never_unread before paths f unread
-no_replay before paths f (inr read) = never_no_text before paths f read.1
+no_run : (before : Held) (paths : List Text) (f : RunFault) → IsFileFault before paths (faults.Run f) → ⊥
+no_run before paths f (inl unread) = run_unread before paths f unread
+no_run before paths f (inr read) = run_no_text before paths f read.1
+
+undone_unread : (before : Held) (paths : List Text) (ran : Ran) → IsFirstUnread before paths (faults.Undone ran) → ⊥
+undone_unread before [] ran e = e
+undone_unread before (path ∷ paths) ran (inl e) = e
+undone_unread before (path ∷ paths) ran (inr more) = undone_unread before paths ran more.1
+
+undone_no_text : (before : Held) (paths : List Text) (ran : Ran) → IsFirstNoText before paths (faults.Undone ran) → ⊥
+undone_no_text before [] ran e = e
+undone_no_text before (path ∷ paths) ran (inl n) = n.no_text
+undone_no_text before (path ∷ paths) ran (inr more) = undone_no_text before paths ran more.1
+
+no_undone : (before : Held) (paths : List Text) (ran : Ran) → IsFileFault before paths (faults.Undone ran) → ⊥
+no_undone before paths ran (inl unread) = undone_unread before paths ran unread
+no_undone before paths ran (inr read) = undone_no_text before paths ran read.1
+
+pub run_file_fails : (before : Held) (manifest script : Text) (workers : ℕ) (old : Option (List ℕ)) (failed : Bool) (f : Fault) → failed ≡ false → IsFileFault before (manifest ∷ script ∷ []) f → RunFails before manifest script workers old old failed f
+run_file_fails before m s n old failed (faults.Unreadable p) quiet is = (refl, quiet, is)
+run_file_fails before m s n old failed (faults.TooLarge p) quiet is = (refl, quiet, is)
+run_file_fails before m s n old failed (faults.NotText p) quiet is = (refl, quiet, is)
+run_file_fails before m s n old failed (faults.Unwritable p) quiet is = (refl, quiet, is)
+run_file_fails before m s n old failed (faults.Text t) quiet is = (refl, quiet, is)
+run_file_fails before m s n old failed (faults.Run r) quiet is = absurd (no_run before (m ∷ s ∷ []) r is)
+run_file_fails before m s n old failed (faults.Undone ran) quiet is = absurd (no_undone before (m ∷ s ∷ []) ran is)
+run_file_fails before m s n old failed faults.Output quiet is = (refl, quiet, is)
+run_file_fails before m s n old failed faults.NoMemory quiet is = (refl, quiet, is)
 
 pub file_fails : (before : Held) (manifest script schedule : Text) (clock : ℕ) (old : Option (List ℕ)) (failed : Bool) (f : Fault) → failed ≡ false → IsFileFault before (manifest ∷ script ∷ schedule ∷ []) f → ReplayFails before manifest script schedule clock old old failed f
 file_fails before m s e clock old failed (faults.Unreadable p) quiet is = (refl, quiet, is)
@@ -27,7 +53,7 @@ file_fails before m s e clock old failed (faults.TooLarge p) quiet is = (refl, q
 file_fails before m s e clock old failed (faults.NotText p) quiet is = (refl, quiet, is)
 file_fails before m s e clock old failed (faults.Unwritable p) quiet is = (refl, quiet, is)
 file_fails before m s e clock old failed (faults.Text t) quiet is = (refl, quiet, is)
-file_fails before m s e clock old failed (faults.Run r) quiet is = (refl, quiet, is)
-file_fails before m s e clock old failed (faults.Replay r) quiet is = absurd (no_replay before (m ∷ s ∷ e ∷ []) r is)
+file_fails before m s e clock old failed (faults.Run r) quiet is = absurd (no_run before (m ∷ s ∷ e ∷ []) r is)
+file_fails before m s e clock old failed (faults.Undone ran) quiet is = (refl, quiet, is)
 file_fails before m s e clock old failed faults.Output quiet is = (refl, quiet, is)
 file_fails before m s e clock old failed faults.NoMemory quiet is = (refl, quiet, is)

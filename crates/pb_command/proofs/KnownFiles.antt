@@ -18,7 +18,7 @@ own_fault known path fault (faults.NotText p) e u = u
 own_fault known path fault (faults.Unwritable p) e u = u
 own_fault known path fault (faults.Text t) e u = u
 own_fault known path fault (faults.Run r) e u = u
-own_fault known path fault (faults.Replay r) e u = u
+own_fault known path fault (faults.Undone r) e u = u
 own_fault known path fault faults.Output e u = u
 own_fault known path fault faults.NoMemory e u = u
 
@@ -32,7 +32,7 @@ only_memory known bytes path (faults.NotText p) e u = absurd u
 only_memory known bytes path (faults.Unwritable p) e u = absurd u
 only_memory known bytes path (faults.Text t) e u = absurd u
 only_memory known bytes path (faults.Run r) e u = absurd u
-only_memory known bytes path (faults.Replay r) e u = absurd u
+only_memory known bytes path (faults.Undone r) e u = absurd u
 only_memory known bytes path faults.Output e u = absurd u
 only_memory known bytes path faults.NoMemory e u = refl
 
@@ -46,7 +46,7 @@ own_text known path (faults.TooLarge p) n = n.no_text
 own_text known path (faults.Unwritable p) n = n.no_text
 own_text known path (faults.Text t) n = n.no_text
 own_text known path (faults.Run r) n = n.no_text
-own_text known path (faults.Replay r) n = n.no_text
+own_text known path (faults.Undone r) n = n.no_text
 own_text known path faults.Output n = n.no_text
 own_text known path faults.NoMemory n = absurd n.no_text
 
@@ -57,7 +57,7 @@ text_is_text known bytes path (faults.TooLarge p) e utf8 n = n.no_text
 text_is_text known bytes path (faults.Unwritable p) e utf8 n = n.no_text
 text_is_text known bytes path (faults.Text t) e utf8 n = n.no_text
 text_is_text known bytes path (faults.Run r) e utf8 n = n.no_text
-text_is_text known bytes path (faults.Replay r) e utf8 n = n.no_text
+text_is_text known bytes path (faults.Undone r) e utf8 n = n.no_text
 text_is_text known bytes path faults.Output e utf8 n = n.no_text
 text_is_text known bytes path faults.NoMemory e utf8 n = n.no_text
 

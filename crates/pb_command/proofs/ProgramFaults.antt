@@ -31,7 +31,7 @@ faulty_text_is_told before after was failed input output text line code (faults.
 faulty_text_is_told before after was failed input output text line code (faults.NotText p) e utf8 bad fails = text_is_text (before input) text input (faults.NotText p) e utf8 fails.2
 faulty_text_is_told before after was failed input output text line code (faults.Unwritable p) e utf8 bad fails = not_assembled before after input output text line code e bad fails.1
 faulty_text_is_told before after was failed input output text line code (faults.Run r) e utf8 bad fails = fails.2
-faulty_text_is_told before after was failed input output text line code (faults.Replay r) e utf8 bad fails = fails.2
+faulty_text_is_told before after was failed input output text line code (faults.Undone r) e utf8 bad fails = fails.2
 faulty_text_is_told before after was failed input output text line code faults.Output e utf8 bad fails = fails.2
 faulty_text_is_told before after was failed input output text line code faults.NoMemory e utf8 bad fails = tt
 
@@ -47,7 +47,7 @@ listed bytes path old now failed (faults.NotText p) fails = inr fails.2
 listed bytes path old now failed (faults.Unwritable p) fails = inr fails.2
 listed bytes path old now failed (faults.Text t) fails = inr fails.2
 listed bytes path old now failed (faults.Run r) fails = inr fails.2
-listed bytes path old now failed (faults.Replay r) fails = inr fails.2
+listed bytes path old now failed (faults.Undone r) fails = inr fails.2
 listed bytes path old now failed faults.NoMemory fails = inr fails.2
 
 checked : (bytes path : Text) (old now : Option (List ℕ)) (failed : Bool) (f : Fault) → AnswerFails Checks (Some (Ok bytes)) path old now failed f → (f ≡ faults.Output) ⊎ IsUnreadAt (Some (Ok bytes)) path f
@@ -58,7 +58,7 @@ checked bytes path old now failed (faults.NotText p) fails = inr fails.2
 checked bytes path old now failed (faults.Unwritable p) fails = inr fails.2
 checked bytes path old now failed (faults.Text t) fails = inr fails.2
 checked bytes path old now failed (faults.Run r) fails = inr fails.2
-checked bytes path old now failed (faults.Replay r) fails = inr fails.2
+checked bytes path old now failed (faults.Undone r) fails = inr fails.2
 checked bytes path old now failed faults.NoMemory fails = inr fails.2
 
 pub known_bytes_are_answered : KnownBytesAreAnswered

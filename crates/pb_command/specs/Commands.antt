@@ -1,11 +1,12 @@
--- What a command leaves: its status, its output, the line of its fault, and what the paths hold.
-use Rattle.std.specs.Prelude.{◌≡◌, ℕ, Bool, false, List, [], ◌∷◌, Option, Result, Ok, Err}
+-- What a command leaves: its status, its output, the lines of its fault, and what the paths hold.
+use Rattle.std.specs.Prelude.{◌≡◌, ℕ, Bool, false, List, [], ◌∷◌, Option, None, Result, Ok, Err}
+use Rattle.std.specs.List.{All}
 use Rattle.pb_texts.specs.declared.words.choice.Options.{Options}
 use Rattle.pb_texts.specs.declared.words.choice.Options.TheVariants as options
-use Rattle.pb_alone.specs.declared.fault.RunFault.{RunFault}
-use Rattle.pb_alone.specs.TextRuns.{RunsTexts}
-use Rattle.pb_replay.specs.declared.fault.ReplayFault.{ReplayFault}
-use Rattle.pb_replay.specs.Replays.{ReplaysTexts}
+use Rattle.pb_driver.specs.declared.fault.RunFault.{RunFault}
+use Rattle.pb_driver.specs.declared.run.Ran.{Ran}
+use Rattle.pb_driver.specs.Runs.{RunsTexts}
+use Rattle.pb_driver.specs.Replays.{ReplaysTexts}
 use Rattle.pb_command.specs.declared.answer.Verdict.{Verdict}
 use Rattle.pb_command.specs.declared.answer.Verdict.TheVariants.{Accepted, Refused}
 use Rattle.pb_command.specs.declared.fault.Fault.{Fault}
@@ -17,28 +18,39 @@ use Rattle.pb_command.specs.Programs.{AsmLeaves, AnswerLeaves, Lists, Checks}
 
 -- ---- `run`
 
--- texts that the two paths hold ran so, from the clock 0
-pub record RanFrom (before : Held) (manifest script : Text) (old now : Option (List ℕ)) (failed : Bool) (result : Result (Unit {0}) RunFault) : Type 0 where
+-- no seat was refused, and of each change a try committed
+abbrev pub IsAllDone : Ran → Type 0
+IsAllDone ran = All (λ r. r ≡ None) ran.refusals.items × (ran.unfinished.items ≡ [])
+
+-- so many workers ran texts that the two paths hold so, from the clock 0
+pub record RanFrom (before : Held) (manifest script : Text) (workers : ℕ) (old now : Option (List ℕ)) (failed : Bool) (result : Result Ran RunFault) : Type 0 where
   pub manifest_text : List ℕ
   pub script_text : List ℕ
   pub manifest_held : IsKnownAs (before manifest) (Ok manifest_text)
   pub script_held : IsKnownAs (before script) (Ok script_text)
-  pub ran : RunsTexts manifest_text script_text 0 old now failed result
+  pub ran : RunsTexts manifest_text script_text workers 0 old now failed result
 
--- the texts ran to this fault; or there was none to run, and nothing was written
-abbrev pub RunFails : Held → Text → Text → Option (List ℕ) → Option (List ℕ) → Bool → Fault → Type 0
-RunFails before manifest script old now failed (faults.Run f) = RanFrom before manifest script old now failed (Err f)
-RunFails before manifest script old now failed f = (now ≡ old) × (failed ≡ false) × IsFileFault before (manifest ∷ script ∷ []) f
+-- the texts ran, and nothing was left undone
+pub record RanWhole (before : Held) (manifest script : Text) (workers : ℕ) (old now : Option (List ℕ)) (failed : Bool) : Type 0 where
+  pub left : Ran
+  pub all_done : IsAllDone left
+  pub ran : RanFrom before manifest script workers old now failed (Ok left)
 
-abbrev pub RunLeaves : Held → Text → Text → Option (List ℕ) → Option (List ℕ) → Bool → Result Verdict Fault → Type 0
-RunLeaves before manifest script old now failed (Ok Accepted) = RanFrom before manifest script old now failed (Ok tt)
-RunLeaves before manifest script old now failed (Ok Refused) = ⊥
-RunLeaves before manifest script old now failed (Err f) = RunFails before manifest script old now failed f
+-- The texts ran, and this was left undone; or they ran to this fault; or there was none to run, and nothing was written.
+abbrev pub RunFails : Held → Text → Text → ℕ → Option (List ℕ) → Option (List ℕ) → Bool → Fault → Type 0
+RunFails before manifest script workers old now failed (faults.Undone left) = RanFrom before manifest script workers old now failed (Ok left) × (IsAllDone left → ⊥)
+RunFails before manifest script workers old now failed (faults.Run f) = RanFrom before manifest script workers old now failed (Err f)
+RunFails before manifest script workers old now failed f = (now ≡ old) × (failed ≡ false) × IsFileFault before (manifest ∷ script ∷ []) f
+
+abbrev pub RunLeaves : Held → Text → Text → ℕ → Option (List ℕ) → Option (List ℕ) → Bool → Result Verdict Fault → Type 0
+RunLeaves before manifest script workers old now failed (Ok Accepted) = RanWhole before manifest script workers old now failed
+RunLeaves before manifest script workers old now failed (Ok Refused) = ⊥
+RunLeaves before manifest script workers old now failed (Err f) = RunFails before manifest script workers old now failed f
 
 -- ---- `replay`
 
 -- texts that the three paths hold were replayed so, from this clock
-pub record ReplayedFrom (before : Held) (manifest script schedule : Text) (clock : ℕ) (old now : Option (List ℕ)) (failed : Bool) (result : Result (Unit {0}) ReplayFault) : Type 0 where
+pub record ReplayedFrom (before : Held) (manifest script schedule : Text) (clock : ℕ) (old now : Option (List ℕ)) (failed : Bool) (result : Result (Unit {0}) RunFault) : Type 0 where
   pub manifest_text : List ℕ
   pub script_text : List ℕ
   pub schedule_text : List ℕ
@@ -49,7 +61,7 @@ pub record ReplayedFrom (before : Held) (manifest script schedule : Text) (clock
 
 -- the texts were replayed to this fault; or there was none to replay, and nothing was written
 abbrev pub ReplayFails : Held → Text → Text → Text → ℕ → Option (List ℕ) → Option (List ℕ) → Bool → Fault → Type 0
-ReplayFails before manifest script schedule clock old now failed (faults.Replay f) = ReplayedFrom before manifest script schedule clock old now failed (Err f)
+ReplayFails before manifest script schedule clock old now failed (faults.Run f) = ReplayedFrom before manifest script schedule clock old now failed (Err f)
 ReplayFails before manifest script schedule clock old now failed f = (now ≡ old) × (failed ≡ false) × IsFileFault before (manifest ∷ script ∷ schedule ∷ []) f
 
 abbrev pub ReplayLeaves : Held → Text → Text → Text → ℕ → Option (List ℕ) → Option (List ℕ) → Bool → Result Verdict Fault → Type 0
@@ -59,10 +71,15 @@ ReplayLeaves before manifest script schedule clock old now failed (Err f) = Repl
 
 -- ---- any command
 
+-- it is done in one thread, and waits for nothing
+abbrev pub IsSequential : Options → Type 0
+IsSequential (options.Run manifest script workers) = ⊥
+IsSequential other = Unit {0}
+
 -- What is left where a command ended so: only `asm` writes to a path, and it writes no output.
 abbrev pub LeavesBehind : Options → Held → Held → Bool → Bool → Option (List ℕ) → Option (List ℕ) → Bool → Result Verdict Fault → Type 0
-LeavesBehind (options.Run manifest script) before after was unwritten old now failed outcome =
-    (after ≡ before) × (unwritten ≡ was) × RunLeaves before manifest.now script.now old now failed outcome
+LeavesBehind (options.Run manifest script workers) before after was unwritten old now failed outcome =
+    (after ≡ before) × (unwritten ≡ was) × RunLeaves before manifest.now script.now workers old now failed outcome
 LeavesBehind (options.Replay manifest script schedule clock) before after was unwritten old now failed outcome =
     (after ≡ before) × (unwritten ≡ was) × ReplayLeaves before manifest.now script.now schedule.now clock.0 old now failed outcome
 LeavesBehind (options.Asm input output) before after was unwritten old now failed outcome =
@@ -78,7 +95,7 @@ IsToldAs (Ok Accepted) old now failed status = (status ≡ 0) × SaysNothing old
 IsToldAs (Ok Refused) old now failed status = (status ≡ 1) × SaysNothing old now failed
 IsToldAs (Err f) old now failed status = (status ≡ 1) × Tells f old now failed
 
--- how a command ended, as its status and the line of its fault tell it
+-- how a command ended, as its status and the lines of its fault tell it
 pub record Commands (options : Options) (before after : Held) (was unwritten : Bool) (old now : Option (List ℕ)) (failed : Bool) (quiet told : Option (List ℕ)) (mute : Bool) (status : ℕ) : Type 0 where
   pub outcome : Result Verdict Fault
   pub leaves : LeavesBehind options before after was unwritten old now failed outcome

@@ -1,13 +1,14 @@
 -- How a fault is told.
-use Rattle.std.specs.Prelude.{◌≡◌, ℕ, ◌⊎◌, Bool, true, false, List, ◌++◌, codes, Option}
+use Rattle.std.specs.Prelude.{◌≡◌, ℕ, ◌+◌, ◌⊎◌, Bool, true, false, List, [], ◌++◌, codes, Option, Some, None}
+use Rattle.std.specs.List.{enumerate_from, flat_map}
 use Rattle.std.specs.Fmt.{decimal}
 use Rattle.std.specs.Io.KnownBytes.{Appends}
+use Rattle.pb_base.specs.declared.refusal.Refusal.{Refusal}
 use Rattle.pb_registry.specs.FaultTexts.{fault_text}
 use Rattle.pb_texts.specs.Sinks.{AppendsPart}
-use Rattle.pb_alone.specs.declared.fault.RunFault.{RunFault}
-use Rattle.pb_alone.specs.declared.fault.RunFault.TheVariants as runs
-use Rattle.pb_replay.specs.declared.fault.ReplayFault.{ReplayFault}
-use Rattle.pb_replay.specs.declared.fault.ReplayFault.TheVariants as replays
+use Rattle.pb_driver.specs.declared.fault.RunFault.{RunFault}
+use Rattle.pb_driver.specs.declared.fault.RunFault.TheVariants as runs
+use Rattle.pb_driver.specs.declared.run.Ran.{Ran}
 use Rattle.pb_command.specs.declared.fault.Fault.{Fault}
 use Rattle.pb_command.specs.declared.fault.Fault.TheVariants as faults
 
@@ -25,40 +26,55 @@ schedule_line line code = codes "schedule: " ++ place_line line code
 abbrev pub event_line : ℕ → ℕ → List ℕ
 event_line event code = codes "event " ++ (decimal event ++ (codes " code " ++ (decimal code ++ codes "\n")))
 
+-- the fault of a run or a replay
 abbrev pub run_fault_line : RunFault → List ℕ
 run_fault_line (runs.Manifest f) = codes "manifest: " ++ (fault_text f ++ codes "\n")
 run_fault_line (runs.Script f) = script_line f.line f.code
-run_fault_line (runs.Refused n) = codes "worker 0 code " ++ (decimal n ++ codes "\n")
+run_fault_line (runs.Schedule f) = schedule_line f.line f.code
+run_fault_line (runs.Event f) = event_line f.event f.code
+run_fault_line runs.SeatsDiffer = codes "seats differ\n"
 run_fault_line runs.Output = codes "cannot write the output\n"
 run_fault_line runs.NoMemory = codes "no memory\n"
 
-abbrev pub replay_fault_line : ReplayFault → List ℕ
-replay_fault_line (replays.Manifest f) = codes "manifest: " ++ (fault_text f ++ codes "\n")
-replay_fault_line (replays.Script f) = script_line f.line f.code
-replay_fault_line (replays.Schedule f) = schedule_line f.line f.code
-replay_fault_line (replays.Event f) = event_line f.event f.code
-replay_fault_line replays.Output = codes "cannot write the output\n"
-replay_fault_line replays.NoMemory = codes "no memory\n"
+-- a seat, the main one 0, and the code of its refusal; no line where it wasn't refused
+abbrev pub worker_line : ℕ → Option Refusal → List ℕ
+worker_line seat None = []
+worker_line seat (Some r) = codes "worker " ++ (decimal seat ++ (codes " code " ++ (decimal r.0 ++ codes "\n")))
 
--- the line of each fault
-abbrev pub fault_line : Fault → List ℕ
-fault_line (faults.Unreadable path) = codes "cannot read " ++ (path.now ++ codes "\n")
-fault_line (faults.TooLarge path) = codes "too large " ++ (path.now ++ codes "\n")
-fault_line (faults.NotText path) = codes "not text " ++ (path.now ++ codes "\n")
-fault_line (faults.Unwritable path) = codes "cannot write " ++ (path.now ++ codes "\n")
-fault_line (faults.Text f) = place_line f.line f.code
-fault_line (faults.Run f) = run_fault_line f
-fault_line (faults.Replay f) = replay_fault_line f
-fault_line faults.Output = codes "cannot write the output\n"
-fault_line faults.NoMemory = codes "no memory\n"
+abbrev pub worker_lines : List (Option Refusal) → List ℕ
+worker_lines refusals = flat_map (λ s. worker_line s.0 s.1) (enumerate_from 0 refusals)
+
+-- a change, from 1, of which no try committed
+abbrev pub change_line : ℕ → List ℕ
+change_line number = codes "change " ++ (decimal number ++ codes " conflicts\n")
+
+-- the changes of these numbers from 0
+abbrev pub change_lines : List ℕ → List ℕ
+change_lines unfinished = flat_map (λ i. change_line (i + 1)) unfinished
+
+-- what a run left undone: first the seats that were refused, then the changes
+abbrev pub undone_lines : Ran → List ℕ
+undone_lines ran = worker_lines ran.refusals.items ++ change_lines ran.unfinished.items
+
+-- each fault has one line, but what a run left undone as many as there are seats and changes to tell
+abbrev pub fault_lines : Fault → List ℕ
+fault_lines (faults.Unreadable path) = codes "cannot read " ++ (path.now ++ codes "\n")
+fault_lines (faults.TooLarge path) = codes "too large " ++ (path.now ++ codes "\n")
+fault_lines (faults.NotText path) = codes "not text " ++ (path.now ++ codes "\n")
+fault_lines (faults.Unwritable path) = codes "cannot write " ++ (path.now ++ codes "\n")
+fault_lines (faults.Text f) = place_line f.line f.code
+fault_lines (faults.Run f) = run_fault_line f
+fault_lines (faults.Undone ran) = undone_lines ran
+fault_lines faults.Output = codes "cannot write the output\n"
+fault_lines faults.NoMemory = codes "no memory\n"
 
 -- the text was written whole, or a beginning of it where a write failed
-abbrev pub SaysLine : List ℕ → Option (List ℕ) → Option (List ℕ) → Bool → Type 0
-SaysLine text old now failed = (Appends old now text × (failed ≡ false)) ⊎ (AppendsPart old now text × (failed ≡ true))
+abbrev pub SaysLines : List ℕ → Option (List ℕ) → Option (List ℕ) → Bool → Type 0
+SaysLines text old now failed = (Appends old now text × (failed ≡ false)) ⊎ (AppendsPart old now text × (failed ≡ true))
 
--- the fault's line was told, or that there is no memory for it
+-- the fault's lines were told, or that there is no memory for them
 abbrev pub Tells : Fault → Option (List ℕ) → Option (List ℕ) → Bool → Type 0
-Tells f old now failed = SaysLine (fault_line f) old now failed ⊎ SaysLine (codes "no memory\n") old now failed
+Tells f old now failed = SaysLines (fault_lines f) old now failed ⊎ SaysLines (codes "no memory\n") old now failed
 
 -- nothing was told
 abbrev pub SaysNothing : Option (List ℕ) → Option (List ℕ) → Bool → Type 0

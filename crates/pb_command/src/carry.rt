@@ -1,41 +1,70 @@
 //! A command carried out.
-ghost use Rattle.std.specs.Prelude.{◌≡◌, false};
+ghost use Rattle.std.specs.Prelude.{◌≡◌, ◌≤◌, ◌<◌, ◌↔◌, false, IsTrue};
+ghost use Rattle.pb_base.specs.declared.limits.TheConstants.{MAX_SEATS};
 ghost use Rattle.pb_store.specs.Contents.{nothing};
-ghost use Rattle.pb_command.specs.Commands.{RunLeaves, ReplayLeaves, IsToldAs, Commands};
+ghost use Rattle.pb_texts.specs.CommandLines.{HasWorkers};
+ghost use Rattle.pb_command.specs.Commands.{IsAllDone, RunLeaves, ReplayLeaves, IsToldAs, IsSequential, Commands};
 
 use crate::answer::Verdict;
 use crate::fault::{Fault, tell};
 use crate::paths::Paths;
 use crate::programs::{assemble_file, check_file, list_file};
 use crate::reading::{texts_at, three_texts_at};
-use pb_alone::run_texts;
 use pb_base::{Sink, Ts};
-use pb_replay::replay_texts;
+use pb_driver::{Ran, replay_texts, run_texts};
 use pb_store::{Table, Tablet};
 use pb_texts::Options;
 use std::alloc::Global;
+use std::sync::Wait;
+use std::thread::Threads;
 
-// Runs two files on the table, and ends it.
-fn run_files<'a, T: Tablet, P: Paths, O: Sink>(
+// Whether a run left nothing undone.
+fn is_all_done(ran: &Ran) -> bool
+    ensures { IsTrue result ↔ IsAllDone ran.now }
+{
+    ran.refusals.iter().all(|r| r.is_none()) && ran.unfinished.is_empty()
+}
+
+// Has so many workers run two files on the table, and ends it.
+fn run_files<'a, R: Threads + Wait + Sync, T: Tablet + Send, P: Paths, O: Sink>(
+    rt: &R,
     alloc: Global,
     manifest: &'a str,
     script: &'a str,
+    workers: u32,
     paths: &mut P,
     table: Table<T>,
     out: &mut O,
 ) -> Result<Verdict, Fault<'a>>
+    requires some { 1 ≤ workers }
+    requires few { workers < MAX_SEATS }
     requires empty { table.contents ≡ nothing }
     requires unfailed { O.failed out.old ≡ false }
-    ensures ran { RunLeaves (P.held paths.old) manifest.now script.now (O.taken out.old) (O.taken out.new)
+    ensures ran { RunLeaves (P.held paths.old) manifest.now script.now workers (O.taken out.old) (O.taken out.new)
         (O.failed out.new) result }
     ensures same { P.held paths.new ≡ P.held paths.old }
     ensures quiet { P.failed paths.new ≡ P.failed paths.old }
 {
     match texts_at(paths, manifest, script) {
         Ok((manifest, script)) => {
-            match run_texts(alloc, manifest.as_str(), script.as_str(), table, Ts(0), out) {
-                Ok(()) => Ok(Verdict::Accepted),
-                Err(fault) => Err(Fault::Run(fault)),
+            let outcome = run_texts(
+                rt,
+                alloc,
+                manifest.as_str(),
+                script.as_str(),
+                workers,
+                table,
+                Ts(0),
+                out,
+            );
+            let ran = match outcome {
+                Ok(ran) => ran,
+                Err(fault) => return Err(Fault::Run(fault)),
+            };
+            if is_all_done(&ran) {
+                Ok(Verdict::Accepted)
+            } else {
+                Err(Fault::Undone(ran))
             }
         }
         Err(fault) => {
@@ -76,7 +105,7 @@ fn replay_files<'a, T: Tablet, P: Paths, O: Sink>(
             );
             match outcome {
                 Ok(()) => Ok(Verdict::Accepted),
-                Err(fault) => Err(Fault::Replay(fault)),
+                Err(fault) => Err(Fault::Run(fault)),
             }
         }
         Err(fault) => {
@@ -102,11 +131,12 @@ fn status_of<'a, E: Sink>(alloc: Global, outcome: &Result<Verdict, Fault<'a>>, e
 }
 
 /// Does what a command line asked for, on an empty table that it ends on every path, and answers the status: 0, or 1
-/// where what it was given is refused or a fault was told.
+/// where what it was given is refused or a fault was told. It waits for nothing and starts no thread: `run` is for
+/// [`command`].
 ///
-/// All files are read first, in the order given, and then taken as text, parsed and run. Results go to `out`, and the
+/// All files are read first, in the order given, and then taken as text, parsed and replayed. Results go to `out`, and the
 /// line of the first fault to `err`. A program's bytes that are refused are a result.
-pub fn command<T: Tablet, P: Paths, O: Sink, E: Sink>(
+pub fn sequential_command<T: Tablet, P: Paths, O: Sink, E: Sink>(
     alloc: Global,
     options: &Options,
     paths: &mut P,
@@ -114,6 +144,7 @@ pub fn command<T: Tablet, P: Paths, O: Sink, E: Sink>(
     out: &mut O,
     err: &mut E,
 ) -> u8
+    requires sequential { IsSequential options.now }
     requires empty { table.contents ≡ nothing }
     requires out_unfailed { O.failed out.old ≡ false }
     requires err_unfailed { E.failed err.old ≡ false }
@@ -122,9 +153,7 @@ pub fn command<T: Tablet, P: Paths, O: Sink, E: Sink>(
         (E.failed err.new) result }
 {
     let outcome = match options {
-        Options::Run { manifest, script } => {
-            run_files(alloc, manifest, script, paths, table, out)
-        }
+        Options::Run { .. } => unreachable!(),
         Options::Replay {
             manifest,
             script,
@@ -145,4 +174,39 @@ pub fn command<T: Tablet, P: Paths, O: Sink, E: Sink>(
         }
     };
     status_of(alloc, &outcome, err)
+}
+
+/// Does what a command line asked for, as [`sequential_command`] does; and `run`, for which it lets workers go in threads of
+/// their own, as far as these can be started, and waits for them and for their table's lock.
+///
+/// Where the report of a run was written, but a worker was refused or a change is unfinished, the lines that tell each go
+/// to `err`, and the status is 1.
+pub fn command<R: Threads + Wait + Sync, T: Tablet + Send, P: Paths, O: Sink, E: Sink>(
+    rt: &R,
+    alloc: Global,
+    options: &Options,
+    paths: &mut P,
+    table: Table<T>,
+    out: &mut O,
+    err: &mut E,
+) -> u8
+    requires workers { HasWorkers options.now }
+    requires empty { table.contents ≡ nothing }
+    requires out_unfailed { O.failed out.old ≡ false }
+    requires err_unfailed { E.failed err.old ≡ false }
+    ensures { Commands options.now (P.held paths.old) (P.held paths.new) (P.failed paths.old) (P.failed paths.new)
+        (O.taken out.old) (O.taken out.new) (O.failed out.new) (E.taken err.old) (E.taken err.new)
+        (E.failed err.new) result }
+{
+    match options {
+        Options::Run {
+            manifest,
+            script,
+            workers,
+        } => {
+            let ended = run_files(rt, alloc, manifest, script, *workers, paths, table, out);
+            status_of(alloc, &ended, err)
+        }
+        _ => sequential_command(alloc, options, paths, table, out, err),
+    }
 }

@@ -1,12 +1,11 @@
-//! Why a command failed, and the line that tells it.
-ghost use Rattle.std.specs.Prelude.{◌≡◌, false, IfOk, string_bytes};
-ghost use Rattle.pb_command.specs.FaultLines.{place_line, script_line, schedule_line, event_line, run_fault_line, replay_fault_line, fault_line, Tells};
+//! Why a command failed, and the lines that tell it.
+ghost use Rattle.std.specs.Prelude.{◌≡◌, ◌+◌, false, IfOk, string_bytes};
+ghost use Rattle.pb_command.specs.FaultLines.{place_line, script_line, schedule_line, event_line, run_fault_line, worker_line, worker_lines, change_line, change_lines, undone_lines, fault_lines, Tells};
 ghost use Rattle.pb_command.specs.declared.fault.Fault.TheVariants as faults;
 
-use pb_alone::RunFault;
 use pb_asm::AsmFault;
-use pb_base::{NoMemory, Sink};
-use pb_replay::ReplayFault;
+use pb_base::{NoMemory, Refusal, Sink};
+use pb_driver::{Ran, RunFault};
 use pb_script::{ScheduleFault, ScriptFault};
 use pb_texts::write_all;
 use pb_world::WorldFault;
@@ -21,7 +20,8 @@ pub enum Fault<'a> {
     Unwritable(&'a str),
     Text(AsmFault),
     Run(RunFault),
-    Replay(ReplayFault),
+    /// The report of a run was written, but a worker was refused or a change is unfinished.
+    Undone(Ran),
     Output,
     NoMemory,
 }
@@ -74,36 +74,79 @@ fn event_line(alloc: Global, fault: &WorldFault) -> Result<String, AllocError>
     format!(in alloc; "event {event} code {code}\n")
 }
 
-// The line that tells the fault of a run.
+// The line that tells the fault of a run or a replay.
 fn run_line(alloc: Global, fault: &RunFault) -> Result<String, AllocError>
     ensures { IfOk result (λ s. string_bytes s ≡ run_fault_line fault.now) }
 {
     match fault {
         RunFault::Manifest(fault) => format!(in alloc; "manifest: {fault}\n"),
         RunFault::Script(fault) => script_line(alloc, fault),
-        RunFault::Refused(number) => format!(in alloc; "worker 0 code {number}\n"),
+        RunFault::Schedule(fault) => schedule_line(alloc, fault),
+        RunFault::Event(fault) => event_line(alloc, fault),
+        RunFault::SeatsDiffer => String::from_str(alloc, "seats differ\n"),
         RunFault::Output => String::from_str(alloc, "cannot write the output\n"),
         RunFault::NoMemory => String::from_str(alloc, "no memory\n"),
     }
 }
 
-// The line that tells the fault of a replay.
-fn replay_line(alloc: Global, fault: &ReplayFault) -> Result<String, AllocError>
-    ensures { IfOk result (λ s. string_bytes s ≡ replay_fault_line fault.now) }
+// The line that tells how a seat was refused, or none where it wasn't.
+fn worker_line(alloc: Global, seat: usize, refusal: &Option<Refusal>) -> Result<String, AllocError>
+    ensures { IfOk result (λ s. string_bytes s ≡ worker_line seat refusal.now) }
 {
-    match fault {
-        ReplayFault::Manifest(fault) => format!(in alloc; "manifest: {fault}\n"),
-        ReplayFault::Script(fault) => script_line(alloc, fault),
-        ReplayFault::Schedule(fault) => schedule_line(alloc, fault),
-        ReplayFault::Event(fault) => event_line(alloc, fault),
-        ReplayFault::Output => String::from_str(alloc, "cannot write the output\n"),
-        ReplayFault::NoMemory => String::from_str(alloc, "no memory\n"),
+    match refusal {
+        Some(refusal) => {
+            let Refusal(code) = *refusal;
+            format!(in alloc; "worker {seat} code {code}\n")
+        }
+        None => Ok(String::new(alloc)),
     }
 }
 
-// The line that tells a fault.
-fn line_of(alloc: Global, fault: &Fault) -> Result<String, AllocError>
-    ensures { IfOk result (λ s. string_bytes s ≡ fault_line fault.now) }
+// The lines of the seats, in their order.
+fn worker_lines(alloc: Global, refusals: &[Option<Refusal>]) -> Result<String, AllocError>
+    ensures { IfOk result (λ s. string_bytes s ≡ worker_lines refusals.now) }
+{
+    let mut text = String::new(alloc);
+    for (seat, refusal) in refusals.iter().enumerate() {
+        let line = worker_line(alloc, seat, refusal)?;
+        text.push_str(line.as_str())?;
+    }
+    Ok(text)
+}
+
+// The line that tells that no try of a change committed. A script's first change is told as 1.
+fn change_line(alloc: Global, number: usize) -> Result<String, AllocError>
+    ensures { IfOk result (λ s. string_bytes s ≡ change_line (number + 1)) }
+{
+    let told = number as u128 + 1;
+    format!(in alloc; "change {told} conflicts\n")
+}
+
+// The lines of the changes, in their order.
+fn change_lines(alloc: Global, unfinished: &[usize]) -> Result<String, AllocError>
+    ensures { IfOk result (λ s. string_bytes s ≡ change_lines unfinished.now) }
+{
+    let mut text = String::new(alloc);
+    for number in unfinished {
+        let line = change_line(alloc, *number)?;
+        text.push_str(line.as_str())?;
+    }
+    Ok(text)
+}
+
+// The lines that tell what a run left undone.
+fn undone_lines(alloc: Global, ran: &Ran) -> Result<String, AllocError>
+    ensures { IfOk result (λ s. string_bytes s ≡ undone_lines ran.now) }
+{
+    let mut text = worker_lines(alloc, &ran.refusals)?;
+    let changes = change_lines(alloc, &ran.unfinished)?;
+    text.push_str(changes.as_str())?;
+    Ok(text)
+}
+
+// The lines that tell a fault.
+fn lines_of(alloc: Global, fault: &Fault) -> Result<String, AllocError>
+    ensures { IfOk result (λ s. string_bytes s ≡ fault_lines fault.now) }
 {
     match fault {
         Fault::Unreadable(path) => format!(in alloc; "cannot read {path}\n"),
@@ -112,19 +155,19 @@ fn line_of(alloc: Global, fault: &Fault) -> Result<String, AllocError>
         Fault::Unwritable(path) => format!(in alloc; "cannot write {path}\n"),
         Fault::Text(fault) => text_line(alloc, *fault),
         Fault::Run(fault) => run_line(alloc, fault),
-        Fault::Replay(fault) => replay_line(alloc, fault),
+        Fault::Undone(ran) => undone_lines(alloc, ran),
         Fault::Output => String::from_str(alloc, "cannot write the output\n"),
         Fault::NoMemory => String::from_str(alloc, "no memory\n"),
     }
 }
 
-/// Tells a fault, or that there is no memory for its line. Where even that can't be written, the status says it alone.
+/// Tells a fault, or that there is no memory for its lines. Where even that can't be written, the status says it alone.
 pub fn tell<E: Sink>(alloc: Global, fault: &Fault, err: &mut E)
     requires unfailed { E.failed err.old ≡ false }
     ensures { Tells fault.now (E.taken err.old) (E.taken err.new) (E.failed err.new) }
 {
-    let _ = match line_of(alloc, fault) {
-        Ok(line) => write_all(err, line.as_bytes()),
+    let _ = match lines_of(alloc, fault) {
+        Ok(lines) => write_all(err, lines.as_bytes()),
         Err(_) => write_all(err, b"no memory\n"),
     };
 }

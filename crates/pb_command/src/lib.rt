@@ -9,6 +9,6 @@ mod paths;
 mod programs;
 mod reading;
 
-pub use carry::command;
+pub use carry::{command, sequential_command};
 pub use laws::{first_file_fault_is_told, known_programs_are_judged};
 pub use paths::{PathFault, Paths};

@@ -1,10 +1,12 @@
-//! The program: `run MANIFEST SCRIPT` runs a script's changes, and prints the committed cells and the work that is left;
-//! `replay MANIFEST SCRIPT SCHEDULE` does the same for a schedule's events; `asm IN OUT` writes the bytes of a program's
-//! text, `dis FILE` lists a program's bytes, and `check FILE` tells whether they are accepted.
+//! The program: `run MANIFEST SCRIPT [--workers N]` has N workers make a script's changes and run the observers, and prints
+//! the committed cells and the work that is left; `replay MANIFEST SCRIPT SCHEDULE` does the same for a schedule's events;
+//! `asm IN OUT` writes the bytes of a program's text, `dis FILE` lists a program's bytes, and `check FILE` tells whether
+//! they are accepted.
 #![tactic(auto)]
 
 ghost use Rattle.std.specs.Prelude.{◌≡◌, ◌∷◌, [], IfOk};
 ghost use Rattle.pb_store.specs.TableOf.{firsts_of};
+ghost use Rattle.pb_texts.specs.CommandLines.{HasWorkers};
 
 mod files;
 
@@ -17,6 +19,8 @@ use pb_store::{Table, Tablet};
 use pb_texts::{Options, options};
 use std::alloc::Global;
 use std::process::ExitCode;
+use std::sync::Wait;
+use std::thread::Threads;
 use std::{env, io};
 
 // Tells that there is no memory.
@@ -40,14 +44,29 @@ fn end_all<T: Tablet>(mut parts: Vec<(Row, T)>) {
     parts.destroy_empty();
 }
 
-// Carries out a command over the real files, on a table of these tablets.
-fn carry_out<T: Tablet>(rt: &HostRuntime, options: &Options, parts: Vec<(Row, T)>) -> u8 {
+// Carries out a command over the real files, on a table of these tablets, with workers in threads of this handle.
+fn carry_out<R: Threads + Wait + Sync, T: Tablet + Send>(
+    threads: &R,
+    rt: &HostRuntime,
+    options: &Options,
+    parts: Vec<(Row, T)>,
+) -> u8
+    requires { HasWorkers options.now }
+{
     match Table::new(parts) {
         Ok(table) => {
             let mut files = Files::new(rt);
             let mut out = Out::new(rt.stdout());
             let mut err = Out::new(rt.stderr());
-            command(rt.alloc(), options, &mut files, table, &mut out, &mut err)
+            command(
+                threads,
+                rt.alloc(),
+                options,
+                &mut files,
+                table,
+                &mut out,
+                &mut err,
+            )
         }
         Err((parts, refusal)) => {
             end_all(parts);
@@ -68,11 +87,17 @@ fn placed<T: Drop>(alloc: Global, low: T, high: T) -> Result<Vec<(Row, T)>, NoMe
 }
 
 // Makes the tablets, and carries out a command on them.
-fn run(rt: &HostRuntime, options: &Options) -> Result<u8, NoMemory> {
+fn run<R: Threads + Wait + Sync>(
+    threads: &R,
+    rt: &HostRuntime,
+    options: &Options,
+) -> Result<u8, NoMemory>
+    requires { HasWorkers options.now }
+{
     let alloc = rt.alloc();
     let low: Box<dyn Tablet + Send + Drop> = Box::new(alloc, ListTablet::new(alloc))?;
     let high: Box<dyn Tablet + Send + Drop> = Box::new(alloc, ListTablet::new(alloc))?;
-    Ok(carry_out(rt, options, placed(alloc, low, high)?))
+    Ok(carry_out(threads, rt, options, placed(alloc, low, high)?))
 }
 
 // Tells what is wrong with a command line, or the help that it asks for.
@@ -85,9 +110,9 @@ fn refuse(rt: &HostRuntime, error: &clap::Error) -> u8 {
 }
 
 // Does what the words ask for, the program's own first.
-fn obey(rt: &HostRuntime, words: &[&str]) -> u8 {
+fn obey<R: Threads + Wait + Sync>(threads: &R, rt: &HostRuntime, words: &[&str]) -> u8 {
     match options(rt.alloc(), words) {
-        Ok(options) => match run(rt, &options) {
+        Ok(options) => match run(threads, rt, &options) {
             Ok(status) => status,
             Err(_) => no_memory(rt),
         },
@@ -96,7 +121,7 @@ fn obey(rt: &HostRuntime, words: &[&str]) -> u8 {
 }
 
 // The status of the program.
-fn status(rt: &HostRuntime) -> Result<u8, NoMemory> {
+fn status<R: Threads + Wait + Sync>(threads: &R, rt: &HostRuntime) -> Result<u8, NoMemory> {
     let args = match env::args(rt) {
         Ok(args) => args,
         Err(error) if error.kind() == io::ErrorKind::OutOfMemory => return Err(NoMemory),
@@ -107,11 +132,11 @@ fn status(rt: &HostRuntime) -> Result<u8, NoMemory> {
     for word in &owned {
         words.push(word.as_str())?;
     }
-    Ok(obey(rt, &words))
+    Ok(obey(threads, rt, &words))
 }
 
 fn main(rt: HostRuntime) -> ExitCode {
-    match status(&rt) {
+    match status(&rt, &rt) {
         Ok(status) => ExitCode::from(status),
         Err(_) => ExitCode::from(no_memory(&rt)),
     }
