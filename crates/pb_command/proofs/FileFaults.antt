@@ -1,12 +1,11 @@
--- What a run or a replay leaves where a file is at fault.
+-- What a replay leaves where a file is at fault.
 use Rattle.std.proofs.Common.{◌≡◌, refl, false, Bool, ℕ, List, [], ◌∷◌, Option, inl, inr}
 use Rattle.pb_driver.specs.declared.fault.RunFault.{RunFault}
-use Rattle.pb_driver.specs.declared.run.Ran.{Ran}
 use Rattle.pb_command.specs.declared.fault.Fault.{Fault}
 use Rattle.pb_command.specs.declared.fault.Fault.TheVariants as faults
 use Rattle.pb_command.specs.Files.{Text, Held}
 use Rattle.pb_command.specs.PathFaults.{IsFirstUnread, IsFirstNoText, IsFileFault}
-use Rattle.pb_command.specs.Commands.{RunFails, ReplayFails}
+use Rattle.pb_command.specs.Commands.{ReplayFails}
 
 run_unread : (before : Held) (paths : List Text) (f : RunFault) → IsFirstUnread before paths (faults.Run f) → ⊥
 run_unread before [] f e = e
@@ -21,31 +20,6 @@ run_no_text before (path ∷ paths) f (inr more) = run_no_text before paths f mo
 no_run : (before : Held) (paths : List Text) (f : RunFault) → IsFileFault before paths (faults.Run f) → ⊥
 no_run before paths f (inl unread) = run_unread before paths f unread
 no_run before paths f (inr read) = run_no_text before paths f read.1
-
-undone_unread : (before : Held) (paths : List Text) (ran : Ran) → IsFirstUnread before paths (faults.Undone ran) → ⊥
-undone_unread before [] ran e = e
-undone_unread before (path ∷ paths) ran (inl e) = e
-undone_unread before (path ∷ paths) ran (inr more) = undone_unread before paths ran more.1
-
-undone_no_text : (before : Held) (paths : List Text) (ran : Ran) → IsFirstNoText before paths (faults.Undone ran) → ⊥
-undone_no_text before [] ran e = e
-undone_no_text before (path ∷ paths) ran (inl n) = n.no_text
-undone_no_text before (path ∷ paths) ran (inr more) = undone_no_text before paths ran more.1
-
-no_undone : (before : Held) (paths : List Text) (ran : Ran) → IsFileFault before paths (faults.Undone ran) → ⊥
-no_undone before paths ran (inl unread) = undone_unread before paths ran unread
-no_undone before paths ran (inr read) = undone_no_text before paths ran read.1
-
-pub run_file_fails : (before : Held) (manifest script : Text) (workers : ℕ) (old : Option (List ℕ)) (failed : Bool) (f : Fault) → failed ≡ false → IsFileFault before (manifest ∷ script ∷ []) f → RunFails before manifest script workers old old failed f
-run_file_fails before m s n old failed (faults.Unreadable p) quiet is = (refl, quiet, is)
-run_file_fails before m s n old failed (faults.TooLarge p) quiet is = (refl, quiet, is)
-run_file_fails before m s n old failed (faults.NotText p) quiet is = (refl, quiet, is)
-run_file_fails before m s n old failed (faults.Unwritable p) quiet is = (refl, quiet, is)
-run_file_fails before m s n old failed (faults.Text t) quiet is = (refl, quiet, is)
-run_file_fails before m s n old failed (faults.Run r) quiet is = absurd (no_run before (m ∷ s ∷ []) r is)
-run_file_fails before m s n old failed (faults.Undone ran) quiet is = absurd (no_undone before (m ∷ s ∷ []) ran is)
-run_file_fails before m s n old failed faults.Output quiet is = (refl, quiet, is)
-run_file_fails before m s n old failed faults.NoMemory quiet is = (refl, quiet, is)
 
 pub file_fails : (before : Held) (manifest script schedule : Text) (clock : ℕ) (old : Option (List ℕ)) (failed : Bool) (f : Fault) → failed ≡ false → IsFileFault before (manifest ∷ script ∷ schedule ∷ []) f → ReplayFails before manifest script schedule clock old old failed f
 file_fails before m s e clock old failed (faults.Unreadable p) quiet is = (refl, quiet, is)
