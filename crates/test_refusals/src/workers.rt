@@ -17,13 +17,14 @@ use std::alloc::Global;
 use std::sync::Wait;
 use std::thread::Threads;
 
-// What the script leaves. Its changes take 1 and 2, and 3 and 4, and a run each of the two cells in column 0 those after them.
+// What the script leaves. Its changes take 1 to 4; the runs on the two cells of column 0, which each delete cell 5 15, take
+// 5 to 8.
 const REPORT: &[u8] =
-    b"cell 7 0 commit 2 value 2a\ncell 7 1 commit 4 deleted\ncell 8 0 commit 4 value 0b\nruns watch 2\nquiet\n";
+    b"cell 5 15 commit 8 deleted\ncell 7 0 commit 2 value 2a\ncell 7 1 commit 4 deleted\ncell 8 0 commit 4 value 0b\nruns watch 2\nquiet\n";
 
-// Its journal: the changes have five entries and seven; a pass asks three times for a mark and makes two runs of eight; and the
-// worker and the main seat each ask once more.
-const ENTRIES: usize = 33;
+// Its journal: the changes have five entries and seven; a pass asks three times for a mark, and makes two runs of eleven,
+// each of which asks for a cell and deletes one; and the worker and the main seat each ask for a mark once more.
+const ENTRIES: usize = 39;
 
 // What is left: all that the script makes; or what one seat left that was refused a growth; or something else.
 #[derive(Clone, Copy, Debug, PartialEq, Eq, Drop)]
