@@ -4,7 +4,7 @@ ghost use Rattle.std.specs.Prelude.{◌≡◌, None, false};
 use pb_base::{Sink, SinkFault};
 
 // How many bytes it takes.
-const ROOM: usize = 128;
+const ROOM: usize = 256;
 
 /// The first bytes that were written, and how many were.
 #[derive(Drop)]
