@@ -8,7 +8,7 @@ use crate::observers::observers;
 use crate::page::Page;
 use crate::runs::SCRIPT;
 use crate::same::{are_seats_same, are_shared_same};
-use pb_base::{Batch, NoMemory, Refusal, Sink, Ts};
+use pb_base::{Batch, MAX_ENTRIES, NoMemory, Refusal, Sink, Ts};
 use pb_core::{Answer, Observer, OpenRefused, Phase, Seat, Shared, Step, Work};
 use pb_memtablet::ListTablet;
 use pb_script::{parse_script, report};
@@ -41,12 +41,13 @@ fn batches(alloc: Global) -> Result<Vec<Batch>, NoMemory> {
     }
 }
 
-// A table with an observer, and two seats.
+// A table with an observer, and two seats. Its journal has room for all passes: the lock that a refused run leaves on cell
+// 5 15 is in the way of each later run, since nobody reads that cell.
 fn opened(alloc: Global) -> Result<(Shared<ListTablet>, Vec<Seat>), NoMemory>
     ensures { IfOk result (λ s. AreSeats s.0 s.1.items) }
 {
     let observers = observers(alloc, &program(alloc)?)?;
-    match Shared::open(alloc, table(alloc)?, observers, 2, Ts(0), 100) {
+    match Shared::open(alloc, table(alloc)?, observers, 2, Ts(0), MAX_ENTRIES) {
         Ok(opened) => Ok(opened),
         Err(
             OpenRefused {
