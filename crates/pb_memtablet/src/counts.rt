@@ -55,14 +55,13 @@ pub(crate) fn entry_at<K: Copy, V: Copy>(
     ensures { result ≡ slice_get (chunk_entries chunks.now) place }
 {
     let mut left = place;
-    let mut rest = chunks;
-    for count in counts {
-        if left < *count {
+    for block in 0..counts.len() {
+        let count = counts[block];
+        if left < count {
+            let (_, rest) = chunks.split_at(block * BLOCK);
             return entry_among(rest, left);
         }
-        left -= *count;
-        let (_, behind) = rest.split_at(BLOCK.min(rest.len()));
-        rest = behind;
+        left -= count;
     }
     None
 }
