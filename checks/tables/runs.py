@@ -5,7 +5,7 @@ rows and columns, and each run takes two. Of more workers no row tells a commit 
 """
 from __future__ import annotations
 
-from tables import CHANGED, COPY, ONE, START, WATCHED, Row, Tables, encoded, manifest_of, observer, run
+from tables import CHANGED, COPIED, COPY, ONE, START, WATCHED, Row, Tables, encoded, manifest_of, observer, run
 
 # counts its runs on the cells of a row, in column 15 of the row
 COUNT = (
@@ -135,6 +135,23 @@ BY_MORE_WORKERS = [
     ),
 ]
 
+# tablets are replaced meanwhile, of both sorts and over and over, and nothing of it is seen
+BOTH_TABLETS = (
+    f"{CHANGED}cell 7 1 commit 6 value 2a\n"
+    "cell 999 0 commit 4 value 01\ncell 999 1 commit 8 value 01\n"
+    "cell 1000 0 commit 4 value 02\ncell 1000 1 commit 10 value 02\n"
+    "runs copy 3\nquiet\n"
+)
+
+BESIDE_SWAPS = [
+    *(run(COPIED, ONE, f"{COPIED_ONCE}quiet\n", "--swaps", swaps) for swaps in ("1", "2", "7", "1000")),
+    *(
+        run(COPIED, "put 7 0 2a\nput 999 0 01; put 1000 0 02\n", BOTH_TABLETS, "--swaps", swaps)
+        for swaps in ("0", "1", "64", "999")
+    ),
+    run(WATCHED, ONE, f"{CHANGED}runs watch 1\nquiet\n", "--workers", "63", "--swaps", "1000"),
+]
+
 TABLES: Tables = {
     "watches": WATCHES,
     "several observers": SEVERAL,
@@ -144,4 +161,5 @@ TABLES: Tables = {
     "one after another": ONE_AFTER_ANOTHER,
     "other results": OTHER_RESULTS,
     "by more workers": BY_MORE_WORKERS,
+    "beside swaps": BESIDE_SWAPS,
 }

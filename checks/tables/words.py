@@ -97,6 +97,36 @@ OTHER_WORKERS = [
     wrong("--workers", "1", "run", "m", "s"),
 ]
 
+# so for the number of swaps, which may be none, beside that of workers or without it
+SWAPS = [
+    *(manned("m", "s", "--swaps", swaps) for swaps in ("0", "1", "7", "1000", "007")),
+    manned("m", "s", "--workers", "3", "--swaps", "2"),
+    manned("--swaps=2", "m", "--workers=1", "s"),
+    manned("--swaps", "5", "m", "s", report="quiet\n", script=""),
+]
+
+OTHER_SWAPS = [
+    *(
+        wrong("run", "m", "s", "--swaps", swaps)
+        for swaps in ("1001", "+1", "+0", "x", "", "-1", "1.0", " 1", "1 ", "0x1", "4294967296", "18446744073709551616")
+    ),
+    wrong("run", "m", "s", "--swaps"),
+    wrong("run", "--swaps", "m", "s"),
+    wrong("run", "m", "s", "--swaps=1001"),
+    wrong("run", "m", "s", "--swaps=+1"),
+    wrong("run", "m", "s", "--swaps="),
+    wrong("run", "m", "s", "--swaps", "1", "--swaps", "1"),
+    wrong("run", "m", "s", "--swaps", "1", "2"),
+    wrong("run", "m", "s", "--swap", "1"),
+    wrong("run", "m", "s", "--workers", "0", "--swaps", "1"),
+    wrong("run", "m", "s", "--workers", "1", "--swaps", "1001"),
+    wrong("run", "m", "s", "--workers", "+1", "--swaps", "1"),
+    wrong("run", "m", "s", "--workers", "1", "--swaps", "+1"),
+    wrong("replay", "m", "s", "e", "--swaps", "1"),
+    wrong("check", "i", "--swaps", "1"),
+    wrong("--swaps", "1", "run", "m", "s"),
+]
+
 COMMAND_LINES = [
     wrong(),
     wrong("walk"),
@@ -124,5 +154,7 @@ TABLES: Tables = {
     "other clocks": OTHER_CLOCKS,
     "workers": WORKERS,
     "other workers": OTHER_WORKERS,
+    "swaps": SWAPS,
+    "other swaps": OTHER_SWAPS,
     "command lines": COMMAND_LINES,
 }

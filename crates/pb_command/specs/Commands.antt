@@ -3,6 +3,7 @@ use Rattle.std.specs.Prelude.{◌≡◌, ℕ, Bool, false, List, [], ◌∷◌, 
 use Rattle.std.specs.List.{All}
 use Rattle.pb_texts.specs.declared.words.choice.Options.{Options}
 use Rattle.pb_texts.specs.declared.words.choice.Options.TheVariants as options
+use Rattle.pb_worker.specs.Swaps.{Spare}
 use Rattle.pb_driver.specs.declared.fault.RunFault.{RunFault}
 use Rattle.pb_driver.specs.declared.run.Ran.{Ran}
 use Rattle.pb_driver.specs.Runs.{RunsTexts}
@@ -22,30 +23,30 @@ use Rattle.pb_command.specs.Programs.{AsmLeaves, AnswerLeaves, Lists, Checks}
 abbrev pub IsAllDone : Ran → Type 0
 IsAllDone ran = All (λ r. r ≡ None) ran.refusals.items × (ran.unfinished.items ≡ [])
 
--- so many workers ran texts that the two paths hold so, from the clock 0
-pub record RanFrom (before : Held) (manifest script : Text) (workers : ℕ) (old now : Option (List ℕ)) (failed : Bool) (result : Result Ran RunFault) : Type 0 where
+-- so many workers ran texts that the two paths hold so, beside the swaps of these spares, from the clock 0
+pub record RanFrom (before : Held) (manifest script : Text) (workers : ℕ) (spares : List Spare) (old now : Option (List ℕ)) (failed : Bool) (result : Result Ran RunFault) : Type 0 where
   pub manifest_text : List ℕ
   pub script_text : List ℕ
   pub manifest_held : IsKnownAs (before manifest) (Ok manifest_text)
   pub script_held : IsKnownAs (before script) (Ok script_text)
-  pub ran : RunsTexts manifest_text script_text workers 0 old now failed result
+  pub ran : RunsTexts manifest_text script_text workers 0 spares old now failed result
 
 -- the texts ran, and nothing was left undone
-pub record RanWhole (before : Held) (manifest script : Text) (workers : ℕ) (old now : Option (List ℕ)) (failed : Bool) : Type 0 where
+pub record RanWhole (before : Held) (manifest script : Text) (workers : ℕ) (spares : List Spare) (old now : Option (List ℕ)) (failed : Bool) : Type 0 where
   pub left : Ran
   pub all_done : IsAllDone left
-  pub ran : RanFrom before manifest script workers old now failed (Ok left)
+  pub ran : RanFrom before manifest script workers spares old now failed (Ok left)
 
 -- The texts ran, and this was left undone; or they ran to this fault; or there was none to run, and nothing was written.
-abbrev pub RunFails : Held → Text → Text → ℕ → Option (List ℕ) → Option (List ℕ) → Bool → Fault → Type 0
-RunFails before manifest script workers old now failed (faults.Undone left) = RanFrom before manifest script workers old now failed (Ok left) × (IsAllDone left → ⊥)
-RunFails before manifest script workers old now failed (faults.Run f) = RanFrom before manifest script workers old now failed (Err f)
-RunFails before manifest script workers old now failed f = (now ≡ old) × (failed ≡ false) × IsFileFault before (manifest ∷ script ∷ []) f
+abbrev pub RunFails : Held → Text → Text → ℕ → List Spare → Option (List ℕ) → Option (List ℕ) → Bool → Fault → Type 0
+RunFails before manifest script workers spares old now failed (faults.Undone left) = RanFrom before manifest script workers spares old now failed (Ok left) × (IsAllDone left → ⊥)
+RunFails before manifest script workers spares old now failed (faults.Run f) = RanFrom before manifest script workers spares old now failed (Err f)
+RunFails before manifest script workers spares old now failed f = (now ≡ old) × (failed ≡ false) × IsFileFault before (manifest ∷ script ∷ []) f
 
-abbrev pub RunLeaves : Held → Text → Text → ℕ → Option (List ℕ) → Option (List ℕ) → Bool → Result Verdict Fault → Type 0
-RunLeaves before manifest script workers old now failed (Ok Accepted) = RanWhole before manifest script workers old now failed
-RunLeaves before manifest script workers old now failed (Ok Refused) = ⊥
-RunLeaves before manifest script workers old now failed (Err f) = RunFails before manifest script workers old now failed f
+abbrev pub RunLeaves : Held → Text → Text → ℕ → List Spare → Option (List ℕ) → Option (List ℕ) → Bool → Result Verdict Fault → Type 0
+RunLeaves before manifest script workers spares old now failed (Ok Accepted) = RanWhole before manifest script workers spares old now failed
+RunLeaves before manifest script workers spares old now failed (Ok Refused) = ⊥
+RunLeaves before manifest script workers spares old now failed (Err f) = RunFails before manifest script workers spares old now failed f
 
 -- ---- `replay`
 
@@ -73,20 +74,20 @@ ReplayLeaves before manifest script schedule clock old now failed (Err f) = Repl
 
 -- it is done in one thread, and waits for nothing
 abbrev pub IsSequential : Options → Type 0
-IsSequential (options.Run manifest script workers) = ⊥
+IsSequential (options.Run manifest script workers swaps) = ⊥
 IsSequential other = Unit {0}
 
--- What is left where a command ended so: only `asm` writes to a path, and it writes no output.
-abbrev pub LeavesBehind : Options → Held → Held → Bool → Bool → Option (List ℕ) → Option (List ℕ) → Bool → Result Verdict Fault → Type 0
-LeavesBehind (options.Run manifest script workers) before after was unwritten old now failed outcome =
-    (after ≡ before) × (unwritten ≡ was) × RunLeaves before manifest.now script.now workers old now failed outcome
-LeavesBehind (options.Replay manifest script schedule clock) before after was unwritten old now failed outcome =
+-- What is left where a command ended so, with these spares for `run`: only `asm` writes to a path, and it writes no output.
+abbrev pub LeavesBehind : Options → List Spare → Held → Held → Bool → Bool → Option (List ℕ) → Option (List ℕ) → Bool → Result Verdict Fault → Type 0
+LeavesBehind (options.Run manifest script workers swaps) spares before after was unwritten old now failed outcome =
+    (after ≡ before) × (unwritten ≡ was) × RunLeaves before manifest.now script.now workers spares old now failed outcome
+LeavesBehind (options.Replay manifest script schedule clock) spares before after was unwritten old now failed outcome =
     (after ≡ before) × (unwritten ≡ was) × ReplayLeaves before manifest.now script.now schedule.now clock.0 old now failed outcome
-LeavesBehind (options.Asm input output) before after was unwritten old now failed outcome =
+LeavesBehind (options.Asm input output) spares before after was unwritten old now failed outcome =
     (now ≡ old) × (failed ≡ false) × AsmLeaves before after was unwritten input.now output.now outcome
-LeavesBehind (options.Dis file) before after was unwritten old now failed outcome =
+LeavesBehind (options.Dis file) spares before after was unwritten old now failed outcome =
     (after ≡ before) × (unwritten ≡ was) × AnswerLeaves Lists (before file.now) file.now old now failed outcome
-LeavesBehind (options.Check file) before after was unwritten old now failed outcome =
+LeavesBehind (options.Check file) spares before after was unwritten old now failed outcome =
     (after ≡ before) × (unwritten ≡ was) × AnswerLeaves Checks (before file.now) file.now old now failed outcome
 
 -- an outcome as a status, with what was told
@@ -96,7 +97,7 @@ IsToldAs (Ok Refused) old now failed status = (status ≡ 1) × SaysNothing old 
 IsToldAs (Err f) old now failed status = (status ≡ 1) × Tells f old now failed
 
 -- how a command ended, as its status and the lines of its fault tell it
-pub record Commands (options : Options) (before after : Held) (was unwritten : Bool) (old now : Option (List ℕ)) (failed : Bool) (quiet told : Option (List ℕ)) (mute : Bool) (status : ℕ) : Type 0 where
+pub record Commands (options : Options) (spares : List Spare) (before after : Held) (was unwritten : Bool) (old now : Option (List ℕ)) (failed : Bool) (quiet told : Option (List ℕ)) (mute : Bool) (status : ℕ) : Type 0 where
   pub outcome : Result Verdict Fault
-  pub leaves : LeavesBehind options before after was unwritten old now failed outcome
+  pub leaves : LeavesBehind options spares before after was unwritten old now failed outcome
   pub tells : IsToldAs outcome quiet told mute status

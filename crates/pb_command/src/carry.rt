@@ -1,8 +1,9 @@
 //! A command carried out.
-ghost use Rattle.std.specs.Prelude.{◌≡◌, ◌≤◌, ◌<◌, ◌↔◌, false, IsTrue};
+ghost use Rattle.std.specs.Prelude.{◌≡◌, ◌≤◌, ◌<◌, ◌↔◌, false, vec_len, IsTrue};
 ghost use Rattle.pb_base.specs.declared.limits.TheConstants.{MAX_SEATS};
 ghost use Rattle.pb_store.specs.Contents.{nothing};
-ghost use Rattle.pb_texts.specs.CommandLines.{HasWorkers};
+ghost use Rattle.pb_texts.specs.CommandLines.{IsInRange, swaps_asked};
+ghost use Rattle.pb_worker.specs.Swaps.{spares_of};
 ghost use Rattle.pb_command.specs.Commands.{IsAllDone, RunLeaves, ReplayLeaves, IsToldAs, IsSequential, Commands};
 
 use crate::answer::Verdict;
@@ -14,6 +15,7 @@ use pb_base::{Sink, Ts};
 use pb_driver::{Ran, replay_texts, run_texts};
 use pb_store::{Table, Tablet};
 use pb_texts::Options;
+use pb_worker::end_spares;
 use std::alloc::Global;
 use std::sync::Wait;
 use std::thread::Threads;
@@ -25,7 +27,7 @@ fn is_all_done(ran: &Ran) -> bool
     ran.refusals.iter().all(|r| r.is_none()) && ran.unfinished.is_empty()
 }
 
-// Has so many workers run two files on the table, and ends it.
+// Has so many workers run two files on the table, beside the swaps of the spares, and ends all.
 fn run_files<'a, R: Threads + Wait + Sync, T: Tablet + Send, P: Paths, O: Sink>(
     rt: &R,
     alloc: Global,
@@ -34,14 +36,15 @@ fn run_files<'a, R: Threads + Wait + Sync, T: Tablet + Send, P: Paths, O: Sink>(
     workers: u32,
     paths: &mut P,
     table: Table<T>,
+    spares: Vec<(usize, T)>,
     out: &mut O,
 ) -> Result<Verdict, Fault<'a>>
     requires some { 1 ≤ workers }
     requires few { workers < MAX_SEATS }
     requires empty { table.contents ≡ nothing }
     requires unfailed { O.failed out.old ≡ false }
-    ensures ran { RunLeaves (P.held paths.old) manifest.now script.now workers (O.taken out.old) (O.taken out.new)
-        (O.failed out.new) result }
+    ensures ran { RunLeaves (P.held paths.old) manifest.now script.now workers (spares_of T.contents spares.items)
+        (O.taken out.old) (O.taken out.new) (O.failed out.new) result }
     ensures same { P.held paths.new ≡ P.held paths.old }
     ensures quiet { P.failed paths.new ≡ P.failed paths.old }
 {
@@ -54,6 +57,7 @@ fn run_files<'a, R: Threads + Wait + Sync, T: Tablet + Send, P: Paths, O: Sink>(
                 script.as_str(),
                 workers,
                 table,
+                spares,
                 Ts(0),
                 out,
             );
@@ -69,6 +73,7 @@ fn run_files<'a, R: Threads + Wait + Sync, T: Tablet + Send, P: Paths, O: Sink>(
         }
         Err(fault) => {
             table.close();
+            end_spares(spares);
             Err(fault)
         }
     }
@@ -130,9 +135,9 @@ fn status_of<'a, E: Sink>(alloc: Global, outcome: &Result<Verdict, Fault<'a>>, e
     }
 }
 
-/// Does what a command line asked for, on an empty table that it ends on every path, and answers the status: 0, or 1
-/// where what it was given is refused or a fault was told. It waits for nothing and starts no thread: `run` is for
-/// [`command`].
+/// Does what a command line asked for, on an empty table, and answers the status: 0, or 1 where what it was given is refused
+/// or a fault was told. It ends the table on every path, and the spares, which only `run` puts in. It waits for nothing and
+/// starts no thread: `run` is for [`command`].
 ///
 /// All files are read first, in the order given, and then taken as text, parsed and replayed. Results go to `out`, and the
 /// line of the first fault to `err`. A program's bytes that are refused are a result.
@@ -141,6 +146,7 @@ pub fn sequential_command<T: Tablet, P: Paths, O: Sink, E: Sink>(
     options: &Options,
     paths: &mut P,
     table: Table<T>,
+    spares: Vec<(usize, T)>,
     out: &mut O,
     err: &mut E,
 ) -> u8
@@ -148,10 +154,11 @@ pub fn sequential_command<T: Tablet, P: Paths, O: Sink, E: Sink>(
     requires empty { table.contents ≡ nothing }
     requires out_unfailed { O.failed out.old ≡ false }
     requires err_unfailed { E.failed err.old ≡ false }
-    ensures { Commands options.now (P.held paths.old) (P.held paths.new) (P.failed paths.old) (P.failed paths.new)
-        (O.taken out.old) (O.taken out.new) (O.failed out.new) (E.taken err.old) (E.taken err.new)
-        (E.failed err.new) result }
+    ensures { Commands options.now (spares_of T.contents spares.items) (P.held paths.old) (P.held paths.new)
+        (P.failed paths.old) (P.failed paths.new) (O.taken out.old) (O.taken out.new) (O.failed out.new)
+        (E.taken err.old) (E.taken err.new) (E.failed err.new) result }
 {
+    end_spares(spares);
     let outcome = match options {
         Options::Run { .. } => unreachable!(),
         Options::Replay {
@@ -177,7 +184,8 @@ pub fn sequential_command<T: Tablet, P: Paths, O: Sink, E: Sink>(
 }
 
 /// Does what a command line asked for, as [`sequential_command`] does; and `run`, for which it lets workers go in threads of
-/// their own, as far as these can be started, and waits for them and for their table's lock.
+/// their own, as far as these can be started, swaps the spares in beside them, each at its place, and waits for the workers
+/// and for their table's lock. There is a spare for each swap that is asked for.
 ///
 /// Where the report of a run was written, but a worker was refused or a change is unfinished, the lines that tell each go
 /// to `err`, and the status is 1.
@@ -187,26 +195,31 @@ pub fn command<R: Threads + Wait + Sync, T: Tablet + Send, P: Paths, O: Sink, E:
     options: &Options,
     paths: &mut P,
     table: Table<T>,
+    spares: Vec<(usize, T)>,
     out: &mut O,
     err: &mut E,
 ) -> u8
-    requires workers { HasWorkers options.now }
+    requires range { IsInRange options.now }
+    requires spares { vec_len spares ≡ swaps_asked options.now }
     requires empty { table.contents ≡ nothing }
     requires out_unfailed { O.failed out.old ≡ false }
     requires err_unfailed { E.failed err.old ≡ false }
-    ensures { Commands options.now (P.held paths.old) (P.held paths.new) (P.failed paths.old) (P.failed paths.new)
-        (O.taken out.old) (O.taken out.new) (O.failed out.new) (E.taken err.old) (E.taken err.new)
-        (E.failed err.new) result }
+    ensures { Commands options.now (spares_of T.contents spares.items) (P.held paths.old) (P.held paths.new)
+        (P.failed paths.old) (P.failed paths.new) (O.taken out.old) (O.taken out.new) (O.failed out.new)
+        (E.taken err.old) (E.taken err.new) (E.failed err.new) result }
 {
     match options {
         Options::Run {
             manifest,
             script,
             workers,
+            swaps: _,
         } => {
-            let ended = run_files(rt, alloc, manifest, script, *workers, paths, table, out);
+            let ended = run_files(
+                rt, alloc, manifest, script, *workers, paths, table, spares, out,
+            );
             status_of(alloc, &ended, err)
         }
-        _ => sequential_command(alloc, options, paths, table, out, err),
+        _ => sequential_command(alloc, options, paths, table, spares, out, err),
     }
 }

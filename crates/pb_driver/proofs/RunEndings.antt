@@ -7,6 +7,7 @@ use Rattle.pb_core.specs.Calls.{SharedOf, SeatOf, AreSeats}
 use Rattle.pb_core.specs.Histories.{IsLegalTable}
 use Rattle.pb_worker.specs.Agrees.{Agree}
 use Rattle.pb_worker.specs.Laws.{ChangesAreMade}
+use Rattle.pb_worker.specs.Swaps.{Spare}
 use Rattle.pb_worker.specs.Work.{KeepsOpening}
 use Rattle.pb_script.specs.declared.fault.ReportFault.{ReportFault}
 use Rattle.pb_script.specs.declared.fault.ReportFault.TheVariants as ends
@@ -29,21 +30,21 @@ legal_from before after k legal =
     (subst (λ n. IsLegal after.state.observers n before.opened after.journal after.state) k.seats
     (subst (λ at. IsLegal after.state.observers after.state.seats at after.journal after.state) k.opened legal))
 
-module _ (law : ChangesAreMade) (before : SharedOf) (olds : List SeatOf) (batches : List Writes) (fresh : before.journal ≡ []) (seated : AreSeats before olds) (some : 1 < length olds)
-    (table : SharedOf) (seats : List SeatOf) (refusals : List (Option Refusal)) (unfinished : List ℕ) (left : WorkersLeave before olds batches table seats refusals unfinished) where
-  accepts : IsLegalTable table → Agree table seats → FinishAccepts before olds batches table seats refusals unfinished
+module _ (law : ChangesAreMade) (before : SharedOf) (olds : List SeatOf) (batches : List Writes) (spares : List Spare) (fresh : before.journal ≡ []) (seated : AreSeats before olds) (some : 1 < length olds)
+    (table : SharedOf) (seats : List SeatOf) (refusals : List (Option Refusal)) (unfinished : List ℕ) (left : WorkersLeave before olds batches spares table seats refusals unfinished) where
+  accepts : IsLegalTable table → Agree table seats → FinishAccepts before olds batches spares table seats refusals unfinished
   accepts legal agree = record {
     left = left;
     legal = legal_from before table left.keeps legal;
     agree = agree;
-    made = law before.state.observers batches olds seats refusals unfinished before table fresh seated some left.worked legal agree;
+    made = law before.state.observers batches spares olds seats refusals unfinished before table fresh seated some left.worked legal agree;
   }
 
-  pub concluded : (old now : Option (List ℕ)) (failed : Bool) (r : Result Ran RunFault) → Concludes table seats refusals unfinished old now failed r → RunsOn before olds batches old now failed r
+  pub concluded : (old now : Option (List ℕ)) (failed : Bool) (r : Result Ran RunFault) → Concludes table seats refusals unfinished old now failed r → RunsOn before olds batches spares old now failed r
   concluded old now failed (Ok ran) c =
-      let told : FinishAccepts before olds batches table seats ran.refusals.items ran.unfinished.items =
-      subst (λ (us : List ℕ). FinishAccepts before olds batches table seats ran.refusals.items us) (sym c.3)
-      (subst (λ (rs : List (Option Refusal)). FinishAccepts before olds batches table seats rs unfinished) (sym c.2) (accepts c.0 c.1)) in
+      let told : FinishAccepts before olds batches spares table seats ran.refusals.items ran.unfinished.items =
+      subst (λ (us : List ℕ). FinishAccepts before olds batches spares table seats ran.refusals.items us) (sym c.3)
+      (subst (λ (rs : List (Option Refusal)). FinishAccepts before olds batches spares table seats rs unfinished) (sym c.2) (accepts c.0 c.1)) in
       (record { table = table; seats = seats; accepts = told; wrote = c.4 }, c.5)
   concluded old now failed (Err faults.Output) c =
       (record { table = table; seats = seats; refusals = refusals; unfinished = unfinished; accepts = accepts c.0 c.1; began = c.2 }, c.3)

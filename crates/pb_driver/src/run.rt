@@ -3,6 +3,7 @@ ghost use Rattle.std.specs.Prelude.{◌≡◌, ◌<◌, ◌≤◌, [], false, ve
 ghost use Rattle.pb_base.specs.declared.limits.TheConstants.{MAX_SEATS};
 ghost use Rattle.pb_store.specs.Contents.{nothing};
 ghost use Rattle.pb_core.specs.Calls.{AreSeats};
+ghost use Rattle.pb_worker.specs.Swaps.{spares_of};
 ghost use Rattle.pb_driver.specs.Runs.{Concludes, RunsOn, RunsTexts};
 
 use crate::fault::RunFault;
@@ -11,7 +12,7 @@ use pb_base::{Batch, MAX_ENTRIES, Refusal, Sink, Ts};
 use pb_core::{OpenRefused, Seat, Shared};
 use pb_script::report;
 use pb_store::{Table, Tablet};
-use pb_worker::{NotRun, Open, Worked, changes_are_made, finish, run_workers};
+use pb_worker::{NotRun, Open, Worked, changes_are_made, end_spares, finish, run_workers};
 use std::alloc::Global;
 use std::sync::Wait;
 use std::thread::Threads;
@@ -69,38 +70,42 @@ fn run_on<R: Threads + Wait + Sync, T: Tablet + Send, S: Sink>(
     shared: Shared<T>,
     seats: Vec<Seat>,
     batches: Vec<Batch>,
+    spares: Vec<(usize, T)>,
     sink: &mut S,
 ) -> Result<Ran, RunFault>
     requires fresh { shared.journal ≡ [] }
     requires seated { AreSeats shared seats.items }
     requires some { 1 < vec_len seats }
     requires unfailed { S.failed sink.old ≡ false }
-    ensures { RunsOn shared seats.items batches.items (S.taken sink.old) (S.taken sink.new) (S.failed sink.new)
-        result }
+    ensures { RunsOn shared seats.items batches.items (spares_of T.contents spares.items) (S.taken sink.old)
+        (S.taken sink.new) (S.failed sink.new) result }
 {
     // For the proof: where the seats agree, the journal's committed changes are those that aren't named as unfinished.
     changes_are_made();
-    match run_workers(rt, alloc, shared, seats, batches, &Open) {
+    match run_workers(rt, alloc, shared, seats, batches, spares, &Open) {
         Ok(worked) => conclude(alloc, worked, sink),
         Err(
             NotRun {
                 shared,
                 seats: _,
                 batches: _,
+                spares,
             },
         ) => {
             shared.close();
+            end_spares(spares);
             Err(RunFault::NoMemory)
         }
     }
 }
 
 /// Has so many workers make a script's changes and run a manifest's observers on them, over an empty table with a seat for
-/// each worker and the main one and `last` the last timestamp given out, and writes the report of what they left.
+/// each worker and the main one and `last` the last timestamp given out, and writes the report of what they left. While they
+/// run, the spares are swapped in, each at its place.
 ///
 /// The first fault is told: the manifest's, the script's, seats that differ from the journal, a failed write, or want of
 /// memory. A worker that was refused, and a change that no try committed, are no fault of the run: they are told in [`Ran`],
-/// and the report is written all the same. It ends the table on every path.
+/// and the report is written all the same. It ends the table and the spares on every path.
 pub fn run_texts<R: Threads + Wait + Sync, T: Tablet + Send, S: Sink>(
     rt: &R,
     alloc: Global,
@@ -108,6 +113,7 @@ pub fn run_texts<R: Threads + Wait + Sync, T: Tablet + Send, S: Sink>(
     script: &str,
     workers: u32,
     table: Table<T>,
+    spares: Vec<(usize, T)>,
     last: Ts,
     sink: &mut S,
 ) -> Result<Ran, RunFault>
@@ -115,18 +121,19 @@ pub fn run_texts<R: Threads + Wait + Sync, T: Tablet + Send, S: Sink>(
     requires few { workers < MAX_SEATS }
     requires empty { table.contents ≡ nothing }
     requires unfailed { S.failed sink.old ≡ false }
-    ensures { RunsTexts manifest.now script.now workers last.0 (S.taken sink.old) (S.taken sink.new) (S.failed sink.new)
-        result }
+    ensures { RunsTexts manifest.now script.now workers last.0 (spares_of T.contents spares.items) (S.taken sink.old)
+        (S.taken sink.new) (S.failed sink.new) result }
 {
     let (observers, batches) = match read_run(alloc, manifest, script) {
         Ok(texts) => texts,
         Err(fault) => {
             table.close();
+            end_spares(spares);
             return Err(fault);
         }
     };
     match Shared::open(alloc, table, observers, workers + 1, last, MAX_ENTRIES) {
-        Ok((shared, seats)) => run_on(rt, alloc, shared, seats, batches, sink),
+        Ok((shared, seats)) => run_on(rt, alloc, shared, seats, batches, spares, sink),
         Err(
             OpenRefused {
                 table,
@@ -135,6 +142,7 @@ pub fn run_texts<R: Threads + Wait + Sync, T: Tablet + Send, S: Sink>(
             },
         ) => {
             table.close();
+            end_spares(spares);
             Err(RunFault::NoMemory)
         }
     }

@@ -3,11 +3,13 @@
 
 mod chunks;
 mod counts;
+mod either;
 mod list;
 mod slab_tablet;
 mod sorted;
 mod sorted_list;
 
+pub use either::EitherTablet;
 pub use list::ListTablet;
 pub use slab_tablet::SlabTablet;
 pub use sorted_list::SortedList;

@@ -1,5 +1,5 @@
 -- A command line that `clap` takes asks for something.
-use Rattle.std.proofs.Common.{◌≡◌, ℕ, Bool, true, false, cond, List, [], ◌∷◌, Option, Some, None, refl, sym, ap, subst, ◌∙◌, inl, inr, codes}
+use Rattle.std.proofs.Common.{◌≡◌, ℕ, Bool, true, false, cond, List, [], ◌∷◌, Option, Some, None, refl, sym, ap, subst, ◌∙◌, inl, inr, codes, arith}
 use Rattle.std.specs.Prelude.{◌⊎◌, ◌||◌, not, fold, is_some, option_map, option_and_then}
 use Rattle.std.specs.Str.{bytes_eq}
 use Rattle.clap.specs.Lexer.{long_of, short_of}
@@ -9,11 +9,11 @@ use Rattle.clap.specs.Simple.{Shape, subcommand_of, built, built_leaf, inherited
 use Rattle.clap.specs.Kinds.{check_kinds}
 use Rattle.clap.specs.Takes.{is_given}
 use Rattle.clap.specs.Faults.{fault_of, entered_fault, check_fault, walk_fault, turn_fault, word_fault, other_fault}
-use Rattle.pb_texts.specs.CommandLines.{most_workers, run_app, last_clock, replay_app, asm_app, dis_app, check_app, program_app, Request, Run, Replay, Asm, Dis, Check, both, all_three, workers_of, clock_of, command_in, command_of, has_plus}
+use Rattle.pb_texts.specs.CommandLines.{most_workers, most_swaps, run_app, last_clock, replay_app, asm_app, dis_app, check_app, program_app, Request, Run, Replay, Asm, Dis, Check, both, all_three, workers_of, swaps_of, clock_of, command_in, command_of, has_plus, has_plus_at}
 use Rattle.pb_texts.proofs.Kept.{Each, HasNoDefault, or_else_none, level_none, unless_stopped, rows_kept}
-use Rattle.pb_texts.proofs.Filled.{HasValue, ReadsNumber, help_keeps, operand_has_value, operand_keeps_number, number_has_value, number_reads, given_first, first_number, one_number}
+use Rattle.pb_texts.proofs.Filled.{HasValue, ReadsNumber, help_keeps, operand_has_value, operand_keeps_number, number_has_value, number_keeps_number, number_reads, given_first, first_number, one_number}
 use Rattle.pb_texts.proofs.Clocks.{has_clock}
-use Rattle.pb_texts.proofs.Workers.{has_workers}
+use Rattle.pb_texts.proofs.Counts.{or_false, has_count}
 
 -- ---- the top level
 
@@ -174,23 +174,47 @@ Asks name words = has_plus (entered (built program_app) (Some (name, words))) �
 with_number : (number : Option ℕ) (ask : ℕ → Option Request) (n : ℕ) → number ≡ Some n → (r : Request) × (ask n ≡ Some r) → (r : Request) × (option_and_then ask number ≡ Some r)
 with_number number ask n e asked = (asked.0, ap (option_and_then ask) e ∙ asked.1)
 
--- the request of a run, by so many workers
-abbrev pub run_with : List Row → ℕ → Option Request
-run_with rows workers = both (λ manifest script. Run manifest script workers) (first_of (codes "MANIFEST") rows) (first_of (codes "SCRIPT") rows)
+-- the request of a run, by so many workers beside so many swaps
+abbrev pub run_with : List Row → ℕ → ℕ → Option Request
+run_with rows workers swaps = both (λ manifest script. Run manifest script workers swaps) (first_of (codes "MANIFEST") rows) (first_of (codes "SCRIPT") rows)
 
-run_asks : (words : List Text) → entered_fault (built program_app) (Some (codes "run", words)) ≡ [] → Asks (codes "run") words
-run_asks words f no_plus =
-    let s = leaf run_app.top in
-    let name = codes "workers" in
-    let rows = rows_after s.rules [] words in
-    let bare : Each HasNoDefault s.rules = (refl, (refl, (refl, (refl, tt)))) in
-    let values = rows_kept s HasValue (operand_has_value 1 (codes "MANIFEST"), (operand_has_value 2 (codes "SCRIPT"), (number_has_value name 1 most_workers, (help_keeps HasValue, tt)))) words bare f in
-    let numbers = rows_kept s (ReadsNumber name 1 most_workers)
-    (operand_keeps_number 1 (codes "MANIFEST") name 1 most_workers (λ e. absurd cc), (operand_keeps_number 2 (codes "SCRIPT") name 1 most_workers (λ e. absurd cc), (number_reads name 1 most_workers, (help_keeps (ReadsNumber name 1 most_workers), tt))))
-    words bare f in
-    let workers = has_workers (first_of name rows) (first_number name 1 most_workers rows numbers) no_plus in
-    with_number (workers_of (first_of name rows)) (run_with rows) workers.0 workers.1
-    (both_ask (λ manifest script. Run manifest script workers.0) (codes "MANIFEST") (codes "SCRIPT") rows values (level_none s [] nothing_held words false [] f).3)
+-- the same, where the number of swaps is named, too
+abbrev pub run_by : List Row → ℕ → Option Request
+run_by rows workers = option_and_then (run_with rows workers) (swaps_of (first_of (codes "swaps") rows))
+
+-- a run whose words have no fault
+module _ (words : List Text) (f : entered_fault (built program_app) (Some (codes "run", words)) ≡ []) where
+  bare : Each HasNoDefault (leaf run_app.top).rules
+  bare = (refl, (refl, (refl, (refl, (refl, tt)))))
+
+  run_values : Each HasValue (rows_after (leaf run_app.top).rules [] words)
+  run_values = rows_kept (leaf run_app.top) HasValue
+      (operand_has_value 1 (codes "MANIFEST"), (operand_has_value 2 (codes "SCRIPT"), (number_has_value (codes "workers") 1 most_workers, (number_has_value (codes "swaps") 0 most_swaps, (help_keeps HasValue, tt)))))
+      words bare f
+
+  worker_numbers : Each (ReadsNumber (codes "workers") 1 most_workers) (rows_after (leaf run_app.top).rules [] words)
+  worker_numbers =
+      let name = codes "workers" in
+      rows_kept (leaf run_app.top) (ReadsNumber name 1 most_workers)
+      (operand_keeps_number 1 (codes "MANIFEST") name 1 most_workers (λ e. absurd cc), (operand_keeps_number 2 (codes "SCRIPT") name 1 most_workers (λ e. absurd cc), (number_reads name 1 most_workers, (number_keeps_number (codes "swaps") 0 most_swaps name 1 most_workers (λ e. absurd cc), (help_keeps (ReadsNumber name 1 most_workers), tt)))))
+      words bare f
+
+  swap_numbers : Each (ReadsNumber (codes "swaps") 0 most_swaps) (rows_after (leaf run_app.top).rules [] words)
+  swap_numbers =
+      let name = codes "swaps" in
+      rows_kept (leaf run_app.top) (ReadsNumber name 0 most_swaps)
+      (operand_keeps_number 1 (codes "MANIFEST") name 0 most_swaps (λ e. absurd cc), (operand_keeps_number 2 (codes "SCRIPT") name 0 most_swaps (λ e. absurd cc), (number_keeps_number (codes "workers") 1 most_workers name 0 most_swaps (λ e. absurd cc), (number_reads name 0 most_swaps, (help_keeps (ReadsNumber name 0 most_swaps), tt)))))
+      words bare f
+
+  pub run_asks : Asks (codes "run") words
+  run_asks no_plus =
+      let rows = rows_after (leaf run_app.top).rules [] words in
+      let plain = or_false (has_plus_at (codes "workers") rows) (has_plus_at (codes "swaps") rows) no_plus in
+      let workers = has_count 1 most_workers (omega arith) (first_of (codes "workers") rows) (first_number (codes "workers") 1 most_workers rows worker_numbers) plain.0 in
+      let swaps = has_count 0 most_swaps (omega arith) (first_of (codes "swaps") rows) (first_number (codes "swaps") 0 most_swaps rows swap_numbers) plain.1 in
+      with_number (workers_of (first_of (codes "workers") rows)) (run_by rows) workers.0 workers.1
+      (with_number (swaps_of (first_of (codes "swaps") rows)) (run_with rows workers.0) swaps.0 swaps.1
+      (both_ask (λ manifest script. Run manifest script workers.0 swaps.0) (codes "MANIFEST") (codes "SCRIPT") rows run_values (level_none (leaf run_app.top) [] nothing_held words false [] f).3))
 
 -- the request of a replay, from a clock on
 abbrev pub replay_from : List Row → ℕ → Option Request

@@ -1,6 +1,6 @@
--- A plus before the number of workers is a fault, and without one a run has workers.
+-- A plus before the number of workers or that of swaps is a fault, and without one a run's numbers are in range.
 use Rattle.std.proofs.Common.{◌≡◌, ℕ, ◌≤◌, Bool, true, false, cond, List, [], ◌∷◌, Option, Some, None, refl, sym, ap, ◌∙◌, subst, arith, inl, inr, codes}
-use Rattle.std.specs.Prelude.{option_and_then, option_map}
+use Rattle.std.specs.Prelude.{◌⊎◌, ◌||◌, option_and_then, option_map}
 use Rattle.std.specs.Option.{option_map_or}
 use Rattle.std.specs.Str.{bytes_eq}
 use Rattle.clap.specs.Walk.{Text, Row, first_of, one_of}
@@ -13,21 +13,37 @@ use Rattle.clap.specs.declared.error.kind.ErrorKind.{ErrorKind}
 use Rattle.clap.specs.declared.error.kind.ErrorKind.TheVariants.{ValueValidation}
 use Rattle.pb_texts.specs.declared.words.choice.Options.{Options}
 use Rattle.pb_texts.specs.declared.words.choice.Options.TheVariants as options
-use Rattle.pb_texts.specs.CommandLines.{most_workers, program_app, Request, Run, Replay, Asm, Dis, Check, both, all_three, is_workers, workers_number, workers_of, clock_of, command_in, command_of, begins_with_plus, has_plus, request_of, HasWorkers}
-use Rattle.pb_texts.proofs.Workers.{both_true, false_unless, plus_unread, workers_within}
-use Rattle.pb_texts.proofs.Asked.{run_with, replay_from, asks}
+use Rattle.pb_texts.specs.CommandLines.{most_workers, most_swaps, program_app, Request, Run, Replay, Asm, Dis, Check, both, all_three, is_count, count_number, count_of, workers_of, swaps_of, clock_of, command_in, command_of, begins_with_plus, has_plus, has_plus_at, request_of, IsInRange}
+use Rattle.pb_texts.proofs.Counts.{both_true, false_unless, plus_unread, count_within}
+use Rattle.pb_texts.proofs.Asked.{run_with, run_by, replay_from, asks}
 
 -- ---- the fault of a plus
 
-plus_names_none : (o : Option Text) → option_map_or begins_with_plus o false ≡ true → workers_of o ≡ None
-plus_names_none None h = absurd cc
-plus_names_none (Some t) h = sym (plus_unread t h)
+none_at : (low high : ℕ) (o : Option Text) → option_map_or begins_with_plus o false ≡ true → count_of low high o ≡ None
+none_at low high None h = absurd cc
+none_at low high (Some t) h = sym (plus_unread low high t h)
+
+plus_names_none : (low high : ℕ) (name : Text) (rows : List Row) → has_plus_at name rows ≡ true → count_of low high (first_of name rows) ≡ None
+plus_names_none low high name rows h = none_at low high (first_of name rows) h
+
+either : (a b : Bool) → (a || b) ≡ true → (a ≡ true) ⊎ (b ≡ true)
+either true b h = inl refl
+either false b h = inr h
+
+none_then : {A B : Type 0} (o : Option A) (f : A → Option B) → ((x : A) → f x ≡ None) → option_and_then f o ≡ None
+none_then None f h = refl
+none_then (Some x) f h = h x
+
+-- a run with a plus before one of its numbers names none
+run_names_none : (rows : List Row) → (has_plus_at (codes "workers") rows ≡ true) ⊎ (has_plus_at (codes "swaps") rows ≡ true) → option_and_then (run_by rows) (workers_of (first_of (codes "workers") rows)) ≡ None
+run_names_none rows (inl workers) = ap (option_and_then (run_by rows)) (plus_names_none 1 most_workers (codes "workers") rows workers)
+run_names_none rows (inr swaps) = none_then (workers_of (first_of (codes "workers") rows)) (run_by rows) (λ workers. ap (option_and_then (run_with rows workers)) (plus_names_none 0 most_swaps (codes "swaps") rows swaps))
 
 plus_asks_none : (q : Option (Text × List Row)) → has_plus q ≡ true → command_in q ≡ None
 plus_asks_none None h = absurd cc
 plus_asks_none (Some p) h =
-    let a = both_true (bytes_eq p.0 (codes "run")) (option_map_or begins_with_plus (first_of (codes "workers") p.1) false) h in
-    rw a.0 (ap (option_and_then (run_with p.1)) (plus_names_none (first_of (codes "workers") p.1) a.1))
+    let a = both_true (bytes_eq p.0 (codes "run")) (has_plus_at (codes "workers") p.1 || has_plus_at (codes "swaps") p.1) h in
+    rw a.0 (run_names_none p.1 (either (has_plus_at (codes "workers") p.1) (has_plus_at (codes "swaps") p.1) a.1))
 
 true_unless : (b : Bool) → (b ≡ false → ⊥) → b ≡ true
 true_unless true f = refl
@@ -67,63 +83,70 @@ asked_faultless words r f e = faultless _ _ f (some_has_no_plus (subcommand_of p
 pub unasked_fault : (words : List Text) → fault_of program_app words ≡ [] → command_of words ≡ None → IsAmong ValueValidation (or_else (fault_of program_app words) (plus_fault (has_plus (subcommand_of program_app words))))
 unasked_fault words f n = refused_by_plus _ _ f (none_has_plus words f n)
 
--- ---- the workers of a run
+-- ---- the numbers of a run
 
-abbrev HasFew : Request → Type 0
-HasFew (Run m s workers) = (1 ≤ workers) × (workers ≤ most_workers)
-HasFew (Replay m s e clock) = Unit {0}
-HasFew (Asm i o) = Unit {0}
-HasFew (Dis f) = Unit {0}
-HasFew (Check f) = Unit {0}
+abbrev InRange : Request → Type 0
+InRange (Run m s workers swaps) = (1 ≤ workers) × (workers ≤ most_workers) × (swaps ≤ most_swaps)
+InRange (Replay m s e clock) = Unit {0}
+InRange (Asm i o) = Unit {0}
+InRange (Dis f) = Unit {0}
+InRange (Check f) = Unit {0}
 
 abbrev IfAsked : Option Request → Type 0
 IfAsked None = Unit {0}
-IfAsked (Some r) = HasFew r
+IfAsked (Some r) = InRange r
 
 asked_if : (b : Bool) (x y : Option Request) → IfAsked x → IfAsked y → IfAsked (cond b x y)
 asked_if true x y f g = f
 asked_if false x y f g = g
 
-both_few : (make : Text → Text → Request) (a b : Option Text) → ((m s : Text) → HasFew (make m s)) → IfAsked (both make a b)
-both_few make None b f = tt
-both_few make (Some m) None f = tt
-both_few make (Some m) (Some s) f = f m s
+both_in_range : (make : Text → Text → Request) (a b : Option Text) → ((m s : Text) → InRange (make m s)) → IfAsked (both make a b)
+both_in_range make None b f = tt
+both_in_range make (Some m) None f = tt
+both_in_range make (Some m) (Some s) f = f m s
 
-all_few : (make : Text → Text → Text → Request) (a b c : Option Text) → ((m s e : Text) → HasFew (make m s e)) → IfAsked (all_three make a b c)
-all_few make None b c f = tt
-all_few make (Some m) b c f = both_few (make m) b c (f m)
+all_in_range : (make : Text → Text → Text → Request) (a b c : Option Text) → ((m s e : Text) → InRange (make m s e)) → IfAsked (all_three make a b c)
+all_in_range make None b c f = tt
+all_in_range make (Some m) b c f = both_in_range (make m) b c (f m)
 
-named_few : (b : Bool) (rows : List Row) (n : ℕ) → (b ≡ true → (1 ≤ n) × (n ≤ most_workers)) → IfAsked (option_and_then (run_with rows) (cond b (Some n) None))
-named_few true rows n f = both_few (λ m s. Run m s n) (first_of (codes "MANIFEST") rows) (first_of (codes "SCRIPT") rows) (λ m s. f refl)
-named_few false rows n f = tt
+-- what is asked for with a number is in range where it is so with each number of the range
+counted_if : (low high : ℕ) (ask : ℕ → Option Request) (b : Bool) (n : ℕ) → (b ≡ true → (low ≤ n) × (n ≤ high)) → ((m : ℕ) → (low ≤ m) × (m ≤ high) → IfAsked (ask m)) → IfAsked (option_and_then ask (cond b (Some n) None))
+counted_if low high ask true n is f = f n (is refl)
+counted_if low high ask false n is f = tt
 
-run_few : (rows : List Row) (o : Option Text) → IfAsked (option_and_then (run_with rows) (workers_of o))
-run_few rows None = named_few true rows 1 (λ _. (omega arith, omega arith))
-run_few rows (Some t) = named_few (is_workers t) rows (workers_number t) (workers_within t)
+counted : (low high : ℕ) (ask : ℕ → Option Request) (o : Option Text) → low ≤ high → ((m : ℕ) → (low ≤ m) × (m ≤ high) → IfAsked (ask m)) → IfAsked (option_and_then ask (count_of low high o))
+counted low high ask None some f = f low (omega arith, some)
+counted low high ask (Some t) some f = counted_if low high ask (is_count low high t) (count_number t) (count_within low high t) f
 
-replay_few : (rows : List Row) (o : Option ℕ) → IfAsked (option_and_then (replay_from rows) o)
-replay_few rows None = tt
-replay_few rows (Some n) = all_few (λ m s e. Replay m s e n) (first_of (codes "MANIFEST") rows) (first_of (codes "SCRIPT") rows) (first_of (codes "SCHEDULE") rows) (λ m s e. tt)
+run_in_range : (rows : List Row) → IfAsked (option_and_then (run_by rows) (workers_of (first_of (codes "workers") rows)))
+run_in_range rows =
+    counted 1 most_workers (run_by rows) (first_of (codes "workers") rows) (omega arith)
+    (λ workers few. counted 0 most_swaps (run_with rows workers) (first_of (codes "swaps") rows) (omega arith)
+    (λ swaps some. both_in_range (λ m s. Run m s workers swaps) (first_of (codes "MANIFEST") rows) (first_of (codes "SCRIPT") rows) (λ m s. (few.0, few.1, some.1))))
 
-one_few : (make : Text → Request) (o : Option Text) → ((f : Text) → HasFew (make f)) → IfAsked (option_map make o)
-one_few make None h = tt
-one_few make (Some f) h = h f
+replay_in_range : (rows : List Row) (o : Option ℕ) → IfAsked (option_and_then (replay_from rows) o)
+replay_in_range rows None = tt
+replay_in_range rows (Some n) = all_in_range (λ m s e. Replay m s e n) (first_of (codes "MANIFEST") rows) (first_of (codes "SCRIPT") rows) (first_of (codes "SCHEDULE") rows) (λ m s e. tt)
 
-command_few : (q : Option (Text × List Row)) → IfAsked (command_in q)
-command_few None = tt
-command_few (Some p) =
-    asked_if (bytes_eq p.0 (codes "run")) _ _ (run_few p.1 (first_of (codes "workers") p.1))
-    (asked_if (bytes_eq p.0 (codes "replay")) _ _ (replay_few p.1 (clock_of (one_of (codes "clock") p.1)))
-    (asked_if (bytes_eq p.0 (codes "asm")) _ _ (both_few Asm (first_of (codes "IN") p.1) (first_of (codes "OUT") p.1) (λ i o. tt))
-    (asked_if (bytes_eq p.0 (codes "dis")) _ _ (one_few Dis (first_of (codes "FILE") p.1) (λ f. tt))
-    (asked_if (bytes_eq p.0 (codes "check")) _ _ (one_few Check (first_of (codes "FILE") p.1) (λ f. tt)) tt))))
+one_in_range : (make : Text → Request) (o : Option Text) → ((f : Text) → InRange (make f)) → IfAsked (option_map make o)
+one_in_range make None h = tt
+one_in_range make (Some f) h = h f
 
-options_few : (o : Options) → HasFew (request_of o) → HasWorkers o
-options_few (options.Run m s workers) h = h
-options_few (options.Replay m s e clock) h = tt
-options_few (options.Asm i o) h = tt
-options_few (options.Dis f) h = tt
-options_few (options.Check f) h = tt
+command_in_range : (q : Option (Text × List Row)) → IfAsked (command_in q)
+command_in_range None = tt
+command_in_range (Some p) =
+    asked_if (bytes_eq p.0 (codes "run")) _ _ (run_in_range p.1)
+    (asked_if (bytes_eq p.0 (codes "replay")) _ _ (replay_in_range p.1 (clock_of (one_of (codes "clock") p.1)))
+    (asked_if (bytes_eq p.0 (codes "asm")) _ _ (both_in_range Asm (first_of (codes "IN") p.1) (first_of (codes "OUT") p.1) (λ i o. tt))
+    (asked_if (bytes_eq p.0 (codes "dis")) _ _ (one_in_range Dis (first_of (codes "FILE") p.1) (λ f. tt))
+    (asked_if (bytes_eq p.0 (codes "check")) _ _ (one_in_range Check (first_of (codes "FILE") p.1) (λ f. tt)) tt))))
 
-pub asked_workers : (words : List Text) (o : Options) → command_of words ≡ Some (request_of o) → HasWorkers o
-asked_workers words o e = options_few o (subst IfAsked e (command_few (subcommand_of program_app words)))
+options_in_range : (o : Options) → InRange (request_of o) → IsInRange o
+options_in_range (options.Run m s workers swaps) h = h
+options_in_range (options.Replay m s e clock) h = tt
+options_in_range (options.Asm i o) h = tt
+options_in_range (options.Dis f) h = tt
+options_in_range (options.Check f) h = tt
+
+pub asked_in_range : (words : List Text) (o : Options) → command_of words ≡ Some (request_of o) → IsInRange o
+asked_in_range words o e = options_in_range o (subst IfAsked e (command_in_range (subcommand_of program_app words)))

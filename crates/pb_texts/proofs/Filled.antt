@@ -94,6 +94,11 @@ operand_keeps_number position id name low high other again [] rows e g = absurd 
 operand_keeps_number position id name low high other again (v ∷ vs) rows e g =
     each_set (ReadsNumber name low high) id AsWritten (v ∷ vs) (λ is. absurd (other is)) (λ r same p. ((λ is. absurd (other (sym (same_id r.id id same) ∙ is))), tt)) rows g
 
+pub number_keeps_number : (other_name : Text) (from to : ℕ) (name : Text) (low high : ℕ) → (other_name ≡ name → ⊥) → Keeps (ReadsNumber name low high) (number other_name from to)
+number_keeps_number other_name from to name low high other again [] rows e g = absurd cc
+number_keeps_number other_name from to name low high other again (v ∷ vs) rows e g =
+    each_set (ReadsNumber name low high) other_name AsWritten (v ∷ vs) (λ is. absurd (other is)) (λ r same p. ((λ is. absurd (other (sym (same_id r.id other_name same) ∙ is))), tt)) rows g
+
 first_still : (low high : ℕ) (xs : List Text) (v : Text) (vs : List Text) → is_unsigned_in low high v ≡ true → IsNumberIn low high (slice_get xs 0) → IsNumberIn low high (slice_get (xs ++ v ∷ vs) 0)
 first_still low high [] v vs is p = is
 first_still low high (x ∷ xs) v vs is p = p

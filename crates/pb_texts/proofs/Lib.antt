@@ -2,7 +2,7 @@ pub mod Parts
 pub mod Kept
 pub mod Filled
 pub mod Clocks
-pub mod Workers
+pub mod Counts
 pub mod Asked
 pub mod Faults
 pub mod Taken

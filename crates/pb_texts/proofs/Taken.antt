@@ -1,6 +1,6 @@
 -- The plain forms of the subcommands are taken.
-use Rattle.std.proofs.Common.{◌≡◌, ℕ, Bool, true, false, cond, [], ◌∷◌, Some, None, refl, sym, ◌∙◌, subst}
-use Rattle.std.specs.Prelude.{◌==◌, not, option_and_then}
+use Rattle.std.proofs.Common.{◌≡◌, ℕ, ◌<◌, ◌^◌, Bool, true, false, cond, [], ◌∷◌, Some, None, refl, sym, ◌∙◌, subst, arith}
+use Rattle.std.specs.Prelude.{◌==◌, ◌||◌, not, option_and_then}
 use Rattle.std.proofs.lemmas.Bool.{eqb-true}
 use Rattle.std.specs.Str.{bytes_eq}
 use Rattle.clap.specs.Lexer.{strip_byte}
@@ -9,8 +9,8 @@ use Rattle.clap.specs.Kinds.{Kinds, or_else}
 use Rattle.clap.specs.ValueTests.{is_unsigned_in}
 use Rattle.clap.specs.declared.error.kind.ErrorKind.TheVariants.{ValueValidation}
 use Rattle.clap.proofs.OnLiterals.{clap_on_literals}
-use Rattle.pb_texts.specs.CommandLines.{most_workers, is_plain_word, is_workers, workers_number, begins_with_plus, is_clock, clock_number, run_words, workers_words, replay_words, clock_words, asm_words, dis_words, check_words, Run, Replay, Asm, Dis, Check, Request, AskFor, HaveBadValue}
-use Rattle.pb_texts.proofs.Workers.{true_not_false, and_false, false_and, false_unless, plus_no_workers, plain_workers}
+use Rattle.pb_texts.specs.CommandLines.{most_workers, most_swaps, is_plain_word, is_count, is_workers, is_swaps, count_number, begins_with_plus, is_clock, clock_number, run_words, workers_words, swaps_words, replay_words, clock_words, asm_words, dis_words, check_words, Run, Replay, Asm, Dis, Check, Request, AskFor, HaveBadValue}
+use Rattle.pb_texts.proofs.Counts.{true_not_false, and_false, false_and, false_unless, plus_no_count, plain_count}
 
 not_true : (b : Bool) → not b ≡ true → b ≡ false
 not_true true h = absurd cc
@@ -46,12 +46,12 @@ plain_of is none hyphen (x ∷ xs) h = plain_if (x == 45) (λ e. true_not_false 
 clock_plain : (t : Text) → is_clock t ≡ true → is_plain_word t ≡ true
 clock_plain t h = plain_of is_clock refl hyphen_no_clock t h
 
-hyphen_no_workers : (xs : Text) → is_workers (45 ∷ xs) ≡ false
-hyphen_no_workers xs = false_and _ _ (and_false _ _ refl)
+hyphen_no_count : (low high : ℕ) (xs : Text) → is_count low high (45 ∷ xs) ≡ false
+hyphen_no_count low high xs = false_and _ _ (and_false _ _ refl)
 
--- a number of workers begins with a digit
-workers_plain : (t : Text) → is_workers t ≡ true → is_plain_word t ≡ true
-workers_plain t h = plain_of is_workers refl hyphen_no_workers t h
+-- a number of digits alone begins with a digit
+count_plain : (low high : ℕ) (t : Text) → is_count low high t ≡ true → is_plain_word t ≡ true
+count_plain low high t h = plain_of (is_count low high) refl (hyphen_no_count low high) t h
 
 -- what a level below and the one above make of the fault of a value
 abbrev value_fault : Bool → Kinds
@@ -75,23 +75,49 @@ with_value : (b : Bool) (make : ℕ → Request) (n : ℕ) → b ≡ true → op
 with_value true make n is = refl
 with_value false make n is = absurd cc
 
-no_plus : (t : Text) → is_workers t ≡ true → begins_with_plus t ≡ false
-no_plus t is = false_unless (begins_with_plus t) (λ h. true_not_false (is_workers t) is (plus_no_workers t h))
+no_plus : (low high : ℕ) (t : Text) → is_count low high t ≡ true → begins_with_plus t ≡ false
+no_plus low high t is = false_unless (begins_with_plus t) (λ h. true_not_false (is_count low high t) is (plus_no_count low high t h))
 
-run_by : (program m s : Text) → NoHyphen m → NoHyphen s → AskFor (run_words program m s) (Run m s 1)
+run_by : (program m s : Text) → NoHyphen m → NoHyphen s → AskFor (run_words program m s) (Run m s 1 0)
 unfolding clap_on_literals
-run_by program m s a b = (simp (a.0, a.1, b.0, b.1), simp (a.0, a.1, b.0, b.1))
+run_by program m s a b = (rw (a.1, a.0, a.0, b.1, b.0, b.0) refl, rw (a.1, a.0, a.0, b.1, b.0, b.0) refl)
 
-workers_by : (program m s t : Text) → NoHyphen m → NoHyphen s → NoHyphen t → is_workers t ≡ true → AskFor (workers_words program m s t) (Run m s (workers_number t))
+-- the numbers of workers and of swaps are short
+few : most_workers < 2 ^ 32
+few = omega arith
+
+some : most_swaps < 2 ^ 32
+some = omega arith
+
+or_nothing : (b : Bool) → b ≡ false → (b || false) ≡ false
+or_nothing true h = absurd cc
+or_nothing false h = refl
+
+nothing_or : (b : Bool) → (b || false) ≡ false → b ≡ false
+nothing_or true h = absurd cc
+nothing_or false h = refl
+
+workers_by : (program m s t : Text) → NoHyphen m → NoHyphen s → NoHyphen t → is_workers t ≡ true → AskFor (workers_words program m s t) (Run m s (count_number t) 0)
 unfolding clap_on_literals
 workers_by program m s t a b c is = (
-  rw (a.1, a.0, a.0, b.1, b.0, b.0, c.1, c.0, c.0) (no_fault (is_unsigned_in 1 most_workers t) (begins_with_plus t) (plain_workers t (no_plus t is) ∙ is) (no_plus t is)),
-  rw (a.1, a.0, a.0, b.1, b.0, b.0, c.1, c.0, c.0) (with_value (is_workers t) (Run m s) (workers_number t) is),
+  rw (a.1, a.0, a.0, b.1, b.0, b.0, c.1, c.0, c.0) (no_fault (is_unsigned_in 1 most_workers t) (begins_with_plus t || false) (plain_count 1 most_workers few t (no_plus 1 most_workers t is) ∙ is) (or_nothing _ (no_plus 1 most_workers t is))),
+  rw (a.1, a.0, a.0, b.1, b.0, b.0, c.1, c.0, c.0) (with_value (is_workers t) (λ n. Run m s n 0) (count_number t) is),
 )
 
 other_workers_by : (program m s t : Text) → NoHyphen m → NoHyphen s → NoHyphen t → is_workers t ≡ false → HaveBadValue (workers_words program m s t)
 unfolding clap_on_literals
-other_workers_by program m s t a b c is = rw (a.1, a.0, a.0, b.1, b.0, b.0, c.1, c.0, c.0) (bad_value (is_unsigned_in 1 most_workers t) (begins_with_plus t) (λ h. plain_workers t h ∙ is))
+other_workers_by program m s t a b c is = rw (a.1, a.0, a.0, b.1, b.0, b.0, c.1, c.0, c.0) (bad_value (is_unsigned_in 1 most_workers t) (begins_with_plus t || false) (λ h. plain_count 1 most_workers few t (nothing_or _ h) ∙ is))
+
+swaps_by : (program m s t : Text) → NoHyphen m → NoHyphen s → NoHyphen t → is_swaps t ≡ true → AskFor (swaps_words program m s t) (Run m s 1 (count_number t))
+unfolding clap_on_literals
+swaps_by program m s t a b c is = (
+  rw (a.1, a.0, a.0, b.1, b.0, b.0, c.1, c.0, c.0) (no_fault (is_unsigned_in 0 most_swaps t) (begins_with_plus t) (plain_count 0 most_swaps some t (no_plus 0 most_swaps t is) ∙ is) (no_plus 0 most_swaps t is)),
+  rw (a.1, a.0, a.0, b.1, b.0, b.0, c.1, c.0, c.0) (with_value (is_swaps t) (Run m s 1) (count_number t) is),
+)
+
+other_swaps_by : (program m s t : Text) → NoHyphen m → NoHyphen s → NoHyphen t → is_swaps t ≡ false → HaveBadValue (swaps_words program m s t)
+unfolding clap_on_literals
+other_swaps_by program m s t a b c is = rw (a.1, a.0, a.0, b.1, b.0, b.0, c.1, c.0, c.0) (bad_value (is_unsigned_in 0 most_swaps t) (begins_with_plus t) (λ h. plain_count 0 most_swaps some t h ∙ is))
 
 replay_by : (program m s e : Text) → NoHyphen m → NoHyphen s → NoHyphen e → AskFor (replay_words program m s e) (Replay m s e 0)
 unfolding clap_on_literals
@@ -117,14 +143,20 @@ check_by : (program f : Text) → NoHyphen f → AskFor (check_words program f) 
 unfolding clap_on_literals
 check_by program f a = (simp (a.0, a.1), simp (a.0, a.1))
 
-pub run_taken : (program m s : Text) → is_plain_word m ≡ true → is_plain_word s ≡ true → AskFor (run_words program m s) (Run m s 1)
+pub run_taken : (program m s : Text) → is_plain_word m ≡ true → is_plain_word s ≡ true → AskFor (run_words program m s) (Run m s 1 0)
 run_taken program m s p q = run_by program m s (plain_word m p) (plain_word s q)
 
-pub workers_taken : (program m s t : Text) → is_plain_word m ≡ true → is_plain_word s ≡ true → is_workers t ≡ true → AskFor (workers_words program m s t) (Run m s (workers_number t))
-workers_taken program m s t p q is = workers_by program m s t (plain_word m p) (plain_word s q) (plain_word t (workers_plain t is)) is
+pub workers_taken : (program m s t : Text) → is_plain_word m ≡ true → is_plain_word s ≡ true → is_workers t ≡ true → AskFor (workers_words program m s t) (Run m s (count_number t) 0)
+workers_taken program m s t p q is = workers_by program m s t (plain_word m p) (plain_word s q) (plain_word t (count_plain 1 most_workers t is)) is
 
 pub other_workers_refused : (program m s t : Text) → is_plain_word m ≡ true → is_plain_word s ≡ true → is_plain_word t ≡ true → is_workers t ≡ false → HaveBadValue (workers_words program m s t)
 other_workers_refused program m s t p q u is = other_workers_by program m s t (plain_word m p) (plain_word s q) (plain_word t u) is
+
+pub swaps_taken : (program m s t : Text) → is_plain_word m ≡ true → is_plain_word s ≡ true → is_swaps t ≡ true → AskFor (swaps_words program m s t) (Run m s 1 (count_number t))
+swaps_taken program m s t p q is = swaps_by program m s t (plain_word m p) (plain_word s q) (plain_word t (count_plain 0 most_swaps t is)) is
+
+pub other_swaps_refused : (program m s t : Text) → is_plain_word m ≡ true → is_plain_word s ≡ true → is_plain_word t ≡ true → is_swaps t ≡ false → HaveBadValue (swaps_words program m s t)
+other_swaps_refused program m s t p q u is = other_swaps_by program m s t (plain_word m p) (plain_word s q) (plain_word t u) is
 
 pub replay_taken : (program m s e : Text) → is_plain_word m ≡ true → is_plain_word s ≡ true → is_plain_word e ≡ true → AskFor (replay_words program m s e) (Replay m s e 0)
 replay_taken program m s e p q r = replay_by program m s e (plain_word m p) (plain_word s q) (plain_word e r)

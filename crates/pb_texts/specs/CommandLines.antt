@@ -1,5 +1,5 @@
 -- What a command line asks for, as `clap` reads it.
-use Rattle.std.specs.Prelude.{◌≡◌, ◌≤◌, ◌-◌, ℕ, Bool, true, false, not, ◌==◌, ◌&&◌, nat_le, if◌then◌else◌, List, [], ◌∷◌, codes, Option, Some, None, option_map, option_and_then}
+use Rattle.std.specs.Prelude.{◌≡◌, ◌≤◌, ◌-◌, ℕ, Bool, true, false, not, ◌==◌, ◌&&◌, ◌||◌, nat_le, if◌then◌else◌, List, [], ◌∷◌, codes, Option, Some, None, option_map, option_and_then}
 use Rattle.std.specs.Option.{option_map_or}
 use Rattle.std.specs.Str.{bytes_eq}
 use Rattle.std.specs.Str.Parse.{digits_value, without_leading_plus}
@@ -24,13 +24,21 @@ number_rule name low high = record (new_rule name) { long = Some name; value_nam
 abbrev pub most_workers : ℕ
 most_workers = MAX_SEATS - 1
 
+-- as many swaps as a run may be asked for
+abbrev pub most_swaps : ℕ
+most_swaps = 1000
+
 -- `--workers N`, where N is as many workers as there are seats for
 abbrev pub workers_rule : Rule
 workers_rule = number_rule (codes "workers") 1 most_workers
 
--- `run MANIFEST SCRIPT [--workers N]`
+-- `--swaps M`, where M is as many swaps as a run may be asked for
+abbrev pub swaps_rule : Rule
+swaps_rule = number_rule (codes "swaps") 0 most_swaps
+
+-- `run MANIFEST SCRIPT [--workers N] [--swaps M]`
 abbrev pub run_app : App
-run_app = with_rule (with_rule (with_rule (new_app (codes "run")) (required_rule (codes "MANIFEST"))) (required_rule (codes "SCRIPT"))) workers_rule
+run_app = with_rule (with_rule (with_rule (with_rule (new_app (codes "run")) (required_rule (codes "MANIFEST"))) (required_rule (codes "SCRIPT"))) workers_rule) swaps_rule
 
 -- the greatest number of `u64`
 abbrev pub last_clock : ℕ
@@ -67,10 +75,10 @@ texts_app = with_subcommand (with_subcommand (with_subcommand (needs_subcommand 
 abbrev pub program_app : App
 program_app = with_subcommand (with_subcommand texts_app dis_app.top) check_app.top
 
--- what a command line can ask for: a manifest and a script to run by so many workers, the same two with a schedule to
--- replay from a clock on, a text to read and a path for its bytes, a file to list or to check
+-- what a command line can ask for: a manifest and a script to run by so many workers beside so many swaps, the same two with
+-- a schedule to replay from a clock on, a text to read and a path for its bytes, a file to list or to check
 pub data Request : Type 0 where
-  Run : Text → Text → ℕ → Request
+  Run : Text → Text → ℕ → ℕ → Request
   Replay : Text → Text → Text → ℕ → Request
   Asm : Text → Text → Request
   Dis : Text → Request
@@ -85,21 +93,34 @@ abbrev pub all_three : (Text → Text → Text → Request) → Option Text → 
 all_three make None second third = None
 all_three make (Some first) second third = both (make first) second third
 
--- there is a worker at least, and a seat for each
-abbrev pub is_few : ℕ → Bool
-is_few workers = nat_le 1 workers && nat_le workers most_workers
+abbrev pub is_within : ℕ → ℕ → ℕ → Bool
+is_within low high number = nat_le low number && nat_le number high
 
--- the text is a number of workers: decimal digits alone
+abbrev pub count_number : Text → ℕ
+count_number text = digits_value 10 text
+
+-- the text is a number from `low` to `high`: decimal digits alone
+abbrev pub is_count : ℕ → ℕ → Text → Bool
+is_count low high text = is_numeral text && is_within low high (count_number text)
+
+-- the number that a text names, `low` where there is no text, and none where it names none
+abbrev pub count_of : ℕ → ℕ → Option Text → Option ℕ
+count_of low high None = Some low
+count_of low high (Some text) = if is_count low high text then Some (count_number text) else None
+
+-- there is a worker at least, and a seat for each: 1 where none is named
 abbrev pub is_workers : Text → Bool
-is_workers text = is_numeral text && is_few (digits_value 10 text)
+is_workers text = is_count 1 most_workers text
 
-abbrev pub workers_number : Text → ℕ
-workers_number text = digits_value 10 text
-
--- the number of workers that a text names, 1 where there is no text, and none where it names none
 abbrev pub workers_of : Option Text → Option ℕ
-workers_of None = Some 1
-workers_of (Some text) = if is_workers text then Some (workers_number text) else None
+workers_of text = count_of 1 most_workers text
+
+-- no swap where none is named
+abbrev pub is_swaps : Text → Bool
+is_swaps text = is_count 0 most_swaps text
+
+abbrev pub swaps_of : Option Text → Option ℕ
+swaps_of text = count_of 0 most_swaps text
 
 -- the text is a number of `u64`: decimal digits, before which a plus may stand
 abbrev pub is_clock : Text → Bool
@@ -116,8 +137,9 @@ clock_of (Some text) = if is_clock text then Some (clock_number text) else None
 -- what the matches of each subcommand ask for
 abbrev pub run_in : List Row → Option Request
 run_in rows =
-    option_and_then (λ workers. both (λ manifest script. Run manifest script workers)
+    option_and_then (λ workers. option_and_then (λ swaps. both (λ manifest script. Run manifest script workers swaps)
     (first_of (codes "MANIFEST") rows) (first_of (codes "SCRIPT") rows))
+    (swaps_of (first_of (codes "swaps") rows)))
     (workers_of (first_of (codes "workers") rows))
 
 abbrev pub replay_in : List Row → Option Request
@@ -153,26 +175,34 @@ abbrev pub begins_with_plus : Text → Bool
 begins_with_plus [] = false
 begins_with_plus (x ∷ xs) = x == 43
 
--- a plus stands before the number of workers, which `clap` takes
+abbrev pub has_plus_at : Text → List Row → Bool
+has_plus_at name rows = option_map_or begins_with_plus (first_of name rows) false
+
+-- a plus stands before the number of workers or that of swaps, which `clap` takes
 abbrev pub has_plus : Option (Text × List Row) → Bool
 has_plus None = false
-has_plus (Some p) = bytes_eq p.0 (codes "run") && option_map_or begins_with_plus (first_of (codes "workers") p.1) false
+has_plus (Some p) = bytes_eq p.0 (codes "run") && (has_plus_at (codes "workers") p.1 || has_plus_at (codes "swaps") p.1)
 
--- the fault that `clap` finds, or that of a plus before the number of workers
+-- the fault that `clap` finds, or that of a plus before the number of workers or that of swaps
 abbrev pub words_fault : List Text → Kinds
 words_fault words = or_else (fault_of program_app words) (if has_plus (subcommand_of program_app words) then ValueValidation ∷ [] else [])
 
 abbrev pub request_of : Options → Request
-request_of (options.Run manifest script workers) = Run manifest.now script.now workers
+request_of (options.Run manifest script workers swaps) = Run manifest.now script.now workers swaps
 request_of (options.Replay manifest script schedule clock) = Replay manifest.now script.now schedule.now clock.0
 request_of (options.Asm input output) = Asm input.now output.now
 request_of (options.Dis file) = Dis file.now
 request_of (options.Check file) = Check file.now
 
--- a run has a worker at least, and a seat for each
-abbrev pub HasWorkers : Options → Type 0
-HasWorkers (options.Run manifest script workers) = (1 ≤ workers) × (workers ≤ most_workers)
-HasWorkers other = Unit {0}
+-- a run has a worker at least, and a seat for each, and no more swaps than it may be asked for
+abbrev pub IsInRange : Options → Type 0
+IsInRange (options.Run manifest script workers swaps) = (1 ≤ workers) × (workers ≤ most_workers) × (swaps ≤ most_swaps)
+IsInRange other = Unit {0}
+
+-- how many tablets are to be replaced: none but by a run
+abbrev pub swaps_asked : Options → ℕ
+swaps_asked (options.Run manifest script workers swaps) = swaps
+swaps_asked other = 0
 
 -- the word doesn't begin with a hyphen
 abbrev pub is_plain_word : Text → Bool
@@ -186,6 +216,10 @@ run_words program manifest script = program ∷ codes "run" ∷ manifest ∷ scr
 -- `run` with `--workers`
 abbrev pub workers_words : Text → Text → Text → Text → List Text
 workers_words program manifest script workers = program ∷ codes "run" ∷ manifest ∷ script ∷ codes "--workers" ∷ workers ∷ []
+
+-- `run` with `--swaps`
+abbrev pub swaps_words : Text → Text → Text → Text → List Text
+swaps_words program manifest script swaps = program ∷ codes "run" ∷ manifest ∷ script ∷ codes "--swaps" ∷ swaps ∷ []
 
 abbrev pub replay_words : Text → Text → Text → Text → List Text
 replay_words program manifest script schedule = program ∷ codes "replay" ∷ manifest ∷ script ∷ schedule ∷ []

@@ -1,9 +1,8 @@
 -- What all workers did, said of their seats.
-use Rattle.std.proofs.Common.{◌≡◌, ℕ, zero, suc, ◌+◌, ◌-◌, ◌<◌, Bool, List, [], ◌∷◌, ◌++◌, length, map, take, drop, Option, None, refl, sym, ap, subst, ◌∙◌, arith}
+use Rattle.std.proofs.Common.{◌≡◌, ℕ, zero, suc, ◌+◌, ◌-◌, ◌<◌, Bool, List, [], ◌∷◌, length, map, Option, None, refl, sym, ap, subst, ◌∙◌, arith}
 use Rattle.std.specs.Prelude.{slice_index_or}
 use Rattle.std.proofs.lemmas.List.{get_or-map}
 use Rattle.std.proofs.lemmas.Option.{slice_get-get_or}
-use Rattle.std.proofs.Math.Seq.{take-append_seam}
 use Rattle.pb_base.specs.declared.refusal.Refusal.{Refusal}
 use Rattle.pb_base.specs.Batch.{Writes}
 use Rattle.pb_steps.specs.Observers.{ObserverOf}
@@ -11,13 +10,8 @@ use Rattle.pb_history.specs.declared.entry.Entry.{Entry}
 use Rattle.pb_core.specs.Calls.{SeatOf, AreSeatsFrom}
 use Rattle.pb_worker.specs.declared.worker.Worker.{Worker}
 use Rattle.pb_worker.specs.Gains.{Gains}
+use Rattle.pb_worker.specs.Swaps.{Spare}
 use Rattle.pb_worker.specs.Work.{IsWork, IsLastDrain, AllWork, WorkedOn, AreFilled, seats_in, refusals_in, done_in, flags_in, is_done, undone_below}
-
--- a slice that was written whole
-pub whole_written : (n : ℕ) (xs ys : List Worker) → length xs ≡ length ys → n ≡ length ys → take n (xs ++ drop (length xs) ys) ≡ xs
-whole_written n xs ys same is =
-    let n-is : n ≡ length xs = is ∙ sym same in
-    rw n-is (take-append_seam xs (drop (length xs) ys))
 
 pub numbered : (from : ℕ) (journal : List Entry) (seats : List SeatOf) → AreSeatsFrom from journal seats → (k : ℕ) (d : SeatOf) → k < length seats → (slice_index_or seats k d).number ≡ from + k
 numbered from j [] a k d lt = absurd (omega (arith, lt))
@@ -37,7 +31,7 @@ some_worker : (ws : List Worker) → 1 < length ws → Worker
 some_worker [] lt = absurd (omega (arith, lt))
 some_worker (w ∷ ws) lt = w
 
-module _ (observers : List ObserverOf) (batches : List Writes) (olds news : List Worker) (journal : List Entry) (some : 1 < length olds) (are : AreSeatsFrom 0 journal (seats_in olds)) (all : AllWork observers batches olds news) where
+module _ (observers : List ObserverOf) (batches : List Writes) (spares : List Spare) (olds news : List Worker) (journal : List Entry) (some : 1 < length olds) (are : AreSeatsFrom 0 journal (seats_in olds)) (all : AllWork observers batches spares olds news) where
   abbrev refusal_of : Worker → Option Refusal
   refusal_of w = w.refusal
 
@@ -72,20 +66,20 @@ module _ (observers : List ObserverOf) (batches : List Writes) (olds news : List
       let g4 = subst (λ (s : SeatOf). Gains (IsWork (w + 1) observers batches n w (flags_in news w) (slice_index_or (refusals_in news) (w + 1) None)) s b.seat) (old_seat (w + 1) d lt) g3 in
       subst (λ (s : SeatOf). Gains (IsWork (w + 1) observers batches n w (flags_in news w) (slice_index_or (refusals_in news) (w + 1) None)) (slice_index_or (seats_in olds) (w + 1) d) s) (new_seat (w + 1) d lt) g4
 
-  first : (d : SeatOf) → Gains (IsLastDrain 0 observers (slice_index_or (refusals_in news) 0 None)) (slice_index_or (seats_in olds) 0 d) (slice_index_or (seats_in news) 0 d)
+  first : (d : SeatOf) → Gains (IsLastDrain spares 0 observers (slice_index_or (refusals_in news) 0 None)) (slice_index_or (seats_in olds) 0 d) (slice_index_or (seats_in news) 0 d)
   first d =
       let lt : 0 < length olds = omega (arith, some) in
       let a = slice_index_or olds 0 e in
       let b = slice_index_or news 0 e in
-      let g1 : Gains (IsLastDrain 0 observers b.refusal) a.seat b.seat = subst (λ m. Gains (IsLastDrain m observers b.refusal) a.seat b.seat) (number 0 lt) (all.main e).gains in
-      let g2 = subst (λ (r : Option Refusal). Gains (IsLastDrain 0 observers r) a.seat b.seat) (refusal 0 lt) g1 in
-      let g3 = subst (λ (s : SeatOf). Gains (IsLastDrain 0 observers (slice_index_or (refusals_in news) 0 None)) s b.seat) (old_seat 0 d lt) g2 in
-      subst (λ (s : SeatOf). Gains (IsLastDrain 0 observers (slice_index_or (refusals_in news) 0 None)) (slice_index_or (seats_in olds) 0 d) s) (new_seat 0 d lt) g3
+      let g1 : Gains (IsLastDrain spares 0 observers b.refusal) a.seat b.seat = subst (λ m. Gains (IsLastDrain spares m observers b.refusal) a.seat b.seat) (number 0 lt) (all.main e).gains in
+      let g2 = subst (λ (r : Option Refusal). Gains (IsLastDrain spares 0 observers r) a.seat b.seat) (refusal 0 lt) g1 in
+      let g3 = subst (λ (s : SeatOf). Gains (IsLastDrain spares 0 observers (slice_index_or (refusals_in news) 0 None)) s b.seat) (old_seat 0 d lt) g2 in
+      subst (λ (s : SeatOf). Gains (IsLastDrain spares 0 observers (slice_index_or (refusals_in news) 0 None)) (slice_index_or (seats_in olds) 0 d) s) (new_seat 0 d lt) g3
 
   many : length (seats_in olds) ≡ length olds
   many = length_map (λ (w : Worker). w.seat) olds
 
-  pub joined : AreFilled batches → WorkedOn observers batches (seats_in olds) (seats_in news) (refusals_in news) (undone_below (is_done (flags_in news) (length news - 1)) (length batches))
+  pub joined : AreFilled batches → WorkedOn observers batches spares (seats_in olds) (seats_in news) (refusals_in news) (undone_below (is_done (flags_in news) (length news - 1)) (length batches))
   joined filled = record {
     filled = filled;
     seats = length_map (λ (w : Worker). w.seat) news ∙ all.counted ∙ sym many;

@@ -6,6 +6,7 @@ pub mod RunAlong
 pub mod PassAlong
 pub mod WorkAlong
 pub mod Joined
+pub mod Swapping
 pub mod Walks
 pub mod Cursors
 pub mod Committing

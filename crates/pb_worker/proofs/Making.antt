@@ -25,6 +25,7 @@ use Rattle.pb_core.specs.Calls.{SharedOf, SeatOf, AreSeats, AreSeatsFrom}
 use Rattle.pb_core.specs.Histories.{IsLegalTable}
 use Rattle.pb_txn.specs.Talks.{told}
 use Rattle.pb_worker.specs.Gains.{Gains}
+use Rattle.pb_worker.specs.Swaps.{Spare}
 use Rattle.pb_worker.specs.Work.{IsWork, IsLastDrain, WorkedOn, is_done, undone_below}
 use Rattle.pb_worker.specs.Agrees.{Agree}
 use Rattle.pb_worker.specs.Laws.{IsMade, IsFinished, ChangesAreMade}
@@ -96,7 +97,7 @@ same_ts s t e = ap ts e
 
 -- ---- all together
 
-module _ (observers : List ObserverOf) (batches : List Writes) (olds news : List SeatOf) (refusals : List (Option Refusal)) (unfinished : List ℕ) (before table : SharedOf) (empty : before.journal ≡ []) (are : AreSeats before olds) (some : 1 < length olds) (w : WorkedOn observers batches olds news refusals unfinished) (legal : IsLegalTable table) (agree : Agree table news) (tells : TellsTransactions table.journal table.state) where
+module _ (observers : List ObserverOf) (batches : List Writes) (spares : List Spare) (olds news : List SeatOf) (refusals : List (Option Refusal)) (unfinished : List ℕ) (before table : SharedOf) (empty : before.journal ≡ []) (are : AreSeats before olds) (some : 1 < length olds) (w : WorkedOn observers batches spares olds news refusals unfinished) (legal : IsLegalTable table) (agree : Agree table news) (tells : TellsTransactions table.journal table.state) where
   abbrev n : ℕ
   n = length olds - 1
 
@@ -196,7 +197,7 @@ module _ (observers : List ObserverOf) (batches : List Writes) (olds news : List
   by_seat k u lt h c (inl is) =
       let first : 0 < length olds = omega (arith, some) in
       let refusal = slice_index_or refusals 0 None in
-      let passes = of_last_drain 0 observers refusal (list_of 0) (gained (IsLastDrain 0 observers refusal) 0 first (w.main nobody)) in
+      let passes = of_last_drain spares 0 observers refusal (list_of 0) (gained (IsLastDrain spares 0 observers refusal) 0 first (w.main nobody)) in
       absurd (not_run 0 u (subst (λ m. IsEntry table.journal m (Begin works.Script) (At u)) is h) (passes.each u (subst (λ m. Has (list_of m) (commit_of u)) is c)))
   by_seat k u lt h c (inr p) =
       let wk = p.0 in
@@ -244,11 +245,11 @@ module _ (observers : List ObserverOf) (batches : List Writes) (olds news : List
       sym left ∙ sym joined ∙ right
 
 pub changes_are_made : TransactionsAreTold → ChangesAreMade
-changes_are_made tell observers batches olds news refusals unfinished before table empty are some w legal agree =
+changes_are_made tell observers batches spares olds news refusals unfinished before table empty are some w legal agree =
     let tells = tell table.state.observers table.state.seats table.opened table.journal table.state legal in
     record {
-      start = λ i. (start_of observers batches olds news refusals unfinished before table empty are some w legal agree tells i).0;
-      made = made observers batches olds news refusals unfinished before table empty are some w legal agree tells;
-      only = only observers batches olds news refusals unfinished before table empty are some w legal agree tells;
-      once = once observers batches olds news refusals unfinished before table empty are some w legal agree tells;
+      start = λ i. (start_of observers batches spares olds news refusals unfinished before table empty are some w legal agree tells i).0;
+      made = made observers batches spares olds news refusals unfinished before table empty are some w legal agree tells;
+      only = only observers batches spares olds news refusals unfinished before table empty are some w legal agree tells;
+      once = once observers batches spares olds news refusals unfinished before table empty are some w legal agree tells;
     }

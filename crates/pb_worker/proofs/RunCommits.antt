@@ -14,7 +14,8 @@ use Rattle.pb_history.specs.History.{Has}
 use Rattle.pb_txn.specs.Talks.{told}
 use Rattle.pb_worker.specs.Passes.{IsRun, AreRuns, before_all, runs, passes_by, IsWalk, at_beginning, found, IsPass, ArePasses, at_first, one_more, IsDrain}
 use Rattle.pb_worker.specs.Stops.{RunStops, RunsStop, PassStops, at_a_mark, in_runs, DrainStops}
-use Rattle.pb_worker.specs.Work.{IsLastDrain}
+use Rattle.pb_worker.specs.Swaps.{Spare}
+use Rattle.pb_worker.specs.Work.{IsDrainTo, IsLastDrain}
 use Rattle.pb_worker.proofs.Gaining.{append_nil}
 use Rattle.pb_worker.proofs.Committing.{has_left, has_right, has_which, commit_of}
 use Rattle.pb_worker.proofs.OneTransaction.{IsOneTransaction, of_run}
@@ -118,6 +119,9 @@ pub of_drain_stop : (seat : ℕ) (observers : List ObserverOf) (r : Refusal) (sa
 of_drain_stop seat observers r said s =
     subst CommitRuns (sym s.said_is) (both s.before s.part (of_passes observers s.count s.before s.passes) (of_pass_stop seat observers r s.part s.stops))
 
-pub of_last_drain : (seat : ℕ) (observers : List ObserverOf) (r : Option Refusal) (said : List Received) → IsLastDrain seat observers r said → CommitRuns said
-of_last_drain seat observers None said d = of_drain observers said d
-of_last_drain seat observers (Some r) said d = of_drain_stop seat observers r said d
+of_drain_to : (seat : ℕ) (observers : List ObserverOf) (r : Option Refusal) (said : List Received) → IsDrainTo seat observers r said → CommitRuns said
+of_drain_to seat observers None said d = of_drain observers said d
+of_drain_to seat observers (Some r) said d = of_drain_stop seat observers r said d
+
+pub of_last_drain : (spares : List Spare) (seat : ℕ) (observers : List ObserverOf) (r : Option Refusal) (said : List Received) → IsLastDrain spares seat observers r said → CommitRuns said
+of_last_drain spares seat observers r said d = of_drain_to seat observers d.drained said d.drain

@@ -8,6 +8,7 @@ use Rattle.pb_history.specs.History.{Has, Member, InHistory}
 use Rattle.pb_core.specs.Calls.{SharedOf, SeatOf, AreSeats}
 use Rattle.pb_core.specs.Histories.{IsLegalTable}
 use Rattle.pb_worker.specs.Agrees.{Agree}
+use Rattle.pb_worker.specs.Swaps.{Spare}
 use Rattle.pb_worker.specs.Work.{WorkedOn}
 
 -- the change of this number, of the worker of seat 1 + i mod n, is this committed transaction
@@ -33,6 +34,6 @@ pub record MakesChanges (table : SharedOf) (n : ℕ) (batches : List Writes) (un
 -- where the seats agree with the journal after a run of workers on a fresh table
 abbrev pub ChangesAreMade : Type 0
 ChangesAreMade =
-    (observers : List ObserverOf) (batches : List Writes) (olds news : List SeatOf) (refusals : List (Option Refusal)) (unfinished : List ℕ) (before table : SharedOf)
-    → before.journal ≡ [] → AreSeats before olds → 1 < length olds → WorkedOn observers batches olds news refusals unfinished → IsLegalTable table → Agree table news
+    (observers : List ObserverOf) (batches : List Writes) (spares : List Spare) (olds news : List SeatOf) (refusals : List (Option Refusal)) (unfinished : List ℕ) (before table : SharedOf)
+    → before.journal ≡ [] → AreSeats before olds → 1 < length olds → WorkedOn observers batches spares olds news refusals unfinished → IsLegalTable table → Agree table news
     → MakesChanges table (length olds - 1) batches unfinished

@@ -2,6 +2,7 @@ pub mod Gains
 pub mod Passes
 pub mod Tries
 pub mod Stops
+pub mod Swaps
 pub mod Work
 pub mod Agrees
 pub mod Cursors

@@ -1,5 +1,6 @@
 -- What workers leave: what each seat gained, and which changes are unfinished.
 use Rattle.std.specs.Prelude.{◌≡◌, ◌≢◌, ℕ, ◌+◌, ◌-◌, ◌/◌, ◌%◌, ◌<◌, ◌≤◌, zero, suc, Bool, false, if◌then◌else◌, List, [], ◌∷◌, ◌++◌, length, map, vec_capacity, slice_get, Option, Some, None, slice_index_or}
+use Rattle.std.specs.Option.{option_or}
 use Rattle.pb_base.specs.declared.refusal.Refusal.{Refusal}
 use Rattle.pb_base.specs.Batch.{Writes}
 use Rattle.pb_steps.specs.Observers.{ObserverOf}
@@ -11,6 +12,7 @@ use Rattle.pb_worker.specs.Gains.{Gains}
 use Rattle.pb_worker.specs.Tries.{AreAllTried}
 use Rattle.pb_worker.specs.Passes.{IsDrain}
 use Rattle.pb_worker.specs.Stops.{ChangesStop, DrainStops}
+use Rattle.pb_worker.specs.Swaps.{Spare, AreSwapped}
 
 -- all changes, and then passes up to one without a mark, or so many as may be made
 pub record IsWhole (observers : List ObserverOf) (batches : List Writes) (n first : ℕ) (done : List Bool) (said : List Received) : Type 0 where
@@ -30,18 +32,27 @@ abbrev pub IsWork : ℕ → List ObserverOf → List Writes → ℕ → ℕ → 
 IsWork seat observers batches n first done None said = IsWhole observers batches n first done said
 IsWork seat observers batches n first done (Some r) said = IsPart seat observers batches n first done r said
 
--- what the main seat gained: passes alone
-abbrev pub IsLastDrain : ℕ → List ObserverOf → Option Refusal → List Received → Type 0
-IsLastDrain seat observers None said = IsDrain observers said
-IsLastDrain seat observers (Some r) said = DrainStops seat observers r said
+-- passes alone: only with a refusal just a beginning
+abbrev pub IsDrainTo : ℕ → List ObserverOf → Option Refusal → List Received → Type 0
+IsDrainTo seat observers None said = IsDrain observers said
+IsDrainTo seat observers (Some r) said = DrainStops seat observers r said
+
+-- what the main seat gained: passes alone, whether a spare was refused or not. Its refusal is the first of the swaps', or else
+-- that of the passes.
+pub record IsLastDrain (spares : List Spare) (seat : ℕ) (observers : List ObserverOf) (refusal : Option Refusal) (said : List Received) : Type 0 where
+  pub swapped : Option Refusal
+  pub swaps : AreSwapped spares swapped
+  pub drained : Option Refusal
+  pub drain : IsDrainTo seat observers drained said
+  pub first : refusal ≡ option_or swapped drained
 
 -- what one worker did
 pub record Works (observers : List ObserverOf) (batches : List Writes) (n first : ℕ) (old new : Worker) : Type 0 where
   pub gains : Gains (IsWork old.seat.number observers batches n first new.done.items new.refusal) old.seat new.seat
 
--- what the main seat did
-pub record Drains (observers : List ObserverOf) (old new : Worker) : Type 0 where
-  pub gains : Gains (IsLastDrain old.seat.number observers new.refusal) old.seat new.seat
+-- what the main seat did, beside and after the workers
+pub record Drains (spares : List Spare) (observers : List ObserverOf) (old new : Worker) : Type 0 where
+  pub gains : Gains (IsLastDrain spares old.seat.number observers new.refusal) old.seat new.seat
 
 -- Change i is the (i / n)th of the worker i % n, both from 0: whether a try of it committed.
 abbrev pub is_done : (ℕ → List Bool) → ℕ → ℕ → Bool
@@ -71,10 +82,16 @@ pub record EachWorks (observers : List ObserverOf) (batches : List Writes) (olds
   pub counted : length news ≡ length olds
   pub each : (w : ℕ) (d : Worker) → w < length olds → Works observers batches (length olds) w (slice_index_or olds w d) (slice_index_or news w d)
 
--- what all did, the main seat first
-pub record AllWork (observers : List ObserverOf) (batches : List Writes) (olds news : List Worker) : Type 0 where
+-- what all but the main seat did
+pub record RestWork (observers : List ObserverOf) (batches : List Writes) (olds news : List Worker) : Type 0 where
   pub counted : length news ≡ length olds
-  pub main : (d : Worker) → Drains observers (slice_index_or olds 0 d) (slice_index_or news 0 d)
+  pub main : (d : Worker) → slice_index_or news 0 d ≡ slice_index_or olds 0 d
+  pub workers : (w : ℕ) (d : Worker) → w + 1 < length olds → Works observers batches (length olds - 1) w (slice_index_or olds (w + 1) d) (slice_index_or news (w + 1) d)
+
+-- what all did, the main seat first
+pub record AllWork (observers : List ObserverOf) (batches : List Writes) (spares : List Spare) (olds news : List Worker) : Type 0 where
+  pub counted : length news ≡ length olds
+  pub main : (d : Worker) → Drains spares observers (slice_index_or olds 0 d) (slice_index_or news 0 d)
   pub workers : (w : ℕ) (d : Worker) → w + 1 < length olds → Works observers batches (length olds - 1) w (slice_index_or olds (w + 1) d) (slice_index_or news (w + 1) d)
 
 pub record HasRooms (observers : List ObserverOf) (seats changes : ℕ) (r : Rooms) : Type 0 where
@@ -92,8 +109,8 @@ pub record HasRooms (observers : List ObserverOf) (seats changes : ℕ) (r : Roo
 abbrev pub AreFilled : List Writes → Type 0
 AreFilled batches = (i : ℕ) (batch : Writes) → slice_get batches i ≡ Some batch → batch ≢ []
 
--- what all left: with the seats handed in and those given back, the first refusal of each, and the unfinished changes
-pub record WorkedOn (observers : List ObserverOf) (batches : List Writes) (olds news : List SeatOf) (refusals : List (Option Refusal)) (unfinished : List ℕ) : Type 0 where
+-- what all left: with the spares and seats handed in, the seats given back, the first refusal of each, and the unfinished changes
+pub record WorkedOn (observers : List ObserverOf) (batches : List Writes) (spares : List Spare) (olds news : List SeatOf) (refusals : List (Option Refusal)) (unfinished : List ℕ) : Type 0 where
   pub seats : length news ≡ length olds
   pub refused : length refusals ≡ length olds
   pub filled : AreFilled batches
@@ -101,7 +118,7 @@ pub record WorkedOn (observers : List ObserverOf) (batches : List Writes) (olds 
   pub done : ℕ → List Bool
   pub workers : (w : ℕ) (d : SeatOf) → w + 1 < length olds
       → Gains (IsWork (w + 1) observers batches (length olds - 1) w (done w) (slice_index_or refusals (w + 1) None)) (slice_index_or olds (w + 1) d) (slice_index_or news (w + 1) d)
-  pub main : (d : SeatOf) → Gains (IsLastDrain 0 observers (slice_index_or refusals 0 None)) (slice_index_or olds 0 d) (slice_index_or news 0 d)
+  pub main : (d : SeatOf) → Gains (IsLastDrain spares 0 observers (slice_index_or refusals 0 None)) (slice_index_or olds 0 d) (slice_index_or news 0 d)
   pub unfinished_are : unfinished ≡ undone_below (is_done done (length olds - 1)) (length batches)
 
 -- the table that comes out has the observers of the one that went in, as many seats, and was opened so

@@ -21,4 +21,5 @@ pub use laws::changes_are_made;
 pub use named::{Held, Opening};
 pub use passes::{MAX_PASSES, worker_passes_limit_is_this};
 pub use run::{NotRun, Worked, run_workers};
+pub use spares::end_spares;
 pub use tries::{MAX_TRIES, tries_limit_is_this};

@@ -52,6 +52,23 @@ impl<T: Tablet, J: Opening> Callee for Held<T, J> {
     }
 }
 
+impl<T: Tablet, J: Opening> Held<T, J> {
+    ghost use Rattle.std.specs.Prelude.{◌≡◌, true, IfOk, IfErr, OnOk};
+    ghost use Rattle.pb_store.specs.Contents.{nothing, is_nothing};
+    ghost use Rattle.pb_store.specs.Tiles.{TellsSwapReason};
+
+    /// Swaps a tablet in at its place, as [`Shared::swap`] does.
+    pub(crate) fn swap(&mut self, place: usize, tablet: T) -> Result<T, (T, Refusal)>
+        ensures same { self.new.shared ≡ self.old.shared }
+        ensures answered { IfOk result (λ old. T.contents old ≡ nothing) }
+        ensures accepted { OnOk result (is_nothing (T.contents tablet) ≡ true) }
+        ensures handed_back { IfErr result (λ e. T.contents e.0 ≡ nothing) }
+        ensures refused { IfErr result (λ e. TellsSwapReason (T.contents tablet) place e.1) }
+    {
+        self.shared.swap(place, tablet)
+    }
+}
+
 /// Locks up a table that was opened so.
 pub(crate) fn hold<T: Tablet, J: Opening>(shared: Shared<T>) -> Mutex<Held<T, J>>
     requires observers { shared.state.observers ≡ J.observers }

@@ -2,11 +2,13 @@
 ghost use Rattle.std.specs.Prelude.{◌≡◌, ◌<◌, ◌≤◌, ◌-◌, [], length, map, vec_len, vec_capacity, IfOk, IfErr};
 ghost use Rattle.pb_base.specs.declared.limits.TheConstants.{MAX_SEATS, MAX_OBSERVERS};
 ghost use Rattle.pb_core.specs.Calls.{AreSeats};
-ghost use Rattle.pb_worker.specs.Work.{Works, EachWorks, AllWork, HasRooms, WorkedOn, AreFilled, KeepsOpening, seats_in, refusals_in, flags_in, is_done, undone_below};
+ghost use Rattle.pb_worker.specs.Swaps.{spares_of};
+ghost use Rattle.pb_worker.specs.Work.{Works, EachWorks, RestWork, AllWork, HasRooms, WorkedOn, AreFilled, KeepsOpening, seats_in, refusals_in, flags_in, is_done, undone_below};
 
 use crate::desk::Callee;
 use crate::gate::Gate;
 use crate::named::{Held, Opening, hold, released};
+use crate::spares::work_beside_swaps;
 use crate::worker::{Worker, drain_last, work};
 use pb_base::{Batch, NoMemory, Refusal};
 use pb_core::{Observer, Seat, Shared};
@@ -33,6 +35,7 @@ pub struct NotRun<T: Tablet> {
     pub shared: Shared<T>,
     pub seats: Vec<Seat>,
     pub batches: Vec<Batch>,
+    pub spares: Vec<(usize, T)>,
 }
 
 /// Room for all that workers leave, and their own list of the observers.
@@ -192,8 +195,8 @@ pub(crate) fn in_threads<R: Threads + Wait + Sync, C: Callee + Send, G: Gate>(
     );
 }
 
-// The workers, and after them the last passes of the main seat.
-fn run_all<R: Threads + Wait + Sync, C: Callee + Send, G: Gate>(
+// The workers of all seats but the first.
+pub(crate) fn work_rest<R: Threads + Wait + Sync, C: Callee + Send, G: Gate>(
     rt: &R,
     alloc: Global,
     shared: &Mutex<C>,
@@ -205,11 +208,33 @@ fn run_all<R: Threads + Wait + Sync, C: Callee + Send, G: Gate>(
     requires some { 1 < length workers.old }
     requires few { length workers.old ≤ MAX_SEATS }
     requires numbered { length observers.now ≤ MAX_OBSERVERS }
-    ensures { AllWork observers.now batches.now workers.old workers.new }
+    ensures { RestWork observers.now batches.now workers.old workers.new }
 {
-    let (main, rest) = workers.split_at_mut(1);
+    let (_, rest) = workers.split_at_mut(1);
     in_threads(rt, alloc, shared, rest, observers, batches, gate);
-    drain_last(rt, alloc, shared, &mut main[0], observers, gate);
+}
+
+// The workers beside the swaps, and after them the last passes of the main seat.
+fn run_all<R: Threads + Wait + Sync, T: Tablet + Send, J: Opening + Send + Sync, G: Gate>(
+    rt: &R,
+    alloc: Global,
+    shared: &Mutex<Held<T, J>>,
+    workers: Vec<Worker>,
+    observers: &[Observer],
+    batches: &[Batch],
+    spares: Vec<(usize, T)>,
+    gate: &G,
+) -> Vec<Worker>
+    requires some { 1 < length workers.items }
+    requires few { length workers.items ≤ MAX_SEATS }
+    requires numbered { length observers.now ≤ MAX_OBSERVERS }
+    ensures { AllWork observers.now batches.now (spares_of T.contents spares.items) workers.items result.items }
+{
+    let (mut workers, swapped) = work_beside_swaps(
+        rt, alloc, shared, workers, observers, batches, spares, gate,
+    );
+    drain_last(rt, alloc, shared, &mut workers[0], swapped, observers, gate);
+    workers
 }
 
 // The same, where it is known how the table was opened.
@@ -219,6 +244,7 @@ fn run_held<R: Threads + Wait + Sync, T: Tablet + Send, J: Opening + Send + Sync
     shared: Shared<T>,
     seats: Vec<Seat>,
     batches: Vec<Batch>,
+    spares: Vec<(usize, T)>,
     gate: &G,
 ) -> Result<Worked<T>, NotRun<T>>
     requires seated { AreSeats shared seats.items }
@@ -227,12 +253,13 @@ fn run_held<R: Threads + Wait + Sync, T: Tablet + Send, J: Opening + Send + Sync
     requires count { shared.state.seats ≡ J.seats }
     requires opened { shared.opened ≡ J.opened }
     requires limit { shared.limit ≡ J.limit }
-    ensures worked { IfOk result (λ w. WorkedOn shared.state.observers batches.items seats.items w.seats.items
-        w.refusals.items w.unfinished.items) }
+    ensures worked { IfOk result (λ w. WorkedOn shared.state.observers batches.items (spares_of T.contents spares.items)
+        seats.items w.seats.items w.refusals.items w.unfinished.items) }
     ensures table { IfOk result (λ w. KeepsOpening shared w.shared) }
     ensures handed_back { IfErr result (λ n. n.shared ≡ shared) }
     ensures seats { IfErr result (λ n. n.seats ≡ seats) }
     ensures batches { IfErr result (λ n. n.batches ≡ batches) }
+    ensures spares { IfErr result (λ n. n.spares ≡ spares) }
 {
     prove!(shared.seats() <= 64);
     let Ok(rooms) = make_rooms(alloc, shared.observers(), seats.len(), batches.len()) else {
@@ -240,6 +267,7 @@ fn run_held<R: Threads + Wait + Sync, T: Tablet + Send, J: Opening + Send + Sync
             shared,
             seats,
             batches,
+            spares,
         });
     };
     let Rooms {
@@ -252,7 +280,9 @@ fn run_held<R: Threads + Wait + Sync, T: Tablet + Send, J: Opening + Send + Sync
     look_through(&batches);
     seat_all(alloc, seats, &mut workers);
     let desk: Mutex<Held<T, J>> = hold(shared);
-    run_all(rt, alloc, &desk, &mut workers, &observers, &batches, gate);
+    let workers = run_all(
+        rt, alloc, &desk, workers, &observers, &batches, spares, gate,
+    );
     let shared = released(desk);
     note_unfinished(&workers, batches.len(), &mut unfinished);
     part(workers, &mut back, &mut refusals);
@@ -267,6 +297,10 @@ fn run_held<R: Threads + Wait + Sync, T: Tablet + Send, J: Opening + Send + Sync
 /// Runs the changes by workers, each in a thread of its own where one can be started, and after them passes of the first seat
 /// alone. Worker k has seat k; the change of number i, from 0, is tried by the worker of seat 1 + i mod n, of n workers.
 ///
+/// While they run, the caller's thread swaps the spares in, each at its place, in the order of their list, and ends the emptied
+/// tablets that come back. A spare that [`Shared::swap`] refuses is ended too, and the other swaps and the passes go on; the first
+/// such refusal is that of the first seat, before any of its passes. Swaps don't pass the gate.
+///
 /// Its own growths come first: refused there, it hands everything back and has made no call.
 pub fn run_workers<R: Threads + Wait + Sync, T: Tablet + Send, G: Gate>(
     rt: &R,
@@ -274,16 +308,18 @@ pub fn run_workers<R: Threads + Wait + Sync, T: Tablet + Send, G: Gate>(
     shared: Shared<T>,
     seats: Vec<Seat>,
     batches: Vec<Batch>,
+    spares: Vec<(usize, T)>,
     gate: &G,
 ) -> Result<Worked<T>, NotRun<T>>
     requires seated { AreSeats shared seats.items }
     requires some { 1 < vec_len seats }
-    ensures worked { IfOk result (λ w. WorkedOn shared.state.observers batches.items seats.items w.seats.items
-        w.refusals.items w.unfinished.items) }
+    ensures worked { IfOk result (λ w. WorkedOn shared.state.observers batches.items (spares_of T.contents spares.items)
+        seats.items w.seats.items w.refusals.items w.unfinished.items) }
     ensures table { IfOk result (λ w. KeepsOpening shared w.shared) }
     ensures handed_back { IfErr result (λ n. n.shared ≡ shared) }
     ensures seats { IfErr result (λ n. n.seats ≡ seats) }
     ensures batches { IfErr result (λ n. n.batches ≡ batches) }
+    ensures spares { IfErr result (λ n. n.spares ≡ spares) }
 {
-    run_held::<R, T, Brand, G>(rt, alloc, shared, seats, batches, gate)
+    run_held::<R, T, Brand, G>(rt, alloc, shared, seats, batches, spares, gate)
 }

@@ -1,12 +1,12 @@
 //! Spare tablets, put in while workers run.
-ghost use Rattle.std.specs.Prelude.{◌≡◌, ◌≤◌, ◌<◌, length, MatchOption};
+ghost use Rattle.std.specs.Prelude.{◌≡◌, ◌<◌, ◌≤◌, length};
 ghost use Rattle.pb_base.specs.declared.limits.TheConstants.{MAX_SEATS, MAX_OBSERVERS};
-ghost use Rattle.pb_store.specs.Contents.{nothing};
-ghost use Rattle.pb_worker.specs.Work.{EachWorks};
+ghost use Rattle.pb_worker.specs.Swaps.{IsSwapped, AreSwapped, spares_of};
+ghost use Rattle.pb_worker.specs.Work.{RestWork};
 
 use crate::gate::Gate;
 use crate::named::{Held, Opening};
-use crate::run::in_threads;
+use crate::run::work_rest;
 use crate::worker::Worker;
 use pb_base::{Batch, Refusal};
 use pb_core::Observer;
@@ -16,49 +16,50 @@ use std::sync::{Mutex, Wait};
 use std::thread;
 use std::thread::Threads;
 
-// A stub of the table's swap: the tablet comes back emptied, and why it was refused, if it was.
-fn swap<T: Tablet, J: Opening>(
-    shared: &mut Held<T, J>,
+// Swaps a spare in under the lock, and then ends the emptied tablet that comes back: why it was refused, if it was.
+fn swap_in<R: Wait, T: Tablet, J: Opening>(
+    rt: &R,
+    shared: &Mutex<Held<T, J>>,
     place: usize,
     spare: T,
-) -> (T, Option<Refusal>)
-    ensures { T.contents result.0 ≡ nothing }
+) -> Option<Refusal>
+    ensures { IsSwapped (place, T.contents spare) result }
 {
-    let _ = shared;
-    let _ = place;
-    let mut old = spare;
-    old.clear();
-    (old, None)
-}
-
-// The first of both, if there is one.
-fn first_of(first: Option<Refusal>, then: Option<Refusal>) -> Option<Refusal> {
-    match first {
-        Some(refusal) => Some(refusal),
-        None => then,
+    let swapped = {
+        let mut held = shared.lock(rt);
+        held.swap(place, spare)
+    };
+    match swapped {
+        Ok(old) => {
+            old.end();
+            None
+        }
+        Err((new, refusal)) => {
+            new.end();
+            Some(refusal)
+        }
     }
 }
 
-/// Puts each spare in at its place, and ends the tablet that comes back. The first refusal.
+// Swaps them all in, the first one first. The first refusal among them.
 fn swap_all<R: Wait, T: Tablet, J: Opening>(
     rt: &R,
     shared: &Mutex<Held<T, J>>,
     spares: &mut Vec<(usize, T)>,
-) -> Option<Refusal> {
+) -> Option<Refusal>
+    ensures { AreSwapped (spares_of T.contents spares.old.items) result }
+{
     let mut refusal = None;
+    spares.reverse();
     while let Some((place, spare)) = spares.pop() {
-        let (old, refused) = {
-            let mut guard = shared.lock(rt);
-            swap(&mut guard, place, spare)
-        };
-        old.end();
-        refusal = first_of(refusal, refused);
+        let refused = swap_in(rt, shared, place, spare);
+        refusal = refusal.or(refused);
     }
     refusal
 }
 
-// Ends those that were not put in.
-fn end_all<T: Tablet>(spares: Vec<(usize, T)>) {
+/// Ends tablets that are not swapped in, with all that is in them, and their list.
+pub fn end_spares<T: Tablet>(spares: Vec<(usize, T)>) {
     let mut spares = spares;
     while let Some((_, mut spare)) = spares.pop() {
         spare.clear();
@@ -67,8 +68,8 @@ fn end_all<T: Tablet>(spares: Vec<(usize, T)>) {
     spares.destroy_empty();
 }
 
-/// The workers in threads, and the swaps beside them.
-pub(crate) fn in_threads_beside<
+/// The workers of all seats but the first in threads, and beside them the swaps of the spares in this one.
+pub(crate) fn work_beside_swaps<
     R: Threads + Wait + Sync,
     T: Tablet + Send,
     J: Opening + Send + Sync,
@@ -83,24 +84,29 @@ pub(crate) fn in_threads_beside<
     spares: Vec<(usize, T)>,
     gate: &G,
 ) -> (Vec<Worker>, Option<Refusal>)
+    requires some { 1 < length workers.items }
     requires few { length workers.items ≤ MAX_SEATS }
     requires numbered { length observers.now ≤ MAX_OBSERVERS }
-    ensures { EachWorks observers.now batches.now workers.items result.0.items }
+    ensures workers { RestWork observers.now batches.now workers.items result.0.items }
+    ensures swaps { AreSwapped (spares_of T.contents spares.items) result.1 }
 {
     let mut spares = spares;
     let waiting = &mut spares;
-    let (refusal, workers) = thread::join(
+    let worked = thread::join(
         rt,
-        move || -> Option<Refusal> { swap_all(rt, shared, waiting) },
         move || -> Vec<Worker>
-            requires { (length workers.items ≤ MAX_SEATS) × (length observers.now ≤ MAX_OBSERVERS) }
-            ensures { EachWorks observers.entry.now batches.entry.now workers.items result.items }
+            requires { (1 < length workers.items) × (length workers.items ≤ MAX_SEATS)
+                × (length observers.now ≤ MAX_OBSERVERS) }
+            ensures { RestWork observers.entry.now batches.entry.now workers.items result.items }
         {
             let mut workers = workers;
-            in_threads(rt, alloc, shared, &mut workers, observers, batches, gate);
+            work_rest(rt, alloc, shared, &mut workers, observers, batches, gate);
             workers
         },
+        move || -> Option<Refusal>
+            ensures { AreSwapped (spares_of T.contents waiting.entry.now.items) result }
+        { swap_all(rt, shared, waiting) },
     );
-    end_all(spares);
-    (workers, refusal)
+    end_spares(spares);
+    worked
 }

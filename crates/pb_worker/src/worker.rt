@@ -1,7 +1,8 @@
 //! Workers.
-ghost use Rattle.std.specs.Prelude.{◌≡◌, ◌<◌, ◌≤◌, [], length, IfOk, IfErr, OnOk};
+ghost use Rattle.std.specs.Prelude.{◌≡◌, ◌<◌, ◌≤◌, [], List, length, IfOk, IfErr, OnOk};
 ghost use Rattle.pb_base.specs.declared.limits.TheConstants.{MAX_SEATS, MAX_OBSERVERS};
 ghost use Rattle.pb_worker.specs.Gains.{Gains};
+ghost use Rattle.pb_worker.specs.Swaps.{Spare, AreSwapped};
 ghost use Rattle.pb_worker.specs.Work.{IsWhole, IsPart, Works, Drains};
 
 use crate::desk::Callee;
@@ -80,18 +81,19 @@ pub(crate) fn work<R: Wait, C: Callee, G: Gate>(
     worker.refusal = ended.err();
 }
 
-/// The last passes, of the main seat.
+/// The last passes, of the main seat. Where swaps were refused, the first such refusal is that of the seat too.
 pub(crate) fn drain_last<R: Wait, C: Callee, G: Gate>(
     rt: &R,
     alloc: Global,
     shared: &Mutex<C>,
     main: &mut Worker,
+    swapped: Option<Refusal>,
     observers: &[Observer],
     gate: &G,
 )
     requires numbered { length observers.now ≤ MAX_OBSERVERS }
-    ensures { Drains observers.now main.old main.new }
+    ensures { (spares : List Spare) → AreSwapped spares swapped → Drains spares observers.now main.old main.new }
 {
     let ended = drain(rt, alloc, shared, &mut main.seat, observers, gate);
-    main.refusal = ended.err();
+    main.refusal = swapped.or(ended.err());
 }

@@ -1,23 +1,23 @@
-//! The program: `run MANIFEST SCRIPT [--workers N]` has N workers make a script's changes and run the observers, and prints
-//! the committed cells and the work that is left; `replay MANIFEST SCRIPT SCHEDULE` does the same for a schedule's events;
+//! The program: `run MANIFEST SCRIPT [--workers N] [--swaps M]` has N workers make a script's changes and run the observers
+//! while M tablets are replaced, and prints the committed cells and the work that is left; `replay MANIFEST SCRIPT SCHEDULE` does the same for a schedule's events;
 //! `asm IN OUT` writes the bytes of a program's text, `dis FILE` lists a program's bytes, and `check FILE` tells whether
 //! they are accepted.
 #![tactic(auto)]
 
-ghost use Rattle.std.specs.Prelude.{◌≡◌, ◌∷◌, [], IfOk};
-ghost use Rattle.pb_store.specs.TableOf.{firsts_of};
-ghost use Rattle.pb_texts.specs.CommandLines.{HasWorkers};
+ghost use Rattle.std.specs.Prelude.{◌≡◌, vec_len};
+ghost use Rattle.pb_texts.specs.CommandLines.{IsInRange, swaps_asked};
 
 mod files;
+mod tablets;
 
 use crate::files::Files;
+use crate::tablets::{first_tablets, spares_for};
 use clap::error::ErrorKind;
 use pb_base::{NoMemory, Out, Row};
 use pb_command::command;
-use pb_memtablet::ListTablet;
 use pb_store::{Table, Tablet};
 use pb_texts::{Options, options};
-use std::alloc::Global;
+use pb_worker::end_spares;
 use std::process::ExitCode;
 use std::sync::Wait;
 use std::thread::Threads;
@@ -44,14 +44,17 @@ fn end_all<T: Tablet>(mut parts: Vec<(Row, T)>) {
     parts.destroy_empty();
 }
 
-// Carries out a command over the real files, on a table of these tablets, with workers in threads of this handle.
+// Carries out a command over the real files, on a table of these tablets and with these spares, with workers in threads of
+// this handle.
 fn carry_out<R: Threads + Wait + Sync, T: Tablet + Send>(
     threads: &R,
     rt: &HostRuntime,
     options: &Options,
     parts: Vec<(Row, T)>,
+    spares: Vec<(usize, T)>,
 ) -> u8
-    requires { HasWorkers options.now }
+    requires range { IsInRange options.now }
+    requires spares { vec_len spares ≡ swaps_asked options.now }
 {
     match Table::new(parts) {
         Ok(table) => {
@@ -64,26 +67,18 @@ fn carry_out<R: Threads + Wait + Sync, T: Tablet + Send>(
                 options,
                 &mut files,
                 table,
+                spares,
                 &mut out,
                 &mut err,
             )
         }
         Err((parts, refusal)) => {
             end_all(parts);
+            end_spares(spares);
             let _ = eprintln!(rt; "tablets refused code {}", refusal.0);
             1
         }
     }
-}
-
-// Two tablets in their places: of the rows from 0 on, and from 1,000 on.
-fn placed<T: Drop>(alloc: Global, low: T, high: T) -> Result<Vec<(Row, T)>, NoMemory>
-    ensures { IfOk result (λ parts. firsts_of parts.items ≡ 0 ∷ 1000 ∷ []) }
-{
-    let mut parts = Vec::new(alloc);
-    parts.push((Row(0), low))?;
-    parts.push((Row(1000), high))?;
-    Ok(parts)
 }
 
 // Makes the tablets, and carries out a command on them.
@@ -92,12 +87,12 @@ fn run<R: Threads + Wait + Sync>(
     rt: &HostRuntime,
     options: &Options,
 ) -> Result<u8, NoMemory>
-    requires { HasWorkers options.now }
+    requires { IsInRange options.now }
 {
     let alloc = rt.alloc();
-    let low: Box<dyn Tablet + Send + Drop> = Box::new(alloc, ListTablet::new(alloc))?;
-    let high: Box<dyn Tablet + Send + Drop> = Box::new(alloc, ListTablet::new(alloc))?;
-    Ok(carry_out(threads, rt, options, placed(alloc, low, high)?))
+    let parts = first_tablets(alloc)?;
+    let spares = spares_for(alloc, options.swaps() as usize)?;
+    Ok(carry_out(threads, rt, options, parts, spares))
 }
 
 // Tells what is wrong with a command line, or the help that it asks for.

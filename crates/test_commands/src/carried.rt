@@ -1,10 +1,12 @@
 //! Commands carried out over paths and sinks in memory.
-ghost use Rattle.std.specs.Prelude.{◌≡◌, None, false};
-ghost use Rattle.pb_texts.specs.CommandLines.{HasWorkers};
+ghost use Rattle.std.specs.Prelude.{◌≡◌, None, false, vec_len};
+ghost use Rattle.pb_store.specs.Contents.{nothing};
+ghost use Rattle.pb_texts.specs.CommandLines.{IsInRange, swaps_asked};
 ghost use Rattle.pb_command.specs.Commands.{IsSequential};
 
 use pb_base::{NoMemory, Sink, SinkFault};
 use pb_command::{Paths, command, sequential_command};
+use pb_store::{Table, Tablet};
 use pb_texts::Options;
 use std::alloc::Global;
 use std::rt::HostRuntime;
@@ -80,7 +82,15 @@ pub fn carry<P: Paths>(
     let table = table(alloc)?;
     let mut out = Sheet::new(alloc, left, fails);
     let mut err = Sheet::new(alloc, usize::MAX, fails);
-    let status = sequential_command(alloc, options, paths, table, &mut out, &mut err);
+    let status = sequential_command(
+        alloc,
+        options,
+        paths,
+        table,
+        Vec::new(alloc),
+        &mut out,
+        &mut err,
+    );
     Ok(Outcome {
         status,
         out: out.bytes,
@@ -88,7 +98,7 @@ pub fn carry<P: Paths>(
     })
 }
 
-/// The same of any command, with workers in threads of this handle.
+/// The same of any command without swaps, with workers in threads of this handle.
 pub fn carry_in_threads<R: Threads + Wait + Sync, P: Paths>(
     rt: &R,
     alloc: Global,
@@ -97,17 +107,37 @@ pub fn carry_in_threads<R: Threads + Wait + Sync, P: Paths>(
     left: usize,
     fails: bool,
 ) -> Result<Outcome, NoMemory>
-    requires { HasWorkers options.now }
+    requires range { IsInRange options.now }
+    requires no_swaps { swaps_asked options.now ≡ 0 }
 {
     let table = table(alloc)?;
+    let spares = Vec::new(alloc);
+    Ok(carry_over(rt, alloc, options, paths, table, spares, left, fails))
+}
+
+/// The same over this table, with these spares for its swaps.
+pub fn carry_over<R: Threads + Wait + Sync, P: Paths, T: Tablet + Send>(
+    rt: &R,
+    alloc: Global,
+    options: &Options,
+    paths: &mut P,
+    table: Table<T>,
+    spares: Vec<(usize, T)>,
+    left: usize,
+    fails: bool,
+) -> Outcome
+    requires range { IsInRange options.now }
+    requires spares { vec_len spares ≡ swaps_asked options.now }
+    requires empty { table.contents ≡ nothing }
+{
     let mut out = Sheet::new(alloc, left, fails);
     let mut err = Sheet::new(alloc, usize::MAX, fails);
-    let status = command(rt, alloc, options, paths, table, &mut out, &mut err);
-    Ok(Outcome {
+    let status = command(rt, alloc, options, paths, table, spares, &mut out, &mut err);
+    Outcome {
         status,
         out: out.bytes,
         err: err.bytes,
-    })
+    }
 }
 
 /// Whether a command prints nothing but this fault.

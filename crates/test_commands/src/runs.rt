@@ -65,6 +65,7 @@ fn run<R: Threads + Wait + Sync>(
         manifest: "m",
         script: "s",
         workers,
+        swaps: 0,
     };
     carry_in_threads(rt, alloc, &options, &mut files, left, fails)
 }

@@ -13,6 +13,7 @@ mod page;
 mod programs;
 mod runs;
 mod same;
+mod swaps;
 mod tablets;
 mod workers;
 mod worlds;
@@ -29,6 +30,7 @@ fn all<R: Threads + Wait + Sync>(rt: &R, alloc: Global) -> Result<bool, NoMemory
     let copies = calls::batch_copies(alloc)? && calls::step_copies(alloc)?;
     let table = calls::table_applies(alloc)?
         && tablets::chunks_are_parted(alloc)?
+        && swaps::tablets_are_swapped(alloc)?
         && calls::state_takes(alloc)?;
     let shared = calls::shared_calls(alloc)?
         && jobs::changes_are_made(alloc)?

@@ -1,15 +1,14 @@
 //! Whether two tables are the same, entry by entry. No memory is needed for it.
 use pb_base::Ts;
 use pb_core::{Entry, Received, Seat, Shared};
-use pb_memtablet::ListTablet;
 use pb_state::State;
-use pb_store::Table;
+use pb_store::{Table, Tablet};
 
 // More than any table here has.
 const MOST: usize = 100;
 
 // Whether they have the same entries, and no more than are looked at.
-fn are_entries_same(a: &Table<ListTablet>, b: &Table<ListTablet>) -> bool {
+fn are_entries_same<T: Tablet>(a: &Table<T>, b: &Table<T>) -> bool {
     for place in 0..MOST {
         if a.at(place) != b.at(place) {
             return false;
@@ -18,7 +17,7 @@ fn are_entries_same(a: &Table<ListTablet>, b: &Table<ListTablet>) -> bool {
     a.at(MOST).is_none() && b.at(MOST).is_none()
 }
 
-fn are_marks_same(a: &Table<ListTablet>, b: &Table<ListTablet>) -> bool {
+fn are_marks_same<T: Tablet>(a: &Table<T>, b: &Table<T>) -> bool {
     let mut last = None;
     let mut other = None;
     for _place in 0..MOST {
@@ -35,12 +34,12 @@ fn are_marks_same(a: &Table<ListTablet>, b: &Table<ListTablet>) -> bool {
 }
 
 /// Whether two tables have the same entries and marks.
-pub fn are_tables_same(a: &Table<ListTablet>, b: &Table<ListTablet>) -> bool {
+pub fn are_tables_same<T: Tablet>(a: &Table<T>, b: &Table<T>) -> bool {
     are_entries_same(a, b) && are_marks_same(a, b)
 }
 
 /// Whether two states have the same entries, marks, clock and phases.
-pub fn are_states_same(a: &State<ListTablet>, b: &State<ListTablet>) -> bool {
+pub fn are_states_same<T: Tablet>(a: &State<T>, b: &State<T>) -> bool {
     for start in 0..MOST as u64 {
         if a.phase(Ts(start)) != b.phase(Ts(start)) {
             return false;
@@ -74,7 +73,7 @@ fn are_received_same(a: &[Received], b: &[Received]) -> bool {
     true
 }
 
-fn are_phases_same(a: &Shared<ListTablet>, b: &Shared<ListTablet>) -> bool {
+fn are_phases_same<T: Tablet>(a: &Shared<T>, b: &Shared<T>) -> bool {
     for start in 0..MOST as u64 {
         if a.phase(Ts(start)) != b.phase(Ts(start)) {
             return false;
@@ -84,7 +83,7 @@ fn are_phases_same(a: &Shared<ListTablet>, b: &Shared<ListTablet>) -> bool {
 }
 
 /// Whether two tables with their journals have the same entries, marks, clock, phases and journal.
-pub fn are_shared_same(a: &Shared<ListTablet>, b: &Shared<ListTablet>) -> bool {
+pub fn are_shared_same<T: Tablet>(a: &Shared<T>, b: &Shared<T>) -> bool {
     a.clock() == b.clock()
         && are_tables_same(a.table(), b.table())
         && are_phases_same(a, b)

@@ -94,7 +94,8 @@ fn are_handed_back(alloc: Global, handed: &NotRun<ListTablet>) -> Result<bool, N
     let held = are_shared_same(&handed.shared, &shared)
         && are_observers_same(handed.shared.observers(), shared.observers())
         && are_all_seats_same(&handed.seats, &seats)
-        && are_batches_same(&handed.batches, &batches);
+        && are_batches_same(&handed.batches, &batches)
+        && handed.spares.is_empty();
     shared.close();
     Ok(held)
 }
@@ -188,18 +189,20 @@ fn left_again<R: Threads + Wait + Sync>(
         shared,
         seats,
         batches,
+        spares: _,
     } = handed;
     if held != Ok(true) || seats.len() < 2 {
         shared.close();
         return Remains::Wrong;
     }
-    match run_workers(rt, alloc, shared, seats, batches, &Open) {
+    match run_workers(rt, alloc, shared, seats, batches, Vec::new(alloc), &Open) {
         Ok(worked) => left_by(alloc, worked),
         Err(
             NotRun {
                 shared,
                 seats: _,
                 batches: _,
+                spares: _,
             },
         ) => {
             shared.close();
@@ -216,7 +219,7 @@ fn left<R: Threads + Wait + Sync>(rt: &R, alloc: Global) -> Result<Remains, NoMe
         shared.close();
         return Ok(Remains::Wrong);
     }
-    match run_workers(rt, alloc, shared, seats, batches, &Open) {
+    match run_workers(rt, alloc, shared, seats, batches, Vec::new(alloc), &Open) {
         Ok(worked) => Ok(left_by(alloc, worked)),
         Err(handed) => Ok(left_again(rt, alloc, handed)),
     }

@@ -199,13 +199,14 @@ pub fn soak<R: Threads + Wait + Sync>(rt: &R, alloc: Global) -> Result<Met, Faul
         shared.close();
         return Err(Fault::Seats);
     }
-    match run_workers(rt, alloc, shared, seats, all, &Open) {
+    match run_workers(rt, alloc, shared, seats, all, Vec::new(alloc), &Open) {
         Ok(worked) => judged(alloc, worked, &same),
         Err(
             NotRun {
                 shared,
                 seats: _,
                 batches: _,
+                spares: _,
             },
         ) => {
             shared.close();

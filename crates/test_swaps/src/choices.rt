@@ -2,7 +2,6 @@
 ghost use Rattle.std.specs.Prelude.{◌≡◌};
 ghost use Rattle.pb_base.specs.Cell.{row_of};
 
-use crate::counted::CountedTablet;
 use pb_base::{Batch, Cell, Column, Content, NoMemory, Row, Ts};
 use pb_core::{Answer, Declaration, Declared, OpenRefused, Seat, Shared, Step, Work};
 use pb_memtablet::{ListTablet, SlabTablet};
@@ -12,6 +11,7 @@ use std::process::Abort;
 use std::rt::HostRuntime;
 use std::sync::Arc;
 use std::sync::atomic::{AtomicUsize, Ordering};
+use test_fixtures::CountedTablet;
 
 // A data cell of the first column.
 fn cell(rt: &impl Abort, row: u64) -> Cell {
@@ -84,20 +84,22 @@ fn steps(rt: &impl Abort, alloc: Global) -> Result<Vec<(Step, Answer)>, NoMemory
     Ok(told)
 }
 
-// Whether all steps are answered as said, where before each a spare is swapped in, in turns at both places.
+// Whether all steps are answered as said, where before each a spare is swapped in at each of so many places, as long as there
+// are spares.
 fn are_told<T: Tablet>(
     shared: &mut Shared<T>,
     seats: &mut Vec<Seat>,
     spares: Vec<T>,
+    places: usize,
     told: &[(Step, Answer)],
 ) -> bool {
     let mut spares = spares;
     let mut held = true;
-    let mut place = 0;
     for (step, wanted) in told {
-        if let Some(spare) = spares.pop() {
-            held = is_taken(shared, place, spare) && held;
-            place = if place == 0 { 1 } else { 0 };
+        for place in 0..places {
+            if let Some(spare) = spares.pop() {
+                held = is_taken(shared, place, spare) && held;
+            }
         }
         held = held && call(shared, seats, step) == Ok(*wanted);
     }
@@ -139,6 +141,7 @@ fn left<T: Tablet>(
     spares: Vec<T>,
     told: &[(Step, Answer)],
 ) -> Result<Option<Vec<(Slot, Item)>>, NoMemory> {
+    let places = parts.len();
     let table = match Table::new(parts) {
         Ok(table) => table,
         Err((parts, _)) => {
@@ -151,7 +154,7 @@ fn left<T: Tablet>(
         Ok((shared, seats)) => {
             let mut shared = shared;
             let mut seats = seats;
-            let held = are_told(&mut shared, &mut seats, spares, told);
+            let held = are_told(&mut shared, &mut seats, spares, places, told);
             let all = listed(alloc, shared.table());
             shared.close();
             if held { Ok(Some(all?)) } else { Ok(None) }
@@ -195,13 +198,48 @@ fn left_of(
     left(alloc, parts, spares, told)
 }
 
+// The same of a table of so many tablets, 125 rows apart and of both sorts in turn, and spares for so many swaps of each.
+fn left_of_many(
+    alloc: Global,
+    places: usize,
+    rounds: usize,
+    told: &[(Step, Answer)],
+) -> Result<Option<Vec<(Slot, Item)>>, NoMemory> {
+    let mut parts = Vec::new(alloc);
+    let mut row: u64 = 0;
+    for place in 0..places {
+        parts.push((Row(row), boxed(alloc, place % 2 == 0)?))?;
+        row = row.saturating_add(125);
+    }
+    let mut spares = Vec::new(alloc);
+    for round in 0..rounds {
+        for place in 0..places {
+            spares.push(boxed(alloc, place % 2 != round % 2)?)?;
+        }
+    }
+    left(alloc, parts, spares, told)
+}
+
+#[test]
+fn tables_of_one_three_and_nine_take_the_same_steps(rt: HostRuntime) -> Result<(), NoMemory> {
+    let told = steps(&rt, rt.alloc())?;
+    let wanted = left_of(rt.alloc(), true, true, 0, &told)?;
+    for places in [1usize, 3, 9] {
+        for rounds in [0usize, 1, 2, 8] {
+            let found = left_of_many(rt.alloc(), places, rounds, &told)?;
+            assert!(rt; found == wanted, "{places} {rounds}");
+        }
+    }
+    Ok(())
+}
+
 #[test]
 fn each_choice_takes_the_same_steps(rt: HostRuntime) -> Result<(), NoMemory> {
     let told = steps(&rt, rt.alloc())?;
     let wanted = left_of(rt.alloc(), true, true, 0, &told)?;
     assert!(rt; wanted.is_some());
     for (first, second) in [(true, true), (true, false), (false, true), (false, false)] {
-        for swaps in [0, 1, 2, 7, 8] {
+        for swaps in [0, 1, 2, 7, 16] {
             let found = left_of(rt.alloc(), first, second, swaps, &told)?;
             assert!(rt; found == wanted, "{first} {second} {swaps}");
         }
@@ -274,7 +312,7 @@ fn refusals<T: Tablet>(
         Ok((shared, seats)) => {
             let mut shared = shared;
             let mut seats = seats;
-            let held = are_told(&mut shared, &mut seats, Vec::new(alloc), told);
+            let held = are_told(&mut shared, &mut seats, Vec::new(alloc), 0, told);
             let before = listed(alloc, shared.table());
             let numbers = refused(&mut shared, empty, full, other);
             let after = listed(alloc, shared.table());

@@ -45,11 +45,9 @@ fn one_worker_is_refused_by_number(rt: HostRuntime) {
     ];
     for (script, last, limit, wanted) in table {
         let task = Task {
-            manifest: NONE,
-            script,
-            workers: 1,
             last,
             limit,
+            ..Task::new(NONE, script, 1)
         };
         let Worked {
             shared,

@@ -3,7 +3,7 @@ ghost use Rattle.std.specs.Prelude.{◌≡◌, length};
 
 use crate::tables::{NONE, Task, told, worked};
 use pb_core::{Seat, Shared};
-use pb_memtablet::ListTablet;
+use pb_memtablet::EitherTablet;
 use pb_worker::{Open, Worked, finish};
 use std::alloc::Global;
 use std::process::Abort;
@@ -20,7 +20,7 @@ fn left<R: Threads + Wait + Abort + Sync>(
     rt: &R,
     alloc: Global,
     script: &str,
-) -> (Shared<ListTablet>, Vec<Seat>)
+) -> (Shared<EitherTablet>, Vec<Seat>)
     ensures { length result.1.items ≡ 3 }
 {
     let Worked {
@@ -51,9 +51,9 @@ fn lists_of(rt: &impl Abort, alloc: Global, seats: &[Seat]) -> Vec<(u32, usize)>
 fn handed_back(
     rt: &impl Abort,
     alloc: Global,
-    shared: Shared<ListTablet>,
+    shared: Shared<EitherTablet>,
     seats: Vec<Seat>,
-) -> (Shared<ListTablet>, Vec<Seat>)
+) -> (Shared<EitherTablet>, Vec<Seat>)
     ensures { result.1 ≡ seats }
 {
     let entries = shared.journal().len();

@@ -1,5 +1,5 @@
 //! The tests of workers: rows in which a gate makes two threads take turns, how workers end, what `finish` accepts, and what
-//! seats received.
+//! seats received, and spares that are swapped in meanwhile.
 //!
 //! They stand in a crate of their own, since a crate that has tests is proved twice.
 #![tactic(auto)]
@@ -16,5 +16,9 @@ mod finishes;
 mod gates;
 #[cfg(test)]
 mod rows;
+#[cfg(test)]
+mod spares;
+#[cfg(test)]
+mod swaps;
 #[cfg(test)]
 mod tables;

@@ -1,14 +1,15 @@
 //! Scripts by one worker, and by two whose steps a gate puts in order.
 use crate::gates::{Crossing, Marks, Stubborn, Together};
-use crate::tables::{COPY, NONE, Task, WATCH, told, worked};
+use crate::tables::{CHOICES, COPY, NONE, Task, WATCH, told, worked};
 use pb_core::{Answer, Declared, Seat, Shared, Step};
-use pb_memtablet::ListTablet;
+use pb_memtablet::EitherTablet;
 use pb_worker::{Open, Worked};
 use std::alloc::Global;
 use std::process::Abort;
 use std::sync::Wait;
 use std::sync::atomic::AtomicU64;
 use std::thread::Threads;
+use std::time::Clock;
 
 // The answers of a seat to its stamps.
 fn stamps(rt: &impl Abort, alloc: Global, seat: &Seat) -> Vec<u64> {
@@ -22,7 +23,7 @@ fn stamps(rt: &impl Abort, alloc: Global, seat: &Seat) -> Vec<u64> {
 }
 
 // Which seats committed, in the journal's order.
-fn committed(rt: &impl Abort, alloc: Global, shared: &Shared<ListTablet>) -> Vec<u32> {
+fn committed(rt: &impl Abort, alloc: Global, shared: &Shared<EitherTablet>) -> Vec<u32> {
     let mut all = Vec::new(alloc);
     for entry in shared.journal() {
         if entry.answer == Answer::Committed {
@@ -61,30 +62,37 @@ fn one_worker_has_nothing_to_do(rt: HostRuntime) {
     assert!(rt; told_by_one(&rt, rt.alloc(), NONE, "").as_slice() == b"quiet\n".as_slice());
 }
 
-#[test]
-fn second_commits_while_first_prewrites(rt: HostRuntime) {
-    let alloc = rt.alloc();
+// The second worker's commit stands before the first one's, over tablets of these sorts.
+fn are_crossed<R: Threads + Wait + Abort + Clock + Sync>(rt: &R, alloc: Global, slabs: [bool; 2]) {
     let gate = Crossing {
-        rt: &rt,
+        rt,
         marks: Marks::new(),
     };
-    let task = Task::new(NONE, "put 1 0 01; put 1 1 02\nput 2 0 03\n", 2);
+    let mut task = Task::new(NONE, "put 1 0 01; put 1 1 02\nput 2 0 03\n", 2);
+    task.slabs = slabs;
     let Worked {
         shared,
         seats,
         refusals,
         unfinished,
-    } = worked(&rt, alloc, &task, &gate);
+    } = worked(rt, alloc, &task, &gate);
     assert!(rt; gate.marks.are_in_time(), "no hold ran out");
     assert!(rt; seats.len() > 2, "each seat is there");
     assert!(rt; unfinished.is_empty(), "all committed");
     assert!(rt; refusals.iter().all(|r| r.is_none()), "none refused");
-    assert_eq!(rt; stamps(&rt, alloc, &seats[1]).as_slice(), &[4u64][..]);
-    assert_eq!(rt; stamps(&rt, alloc, &seats[2]).as_slice(), &[3u64][..]);
-    assert_eq!(rt; committed(&rt, alloc, &shared).as_slice(), &[2u32, 1][..]);
+    assert_eq!(rt; stamps(rt, alloc, &seats[1]).as_slice(), &[4u64][..]);
+    assert_eq!(rt; stamps(rt, alloc, &seats[2]).as_slice(), &[3u64][..]);
+    assert_eq!(rt; committed(rt, alloc, &shared).as_slice(), &[2u32, 1][..]);
     let report =
         b"cell 1 0 commit 4 value 01\ncell 1 1 commit 4 value 02\ncell 2 0 commit 3 value 03\nquiet\n";
-    assert!(rt; told(&rt, alloc, shared, seats).as_slice() == report.as_slice());
+    assert!(rt; told(rt, alloc, shared, seats).as_slice() == report.as_slice());
+}
+
+#[test]
+fn second_commits_while_first_prewrites(rt: HostRuntime) {
+    for slabs in CHOICES {
+        are_crossed(&rt, rt.alloc(), slabs);
+    }
 }
 
 // Whether a seat was told that it began with each of 2 to 101, and of a conflict for each.

@@ -4,7 +4,7 @@ ghost use Rattle.pb_base.specs.declared.limits.TheConstants.{MAX_OBSERVERS};
 
 use pb_base::{MAX_ENTRIES, NoMemory, Out, Ts};
 use pb_core::{Observer, Seat, Shared};
-use pb_memtablet::ListTablet;
+use pb_memtablet::EitherTablet;
 use pb_parse::parse_script;
 use pb_registry::Registry;
 use pb_script::report;
@@ -13,7 +13,7 @@ use std::alloc::Global;
 use std::process::Abort;
 use std::sync::Wait;
 use std::thread::Threads;
-use test_fixtures::opened;
+use test_fixtures::{opened_over, spares_of, table_of};
 
 pub const NONE: &str = "{\"profile\":1,\"observers\":[]}";
 
@@ -29,7 +29,11 @@ pub const COPY: &str =
 pub const AGAIN: &str =
     "{\"profile\":1,\"observers\":[{\"name\":\"again\",\"column\":0,\"helpers\":[3],\"code\":\"7912080000000000791100000000000085000000030000009500000000000000\"}]}";
 
-/// What workers are given: two texts, how many workers there are, the last timestamp given out, and the journal's limit.
+/// Each choice of two sorts of tablet: whether the first is a slab, and the second.
+pub const CHOICES: [[bool; 2]; 4] = [[false, false], [false, true], [true, false], [true, true]];
+
+/// What workers are given: two texts, how many workers there are, the last timestamp given out, the journal's limit, whether each
+/// of the table's two tablets is a slab, and how many spares are swapped in.
 #[derive(Clone, Copy, Debug)]
 pub struct Task<'a> {
     pub manifest: &'a str,
@@ -37,10 +41,12 @@ pub struct Task<'a> {
     pub workers: u32,
     pub last: u64,
     pub limit: usize,
+    pub slabs: [bool; 2],
+    pub swaps: usize,
 }
 
 impl<'a> Task<'a> {
-    /// One that begins with the first timestamp, and has all the room that a journal may have.
+    /// One over lists that begins with the first timestamp, and has all the room that a journal may have.
     pub fn new(manifest: &'a str, script: &'a str, workers: u32) -> Task<'a> {
         Task {
             manifest,
@@ -48,6 +54,8 @@ impl<'a> Task<'a> {
             workers,
             last: 0,
             limit: MAX_ENTRIES,
+            slabs: [false, false],
+            swaps: 0,
         }
     }
 }
@@ -70,13 +78,18 @@ pub fn worked<R: Threads + Wait + Abort + Sync, G: Gate>(
     alloc: Global,
     task: &Task,
     gate: &G,
-) -> Worked<ListTablet> {
+) -> Worked<EitherTablet> {
     assert!(rt; task.workers > 0 && task.workers < 64, "1 to 63 workers");
     assert!(rt; task.limit <= MAX_ENTRIES, "the journal's limit");
     let observers = observers(alloc, task.manifest).ok().expect(rt, "observers");
     let batches = parse_script(alloc, task.script).ok().expect(rt, "batches");
-    let (shared, seats) = opened(
+    let table = table_of(alloc, &task.slabs).ok().expect(rt, "a table");
+    let spares = spares_of(alloc, task.slabs, task.swaps)
+        .ok()
+        .expect(rt, "spares");
+    let (shared, seats) = opened_over(
         alloc,
+        table,
         observers,
         task.workers + 1,
         Ts(task.last),
@@ -85,13 +98,14 @@ pub fn worked<R: Threads + Wait + Abort + Sync, G: Gate>(
     .ok()
     .expect(rt, "opened");
     assert!(rt; seats.len() > 1, "there are workers");
-    match run_workers(rt, alloc, shared, seats, batches, gate) {
+    match run_workers(rt, alloc, shared, seats, batches, spares, gate) {
         Ok(worked) => worked,
         Err(
             NotRun {
                 shared,
                 seats: _,
                 batches: _,
+                spares: _,
             },
         ) => {
             shared.close();
@@ -101,7 +115,7 @@ pub fn worked<R: Threads + Wait + Abort + Sync, G: Gate>(
 }
 
 /// The report of a table.
-pub fn report_of(rt: &impl Abort, alloc: Global, shared: &Shared<ListTablet>) -> Vec<u8> {
+pub fn report_of(rt: &impl Abort, alloc: Global, shared: &Shared<EitherTablet>) -> Vec<u8> {
     let mut bytes = Vec::new(alloc);
     let mut out = Out::new(&mut bytes);
     assert!(rt;
@@ -114,9 +128,9 @@ pub fn report_of(rt: &impl Abort, alloc: Global, shared: &Shared<ListTablet>) ->
 /// Table and seats, accepted.
 pub fn accepted(
     rt: &impl Abort,
-    shared: Shared<ListTablet>,
+    shared: Shared<EitherTablet>,
     seats: Vec<Seat>,
-) -> Ended<ListTablet> {
+) -> Ended<EitherTablet> {
     match finish(shared, seats) {
         Ok(ended) => ended,
         Err((shared, _seats)) => {
@@ -130,7 +144,7 @@ pub fn accepted(
 pub fn told(
     rt: &impl Abort,
     alloc: Global,
-    shared: Shared<ListTablet>,
+    shared: Shared<EitherTablet>,
     seats: Vec<Seat>,
 ) -> Vec<u8> {
     let ended = accepted(rt, shared, seats);

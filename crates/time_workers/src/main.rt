@@ -1,6 +1,6 @@
-//! A program to be timed: with the words `WORKERS COUNT ROWS` so many workers, 1 to 63, make so many changes, each of one cell:
-//! with `spread` of a row of its own, with `one` all of one row. With `busy` as a fourth word the manifest has an observer that
-//! copies each change. It prints how many calls were answered by a conflict, and how many changes are unfinished, where no seat
+//! A program to be timed: with the words `WORKERS COUNT ROWS SWAPS` so many workers, 1 to 63, make so many changes, each of one
+//! cell: with `spread` of a row of its own, with `one` all of one row. Meanwhile so many tablets are replaced, up to 1,000. With
+//! `busy` as a fifth word the manifest has an observer that copies each change. It prints how many calls were answered by a conflict, and how many changes are unfinished, where no seat
 //! was refused a step, the report is written, and no mark and no lock is left.
 #![tactic(auto)]
 
@@ -9,7 +9,7 @@ ghost use Rattle.pb_base.specs.declared.limits.TheConstants.{MAX_OBSERVERS};
 
 use pb_base::{MAX_ENTRIES, NoMemory, Out, Ts};
 use pb_core::{Answer, Observer, Seat};
-use pb_memtablet::ListTablet;
+use pb_memtablet::EitherTablet;
 use pb_parse::parse_script;
 use pb_registry::Registry;
 use pb_script::report;
@@ -19,7 +19,7 @@ use std::env;
 use std::process::ExitCode;
 use std::sync::Wait;
 use std::thread::Threads;
-use test_fixtures::opened;
+use test_fixtures::{opened_over, spares_of, table_of};
 
 const NONE: &str = "{\"profile\":1,\"observers\":[]}";
 
@@ -33,6 +33,7 @@ struct Task {
     workers: u32,
     count: u32,
     is_spread: bool,
+    swaps: u32,
     manifest: &'static str,
     ghost some: { 1 ≤ workers },
     ghost few: { workers < 64 },
@@ -85,7 +86,7 @@ fn conflicts_in(seats: &[Seat]) -> usize {
 }
 
 // What the workers met, where nothing was refused and nothing is left to do.
-fn met_by(alloc: Global, worked: Worked<ListTablet>) -> Option<Met> {
+fn met_by(alloc: Global, worked: Worked<EitherTablet>) -> Option<Met> {
     let Worked {
         shared,
         seats,
@@ -117,18 +118,28 @@ fn do_task<R: Threads + Wait + Sync>(
         Ok(batches) => batches,
         Err(_) => return Err(NoMemory),
     };
-    let (shared, seats) = opened(alloc, observers, task.workers + 1, Ts(0), MAX_ENTRIES)?;
+    let spares = spares_of(alloc, [false, true], task.swaps as usize)?;
+    let table = table_of(alloc, &[false, true])?;
+    let (shared, seats) = opened_over(
+        alloc,
+        table,
+        observers,
+        task.workers + 1,
+        Ts(0),
+        MAX_ENTRIES,
+    )?;
     if seats.len() < 2 {
         shared.close();
         return Ok(None);
     }
-    match run_workers(rt, alloc, shared, seats, batches, &Open) {
+    match run_workers(rt, alloc, shared, seats, batches, spares, &Open) {
         Ok(worked) => Ok(met_by(alloc, worked)),
         Err(
             NotRun {
                 shared,
                 seats: _,
                 batches: _,
+                spares: _,
             },
         ) => {
             shared.close();
@@ -146,7 +157,8 @@ fn task_in(words: &[String]) -> Option<Task> {
         "one" => false,
         _ => return None,
     };
-    let manifest = match words.get(4) {
+    let swaps = words.get(4)?.as_str().parse::<u32>().ok()?;
+    let manifest = match words.get(5) {
         Some(_) => COPY,
         None => NONE,
     };
@@ -157,6 +169,7 @@ fn task_in(words: &[String]) -> Option<Task> {
         workers,
         count,
         is_spread,
+        swaps,
         manifest,
     })
 }

@@ -1,14 +1,19 @@
 //! What a command line asks for.
+ghost use Rattle.std.specs.Prelude.{◌≡◌};
+ghost use Rattle.pb_texts.specs.CommandLines.{swaps_asked};
+
 use pb_base::Ts;
 
 /// What the program is to do.
 #[derive(Clone, Copy, Debug)]
 pub enum Options<'a> {
-    /// Reads a manifest and a script, runs the transactions by so many workers, and tells what is newest then.
+    /// Reads a manifest and a script, runs the transactions by so many workers while so many tablets are replaced, and tells
+    /// what is newest then.
     Run {
         manifest: &'a str,
         script: &'a str,
         workers: u32,
+        swaps: u32,
     },
     /// Reads a manifest, a script and a schedule, does the schedule's events with this as the last timestamp given out
     /// before them, and tells what is newest then.
@@ -31,4 +36,16 @@ pub enum Options<'a> {
     Check {
         file: &'a str,
     },
+}
+
+impl Options<'_> {
+    /// How many tablets are to be replaced: none but by a run.
+    pub fn swaps(&self) -> u32
+        ensures { result ≡ swaps_asked self.now }
+    {
+        match self {
+            Options::Run { swaps, .. } => *swaps,
+            _ => 0,
+        }
+    }
 }

@@ -2,7 +2,7 @@
 ghost use Rattle.std.specs.Prelude.{◌≡◌, ℕ, List, true, IfOk, Some, [], false, option_map, codes};
 ghost use Rattle.clap.specs.Words.{FailsBy, app_of, fault_of, first_of, found_of, kind_of, one_of, rows_of, rule_of, subcommand_of, subcommand_rows_of};
 ghost use Rattle.pb_base.specs.Reading.{texts_of};
-ghost use Rattle.pb_texts.specs.CommandLines.{required_rule, workers_rule, run_app, clock_rule, replay_app, asm_app, dis_app, check_app, texts_app, program_app, is_few, workers_of, run_in, clock_of, replay_in, asm_in, dis_in, check_in, command_in, command_of, words_fault, request_of, HasWorkers, is_plain_word, is_workers, workers_number, is_clock, clock_number, run_words, workers_words, replay_words, clock_words, asm_words, dis_words, check_words, Run, Replay, Asm, Dis, Check, AskFor, HaveBadValue};
+ghost use Rattle.pb_texts.specs.CommandLines.{required_rule, workers_rule, run_app, clock_rule, replay_app, asm_app, dis_app, check_app, texts_app, program_app, swaps_rule, is_within, count_of, workers_of, swaps_of, run_in, clock_of, replay_in, asm_in, dis_in, check_in, command_in, command_of, words_fault, request_of, IsInRange, is_plain_word, is_workers, is_swaps, count_number, is_clock, clock_number, run_words, workers_words, swaps_words, replay_words, clock_words, asm_words, dis_words, check_words, Run, Replay, Asm, Dis, Check, AskFor, HaveBadValue};
 ghost use Rattle.clap.specs.declared.builder.command.Command.TheViews.{out-Command as fields_of};
 
 use crate::words::choice::Options;
@@ -13,6 +13,9 @@ use std::alloc::{AllocError, Global};
 
 // The first seat is the main thread's.
 const MAX_WORKERS: u32 = MAX_SEATS - 1;
+
+// So many swaps may be asked for beside a run's workers.
+const MAX_SWAPS: u32 = 1_000;
 
 fn manifest_operand<'a>(alloc: Global) -> Arg<'a>
     ensures rule { rule_of result ≡ required_rule (codes "MANIFEST") }
@@ -49,6 +52,17 @@ fn workers_option<'a>(alloc: Global) -> Arg<'a>
         .help("How many threads make the changes, 1 to 63; 1 where none is named")
 }
 
+fn swaps_option<'a>(alloc: Global) -> Arg<'a>
+    ensures rule { rule_of result ≡ swaps_rule }
+    ensures local { result.global ≡ false }
+{
+    Arg::new(alloc, "swaps")
+        .long("swaps")
+        .value_name("M")
+        .value_parser(value_parser!(u64).range(0..=i64::from(MAX_SWAPS)))
+        .help("How many tablets are replaced beside the workers, 0 to 1000; 0 where none is named")
+}
+
 fn run_command<'a>(alloc: Global) -> Result<Command<'a>, AllocError>
     ensures app { IfOk result (λ c. app_of c ≡ run_app) }
     ensures local { IfOk result (λ c. (fields_of c).has_globals ≡ false) }
@@ -57,7 +71,8 @@ fn run_command<'a>(alloc: Global) -> Result<Command<'a>, AllocError>
     bare.about("Makes a script's changes, runs the observers on them, and prints the report")
         .arg(manifest_operand(alloc))?
         .arg(script_operand(alloc))?
-        .arg(workers_option(alloc))
+        .arg(workers_option(alloc))?
+        .arg(swaps_option(alloc))
 }
 
 fn clock_option<'a>(alloc: Global) -> Arg<'a>
@@ -155,22 +170,21 @@ fn value_in<'a>(run: &ArgMatches<'a>, id: &str) -> Option<&'a str>
     run.get_str(id)
 }
 
-// There is a worker at least, and a seat for each.
-fn is_few(workers: u32) -> bool
-    ensures { result ≡ is_few workers }
+fn is_within(low: u32, high: u32, number: u32) -> bool
+    ensures { result ≡ is_within low high number }
 {
-    1 <= workers && workers <= MAX_WORKERS
+    low <= number && number <= high
 }
 
-// The number of workers that a text names. `clap` takes a plus before the digits, and so does `parse`.
-fn workers_named(text: &str) -> Option<u32>
-    ensures { result ≡ workers_of (Some text.now) }
+// The number from `low` to `high` that a text names. `clap` takes a plus before the digits, and so does `parse`.
+fn number_named(text: &str, low: u32, high: u32) -> Option<u32>
+    ensures { result ≡ count_of low high (Some text.now) }
 {
     if text.starts_with('+') {
         return None;
     }
     match text.parse::<u32>() {
-        Ok(workers) if is_few(workers) => Some(workers),
+        Ok(number) if is_within(low, high, number) => Some(number),
         Ok(_) => None,
         Err(_) => None,
     }
@@ -181,8 +195,18 @@ fn workers_in(run: &ArgMatches) -> Option<u32>
     ensures { result ≡ workers_of (first_of (codes "workers") (rows_of (found_of run.now))) }
 {
     match value_in(run, "workers") {
-        Some(text) => workers_named(text),
+        Some(text) => number_named(text, 1, MAX_WORKERS),
         None => Some(1),
+    }
+}
+
+// The number of swaps that the matches of `run` name.
+fn swaps_in(run: &ArgMatches) -> Option<u32>
+    ensures { result ≡ swaps_of (first_of (codes "swaps") (rows_of (found_of run.now))) }
+{
+    match value_in(run, "swaps") {
+        Some(text) => number_named(text, 0, MAX_SWAPS),
+        None => Some(0),
     }
 }
 
@@ -192,6 +216,7 @@ fn run_in<'a>(run: &ArgMatches<'a>) -> Option<Options<'a>>
 {
     Some(Options::Run {
         workers: workers_in(run)?,
+        swaps: swaps_in(run)?,
         manifest: value_in(run, "MANIFEST")?,
         script: value_in(run, "SCRIPT")?,
     })
@@ -263,14 +288,14 @@ fn command_in<'a>(matches: &ArgMatches<'a>) -> Option<Options<'a>>
     }
 }
 
-// The error of a plus before the number of workers.
+// The error of a plus before the number of workers or that of swaps.
 fn plus_refused(alloc: Global) -> Result<Error, AllocError>
     ensures { IfOk result (λ e. kind_of e ≡ ErrorKind.ValueValidation) }
 {
     let mut run = run_command(alloc)?.bin_name("percobpf run")?;
     run.error(
         ErrorKind::ValueValidation,
-        "invalid value for '--workers <N>': a plus stands before the digits",
+        "invalid value for '--workers <N>' or '--swaps <M>': a plus stands before the digits",
     )
 }
 
@@ -279,28 +304,34 @@ fn plus_refused(alloc: Global) -> Result<Error, AllocError>
 pub fn options<'a>(alloc: Global, words: &'a [&'a str]) -> Result<Options<'a>, Error>
     ensures kinds { FailsBy (words_fault (texts_of words.now)) result }
     ensures read { IfOk result (λ o. command_of (texts_of words.now) ≡ Some (request_of o)) }
-    ensures workers { IfOk result HasWorkers }
+    ensures range { IfOk result IsInRange }
 {
     let matches = matches_of(alloc, words)?;
     match command_in(&matches) {
         Some(options) => Ok(options),
-        // Of what `clap` takes, only a plus before the number of workers asks for nothing.
+        // Of what `clap` takes, only a plus before the number of workers or that of swaps asks for nothing.
         None => Err(plus_refused(alloc)?),
     }
 }
 
 /// A subcommand with as many words behind it as it has operands, none of which begins with a hyphen, is taken. So is
-/// `run` with `--workers` and a number of workers behind them, decimal digits alone, and `replay` with `--clock` and a
-/// number of `u64`; with another such word there each is refused.
+/// `run` with `--workers` and a number of workers behind them, or `--swaps` and a number of swaps, decimal digits alone,
+/// and `replay` with `--clock` and a number of `u64`; with another such word there each is refused.
 pub fn plain_words_are_taken()
     ensures run { (program manifest script : List ℕ) → is_plain_word manifest ≡ true → is_plain_word script ≡ true
-        → AskFor (run_words program manifest script) (Run manifest script 1) }
+        → AskFor (run_words program manifest script) (Run manifest script 1 0) }
     ensures workers { (program manifest script workers : List ℕ) → is_plain_word manifest ≡ true
         → is_plain_word script ≡ true → is_workers workers ≡ true
-        → AskFor (workers_words program manifest script workers) (Run manifest script (workers_number workers)) }
+        → AskFor (workers_words program manifest script workers) (Run manifest script (count_number workers) 0) }
     ensures other_workers { (program manifest script workers : List ℕ) → is_plain_word manifest ≡ true
         → is_plain_word script ≡ true → is_plain_word workers ≡ true → is_workers workers ≡ false
         → HaveBadValue (workers_words program manifest script workers) }
+    ensures swaps { (program manifest script swaps : List ℕ) → is_plain_word manifest ≡ true
+        → is_plain_word script ≡ true → is_swaps swaps ≡ true
+        → AskFor (swaps_words program manifest script swaps) (Run manifest script 1 (count_number swaps)) }
+    ensures other_swaps { (program manifest script swaps : List ℕ) → is_plain_word manifest ≡ true
+        → is_plain_word script ≡ true → is_plain_word swaps ≡ true → is_swaps swaps ≡ false
+        → HaveBadValue (swaps_words program manifest script swaps) }
     ensures replay { (program manifest script schedule : List ℕ) → is_plain_word manifest ≡ true
         → is_plain_word script ≡ true → is_plain_word schedule ≡ true
         → AskFor (replay_words program manifest script schedule) (Replay manifest script schedule 0) }

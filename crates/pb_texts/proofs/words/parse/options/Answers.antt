@@ -4,7 +4,7 @@ use Rattle.clap.specs.declared.error.kind.ErrorKind.{ErrorKind}
 use Rattle.clap.proofs.KindLemmas.{fails_by_from}
 use Rattle.pb_base.specs.Reading.{texts_of}
 use Rattle.pb_texts.specs.CommandLines.{command_in, words_fault}
-use Rattle.pb_texts.proofs.Faults.{has_kind_still, asked_faultless, unasked_fault, asked_workers}
+use Rattle.pb_texts.proofs.Faults.{has_kind_still, asked_faultless, unasked_fault, asked_in_range}
 use Rattle.pb_texts.proofs.words.parse.options.Goals as goal
 
 pub returns-in_err-matches-clause-kinds : goal.returns-in_err-matches-clause-kinds
@@ -15,8 +15,8 @@ returns-in_err-matches-clause-kinds c =
 pub returns-in-Some-clause-kinds : goal.returns-in-Some-clause-kinds
 returns-in-Some-clause-kinds c = asked_faultless (texts_of c.args.words.now) _ c.in_ok-matches.ensures.kinds (ap command_in (sym c.in_ok-matches.ensures.subcommand) ∙ sym c.in-Some.ensures)
 
-pub returns-in-Some-clause-workers : goal.returns-in-Some-clause-workers
-returns-in-Some-clause-workers c = asked_workers (texts_of c.args.words.now) c.in-Some.options (ap command_in (sym c.in_ok-matches.ensures.subcommand) ∙ sym c.in-Some.ensures)
+pub returns-in-Some-clause-range : goal.returns-in-Some-clause-range
+returns-in-Some-clause-range c = asked_in_range (texts_of c.args.words.now) c.in-Some.options (ap command_in (sym c.in_ok-matches.ensures.subcommand) ∙ sym c.in-Some.ensures)
 
 pub returns-clause-kinds : goal.returns-clause-kinds
 returns-clause-kinds c =

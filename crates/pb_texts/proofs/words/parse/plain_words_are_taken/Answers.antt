@@ -1,4 +1,4 @@
-use Rattle.pb_texts.proofs.Taken.{run_taken, workers_taken, other_workers_refused, replay_taken, clock_taken, other_clock_refused, asm_taken, dis_taken, check_taken}
+use Rattle.pb_texts.proofs.Taken.{run_taken, workers_taken, other_workers_refused, swaps_taken, other_swaps_refused, replay_taken, clock_taken, other_clock_refused, asm_taken, dis_taken, check_taken}
 use Rattle.pb_texts.proofs.words.parse.plain_words_are_taken.Goals as goal
 
 pub returns-clause-run : goal.returns-clause-run
@@ -9,6 +9,12 @@ returns-clause-workers c = workers_taken
 
 pub returns-clause-other_workers : goal.returns-clause-other_workers
 returns-clause-other_workers c = other_workers_refused
+
+pub returns-clause-swaps : goal.returns-clause-swaps
+returns-clause-swaps c = swaps_taken
+
+pub returns-clause-other_swaps : goal.returns-clause-other_swaps
+returns-clause-other_swaps c = other_swaps_refused
 
 pub returns-clause-replay : goal.returns-clause-replay
 returns-clause-replay c = replay_taken

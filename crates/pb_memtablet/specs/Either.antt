@@ -1,0 +1,13 @@
+-- A tablet of either sort.
+use Rattle.std.specs.Prelude.{Bool, true, false}
+use Rattle.pb_store.specs.Contents.{Contents}
+use Rattle.pb_memtablet.specs.declared.either.EitherTablet.{EitherTablet}
+use Rattle.pb_memtablet.specs.declared.either.EitherTablet.TheVariants.{List, Slab}
+
+abbrev pub contents_of : EitherTablet → Contents
+contents_of (List t) = t
+contents_of (Slab t) = t
+
+abbrev pub is_slab : EitherTablet → Bool
+is_slab (List t) = false
+is_slab (Slab t) = true

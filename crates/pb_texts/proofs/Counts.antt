@@ -1,0 +1,120 @@
+-- The numbers of workers and of swaps are read as `parse` reads a number of `u32`, but for a plus, which `clap` takes too.
+use Rattle.std.proofs.Common.{◌≡◌, ℕ, ◌<◌, ◌≤◌, ◌^◌, Bool, true, false, cond, [], ◌∷◌, Option, Some, None, Ok, Err, refl, sym, ap, ◌∙◌, subst, arith}
+use Rattle.std.specs.Prelude.{◌&&◌, ◌||◌, ◌==◌, nat_le, nat_lt, slice_index}
+use Rattle.std.specs.Option.{option_map_or}
+use Rattle.std.proofs.lemmas.Bool.{eqb-true, leb-true, lt-ltb}
+use Rattle.std.specs.Str.Parse.{IsNumeral, ParsesUnsigned, digits_value, without_leading_plus}
+use Rattle.std.specs.declared.num.ParseIntError.{ParseIntError}
+use Rattle.clap.specs.Walk.{Text}
+use Rattle.clap.specs.ValueTests.{is_numeral, is_unsigned_in}
+use Rattle.clap.specs.declared.builder.value_parser.ValueParser.TheVariants.{Unsigned}
+use Rattle.clap.proofs.ValueTestLemmas.{accepts-Accepts, Accepts-accepts}
+use Rattle.pb_texts.specs.CommandLines.{is_within, is_count, count_number, count_of, begins_with_plus}
+use Rattle.pb_texts.proofs.Filled.{IsNumberIn}
+
+-- ---- a plus before the digits
+
+pub both_true : (a b : Bool) → (a && b) ≡ true → (a ≡ true) × (b ≡ true)
+both_true true b h = (refl, h)
+both_true false b h = absurd cc
+
+pub true_not_false : (b : Bool) → b ≡ true → b ≡ false → ⊥
+true_not_false b t f = cc
+
+pub false_unless : (b : Bool) → (b ≡ true → ⊥) → b ≡ false
+false_unless true f = absurd (f refl)
+false_unless false f = refl
+
+begins_by : (t : Text) → begins_with_plus t ≡ (slice_index t 0 == 43)
+begins_by [] = refl
+begins_by (x ∷ xs) = refl
+
+pub begins_as_told : (t : Text) (b told : Bool) → told ≡ (slice_index t 0 == 43) → told ≡ b → begins_with_plus t ≡ b
+begins_as_told t b told e is = begins_by t ∙ sym e ∙ is
+
+pub and_false : (a b : Bool) → b ≡ false → (a && b) ≡ false
+and_false true b h = h
+and_false false b h = refl
+
+pub false_and : (a b : Bool) → a ≡ false → (a && b) ≡ false
+false_and true b h = absurd cc
+false_and false b h = refl
+
+pub or_false : (a b : Bool) → (a || b) ≡ false → (a ≡ false) × (b ≡ false)
+or_false true b h = absurd cc
+or_false false b h = (refl, h)
+
+without_plus : (t : Text) → begins_with_plus t ≡ false → without_leading_plus t ≡ t
+without_plus [] h = refl
+without_plus (x ∷ xs) h = rw h refl
+
+-- a test that another one implies may be left out
+spare : (n c a b : Bool) → (b ≡ true → c ≡ true) → (n && (c && (a && b))) ≡ (n && (a && b))
+spare false c a b f = refl
+spare true true a b f = refl
+spare true false a true f = let e : false ≡ true = f refl in absurd cc
+spare true false true false f = refl
+spare true false false false f = refl
+
+some_if : (b : Bool) (x n : ℕ) → b ≡ true → x ≡ n → Some x ≡ cond b (Some n) None
+some_if true x n e f = ap (λ y. Some y) f
+some_if false x n e f = absurd cc
+
+none_unless : (b : Bool) (n : ℕ) → (b ≡ true → ⊥) → None ≡ cond b (Some n) None
+none_unless true n f = absurd (f refl)
+none_unless false n f = refl
+
+module _ (low high : ℕ) where
+  plus_no_number : (xs : Text) → is_count low high (43 ∷ xs) ≡ false
+  plus_no_number xs = false_and _ _ (and_false _ _ refl)
+
+  pub plus_no_count : (t : Text) → begins_with_plus t ≡ true → is_count low high t ≡ false
+  plus_no_count [] h = absurd cc
+  plus_no_count (x ∷ xs) h = subst (λ y. is_count low high (y ∷ xs) ≡ false) (sym (eqb-true x 43 h)) (plus_no_number xs)
+
+  pub plus_unread : (t : Text) → begins_with_plus t ≡ true → None ≡ count_of low high (Some t)
+  plus_unread t h = rw (plus_no_count t h) refl
+
+  -- ---- read
+
+  counted_within : (t : Text) → is_count low high t ≡ true → is_within low high (count_number t) ≡ true
+  counted_within t e = (both_true (is_numeral t) (is_within low high (count_number t)) e).1
+
+  within : (n : ℕ) → is_within low high n ≡ true → (low ≤ n) × (n ≤ high)
+  within n e = let a = both_true (nat_le low n) (nat_le n high) e in (leb-true _ _ a.0, leb-true _ _ a.1)
+
+  pub count_within : (t : Text) → is_count low high t ≡ true → (low ≤ count_number t) × (count_number t ≤ high)
+  count_within t e = within (count_number t) (counted_within t e)
+
+  module _ (fits : high < 2 ^ 32) where
+    short : (n : ℕ) → nat_le n high ≡ true → nat_lt n (2 ^ 64) ≡ true
+    short n h = lt-ltb _ _ (omega (arith, fits, leb-true _ _ h))
+
+    pub plain_count : (t : Text) → begins_with_plus t ≡ false → is_unsigned_in low high t ≡ is_count low high t
+    plain_count t h = rw (without_plus t h) (spare _ _ _ _ (short (digits_value 10 t)))
+
+    module _ (t : Text) (plain : begins_with_plus t ≡ false) where
+      same_number : digits_value 10 (without_leading_plus t) ≡ count_number t
+      same_number = ap (digits_value 10) (without_plus t plain)
+
+      within_is_count : (x : ℕ) → IsNumeral 10 (without_leading_plus t) × (digits_value 10 (without_leading_plus t) < 2 ^ 32) → x ≡ digits_value 10 (without_leading_plus t) → (low ≤ x) × (x ≤ high) → is_count low high t ≡ true
+      within_is_count x p is h = sym (plain_count t plain) ∙ Accepts-accepts false (Unsigned low high) t (p.0, omega (arith, p.1), omega (arith, is, h.0), omega (arith, is, h.1))
+
+      pub count_read : (x : ℕ) → ParsesUnsigned {E = ParseIntError} 32 10 t (Ok x) → is_within low high x ≡ true → Some x ≡ count_of low high (Some t)
+      count_read x p h = some_if (is_count low high t) x (count_number t) (within_is_count x p.0 p.1 (within x h)) (p.1 ∙ same_number)
+
+      outside_is_none : (x : ℕ) → x ≡ count_number t → is_within low high x ≡ false → is_count low high t ≡ true → ⊥
+      outside_is_none x is out h = true_not_false (is_within low high (count_number t)) (counted_within t h) (subst (λ (n : ℕ). is_within low high n ≡ false) is out)
+
+      pub count_outside : (x : ℕ) → ParsesUnsigned {E = ParseIntError} 32 10 t (Ok x) → is_within low high x ≡ false → None ≡ count_of low high (Some t)
+      count_outside x p out = none_unless (is_count low high t) (count_number t) (outside_is_none x (p.1 ∙ same_number) out)
+
+      pub count_unread : (e : ParseIntError) → ParsesUnsigned 32 10 t (Err e) → None ≡ count_of low high (Some t)
+      count_unread e p = none_unless (is_count low high t) (count_number t) (λ is. let a = accepts-Accepts false (Unsigned low high) t (plain_count t plain ∙ is) in p (a.0, omega (arith, fits, a.3)))
+
+    -- ---- what `clap` takes
+
+    -- the option has a number, named or not, where no plus stands before it
+    pub has_count : (o : Option Text) → IsNumberIn low high o → option_map_or begins_with_plus o false ≡ false → (n : ℕ) × (count_of low high o ≡ Some n)
+    has_count None e plain = (low, refl)
+    has_count (Some t) e plain = (count_number t, rw (sym (plain_count t plain) ∙ e) refl)

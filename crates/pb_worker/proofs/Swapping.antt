@@ -1,0 +1,39 @@
+-- Spares swapped in, one after another.
+use Rattle.std.proofs.Common.{◌≡◌, ℕ, List, [], ◌∷◌, ◌++◌, reverse, Option, Some, None, refl, sym, ap, subst, ◌∙◌}
+use Rattle.std.specs.Option.{option_or}
+use Rattle.std.proofs.lemmas.List.{append_assoc, map-append, reverse-append}
+use Rattle.std.proofs.lemmas.List.Elements.{All-nil, All-cons, All-append}
+use Rattle.pb_base.specs.declared.refusal.Refusal.{Refusal}
+use Rattle.pb_store.specs.Contents.{Contents}
+use Rattle.pb_worker.specs.Swaps.{Spare, spares_of, IsSwapped, AreSwapped}
+
+abbrev IsTaken : Spare → Type 0
+IsTaken s = IsSwapped s None
+
+-- one swap more
+one_more : (spares : List Spare) (s : Spare) (first refused : Option Refusal) → AreSwapped spares first → IsSwapped s refused → AreSwapped (spares ++ s ∷ []) (option_or first refused)
+one_more spares s None None taken is = All-append IsTaken spares (s ∷ []) taken (All-cons IsTaken s [] is (All-nil IsTaken))
+one_more spares s None (Some r) taken is = record { before = spares; spare = s; after = []; spares_are = refl; taken = taken; refused = is }
+one_more spares s (Some r) refused f is = record {
+  before = f.before;
+  spare = f.spare;
+  after = f.after ++ s ∷ [];
+  spares_are = ap (λ l. l ++ s ∷ []) f.spares_are ∙ append_assoc f.before (f.spare ∷ f.after) (s ∷ []);
+  taken = f.taken;
+  refused = f.refused;
+}
+
+-- Of all spares the first were swapped, and the others wait, the next one last.
+pub record IsOnTheWay {T : Type 0} (c : T → Contents) (all waiting : List (ℕ × T)) (first : Option Refusal) : Type 0 where
+  pub before : List (ℕ × T)
+  pub all_are : all ≡ before ++ reverse waiting
+  pub swapped : AreSwapped (spares_of c before) first
+
+pub next : {T : Type 0} (c : T → Contents) (all waiting rest : List (ℕ × T)) (x : ℕ × T) (first refused : Option Refusal) → waiting ≡ rest ++ x ∷ [] → IsOnTheWay c all waiting first → IsSwapped (x.0, c x.1) refused → IsOnTheWay c all rest (option_or first refused)
+next {T} c all waiting rest x first refused is w s = record {
+  before = w.before ++ x ∷ [];
+  all_are =
+      let turned : reverse waiting ≡ x ∷ reverse rest = ap reverse is ∙ reverse-append rest (x ∷ []) in
+      w.all_are ∙ ap (λ l. w.before ++ l) turned ∙ sym (append_assoc w.before (x ∷ []) (reverse rest));
+  swapped = subst (λ l. AreSwapped l (option_or first refused)) (sym (map-append (λ (y : ℕ × T). (y.0, c y.1)) w.before (x ∷ []))) (one_more (spares_of c w.before) (x.0, c x.1) first refused w.swapped s);
+}

@@ -1,0 +1,18 @@
+-- Of which sort the tablet at a place is, by whether the number of swaps there is even.
+use Rattle.std.proofs.Common.{◌≡◌, ℕ, ◌%◌, zero, suc, Bool, true, false, refl, arith, ◌∙◌}
+use Rattle.std.specs.Prelude.{◌==◌, not}
+use Rattle.percobpf.specs.Places.{is_slab}
+
+twice : (b : Bool) → not (not b) ≡ b
+twice true = refl
+twice false = refl
+
+pub slab_after_even : (place n : ℕ) → n % 2 ≡ 0 → is_slab place n ≡ (place == 1)
+slab_after_even place zero e = refl
+slab_after_even place (suc zero) e = absurd cc
+slab_after_even place (suc (suc n)) e = twice (is_slab place n) ∙ slab_after_even place n (omega (arith, e))
+
+pub slab_after_odd : (place n : ℕ) → n % 2 ≡ 1 → is_slab place n ≡ not (place == 1)
+slab_after_odd place zero e = absurd cc
+slab_after_odd place (suc zero) e = refl
+slab_after_odd place (suc (suc n)) e = twice (is_slab place n) ∙ slab_after_odd place n (omega (arith, e))
