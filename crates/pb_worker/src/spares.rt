@@ -68,7 +68,8 @@ pub fn end_spares<T: Tablet>(spares: Vec<(usize, T)>) {
     spares.destroy_empty();
 }
 
-/// The workers of all seats but the first in threads, and beside them the swaps of the spares in this one.
+/// The workers of all seats but the first in threads, and beside them the swaps of the spares, where there are any, in
+/// this one.
 pub(crate) fn work_beside_swaps<
     R: Threads + Wait + Sync,
     T: Tablet + Send,
@@ -91,6 +92,12 @@ pub(crate) fn work_beside_swaps<
     ensures swaps { AreSwapped (spares_of T.contents spares.items) result.1 }
 {
     let mut spares = spares;
+    if spares.is_empty() {
+        let mut workers = workers;
+        work_rest(rt, alloc, shared, &mut workers, observers, batches, gate);
+        spares.destroy_empty();
+        return (workers, None);
+    }
     let waiting = &mut spares;
     let worked = thread::join(
         rt,
