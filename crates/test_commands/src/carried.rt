@@ -5,7 +5,7 @@ ghost use Rattle.pb_texts.specs.CommandLines.{IsInRange, swaps_asked};
 ghost use Rattle.pb_command.specs.Commands.{IsSequential};
 
 use pb_base::{NoMemory, Sink, SinkFault};
-use pb_command::{Paths, command, sequential_command};
+use pb_command::{PathFault, Paths, command, sequential_command};
 use pb_store::{Table, Tablet};
 use pb_texts::Options;
 use std::alloc::Global;
@@ -42,6 +42,48 @@ impl Sink for Sheet {
 
     fn has_failed(&self) -> bool {
         self.failed
+    }
+}
+
+/// What the reading of a file answers.
+pub type File<'a> = Result<&'a [u8], PathFault>;
+
+/// The three files of a command, at the paths `m`, `s` and `e`. No write succeeds.
+#[derive(Drop)]
+pub struct Files<'a> {
+    pub alloc: Global,
+    pub manifest: File<'a>,
+    pub script: File<'a>,
+    pub schedule: File<'a>,
+}
+
+impl<'a> Paths for Files<'a> {
+    ghost use Rattle.std.specs.Prelude.{Some, [], ◌∷◌, if◌then◌else◌, true};
+    ghost use Rattle.std.specs.Result.{result_map_both};
+    ghost use Rattle.std.specs.Str.{bytes_eq};
+
+    ghost held = { λ h path. Some (result_map_both (λ r. r.now) (λ e. e)
+        (if bytes_eq path (109 ∷ []) then h.manifest else if bytes_eq path (115 ∷ []) then h.script else h.schedule)) };
+
+    ghost failed = { λ _. true };
+
+    fn read(&mut self, path: &str) -> Result<Vec<u8>, PathFault> {
+        let file = if path == "m" {
+            self.manifest
+        } else if path == "s" {
+            self.script
+        } else {
+            self.schedule
+        };
+        let mut bytes = Vec::new(self.alloc);
+        match bytes.extend_from_slice(file?) {
+            Ok(()) => Ok(bytes),
+            Err(_) => Err(PathFault::NoMemory),
+        }
+    }
+
+    fn write(&mut self, _path: &str, _bytes: &[u8]) -> Result<(), PathFault> {
+        Err(PathFault::Failed)
     }
 }
 

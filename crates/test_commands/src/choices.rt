@@ -1,10 +1,9 @@
 //! `run` and `replay` over each choice of two sorts of tablet: all print the same.
-ghost use Rattle.std.specs.Prelude.{◌≡◌, true, vec_len};
+ghost use Rattle.std.specs.Prelude.{◌≡◌, vec_len};
 ghost use Rattle.pb_texts.specs.CommandLines.{IsInRange, swaps_asked};
 
-use crate::carried::{Outcome, carry_over};
+use crate::carried::{Files, Outcome, carry_over};
 use pb_base::{NoMemory, Ts};
-use pb_command::{PathFault, Paths};
 use pb_texts::Options;
 use std::alloc::Global;
 use std::process::Abort;
@@ -26,42 +25,6 @@ const COPY: &str =
 
 // Whether the first tablet is a slab, and the second.
 const CHOICES: [[bool; 2]; 4] = [[false, false], [false, true], [true, false], [true, true]];
-
-// The three files of a command, at the paths `m`, `s` and `e`. No write succeeds.
-#[derive(Drop)]
-struct Files<'a> {
-    alloc: Global,
-    manifest: &'a str,
-    script: &'a str,
-    schedule: &'a str,
-}
-
-impl<'a> Paths for Files<'a> {
-    ghost use Rattle.std.specs.Prelude.{None};
-
-    ghost held = { λ _ _. None };
-
-    ghost failed = { λ _. true };
-
-    fn read(&mut self, path: &str) -> Result<Vec<u8>, PathFault> {
-        let file = if path == "m" {
-            self.manifest
-        } else if path == "s" {
-            self.script
-        } else {
-            self.schedule
-        };
-        let mut bytes = Vec::new(self.alloc);
-        match bytes.extend_from_slice(file.as_bytes()) {
-            Ok(()) => Ok(bytes),
-            Err(_) => Err(PathFault::NoMemory),
-        }
-    }
-
-    fn write(&mut self, _path: &str, _bytes: &[u8]) -> Result<(), PathFault> {
-        Err(PathFault::Failed)
-    }
-}
 
 // What a command leaves over tablets of these sorts.
 fn left<R: Threads + Wait + Abort + Sync>(
@@ -199,9 +162,9 @@ fn replays_print_the_same(rt: HostRuntime) -> Result<(), NoMemory> {
         for slabs in CHOICES {
             let files = Files {
                 alloc,
-                manifest: case.manifest,
-                script: case.script,
-                schedule: case.schedule,
+                manifest: Ok(case.manifest.as_bytes()),
+                script: Ok(case.script.as_bytes()),
+                schedule: Ok(case.schedule.as_bytes()),
             };
             let outcome = left(&rt, alloc, &options, files, slabs)?;
             assert!(rt;
@@ -233,9 +196,9 @@ fn printed<R: Threads + Wait + Abort + Sync>(
     );
     let files = Files {
         alloc,
-        manifest,
-        script,
-        schedule: "",
+        manifest: Ok(manifest.as_bytes()),
+        script: Ok(script.as_bytes()),
+        schedule: Ok(b""),
     };
     let options = Options::Run {
         manifest: "m",

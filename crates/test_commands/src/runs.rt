@@ -1,9 +1,9 @@
 //! `run`, over paths and sinks in memory.
 ghost use Rattle.std.specs.Prelude.{◌≡◌, ◌≤◌};
 
-use crate::carried::{Outcome, carry_in_threads, has_told};
+use crate::carried::{Files, Outcome, carry_in_threads, has_told};
 use pb_base::NoMemory;
-use pb_command::{PathFault, Paths};
+use pb_command::PathFault;
 use pb_texts::Options;
 use std::alloc::Global;
 use std::rt::HostRuntime;
@@ -12,47 +12,11 @@ use std::thread::Threads;
 
 const MANIFEST: &[u8] = b"{\"profile\":1,\"observers\":[]}";
 
-// The two files of a run, at the paths `m` and `s`. No write succeeds.
-#[derive(Drop)]
-struct Held<'a> {
-    alloc: Global,
-    manifest: Result<&'a [u8], PathFault>,
-    script: Result<&'a [u8], PathFault>,
-}
-
-impl<'a> Paths for Held<'a> {
-    ghost use Rattle.std.specs.Prelude.{Some, [], ◌∷◌, if◌then◌else◌, true};
-    ghost use Rattle.std.specs.Result.{result_map_both};
-    ghost use Rattle.std.specs.Str.{bytes_eq};
-
-    ghost held = { λ h path. Some (result_map_both (λ r. r.now) (λ e. e)
-        (if bytes_eq path (109 ∷ []) then h.manifest else h.script)) };
-
-    ghost failed = { λ _. true };
-
-    fn read(&mut self, path: &str) -> Result<Vec<u8>, PathFault> {
-        let held = if path == "m" {
-            self.manifest
-        } else {
-            self.script
-        };
-        let mut bytes = Vec::new(self.alloc);
-        match bytes.extend_from_slice(held?) {
-            Ok(()) => Ok(bytes),
-            Err(_) => Err(PathFault::NoMemory),
-        }
-    }
-
-    fn write(&mut self, _path: &str, _bytes: &[u8]) -> Result<(), PathFault> {
-        Err(PathFault::Failed)
-    }
-}
-
 // A run of these files by so many workers.
 fn run<R: Threads + Wait + Sync>(
     rt: &R,
     alloc: Global,
-    files: Held,
+    files: Files,
     workers: u32,
     left: usize,
     fails: bool,
@@ -72,10 +36,11 @@ fn run<R: Threads + Wait + Sync>(
 
 #[test]
 fn memory_for_a_manifest_is_refused(rt: HostRuntime) {
-    let files = Held {
+    let files = Files {
         alloc: rt.alloc(),
         manifest: Err(PathFault::NoMemory),
         script: Ok(b""),
+        schedule: Ok(b""),
     };
     assert!(rt;
         has_told(
@@ -86,11 +51,12 @@ fn memory_for_a_manifest_is_refused(rt: HostRuntime) {
 }
 
 // A script of one change.
-fn one_change<'a>(alloc: Global) -> Held<'a> {
-    Held {
+fn one_change<'a>(alloc: Global) -> Files<'a> {
+    Files {
         alloc,
         manifest: Ok(MANIFEST),
         script: Ok(b"put 7 0 2a\n"),
+        schedule: Ok(b""),
     }
 }
 

@@ -10,6 +10,7 @@ use pb_memtablet::ListTablet;
 use pb_state::State;
 use pb_store::{Edit, Item, Slot, Sort, Table};
 use std::alloc::Global;
+use test_fixtures::table;
 
 /// Column 0.
 pub fn column() -> Result<Column, NoMemory> {
@@ -82,18 +83,6 @@ fn steps(alloc: Global) -> Result<Vec<Step>, NoMemory> {
     steps.push(Step::NextMark(None))?;
     steps.push(Step::Sweep(cell_of(0)?))?;
     Ok(steps)
-}
-
-/// A table of one tablet.
-pub fn table(alloc: Global) -> Result<Table<ListTablet>, NoMemory>
-    ensures { IfOk result (λ t. t.contents ≡ nothing) }
-{
-    let mut parts = Vec::new(alloc);
-    parts.push((Row(0), ListTablet::new(alloc)))?;
-    match Table::new(parts) {
-        Ok(table) => Ok(table),
-        Err(_) => Err(NoMemory),
-    }
 }
 
 /// `Batch::copy`.

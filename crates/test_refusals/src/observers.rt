@@ -1,7 +1,7 @@
 //! Calls on programs, machines, manifests, schedules, and tables with an observer.
 ghost use Rattle.std.specs.Prelude.{◌≡◌, ◌≤◌, length, IfOk};
 
-use crate::calls::{Twins, batch, called, close, column, opened_twice, table};
+use crate::calls::{Twins, batch, called, close, column, opened_twice};
 use crate::machines;
 use pb_base::{Cell, NoMemory, ObserverNo, Row, Ts};
 use pb_core::{
@@ -13,6 +13,7 @@ use pb_script::{Event, Job, parse_schedule};
 use pb_verify::{Accepted, VerifyFault};
 use std::alloc::Global;
 use std::sync::Arc;
+use test_fixtures::table;
 
 // mov64 r0, 0 and exit.
 const PROGRAM: &[u8] = b"\xb7\0\0\0\0\0\0\0\x95\0\0\0\0\0\0\0";

@@ -1,9 +1,9 @@
 //! Calls on whole scripts.
-use crate::calls::table;
 use pb_base::{NoMemory, Ts};
 use pb_core::{OpenRefused, Shared};
 use pb_script::parse_script;
 use std::alloc::Global;
+use test_fixtures::table;
 
 /// Two changes, of three cells.
 pub const SCRIPT: &str = "put 7 0 2a\ndel 7 1; put 8 0 0b\n";

@@ -2,14 +2,13 @@
 ghost use Rattle.std.specs.Prelude.{◌≡◌, false, IfOk};
 ghost use Rattle.pb_core.specs.Calls.{AreSeats};
 
-use crate::calls::table;
 use crate::jobs::program;
 use crate::observers::observers;
 use crate::page::Page;
 use crate::runs::SCRIPT;
 use crate::same::{are_seats_same, are_shared_same};
 use pb_base::{Batch, MAX_ENTRIES, NoMemory, Refusal, Sink, Ts};
-use pb_core::{Answer, Observer, OpenRefused, Phase, Seat, Shared, Step, Work};
+use pb_core::{Answer, Observer, Phase, Seat, Shared, Step, Work};
 use pb_memtablet::ListTablet;
 use pb_script::{parse_script, report};
 use pb_worker::{NotRun, Open, Worked, finish, run_workers};
@@ -47,19 +46,7 @@ fn opened(alloc: Global) -> Result<(Shared<ListTablet>, Vec<Seat>), NoMemory>
     ensures { IfOk result (λ s. AreSeats s.0 s.1.items) }
 {
     let observers = observers(alloc, &program(alloc)?)?;
-    match Shared::open(alloc, table(alloc)?, observers, 2, Ts(0), MAX_ENTRIES) {
-        Ok(opened) => Ok(opened),
-        Err(
-            OpenRefused {
-                table,
-                observers: _,
-                code: _,
-            },
-        ) => {
-            table.close();
-            Err(NoMemory)
-        }
-    }
+    test_fixtures::opened(alloc, observers, 2, Ts(0), MAX_ENTRIES)
 }
 
 fn are_observers_same(a: &[Observer], b: &[Observer]) -> bool {

@@ -1,15 +1,16 @@
 //! Worlds, and the events that happen in them.
 ghost use Rattle.pb_core.specs.Calls.{AreSeats};
 
-use crate::calls::{table, three_cells};
+use crate::calls::three_cells;
 use crate::jobs::program;
 use crate::observers::observers;
 use pb_base::{Batch, NoMemory, Ts};
-use pb_core::{Answer, OpenRefused, Seat, Shared};
+use pb_core::{Answer, Seat, Shared};
 use pb_memtablet::ListTablet;
 use pb_script::{Event, parse_schedule};
 use pb_world::World;
 use std::alloc::Global;
+use test_fixtures::opened;
 
 // A change, a run that crashes while others' locks may stand, a second run of its cell, and what the main seat clears.
 const SCHEDULE: &str =
@@ -118,19 +119,8 @@ fn left(alloc: Global, events: &[Event]) -> Result<Option<Vec<Answer>>, NoMemory
     let same = three_cells(alloc)?;
     batches.push(same.copy()?)?;
     let observers = observers(alloc, &program(alloc)?)?;
-    match Shared::open(alloc, table(alloc)?, observers, 4, Ts(0), 100) {
-        Ok((shared, seats)) => left_in(alloc, shared, seats, batches, &same, events),
-        Err(
-            OpenRefused {
-                table,
-                observers: _,
-                code: _,
-            },
-        ) => {
-            table.close();
-            Err(NoMemory)
-        }
-    }
+    let (shared, seats) = opened(alloc, observers, 4, Ts(0), 100)?;
+    left_in(alloc, shared, seats, batches, &same, events)
 }
 
 /// `World::open` and `World::run`: refused, they go on to the answers that they have where nothing is refused.

@@ -1,44 +1,26 @@
 //! Spares that are swapped in beside a worker.
-ghost use Rattle.std.specs.Prelude.{◌≡◌, ◌≤◌, length, IfOk};
-ghost use Rattle.pb_base.specs.declared.limits.TheConstants.{MAX_OBSERVERS};
+ghost use Rattle.std.specs.Prelude.{◌≡◌};
 ghost use Rattle.pb_base.specs.Cell.{row_of};
 ghost use Rattle.pb_core.specs.Calls.{AreSeats};
 ghost use Rattle.pb_store.specs.Contents.{IsOfSort};
 
-use pb_base::{Cell, Column, MAX_ENTRIES, NoMemory, Out, Refusal, Row, Ts};
-use pb_core::{Answer, Observer, OpenRefused, Seat, Shared};
+use crate::tables::{COPY, observers, ran, report_of};
+use pb_base::{Cell, Column, MAX_ENTRIES, Refusal, Row, Ts};
+use pb_core::{Answer, Seat, Shared};
 use pb_memtablet::ListTablet;
 use pb_parse::parse_script;
-use pb_registry::Registry;
-use pb_script::report;
 use pb_store::{Edit, Table, Tablet};
-use pb_worker::{NotRun, Open, Worked, run_workers};
+use pb_worker::{Open, Worked};
 use std::alloc::Global;
 use std::process::Abort;
 use std::sync::atomic::{AtomicUsize, Ordering};
 use std::sync::{Arc, Wait};
 use std::thread::Threads;
-use test_fixtures::CountedTablet;
-
-/// An observer that copies the value of its cell to column 1.
-const COPY: &str =
-    "{\"profile\":1,\"observers\":[{\"name\":\"copy\",\"column\":0,\"helpers\":[2],\"code\":\"bf1600000000000079623000000000007b2ae0ff0000000079623800000000007b2ae8ff0000000079624000000000007b2af0ff0000000079624800000000007b2af8ff000000007961000000000000b702000001000000bfa300000000000007030000e0ffffff8500000002000000b7000000000000009500000000000000\"}]}";
+use test_fixtures::{CountedTablet, opened_over};
 
 /// What is told of a change that it copied, whatever was swapped meanwhile.
 const COPIED: &[u8] =
     b"cell 7 0 commit 2 value 2a\ncell 7 1 commit 4 value 2a\nruns copy 1\nquiet\n";
-
-fn observers(alloc: Global) -> Result<Vec<Observer>, NoMemory>
-    ensures { IfOk result (λ v. length v.items ≤ MAX_OBSERVERS) }
-{
-    match Registry::from_json(alloc, COPY) {
-        Ok(registry) => match registry.into_observers(alloc) {
-            Ok(observers) => Ok(observers),
-            Err(_) => Err(NoMemory),
-        },
-        Err(_) => Err(NoMemory),
-    }
-}
 
 // A tablet with nothing in it, which counts its changes there.
 fn tablet(rt: &impl Abort, alloc: Global, calls: &Arc<AtomicUsize>) -> CountedTablet {
@@ -66,7 +48,7 @@ fn counter(rt: &impl Abort, alloc: Global) -> Arc<AtomicUsize> {
 fn opened(rt: &impl Abort, alloc: Global) -> (Shared<CountedTablet>, Vec<Seat>)
     ensures { AreSeats result.0 result.1.items }
 {
-    let observers = observers(alloc).ok().expect(rt, "observers");
+    let observers = observers(alloc, COPY).ok().expect(rt, "observers");
     let calls = counter(rt, alloc);
     let mut parts = Vec::new(alloc);
     for row in [0u64, 1000] {
@@ -75,19 +57,9 @@ fn opened(rt: &impl Abort, alloc: Global) -> (Shared<CountedTablet>, Vec<Seat>)
             .expect(rt, "memory");
     }
     let table = Table::new(parts).ok().expect(rt, "a table");
-    match Shared::open(alloc, table, observers, 2, Ts(0), MAX_ENTRIES) {
-        Ok(opened) => opened,
-        Err(
-            OpenRefused {
-                table,
-                observers: _,
-                code: _,
-            },
-        ) => {
-            table.close();
-            panic!(rt; "not opened")
-        }
-    }
+    opened_over(alloc, table, observers, 2, Ts(0), MAX_ENTRIES)
+        .ok()
+        .expect(rt, "opened")
 }
 
 // What one worker leaves of a change that is copied, beside swaps of these.
@@ -100,31 +72,7 @@ fn worked<R: Threads + Wait + Abort + Sync>(
         .ok()
         .expect(rt, "batches");
     let (shared, seats) = opened(rt, alloc);
-    assert!(rt; seats.len() > 1, "there is a worker");
-    match run_workers(rt, alloc, shared, seats, batches, spares, &Open) {
-        Ok(worked) => worked,
-        Err(
-            NotRun {
-                shared,
-                seats: _,
-                batches: _,
-                spares: _,
-            },
-        ) => {
-            shared.close();
-            panic!(rt; "not run")
-        }
-    }
-}
-
-fn report_of(rt: &impl Abort, alloc: Global, shared: &Shared<CountedTablet>) -> Vec<u8> {
-    let mut bytes = Vec::new(alloc);
-    let mut out = Out::new(&mut bytes);
-    assert!(rt;
-        report(alloc, &mut out, shared).is_ok(),
-        "the report is written"
-    );
-    bytes
+    ran(rt, alloc, shared, seats, batches, spares, &Open)
 }
 
 // Whether the change was made and copied, and main's passes came to their end, with this first refusal of main's alone.

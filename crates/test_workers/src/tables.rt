@@ -1,13 +1,15 @@
 //! Tables that workers have worked on, and what is told of them.
 ghost use Rattle.std.specs.Prelude.{◌≤◌, length, IfOk};
 ghost use Rattle.pb_base.specs.declared.limits.TheConstants.{MAX_OBSERVERS};
+ghost use Rattle.pb_core.specs.Calls.{AreSeats};
 
-use pb_base::{MAX_ENTRIES, NoMemory, Out, Ts};
+use pb_base::{Batch, MAX_ENTRIES, NoMemory, Out, Ts};
 use pb_core::{Observer, Seat, Shared};
 use pb_memtablet::EitherTablet;
 use pb_parse::parse_script;
 use pb_registry::Registry;
 use pb_script::report;
+use pb_store::Tablet;
 use pb_worker::{Ended, Gate, NotRun, Worked, finish, run_workers};
 use std::alloc::Global;
 use std::process::Abort;
@@ -60,7 +62,8 @@ impl<'a> Task<'a> {
     }
 }
 
-fn observers(alloc: Global, manifest: &str) -> Result<Vec<Observer>, NoMemory>
+/// The observers of a manifest.
+pub fn observers(alloc: Global, manifest: &str) -> Result<Vec<Observer>, NoMemory>
     ensures { IfOk result (λ v. length v.items ≤ MAX_OBSERVERS) }
 {
     match Registry::from_json(alloc, manifest) {
@@ -97,6 +100,21 @@ pub fn worked<R: Threads + Wait + Abort + Sync, G: Gate>(
     )
     .ok()
     .expect(rt, "opened");
+    ran(rt, alloc, shared, seats, batches, spares, gate)
+}
+
+/// What the workers of these seats leave of changes, beside swaps of these spares.
+pub fn ran<R: Threads + Wait + Abort + Sync, T: Tablet + Send, G: Gate>(
+    rt: &R,
+    alloc: Global,
+    shared: Shared<T>,
+    seats: Vec<Seat>,
+    batches: Vec<Batch>,
+    spares: Vec<(usize, T)>,
+    gate: &G,
+) -> Worked<T>
+    requires { AreSeats shared seats.items }
+{
     assert!(rt; seats.len() > 1, "there are workers");
     match run_workers(rt, alloc, shared, seats, batches, spares, gate) {
         Ok(worked) => worked,
@@ -115,7 +133,7 @@ pub fn worked<R: Threads + Wait + Abort + Sync, G: Gate>(
 }
 
 /// The report of a table.
-pub fn report_of(rt: &impl Abort, alloc: Global, shared: &Shared<EitherTablet>) -> Vec<u8> {
+pub fn report_of<T: Tablet>(rt: &impl Abort, alloc: Global, shared: &Shared<T>) -> Vec<u8> {
     let mut bytes = Vec::new(alloc);
     let mut out = Out::new(&mut bytes);
     assert!(rt;
