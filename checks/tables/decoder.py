@@ -1,10 +1,13 @@
-"""Bytes that are listed, and bytes that are no program's, with the slot and the code that `dis` tells.
+"""Bytes that are listed, and bytes that are no program's, with the slot and the code that `dis` tells; and of each beginning of a
+program what `check` tells too.
 
 Worked out from RFC 9669, sections 3 to 5, and docs/MACHINE.md, "Encoding". The slots stand as their bytes in hexadecimal.
 """
 from __future__ import annotations
 
-from tables import Row, Tables, dis, dis_refused
+from pathlib import Path
+
+from tables import COPY, Row, Tables, dis, dis_refused, encoded, refused
 
 MOV = bytes.fromhex("b700000000000000")
 
@@ -15,7 +18,6 @@ def first_refused(digits: str, number: int) -> Row:
 
 
 LENGTHS = [
-    first_refused("", 10),
     *(dis(MOV * slots, "mov64 r0, 0\n" * slots) for slots in range(1, 513)),
     dis_refused(MOV * 513, 0, 11),
     *(dis_refused((MOV * 513)[:length], 0, 10) for length in (1, 7, 9, 4095, 4097)),
@@ -67,9 +69,31 @@ BYTES = [
     dis_refused(bytes.fromhex("9500000000000000" * 3 + "8f01000000000000"), 3, 12),
 ]
 
+# the instructions of `copy`, of a slot each
+COPY_TEXT = Path(__file__).resolve().parent.parent.parent / "examples/copy.s"
+COPY_LINES = [line for line in COPY_TEXT.read_text().splitlines() if not line.startswith("#")]
+COPY_CODE = encoded(*COPY_LINES)
+if COPY_CODE.hex() != COPY:
+    raise ValueError(f"{COPY_TEXT} isn't the text of COPY")
+
+
+def beginning(length: int) -> list[Row]:
+    """What is told of so many first bytes of `copy` by `dis` and by `check`."""
+    code, slots = COPY_CODE[:length], length // 8
+    if length == 0 or length % 8:
+        return [dis_refused(code, 0, 10), refused(code, 0, 10)]
+    listing = "".join(f"{line}\n" for line in COPY_LINES[:slots])
+    # each slot keeps the rules, but that the last one leads past the end
+    return [dis(code, listing), refused(code, slots - 1, 36)]
+
+
+# all but the whole, which ends with its exit
+BEGINNINGS_OF_COPY = [row for length in range(len(COPY_CODE)) for row in beginning(length)]
+
 TABLES: Tables = {
     "lengths": LENGTHS,
     "one slot": ONE_SLOT,
     "two slots": TWO_SLOTS,
     "bytes": BYTES,
+    "beginnings of copy": BEGINNINGS_OF_COPY,
 }

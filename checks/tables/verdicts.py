@@ -174,7 +174,6 @@ POINTERS_COME_BACK = [
 
 
 BYTES = [
-    refused(b"", 0, 10),
     refused(bytes.fromhex("1800000005000000"), 0, 15),
     refused(bytes.fromhex("720afffd00000000"), 0, 25),
     accepted(bytes.fromhex("720a00fe00000000b7000000000000009500000000000000"), 3),
