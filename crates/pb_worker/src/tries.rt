@@ -13,9 +13,15 @@ use pb_core::{Answer, Seat};
 use pb_txn::{ChangeJob, Outcome, changes_talk, plans_talk};
 use std::alloc::Global;
 use std::sync::{Mutex, Wait};
+use std::thread;
 
 /// How often a change is tried at most.
 pub const MAX_TRIES: u32 = 100;
+
+// How often a thread yields after a try for each that was in vain, and how often at most.
+const TURNS: u32 = 16;
+
+const MOST_TURNS: u32 = 512;
 
 /// The limit of tries has this value.
 pub fn tries_limit_is_this()
@@ -100,6 +106,14 @@ fn try_once<R: Wait, C: Callee, G: Gate>(
     unreachable!()
 }
 
+// Lets others go on, the longer the more tries were in vain.
+fn stand_back(tries: u32) {
+    let turns = tries.saturating_mul(TURNS).min(MOST_TURNS);
+    for _turn in 0..turns {
+        thread::yield_now();
+    }
+}
+
 // Tries a change until it commits, or so often as may be, and tells whether it committed.
 fn try_all<R: Wait, C: Callee, G: Gate>(
     rt: &R,
@@ -113,11 +127,12 @@ fn try_all<R: Wait, C: Callee, G: Gate>(
     ensures err { IfErr result
         (λ cut. Gains (TriesStop seat.old.number batch.now cut.committed cut.refusal) seat.old seat.new) }
 {
-    for _count in 0..MAX_TRIES {
+    for count in 0..MAX_TRIES {
         let committed = try_once(rt, alloc, shared, seat, batch, gate)?;
         if committed {
             return Ok(true);
         }
+        stand_back(count + 1);
     }
     Ok(false)
 }
