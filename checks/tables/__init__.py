@@ -10,8 +10,8 @@ import struct
 from dataclasses import dataclass, field
 
 # how many tables there are, and how many rows in all, so that a lost one is noticed
-TABLE_COUNT = 152
-ROW_COUNT = 2905
+TABLE_COUNT = 158
+ROW_COUNT = 3614
 
 TOO_LARGE = bytes(16_777_217)
 

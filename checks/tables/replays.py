@@ -6,6 +6,7 @@ from __future__ import annotations
 
 from tables import CHANGED, COPIED, ONE, WATCHED, Row, Tables, manifest_of, observer, replay, replay_fails
 
+ACTORS = range(1, 64)
 
 RIVALS = [
     # two runs on one cell: the first to write its acknowledgment commits, and the other conflicts with it
@@ -22,6 +23,16 @@ RIVALS = [
         "put 7 0 2a\nput 7 0 2b\n",
         "launch 1 change 1\nstep 1 100\nlaunch 1 change 2\nstep 1 100\nlaunch 1 run watch 7\nstep 1 100\n",
         "cell 7 0 commit 4 value 2b\nruns watch 1\nquiet\n",
+    ),
+    # 63 runs on one cell, which begin with 3 to 65 and read the same: the first one commits, and sweeps
+    replay(
+        WATCHED,
+        ONE,
+        "launch 1 change 1\nstep 1 5\n"
+        + "".join(f"launch {actor} run watch 7\nstep {actor}\n" for actor in ACTORS)
+        + "".join(f"step {actor} 2\n" for actor in ACTORS)
+        + "".join(f"step {actor} 100\n" for actor in ACTORS),
+        f"{CHANGED}runs watch 1\nquiet\n",
     ),
 ]
 

@@ -193,3 +193,16 @@ pub fn has_told(outcome: Result<Outcome, NoMemory>, fault: &str) -> bool {
         Err(_) => false,
     }
 }
+
+/// Whether a command whose output took so many bytes of this text, and then failed or took none, printed them and tells it.
+pub fn is_cut(outcome: Result<Outcome, NoMemory>, taken: usize, text: &[u8]) -> bool {
+    match outcome {
+        Ok(outcome) => {
+            outcome.status == 1
+                && outcome.out.len() == taken
+                && text.starts_with(outcome.out.as_slice())
+                && outcome.err.as_slice() == b"cannot write the output\n".as_slice()
+        }
+        Err(_) => false,
+    }
+}

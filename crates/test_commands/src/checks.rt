@@ -1,6 +1,6 @@
 //! `check`, over paths and sinks in memory.
 use crate::carried::{carry, has_told};
-use crate::programs::{holding, is_cut};
+use crate::programs::{holding, is_cut_anywhere};
 use pb_command::PathFault;
 use pb_texts::Options;
 use std::rt::HostRuntime;
@@ -19,14 +19,5 @@ fn memory_for_a_program_is_refused(rt: HostRuntime) {
 fn a_verdict_may_fail_at_any_call(rt: HostRuntime) {
     let bytes = b"\xb7\0\0\0\0\0\0\0\x95\0\0\0\0\0\0\0" as &[u8];
     let text = b"accepted 2 slots\n" as &[u8];
-    for j in 0..text.len() {
-        assert!(rt;
-            is_cut(&rt, &CHECK, bytes, (j, true), text),
-            "failed at {j}"
-        );
-        assert!(rt;
-            is_cut(&rt, &CHECK, bytes, (j, false), text),
-            "took none at {j}"
-        );
-    }
+    assert!(rt; is_cut_anywhere(&rt, &CHECK, bytes, text));
 }

@@ -55,21 +55,34 @@ fn left<R: Threads + Wait + Abort + Sync>(
     ))
 }
 
-// What a replay prints, with the last timestamp given out before it.
+/// What a replay prints, with the last timestamp given out before it.
 #[derive(Clone, Copy, Debug)]
-struct Replayed<'a> {
+pub struct Replayed<'a> {
     manifest: &'a str,
     script: &'a str,
     schedule: &'a str,
-    clock: u64,
-    report: &'a str,
+    pub clock: u64,
+    pub report: &'a str,
+}
+
+impl<'a> Replayed<'a> {
+    /// What it is of.
+    pub fn files(&self, alloc: Global) -> Files<'a> {
+        Files {
+            alloc,
+            manifest: Ok(self.manifest.as_bytes()),
+            script: Ok(self.script.as_bytes()),
+            schedule: Ok(self.schedule.as_bytes()),
+        }
+    }
 }
 
 const CHANGE: &str = "put 7 0 2a\n";
 
 const TWO_CELLS: &str = "put 7 1 aa; put 7 0 2a\n";
 
-const REPLAYED: [Replayed<'static>; 10] = [
+/// Replays whose reports are worked out by hand.
+pub const REPLAYED: [Replayed<'static>; 10] = [
     // Two runs at once: one commits.
     Replayed {
         manifest: WATCH,
@@ -160,13 +173,7 @@ fn replays_print_the_same(rt: HostRuntime) -> Result<(), NoMemory> {
             clock: Ts(case.clock),
         };
         for slabs in CHOICES {
-            let files = Files {
-                alloc,
-                manifest: Ok(case.manifest.as_bytes()),
-                script: Ok(case.script.as_bytes()),
-                schedule: Ok(case.schedule.as_bytes()),
-            };
-            let outcome = left(&rt, alloc, &options, files, slabs)?;
+            let outcome = left(&rt, alloc, &options, case.files(alloc), slabs)?;
             assert!(rt;
                 outcome.status == 0 && outcome.err.is_empty(),
                 "{slabs:?} {case:?}"
@@ -181,11 +188,11 @@ fn replays_print_the_same(rt: HostRuntime) -> Result<(), NoMemory> {
 }
 
 // What a run by so many workers beside so many swaps prints, where nothing is left undone.
-fn printed<R: Threads + Wait + Abort + Sync>(
+fn printed<'a, R: Threads + Wait + Abort + Sync>(
     rt: &R,
     alloc: Global,
-    manifest: &str,
-    script: &str,
+    manifest: &'a str,
+    script: &'a str,
     workers: u32,
     swaps: u32,
     slabs: [bool; 2],

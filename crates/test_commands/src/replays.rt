@@ -1,24 +1,28 @@
 //! `replay`, over paths and sinks in memory.
-use crate::carried::{File, Files, Outcome, carry, has_told};
+use crate::carried::{File, Files, Outcome, carry, has_told, is_cut};
+use crate::choices::REPLAYED;
 use pb_base::{NoMemory, Ts};
 use pb_command::PathFault;
 use pb_texts::Options;
 use std::alloc::Global;
 use std::rt::HostRuntime;
 
-// An observer of column 0 that does nothing.
-const WATCH: &str =
-    "{\"profile\":1,\"observers\":[{\"name\":\"watch\",\"column\":0,\"helpers\":[],\"code\":\"b7000000000000009500000000000000\"}]}";
-
-fn replay(rt: &HostRuntime, files: Files, left: usize) -> Result<Outcome, NoMemory> {
+// A replay of these files with the last timestamp given out, whose output takes so many bytes, and then fails or takes none.
+fn replay(
+    rt: &HostRuntime,
+    files: Files,
+    clock: u64,
+    left: usize,
+    fails: bool,
+) -> Result<Outcome, NoMemory> {
     let mut files = files;
     let options = Options::Replay {
         manifest: "m",
         script: "s",
         schedule: "e",
-        clock: Ts(0),
+        clock: Ts(clock),
     };
-    carry(rt, &options, &mut files, left, true)
+    carry(rt, &options, &mut files, left, fails)
 }
 
 #[test]
@@ -30,23 +34,21 @@ fn memory_for_a_schedule_is_refused(rt: HostRuntime) {
         script: bad,
         schedule: Err(PathFault::NoMemory),
     };
-    assert!(rt; has_told(replay(&rt, files, usize::MAX), "no memory\n"));
+    let outcome = replay(&rt, files, 0, usize::MAX, true);
+    assert!(rt; has_told(outcome, "no memory\n"));
 }
 
-// A replay whose output ends at some call prints a beginning of the report, and tells it.
+// Each replay whose output ends at some call prints a beginning of its report, and tells it.
 #[test]
 fn output_of_a_replay_may_fail(rt: HostRuntime) {
-    let report = b"cell 7 0 commit 2 value 2a\nruns watch 0\nmarks 1 locks 0\n";
-    for j in 0..report.len() {
-        let files = Files {
-            alloc: rt.alloc(),
-            manifest: Ok(WATCH.as_bytes()),
-            script: Ok(b"put 7 0 2a\n"),
-            schedule: Ok(b"launch 1 change 1\nstep 1 100\n"),
-        };
-        let outcome = replay(&rt, files, j).expect(&rt, "memory");
-        assert!(rt; outcome.status == 1);
-        assert!(rt; outcome.out.len() == j && report.starts_with(outcome.out.as_slice()));
-        assert!(rt; outcome.err.as_slice() == b"cannot write the output\n".as_slice());
+    for case in REPLAYED {
+        let report = case.report.as_bytes();
+        for j in 0..report.len() {
+            for fails in [true, false] {
+                let files = case.files(rt.alloc());
+                let outcome = replay(&rt, files, case.clock, j, fails);
+                assert!(rt; is_cut(outcome, j, report), "{j} {fails} {case:?}");
+            }
+        }
     }
 }

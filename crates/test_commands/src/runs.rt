@@ -1,7 +1,7 @@
 //! `run`, over paths and sinks in memory.
 ghost use Rattle.std.specs.Prelude.{◌≡◌, ◌≤◌};
 
-use crate::carried::{Files, Outcome, carry_in_threads, has_told};
+use crate::carried::{Files, Outcome, carry_in_threads, has_told, is_cut};
 use pb_base::NoMemory;
 use pb_command::PathFault;
 use pb_texts::Options;
@@ -60,34 +60,15 @@ fn one_change<'a>(alloc: Global) -> Files<'a> {
     }
 }
 
-// Whether a run whose output ends at the j-th call prints a beginning of the report, and tells it.
-fn is_cut<R: Threads + Wait + Sync>(
-    rt: &R,
-    alloc: Global,
-    j: usize,
-    fails: bool,
-    report: &[u8],
-) -> bool {
-    match run(rt, alloc, one_change(alloc), 1, j, fails) {
-        Ok(outcome) => {
-            outcome.status == 1
-                && outcome.out.len() == j
-                && report.starts_with(outcome.out.as_slice())
-                && outcome.err.as_slice() == b"cannot write the output\n".as_slice()
-        }
-        Err(_) => false,
-    }
-}
-
 #[test]
 fn output_may_fail_at_any_call(rt: HostRuntime) {
     let report = b"cell 7 0 commit 2 value 2a\nquiet\n";
     for j in 0..report.len() {
-        assert!(rt; is_cut(&rt, rt.alloc(), j, true, report), "failed at {j}");
-        assert!(rt;
-            is_cut(&rt, rt.alloc(), j, false, report),
-            "took none at {j}"
-        );
+        for fails in [true, false] {
+            let files = one_change(rt.alloc());
+            let outcome = run(&rt, rt.alloc(), files, 1, j, fails);
+            assert!(rt; is_cut(outcome, j, report), "{j} {fails}");
+        }
     }
     for workers in [1, 2, 63u32] {
         let files = one_change(rt.alloc());

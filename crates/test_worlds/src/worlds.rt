@@ -3,11 +3,12 @@ ghost use Rattle.std.specs.Prelude.{◌≤◌, length, IfOk};
 ghost use Rattle.pb_core.specs.Calls.{AreSeats};
 ghost use Rattle.pb_base.specs.declared.limits.TheConstants.{MAX_OBSERVERS};
 
-use pb_base::{Batch, NoMemory, Ts};
+use pb_base::{Batch, NoMemory, Out, Ts};
 use pb_core::{Observer, Seat, Shared};
 use pb_memtablet::ListTablet;
 use pb_parse::{Event, parse_schedule, parse_script};
 use pb_registry::Registry;
+use pb_script::report;
 use pb_world::{Note, World};
 use std::alloc::Global;
 use test_fixtures::opened;
@@ -62,6 +63,13 @@ fn events(alloc: Global, schedule: &str, observers: &[Observer]) -> Result<Vec<E
 /// What a run of a list of events answered: its notes, or the event at fault and its code.
 pub type Told = Result<Vec<Note>, (usize, u8)>;
 
+/// What lists of events answered, one after another, and the report of the table that they left.
+#[derive(Drop)]
+pub struct Ran {
+    pub told: Vec<Told>,
+    pub report: Vec<u8>,
+}
+
 fn run_on(
     alloc: Global,
     world: &mut World<ListTablet>,
@@ -77,13 +85,22 @@ fn run_on(
     Ok(told)
 }
 
+fn report_of(alloc: Global, shared: &Shared<ListTablet>) -> Result<Vec<u8>, NoMemory> {
+    let mut bytes = Vec::new(alloc);
+    let mut out = Out::new(&mut bytes);
+    match report(alloc, &mut out, shared) {
+        Ok(()) => Ok(bytes),
+        Err(_) => Err(NoMemory),
+    }
+}
+
 fn run_in(
     alloc: Global,
     shared: Shared<ListTablet>,
     seats: Vec<Seat>,
     batches: Vec<Batch>,
     lists: &[&[Event]],
-) -> Result<Vec<Told>, NoMemory>
+) -> Result<Ran, NoMemory>
     requires { AreSeats shared seats.items }
 {
     match World::open(alloc, shared, seats, batches) {
@@ -91,8 +108,12 @@ fn run_in(
             let mut world = world;
             let told = run_on(alloc, &mut world, lists);
             let (shared, _seats) = world.close();
+            let report = report_of(alloc, &shared);
             shared.close();
-            told
+            Ok(Ran {
+                told: told?,
+                report: report?,
+            })
         }
         Err((shared, _seats, _batches)) => {
             shared.close();
@@ -107,7 +128,7 @@ fn runs(
     texts: &Texts,
     observers: Vec<Observer>,
     lists: &[&[Event]],
-) -> Result<Vec<Told>, NoMemory>
+) -> Result<Ran, NoMemory>
     requires few { length observers.items ≤ MAX_OBSERVERS }
     requires some { 1 ≤ texts.now.seats }
     requires seats { texts.now.seats ≤ 64 }
@@ -118,16 +139,17 @@ fn runs(
     run_in(alloc, shared, seats, batches, lists)
 }
 
-/// The notes of the schedule's events, or the fault that stops them.
-pub fn notes(alloc: Global, texts: &Texts) -> Result<Told, NoMemory>
+/// The notes of the schedule's events, or the fault that stops them; and the report of what they left.
+pub fn replayed(alloc: Global, texts: &Texts) -> Result<(Told, Vec<u8>), NoMemory>
     requires some { 1 ≤ texts.now.seats }
     requires seats { texts.now.seats ≤ 64 }
     requires bounded { texts.now.limit ≤ 1000000 }
 {
     let observers = observers(alloc, texts.manifest)?;
     let events = events(alloc, texts.schedule, &observers)?;
-    let mut told = runs(alloc, texts, observers, &[events.as_slice()])?;
-    told.pop().ok_or(NoMemory)
+    let Ran { mut told, report } = runs(alloc, texts, observers, &[events.as_slice()])?;
+    let told = told.pop().ok_or(NoMemory)?;
+    Ok((told, report))
 }
 
 /// What lists of events answer, each run after the one before.
@@ -137,5 +159,6 @@ pub fn each(alloc: Global, texts: &Texts, lists: &[&[Event]]) -> Result<Vec<Told
     requires bounded { texts.now.limit ≤ 1000000 }
 {
     let observers = observers(alloc, texts.manifest)?;
-    runs(alloc, texts, observers, lists)
+    let Ran { told, report: _ } = runs(alloc, texts, observers, lists)?;
+    Ok(told)
 }
