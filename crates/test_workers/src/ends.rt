@@ -1,24 +1,10 @@
 //! How workers end where the journal or the clock does, where there is little to do, and where there is no end of it.
 use crate::changes::{script, undone};
-use crate::tables::{AGAIN, NONE, Task, WATCH, accepted, report_of, told, worked};
-use pb_base::{MAX_ENTRIES, Refusal};
+use crate::tables::{AGAIN, NONE, Task, WATCH, accepted, codes_of, told, worked};
 use pb_core::{Seat, Step, Work};
 use pb_worker::{Open, Worked};
 use std::alloc::Global;
 use std::process::Abort;
-
-// The numbers of the refusals, 0 where there is none.
-fn codes_of(rt: &impl Abort, alloc: Global, refusals: &[Option<Refusal>]) -> Vec<u8> {
-    let mut codes = Vec::new(alloc);
-    for refusal in refusals {
-        let code = match refusal {
-            Some(refusal) => refusal.0,
-            None => 0,
-        };
-        codes.push(code).expect(rt, "memory");
-    }
-    codes
-}
 
 #[test]
 fn one_worker_is_refused_by_number(rt: HostRuntime) {

@@ -3,7 +3,7 @@ ghost use Rattle.std.specs.Prelude.{◌≤◌, length, IfOk};
 ghost use Rattle.pb_base.specs.declared.limits.TheConstants.{MAX_OBSERVERS};
 ghost use Rattle.pb_core.specs.Calls.{AreSeats};
 
-use pb_base::{Batch, MAX_ENTRIES, NoMemory, Out, Ts};
+use pb_base::{Batch, MAX_ENTRIES, NoMemory, Out, Refusal, Ts};
 use pb_core::{Observer, Seat, Shared};
 use pb_memtablet::EitherTablet;
 use pb_parse::parse_script;
@@ -104,7 +104,7 @@ pub fn worked<R: Threads + Wait + Abort + Sync, G: Gate>(
 }
 
 /// What the workers of these seats leave of changes, beside swaps of these spares.
-pub fn ran<R: Threads + Wait + Abort + Sync, T: Tablet + Send, G: Gate>(
+pub fn ran<R: Threads + Wait + Abort + Sync, T: Tablet + Send + Drop, G: Gate>(
     rt: &R,
     alloc: Global,
     shared: Shared<T>,
@@ -143,12 +143,21 @@ pub fn report_of<T: Tablet>(rt: &impl Abort, alloc: Global, shared: &Shared<T>) 
     bytes
 }
 
+/// The numbers of the refusals, 0 where there is none.
+pub fn codes_of(rt: &impl Abort, alloc: Global, refusals: &[Option<Refusal>]) -> Vec<u8> {
+    let mut codes = Vec::new(alloc);
+    for refusal in refusals {
+        let code = match refusal {
+            Some(refusal) => refusal.0,
+            None => 0,
+        };
+        codes.push(code).expect(rt, "memory");
+    }
+    codes
+}
+
 /// Table and seats, accepted.
-pub fn accepted(
-    rt: &impl Abort,
-    shared: Shared<EitherTablet>,
-    seats: Vec<Seat>,
-) -> Ended<EitherTablet> {
+pub fn accepted<T: Tablet>(rt: &impl Abort, shared: Shared<T>, seats: Vec<Seat>) -> Ended<T> {
     match finish(shared, seats) {
         Ok(ended) => ended,
         Err((shared, _seats)) => {
@@ -159,10 +168,10 @@ pub fn accepted(
 }
 
 /// Their report, once they are accepted.
-pub fn told(
+pub fn told<T: Tablet>(
     rt: &impl Abort,
     alloc: Global,
-    shared: Shared<EitherTablet>,
+    shared: Shared<T>,
     seats: Vec<Seat>,
 ) -> Vec<u8> {
     let ended = accepted(rt, shared, seats);
