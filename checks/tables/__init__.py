@@ -7,11 +7,11 @@ from __future__ import annotations
 
 import re
 import struct
-from dataclasses import dataclass, field
+from dataclasses import dataclass, field, replace
 
 # how many tables there are, and how many rows in all, so that a lost one is noticed
-TABLE_COUNT = 158
-ROW_COUNT = 3614
+TABLE_COUNT = 165
+ROW_COUNT = 5755
 
 TOO_LARGE = bytes(16_777_217)
 
@@ -34,7 +34,7 @@ class Row:
     """The words behind the program's name, the files of the folder that it is started in, and how that ends.
 
     An output of None is any but the empty one. In the end the folder holds the files and what is `written`, and nothing
-    else.
+    else. Where a `memory` is named, the program has so many bytes of addresses.
     """
 
     words: list[str]
@@ -43,11 +43,12 @@ class Row:
     out: bytes | None = b""
     err: bytes | None = b""
     written: dict[str, bytes] = field(default_factory=dict)
+    memory: int | None = None
 
     def key(self) -> tuple:
         """The same for the same rows alone."""
         files, written = frozenset(self.files.items()), frozenset(self.written.items())
-        return (tuple(self.words), files, self.status, self.out, self.err, written)
+        return (tuple(self.words), files, self.status, self.out, self.err, written, self.memory)
 
 
 Tables = dict[str, list[Row]]
@@ -74,6 +75,11 @@ CHANGED = "cell 7 0 commit 2 value 2a\n"
 
 def files_of(**texts: str | bytes) -> dict[str, bytes]:
     return {name: text if isinstance(text, bytes) else text.encode() for name, text in texts.items()}
+
+
+def within(mebibytes: int, row: Row) -> Row:
+    """The row, where the program has no more memory than this."""
+    return replace(row, memory=mebibytes << 20)
 
 
 def run(manifest: str, script: str, report: str, *more: str) -> Row:

@@ -3,14 +3,16 @@ ghost use Rattle.std.specs.Prelude.{◌≡◌};
 ghost use Rattle.pb_notify.specs.declared.need.Need.TheVariants.{Local};
 ghost use Rattle.pb_notify.specs.Runs.{need_of};
 
-use crate::calls::{Twins, batch, called, close, column, opened_twice, three_cells};
-use crate::observers::observers;
+use crate::observers::{finished, observers};
+use crate::refusals::Refusals;
+use crate::steps::{batch, column, column_of, declares, three_cells};
+use crate::twins::{Twins, all_called, called, close, opened_twice};
 use pb_base::{Batch, Cell, NoMemory, ObserverNo, Row, Ts};
-use pb_core::{Declaration, Declared, Step, Work};
+use pb_core::{Declaration, Declared, EndedRun, Entry, Step, Work};
 use pb_helpers::HelperTable;
 use pb_notify::{JobEnd, Need, ObserverJob};
 use pb_registry::accept;
-use pb_txn::ChangeJob;
+use pb_txn::{ChangeJob, Outcome};
 use pb_verify::Accepted;
 use std::alloc::Global;
 use std::sync::Arc;
@@ -19,11 +21,25 @@ use std::sync::Arc;
 const ASK_AND_DELETE: &[u8] =
     b"\xb7\x01\0\0\x07\0\0\0\xb7\x02\0\0\x01\0\0\0\xbf\xa3\0\0\0\0\0\0\x07\x03\0\0\xe0\xff\xff\xff\x85\0\0\0\x01\0\0\0\xb7\x01\0\0\x05\0\0\0\xb7\x02\0\0\x0f\0\0\0\x85\0\0\0\x03\0\0\0\x95\0\0\0\0\0\0\0";
 
+// Whether the entries are of these steps, and no others.
+fn are_entries(journal: &[Entry], steps: &[Step]) -> bool {
+    if journal.len() != steps.len() {
+        return false;
+    }
+    for (entry, step) in journal.iter().zip(steps) {
+        if !entry.step.is_same(step) {
+            return false;
+        }
+    }
+    true
+}
+
 // A job of the batch, also where it is refused once and hands the same batch back.
-fn job_of(alloc: Global, batch: Batch, same: &Batch) -> Option<ChangeJob> {
+fn job_of(alloc: Global, batch: Batch, same: &Batch, refusals: &mut Refusals) -> Option<ChangeJob> {
     match ChangeJob::new(alloc, batch) {
         Ok(job) => Some(job),
         Err(batch) => {
+            refusals.note("ChangeJob::new");
             if !batch.is_same(same) {
                 return None;
             }
@@ -32,22 +48,49 @@ fn job_of(alloc: Global, batch: Batch, same: &Batch) -> Option<ChangeJob> {
     }
 }
 
-/// `ChangeJob::new`.
-pub fn changes_are_made(alloc: Global) -> Result<bool, NoMemory> {
+// Follows a change to its end, and tells whether each of its steps is answered.
+fn changes(twins: &mut Twins, job: &mut ChangeJob, refusals: &mut Refusals) -> bool {
+    for _ in 0..16u32 {
+        let Some(step) = job.next() else {
+            return true;
+        };
+        match called(twins, step, refusals) {
+            Some(answer) => job.took(answer),
+            None => return false,
+        }
+    }
+    false
+}
+
+/// `ChangeJob::new`, and all that the job asks.
+pub fn changes_are_made(alloc: Global, refusals: &mut Refusals) -> Result<bool, NoMemory> {
     let batch = three_cells(alloc)?;
     let same = batch.copy()?;
-    match job_of(alloc, batch, &same) {
-        Some(job) => Ok(matches!(job.next(), Some(Step::Begin(Work::Script)))),
-        None => Ok(false),
-    }
+    let steps = [
+        Step::Begin(Work::Script),
+        declares(alloc, Ts(1), batch.copy()?)?,
+    ];
+    let mut twins = opened_twice(alloc, Vec::new(alloc), Vec::new(alloc))?;
+    let held = match job_of(alloc, batch, &same, refusals) {
+        Some(job) => {
+            let mut job = job;
+            changes(&mut twins, &mut job, refusals)
+                && job.outcome() == Some(Outcome::Committed(Ts(2)))
+        }
+        None => false,
+    };
+    let journal = twins.shared.journal();
+    let is_made = journal.len() == 9 && are_entries(&journal[..2], &steps);
+    close(twins);
+    Ok(held && is_made)
 }
 
 // Whether a job's next step is answered.
-fn answers(twins: &mut Twins, job: &mut ObserverJob) -> bool {
+fn answers(twins: &mut Twins, job: &mut ObserverJob, refusals: &mut Refusals) -> bool {
     let Some(step) = job.next() else {
         return false;
     };
-    match called(twins, step) {
+    match called(twins, step, refusals) {
         Some(answer) => {
             job.took(answer);
             true
@@ -57,26 +100,32 @@ fn answers(twins: &mut Twins, job: &mut ObserverJob) -> bool {
 }
 
 // Whether a job does an instruction, or is refused with nothing changed and then does it.
-fn computes(alloc: Global, job: &mut ObserverJob) -> bool
+fn computes(alloc: Global, job: &mut ObserverJob, refusals: &mut Refusals) -> bool
     requires { need_of job.old ≡ Local }
 {
     if job.local(alloc).is_ok() {
         return true;
     }
+    refusals.note("ObserverJob::local");
     let is_same = job.needs() == Need::Local && job.next().is_none();
     is_same && job.local(alloc).is_ok()
 }
 
 // Follows a job to its end, and tells after how many instructions it came there so, each done once.
-fn followed(alloc: Global, twins: &mut Twins, job: &mut ObserverJob) -> Option<u32> {
+fn followed(
+    alloc: Global,
+    twins: &mut Twins,
+    job: &mut ObserverJob,
+    refusals: &mut Refusals,
+) -> Option<u32> {
     let mut taken = 0u32;
     for _ in 0..64u32 {
         let held = match job.needs() {
             Need::Local => {
                 taken = taken.saturating_add(1);
-                computes(alloc, job)
+                computes(alloc, job, refusals)
             }
-            Need::Call => answers(twins, job),
+            Need::Call => answers(twins, job, refusals),
             Need::Over(_) => true,
         };
         if !held {
@@ -84,19 +133,6 @@ fn followed(alloc: Global, twins: &mut Twins, job: &mut ObserverJob) -> Option<u
         }
     }
     Some(taken)
-}
-
-// Whether the steps of a change are answered, and the job then runs to its end in nine instructions.
-fn runs(alloc: Global, twins: Twins, change: &[Step], job: ObserverJob) -> bool {
-    let mut twins = twins;
-    let mut job = job;
-    let mut held = true;
-    for step in change {
-        held = held && called(&mut twins, step).is_some();
-    }
-    held = held && followed(alloc, &mut twins, &mut job) == Some(9);
-    close(twins);
-    held && job.needs() == Need::Over(JobEnd::Ran(0))
 }
 
 /// A program that asks for a cell of its row, and deletes one.
@@ -107,23 +143,60 @@ pub fn program(alloc: Global) -> Result<Arc<Accepted>, NoMemory> {
     }
 }
 
-/// `ObserverJob::local`, from the start of its machine to the declaration at its exit.
-pub fn observers_run(alloc: Global) -> Result<bool, NoMemory> {
+// The steps of a change of cell 7 0, and of the run on it: what that declares is made by a machine beside.
+fn steps_of(
+    alloc: Global,
+    watch: ObserverNo,
+    program: &Arc<Accepted>,
+    cell: Cell,
+    refusals: &mut Refusals,
+) -> Result<Vec<Step>, NoMemory> {
+    let Some(finished) = finished(alloc, program, &cell, refusals) else {
+        return Err(NoMemory);
+    };
+    let what = Declared::Run(watch, EndedRun::new(alloc, finished)?);
+    let ack = Cell::Ack(watch, Row(7), column()?);
+    let deleted = Cell::Data(Row(5), column_of(15)?);
+    let mut steps = Vec::new(alloc);
+    steps.push(Step::Begin(Work::Script))?;
+    steps.push(declares(alloc, Ts(1), batch(alloc)?)?)?;
+    steps.push(Step::Prewrite(Ts(1), cell))?;
+    steps.push(Step::Stamp(Ts(1)))?;
+    steps.push(Step::CommitPrimary(Ts(1)))?;
+    steps.push(Step::Begin(Work::Run(watch, Row(7))))?;
+    steps.push(Step::Read(Ts(3), cell))?;
+    steps.push(Step::Read(Ts(3), ack))?;
+    steps.push(Step::Read(Ts(3), Cell::Data(Row(7), column_of(1)?)))?;
+    steps.push(Step::Declare(Ts(3), Declaration::new(alloc, what)?))?;
+    steps.push(Step::Prewrite(Ts(3), ack))?;
+    steps.push(Step::Prewrite(Ts(3), deleted))?;
+    steps.push(Step::Stamp(Ts(3)))?;
+    steps.push(Step::CommitPrimary(Ts(3)))?;
+    steps.push(Step::CommitSecondary(Ts(3), deleted))?;
+    steps.push(Step::Sweep(cell))?;
+    Ok(steps)
+}
+
+/// `ObserverJob::local`, from the start of its machine to the declaration at its exit, in nine instructions, and all that the job
+/// asks.
+pub fn observers_run(alloc: Global, refusals: &mut Refusals) -> Result<bool, NoMemory> {
     let program = program(alloc)?;
     let Some(watch) = ObserverNo::new(0) else {
         return Ok(false);
     };
-    let what = Declaration::new(alloc, Declared::Script(batch(alloc)?))?;
-    let change = [
-        Step::Begin(Work::Script),
-        Step::Declare(Ts(1), what),
-        Step::Prewrite(Ts(1), Cell::Data(Row(7), column()?)),
-        Step::Stamp(Ts(1)),
-        Step::CommitPrimary(Ts(1)),
-    ];
+    let cell = Cell::Data(Row(7), column()?);
+    let steps = steps_of(alloc, watch, &program, cell, refusals)?;
+    if steps.len() < 5 {
+        return Ok(false);
+    }
     let first = observers(alloc, &program)?;
     let second = observers(alloc, &program)?;
-    let job = ObserverJob::new(watch, program, Row(7), column()?);
-    let twins = opened_twice(alloc, first, second)?;
-    Ok(runs(alloc, twins, &change, job))
+    let mut job = ObserverJob::new(watch, program, Row(7), column()?);
+    let mut twins = opened_twice(alloc, first, second)?;
+    let held = all_called(&mut twins, &steps[..5], refusals)
+        && followed(alloc, &mut twins, &mut job, refusals) == Some(9)
+        && job.needs() == Need::Over(JobEnd::Ran(0))
+        && are_entries(twins.shared.journal(), &steps);
+    close(twins);
+    Ok(held)
 }

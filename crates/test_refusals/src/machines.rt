@@ -1,4 +1,5 @@
 //! Machines, also of the program in a file.
+use crate::refusals::Refusals;
 use pb_base::{Cell, Column, Content, NoMemory, Revision, Row, Ts};
 use pb_core::{Finished, Record, Vm};
 use pb_helpers::HelperTable;
@@ -31,15 +32,24 @@ fn started_once(alloc: Global, program: &Arc<Accepted>, cell: &Cell) -> Result<V
 }
 
 /// A machine of a program on that record, for a run at 3. Where it is refused once, the same call again starts it.
-pub fn started(alloc: Global, program: &Arc<Accepted>, cell: &Cell) -> Option<Vm> {
+pub fn started(
+    alloc: Global,
+    program: &Arc<Accepted>,
+    cell: &Cell,
+    refusals: &mut Refusals,
+) -> Option<Vm> {
     match started_once(alloc, program, cell) {
         Ok(vm) => Some(vm),
-        Err(_) => started_once(alloc, program, cell).ok(),
+        Err(_) => {
+            refusals.note("Vm::start");
+            started_once(alloc, program, cell).ok()
+        }
     }
 }
 
-/// What a machine leaves at its end, where each cell that it asks for is absent. It takes no memory.
-pub fn finished(vm: Vm) -> Option<Finished> {
+/// What a machine leaves at its end, and after how many instructions, where each cell that it asks for is absent. It takes no
+/// memory.
+pub fn finished(vm: Vm) -> Option<(Finished, u16)> {
     let mut vm = vm;
     for _ in 0..1_024u32 {
         match vm.phase() {
@@ -50,8 +60,9 @@ pub fn finished(vm: Vm) -> Option<Finished> {
             Phase::Over(_) => {}
         }
     }
+    let taken = vm.taken();
     match vm.phase() {
-        Phase::Over(_) => Some(vm.finish()),
+        Phase::Over(_) => Some((vm.finish(), taken)),
         _ => None,
     }
 }
@@ -71,29 +82,43 @@ fn program_in(rt: &HostRuntime, path: &str) -> Result<Arc<Accepted>, NoMemory> {
     }
 }
 
-fn started_in(rt: &HostRuntime, path: &str) -> Result<Option<Vm>, NoMemory> {
+fn started_in(
+    rt: &HostRuntime,
+    path: &str,
+    refusals: &mut Refusals,
+) -> Result<Option<Vm>, NoMemory> {
     let Some(column) = Column::new(0) else {
         return Ok(None);
     };
     let program = program_in(rt, path)?;
-    Ok(started(rt.alloc(), &program, &Cell::Data(Row(7), column)))
+    let cell = Cell::Data(Row(7), column);
+    Ok(started(rt.alloc(), &program, &cell, refusals))
 }
 
 /// Whether a machine of the program in a file stands on entry.
-pub fn file_starts(rt: &HostRuntime, path: &str) -> Result<bool, NoMemory> {
-    match started_in(rt, path)? {
+pub fn file_starts(
+    rt: &HostRuntime,
+    path: &str,
+    refusals: &mut Refusals,
+) -> Result<bool, NoMemory> {
+    match started_in(rt, path, refusals)? {
         Some(vm) => Ok(vm.phase() == Phase::Going && vm.taken() == 0),
         None => Ok(false),
     }
 }
 
-/// Whether a machine of the program in a file comes to its end.
-pub fn file_runs(rt: &HostRuntime, path: &str) -> Result<bool, NoMemory> {
-    let Some(vm) = started_in(rt, path)? else {
+/// Whether a machine of the program in a file comes to its end after so many instructions.
+pub fn file_runs(
+    rt: &HostRuntime,
+    path: &str,
+    count: u16,
+    refusals: &mut Refusals,
+) -> Result<bool, NoMemory> {
+    let Some(vm) = started_in(rt, path, refusals)? else {
         return Ok(false);
     };
     match finished(vm) {
-        Some(finished) => Ok(finished.run() == Ts(3)),
+        Some((finished, taken)) => Ok(finished.run() == Ts(3) && taken == count),
         None => Ok(false),
     }
 }

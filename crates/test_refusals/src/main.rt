@@ -1,20 +1,27 @@
 //! Makes each call that grows, on a small state. Where memory is refused, nothing has changed, and the same call again
-//! answers as if it had never been refused. It ends with status 0 where all of that held.
+//! answers as if it had never been refused. It ends with status 0 where all of that held, and prints the call that was refused,
+//! if one was, with the kind of its step; a second one is at fault.
 //!
-//! It is run once for each of its requests for memory, with that request refused (checks/refused-growths). With `start FILE`
-//! it starts a machine of the program in a file, and with `run FILE` it runs one to its end.
+//! It is run once for each of its requests for memory, with that request refused (checks/refused-growths). With `start FILE COUNT`
+//! it starts a machine of the program in a file, with `run FILE COUNT` it runs one to its end, which comes after so many
+//! instructions, and with `swap` it runs workers beside swaps.
 #![tactic(auto)]
 
 mod calls;
+mod copies;
 mod jobs;
 mod machines;
 mod observers;
 mod page;
 mod programs;
+mod refusals;
+mod reports;
 mod runs;
 mod same;
+mod steps;
 mod swaps;
 mod tablets;
+mod twins;
 mod workers;
 mod worlds;
 
@@ -25,71 +32,133 @@ use std::process::ExitCode;
 use std::sync::Wait;
 use std::thread::Threads;
 
-// Every check. It fails for memory only where a check's own preparation was refused.
-fn all<R: Threads + Wait + Sync>(rt: &R, alloc: Global) -> Result<bool, NoMemory> {
-    let copies = calls::batch_copies(alloc)? && calls::step_copies(alloc)?;
-    let table = calls::table_applies(alloc)?
-        && tablets::chunks_are_parted(alloc)?
-        && swaps::tablets_are_swapped(alloc)?
-        && calls::state_takes(alloc)?;
-    let shared = calls::shared_calls(alloc)?
-        && jobs::changes_are_made(alloc)?
-        && jobs::observers_run(alloc)?;
-    let runs = runs::script_parses(alloc)?
-        && runs::shared_opens(alloc)?
-        && workers::workers_run(rt, alloc)?;
-    let observers = observers::programs_are_accepted(alloc)?
-        && observers::manifests_are_read(alloc)?
-        && observers::schedules_are_read(alloc)?
-        && observers::machines_start(alloc)?
-        && observers::tables_open(alloc)?
-        && observers::runs_are_declared(alloc)?
-        && worlds::worlds_run(alloc)?;
-    let programs = programs::programs_are_made(alloc)?
-        && programs::bytes_are_decoded(alloc)?
-        && programs::programs_are_encoded(alloc)?
-        && programs::texts_are_assembled(alloc)?
-        && programs::programs_are_listed(alloc)?
-        && programs::programs_are_verified(alloc)?
-        && programs::jumps_are_verified(alloc)?;
-    Ok(copies && table && shared && runs && observers && programs)
+// How many tablets are swapped beside workers.
+const SWAPS: usize = 3;
+
+// Calls on programs, and machines.
+fn programs_hold(alloc: Global, refusals: &mut refusals::Refusals) -> Result<bool, NoMemory> {
+    Ok(
+        programs::programs_are_made(alloc, refusals)?
+            && programs::bytes_are_decoded(alloc, refusals)?
+            && programs::programs_are_encoded(alloc, refusals)?
+            && programs::texts_are_assembled(alloc, refusals)?
+            && programs::programs_are_listed(alloc, refusals)?
+            && programs::programs_are_verified(alloc, refusals)?
+            && programs::jumps_are_verified(alloc, refusals)?
+            && observers::programs_are_accepted(alloc, refusals)?
+            && observers::machines_start(alloc, refusals)?,
+    )
 }
 
-// Whether what the words behind the program's own ask for held; none where there are no such words.
-fn asked(rt: &HostRuntime) -> Result<Option<bool>, NoMemory> {
+// Calls on batches, steps, tables and states.
+fn tables_hold(alloc: Global, refusals: &mut refusals::Refusals) -> Result<bool, NoMemory> {
+    Ok(
+        copies::batch_copies(alloc, refusals)?
+            && copies::step_copies(alloc, refusals)?
+            && copies::batches_are_declared(alloc, refusals)?
+            && observers::runs_are_ended(alloc, refusals)?
+            && tablets::chunks_are_parted(alloc, refusals)?
+            && tablets::tables_apply(alloc, refusals)?
+            && swaps::tablets_are_swapped(alloc, refusals)?
+            && calls::states_take(alloc, refusals)?
+            && runs::tables_open(alloc, refusals)?
+            && calls::shared_calls(alloc, refusals)?
+            && calls::shared_grows(alloc, refusals)?
+            && observers::runs_are_declared(alloc, refusals)?
+            && reports::tables_are_reported(alloc, refusals)?,
+    )
+}
+
+// Calls on texts, jobs, worlds and workers.
+fn runs_hold<R: Threads + Wait + Sync>(
+    rt: &R,
+    alloc: Global,
+    refusals: &mut refusals::Refusals,
+) -> Result<bool, NoMemory> {
+    Ok(
+        runs::scripts_are_read(alloc, refusals)?
+            && observers::manifests_are_read(alloc, refusals)?
+            && observers::schedules_are_read(alloc, refusals)?
+            && jobs::changes_are_made(alloc, refusals)?
+            && jobs::observers_run(alloc, refusals)?
+            && worlds::worlds_run(alloc, refusals)?
+            && workers::workers_run(rt, alloc, 0, refusals)?,
+    )
+}
+
+// Every check. It fails for memory only where a check's own preparation was refused.
+fn all<R: Threads + Wait + Sync>(
+    rt: &R,
+    alloc: Global,
+    refusals: &mut refusals::Refusals,
+) -> Result<bool, NoMemory> {
+    Ok(
+        programs_hold(alloc, refusals)?
+            && tables_hold(alloc, refusals)?
+            && runs_hold(rt, alloc, refusals)?,
+    )
+}
+
+// Whether what a word with a file and a count behind it asks for held.
+fn held_in(
+    rt: &HostRuntime,
+    word: &str,
+    path: &str,
+    count: &str,
+    refusals: &mut refusals::Refusals,
+) -> Result<bool, NoMemory> {
+    let Ok(count) = count.parse::<u16>() else {
+        return Ok(false);
+    };
+    match word {
+        "start" => machines::file_starts(rt, path, refusals),
+        "run" => machines::file_runs(rt, path, count, refusals),
+        _ => Ok(false),
+    }
+}
+
+// Whether what the words behind the program's own ask for held; every check, where there are no such words.
+fn held<R: Threads + Wait + Sync>(
+    threads: &R,
+    rt: &HostRuntime,
+    refusals: &mut refusals::Refusals,
+) -> Result<bool, NoMemory> {
     let Ok(args) = env::args(rt) else {
         return Err(NoMemory);
     };
     let words: Vec<String> = args.collect(rt.alloc())?;
-    let Some(word) = words.get(1) else {
-        return Ok(None);
-    };
-    match (word.as_str(), words.get(2)) {
-        ("start", Some(path)) => Ok(Some(machines::file_starts(rt, path.as_str())?)),
-        ("run", Some(path)) => Ok(Some(machines::file_runs(rt, path.as_str())?)),
-        _ => Ok(Some(false)),
+    match (words.get(1), words.get(2), words.get(3)) {
+        (None, _, _) => all(threads, rt.alloc(), refusals),
+        (Some(word), None, None) if word.as_str() == "swap" => {
+            workers::workers_run(threads, rt.alloc(), SWAPS, refusals)
+        }
+        (Some(word), Some(path), Some(count)) => {
+            held_in(rt, word.as_str(), path.as_str(), count.as_str(), refusals)
+        }
+        _ => Ok(false),
     }
 }
 
-// Whether that held; every check, where nothing was asked for.
-fn held<R: Threads + Wait + Sync>(
-    rt: &R,
-    alloc: Global,
-    asked: Result<Option<bool>, NoMemory>,
-) -> Result<bool, NoMemory> {
-    match asked? {
-        Some(held) => Ok(held),
-        None => all(rt, alloc),
+// Whether the call that was refused is told, if one was.
+fn is_told(rt: &HostRuntime, refusals: &refusals::Refusals) -> bool {
+    match refusals.first() {
+        None => true,
+        Some((call, "")) => println!(rt; "{call}").is_ok(),
+        Some((call, kind)) => println!(rt; "{call} {kind}").is_ok(),
     }
 }
 
 fn main(rt: HostRuntime) -> ExitCode {
-    // Only one request is refused; the second time no preparation is.
-    let held = match held(&rt, rt.alloc(), asked(&rt)) {
+    let mut refusals = refusals::Refusals::none();
+    let held = match held(&rt, &rt, &mut refusals) {
         Ok(held) => held,
-        Err(_) => held(&rt, rt.alloc(), asked(&rt)) == Ok(true),
+        // Only one request is refused: the second time neither a preparation is, nor a call.
+        Err(_) => {
+            refusals.note("a preparation");
+            held(&rt, &rt, &mut refusals) == Ok(true)
+        }
     };
-    if held {
+    if held && refusals.are_few() && is_told(&rt, &refusals) {
         ExitCode::SUCCESS
     } else {
         ExitCode::FAILURE

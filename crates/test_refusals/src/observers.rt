@@ -1,19 +1,19 @@
-//! Calls on programs, machines, manifests, schedules, and tables with an observer.
+//! Programs, machines, manifests and schedules, and a run up to its commit.
 ghost use Rattle.std.specs.Prelude.{◌≡◌, ◌≤◌, length, IfOk};
 
-use crate::calls::{Twins, batch, called, close, column, opened_twice};
+use crate::copies::is_declared;
 use crate::machines;
+use crate::refusals::Refusals;
+use crate::steps::{batch, column, column_of, declares};
+use crate::twins::{all_called, close, opened_twice};
 use pb_base::{Cell, NoMemory, ObserverNo, Row, Ts};
-use pb_core::{
-    Declaration, Declared, EndedRun, Finished, Observer, OpenRefused, Shared, Step, Work,
-};
+use pb_core::{Declaration, Declared, EndedRun, Finished, Observer, Step, Work};
 use pb_helpers::HelperTable;
-use pb_registry::{Registry, accept};
+use pb_registry::{Registry, RegistryFault, accept};
 use pb_script::{Event, Job, parse_schedule};
 use pb_verify::{Accepted, VerifyFault};
 use std::alloc::Global;
 use std::sync::Arc;
-use test_fixtures::table;
 
 // mov64 r0, 0 and exit.
 const PROGRAM: &[u8] = b"\xb7\0\0\0\0\0\0\0\x95\0\0\0\0\0\0\0";
@@ -30,63 +30,90 @@ fn program(alloc: Global) -> Result<Accepted, NoMemory> {
 }
 
 /// `accept`.
-pub fn programs_are_accepted(alloc: Global) -> Result<bool, NoMemory> {
+pub fn programs_are_accepted(alloc: Global, refusals: &mut Refusals) -> Result<bool, NoMemory> {
     match accept(alloc, PROGRAM, HelperTable::none()) {
         Ok(program) => Ok(program.slots() == 2),
         Err(VerifyFault::Refused(_)) => Ok(false),
-        Err(VerifyFault::NoMemory) => match program(alloc) {
-            Ok(program) => Ok(program.slots() == 2),
-            Err(_) => Ok(false),
-        },
+        Err(VerifyFault::NoMemory) => {
+            refusals.note("accept");
+            match program(alloc) {
+                Ok(program) => Ok(program.slots() == 2),
+                Err(_) => Ok(false),
+            }
+        }
     }
+}
+
+// Whether it is an observer of this name and column, whose program of two slots may call helper 4 or none.
+fn is_observer(observer: &Observer, name: &str, column: u8, may_call: bool) -> bool {
+    let program = &observer.program;
+    observer.name.as_str() == name
+        && observer.column.number() == column
+        && program.slots() == 2
+        && program.helpers().declares(4) == may_call
 }
 
 fn are_the_manifests(observers: &[Observer]) -> bool {
     match observers {
         [watch, start] => {
-            watch.name.as_str() == "watch"
-                && watch.column.number() == 0
-                && start.name.as_str() == "start"
-                && start.column.number() == 1
-                && watch.program.slots() == 2
-                && start.program.slots() == 2
+            is_observer(watch, "watch", 0, false) && is_observer(start, "start", 1, true)
         }
         _ => false,
     }
 }
 
 // Whether a registry gives its observers, also where that is refused once.
-fn gives_its_observers(alloc: Global, registry: Registry) -> bool {
+fn gives_its_observers(alloc: Global, registry: Registry, refusals: &mut Refusals) -> bool {
     match registry.into_observers(alloc) {
         Ok(observers) => are_the_manifests(&observers),
-        Err(registry) => match registry.into_observers(alloc) {
-            Ok(observers) => are_the_manifests(&observers),
-            Err(_) => false,
-        },
+        Err(registry) => {
+            refusals.note("Registry::into_observers");
+            match registry.into_observers(alloc) {
+                Ok(observers) => are_the_manifests(&observers),
+                Err(_) => false,
+            }
+        }
     }
+}
+
+// Whether it tells want of memory, and no place.
+fn is_memory(fault: &RegistryFault) -> bool {
+    fault.code == 1 && fault.observer.is_none() && fault.program.is_none()
 }
 
 /// `Registry::from_json` and `Registry::into_observers`.
-pub fn manifests_are_read(alloc: Global) -> Result<bool, NoMemory> {
+pub fn manifests_are_read(alloc: Global, refusals: &mut Refusals) -> Result<bool, NoMemory> {
     match Registry::from_json(alloc, MANIFEST) {
-        Ok(registry) => Ok(gives_its_observers(alloc, registry)),
-        Err(fault) => match Registry::from_json(alloc, MANIFEST) {
-            Ok(registry) => Ok(fault.code == 1 && gives_its_observers(alloc, registry)),
-            Err(_) => Ok(false),
-        },
+        Ok(registry) => Ok(gives_its_observers(alloc, registry, refusals)),
+        Err(fault) => {
+            refusals.note("Registry::from_json");
+            match Registry::from_json(alloc, MANIFEST) {
+                Ok(registry) => {
+                    Ok(is_memory(&fault) && gives_its_observers(alloc, registry, refusals))
+                }
+                Err(_) => Ok(false),
+            }
+        }
     }
 }
 
-// The run of a program to its end, also where its start is refused once.
-fn finished(alloc: Global, program: &Arc<Accepted>, cell: &Cell) -> Option<Finished> {
-    machines::finished(machines::started(alloc, program, cell)?)
+/// The run of a program to its end, also where its start is refused once.
+pub fn finished(
+    alloc: Global,
+    program: &Arc<Accepted>,
+    cell: &Cell,
+    refusals: &mut Refusals,
+) -> Option<Finished> {
+    let vm = machines::started(alloc, program, cell, refusals)?;
+    let (finished, _) = machines::finished(vm)?;
+    Some(finished)
 }
 
 /// `Vm::start`.
-pub fn machines_start(alloc: Global) -> Result<bool, NoMemory> {
+pub fn machines_start(alloc: Global, refusals: &mut Refusals) -> Result<bool, NoMemory> {
     let program = Arc::new(alloc, program(alloc)?)?;
     let cell = Cell::Data(Row(7), column()?);
-    match finished(alloc, &program, &cell) {
+    match finished(alloc, &program, &cell, refusals) {
         Some(finished) => Ok(
             finished.is_of(&program) && finished.run() == Ts(3) && finished.result() == 0,
         ),
@@ -99,11 +126,32 @@ pub fn observers(alloc: Global, program: &Arc<Accepted>) -> Result<Vec<Observer>
     ensures { IfOk result (λ v. length v.items ≤ 32) }
 {
     let mut observers = Vec::new(alloc);
-    observers.push(Observer {
-        name: String::from_str(alloc, "watch")?,
-        column: column()?,
+    observers.push(observer(alloc, "watch", 0, program)?)?;
+    Ok(observers)
+}
+
+fn observer(
+    alloc: Global,
+    name: &str,
+    column: u8,
+    program: &Arc<Accepted>,
+) -> Result<Observer, NoMemory> {
+    Ok(Observer {
+        name: String::from_str(alloc, name)?,
+        column: column_of(column)?,
         program: Arc::try_clone(program)?,
-    })?;
+    })
+}
+
+/// Observers of the columns 0 to 2, which do nothing.
+pub fn watchers(alloc: Global) -> Result<Vec<Observer>, NoMemory>
+    ensures { IfOk result (λ v. length v.items ≤ 32) }
+{
+    let program = Arc::new(alloc, program(alloc)?)?;
+    let mut observers = Vec::new(alloc);
+    observers.push(observer(alloc, "first", 0, &program)?)?;
+    observers.push(observer(alloc, "second", 1, &program)?)?;
+    observers.push(observer(alloc, "third", 2, &program)?)?;
     Ok(observers)
 }
 
@@ -118,99 +166,99 @@ fn are_the_schedules(events: &[Event]) -> bool {
 }
 
 /// `parse_schedule`.
-pub fn schedules_are_read(alloc: Global) -> Result<bool, NoMemory> {
+pub fn schedules_are_read(alloc: Global, refusals: &mut Refusals) -> Result<bool, NoMemory> {
     let program = Arc::new(alloc, program(alloc)?)?;
     let observers = observers(alloc, &program)?;
     match parse_schedule(alloc, SCHEDULE, &observers) {
         Ok(events) => Ok(are_the_schedules(&events)),
-        Err(fault) => match parse_schedule(alloc, SCHEDULE, &observers) {
-            Ok(events) => Ok(fault.line == 0 && fault.code == 1 && are_the_schedules(&events)),
-            Err(_) => Ok(false),
-        },
-    }
-}
-
-// Whether each step is answered, also where it is refused once.
-fn all_called(twins: Twins, steps: &[Step]) -> bool {
-    let mut twins = twins;
-    let mut held = true;
-    for step in steps {
-        held = held && called(&mut twins, step).is_some();
-    }
-    close(twins);
-    held
-}
-
-// Whether a table opens with these observers, also where it is refused once and hands them back.
-fn opens_with(alloc: Global, observers: Vec<Observer>) -> Result<bool, NoMemory>
-    requires { length observers.items ≤ 32 }
-{
-    match Shared::open(alloc, table(alloc)?, observers, 1, Ts(0), 100) {
-        Ok((shared, _)) => {
-            shared.close();
-            Ok(true)
+        Err(fault) => {
+            refusals.note("parse_schedule");
+            match parse_schedule(alloc, SCHEDULE, &observers) {
+                Ok(events) => {
+                    Ok(fault.line == 0 && fault.code == 1 && are_the_schedules(&events))
+                }
+                Err(_) => Ok(false),
+            }
         }
-        Err(
-            OpenRefused {
-                table,
-                observers,
-                code,
-            },
-        ) => match Shared::open(alloc, table, observers, 1, Ts(0), 100) {
-            Ok((shared, _)) => {
-                let is_it = matches!(shared.observers(), [watch] if watch.name.as_str() == "watch");
-                shared.close();
-                Ok(code == 1 && is_it)
-            }
-            Err(
-                OpenRefused {
-                    table,
-                    observers: _,
-                    code: _,
-                },
-            ) => {
-                table.close();
-                Ok(false)
-            }
-        },
     }
 }
 
-/// `Shared::open` with an observer.
-pub fn tables_open(alloc: Global) -> Result<bool, NoMemory> {
-    let program = Arc::new(alloc, program(alloc)?)?;
-    opens_with(alloc, observers(alloc, &program)?)
+// A run as it is kept, also where that is refused once and hands the same back.
+fn ended(
+    alloc: Global,
+    finished: Finished,
+    same: &Finished,
+    refusals: &mut Refusals,
+) -> Option<EndedRun> {
+    let finished = match EndedRun::new(alloc, finished) {
+        Ok(ended) => return Some(ended),
+        Err(failed) => failed.value,
+    };
+    refusals.note("EndedRun::new");
+    if !finished.is_same(same) {
+        return None;
+    }
+    EndedRun::new(alloc, finished).ok()
 }
 
-/// `Shared::call` with the steps of an observer's run up to its declaration, and what is marked then.
-pub fn runs_are_declared(alloc: Global) -> Result<bool, NoMemory> {
+/// `EndedRun::new`, and `Declaration::new` of a run.
+pub fn runs_are_ended(alloc: Global, refusals: &mut Refusals) -> Result<bool, NoMemory> {
+    let program = Arc::new(alloc, program(alloc)?)?;
+    let cell = Cell::Data(Row(7), column()?);
+    let (Some(watch), Some(first), Some(second), Some(same)) = (
+        ObserverNo::new(0),
+        finished(alloc, &program, &cell, refusals),
+        finished(alloc, &program, &cell, refusals),
+        finished(alloc, &program, &cell, refusals),
+    ) else {
+        return Ok(false);
+    };
+    let other = EndedRun::new(alloc, second)?;
+    let Some(run) = ended(alloc, first, &same, refusals) else {
+        return Ok(false);
+    };
+    let is_it = run.get().is_same(&same);
+    let declared = Declared::Run(watch, run);
+    let wanted = Declared::Run(watch, other);
+    Ok(is_it && is_declared(alloc, declared, &wanted, refusals))
+}
+
+/// `Shared::call` with the steps of an observer's run, and what is marked before it commits and after.
+pub fn runs_are_declared(alloc: Global, refusals: &mut Refusals) -> Result<bool, NoMemory> {
     let program = Arc::new(alloc, program(alloc)?)?;
     let cell = Cell::Data(Row(7), column()?);
     let Some(watch) = ObserverNo::new(0) else {
         return Ok(false);
     };
-    let Some(finished) = finished(alloc, &program, &cell) else {
+    let Some(finished) = finished(alloc, &program, &cell, refusals) else {
         return Ok(false);
     };
+    let ack = Cell::Ack(watch, Row(7), column()?);
     let run = Declared::Run(watch, EndedRun::new(alloc, finished)?);
     let steps = [
         Step::Begin(Work::Script),
-        Step::Declare(
-            Ts(1),
-            Declaration::new(alloc, Declared::Script(batch(alloc)?))?,
-        ),
+        declares(alloc, Ts(1), batch(alloc)?)?,
         Step::Prewrite(Ts(1), cell),
         Step::Stamp(Ts(1)),
         Step::CommitPrimary(Ts(1)),
         Step::NextMark(None),
         Step::Begin(Work::Run(watch, Row(7))),
         Step::Read(Ts(3), cell),
-        Step::Read(Ts(3), Cell::Ack(watch, Row(7), column()?)),
+        Step::Read(Ts(3), ack),
         Step::Declare(Ts(3), Declaration::new(alloc, run)?),
         Step::Sweep(cell),
+        Step::Prewrite(Ts(3), ack),
+        Step::Stamp(Ts(3)),
+        Step::CommitPrimary(Ts(3)),
+        Step::Sweep(cell),
+        Step::NextMark(None),
     ];
     let first = observers(alloc, &program)?;
     let second = observers(alloc, &program)?;
-    let twins = opened_twice(alloc, first, second)?;
-    Ok(all_called(twins, &steps))
+    let mut twins = opened_twice(alloc, first, second)?;
+    let held = all_called(&mut twins, &steps, refusals)
+        && twins.shared.marks() == 0
+        && twins.shared.locks() == 0;
+    close(twins);
+    Ok(held)
 }

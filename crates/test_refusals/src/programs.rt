@@ -1,4 +1,5 @@
 //! Calls on programs, their bytes and their texts.
+use crate::refusals::Refusals;
 use pb_asm::{assemble, disassemble};
 use pb_base::NoMemory;
 use pb_decode::{DecodeFault, decode, encode};
@@ -49,75 +50,93 @@ fn is_it(program: &Program) -> bool {
 }
 
 /// `Program::new`.
-pub fn programs_are_made(alloc: Global) -> Result<bool, NoMemory> {
+pub fn programs_are_made(alloc: Global, refusals: &mut Refusals) -> Result<bool, NoMemory> {
     match Program::new(alloc, insns(alloc)?) {
         Ok(program) => Ok(is_it(&program)),
         Err(NoProgram::NotInRange(_)) => Ok(false),
-        Err(NoProgram::NoMemory) => match program(alloc) {
-            Ok(program) => Ok(is_it(&program)),
-            Err(_) => Ok(false),
-        },
+        Err(NoProgram::NoMemory) => {
+            refusals.note("Program::new");
+            match program(alloc) {
+                Ok(program) => Ok(is_it(&program)),
+                Err(_) => Ok(false),
+            }
+        }
     }
 }
 
 /// `decode`.
-pub fn bytes_are_decoded(alloc: Global) -> Result<bool, NoMemory> {
+pub fn bytes_are_decoded(alloc: Global, refusals: &mut Refusals) -> Result<bool, NoMemory> {
     match decode(alloc, BYTES) {
         Ok(program) => Ok(is_it(&program)),
         Err(DecodeFault::Refused(_)) => Ok(false),
-        Err(DecodeFault::NoMemory) => match decode(alloc, BYTES) {
-            Ok(program) => Ok(is_it(&program)),
-            Err(_) => Ok(false),
-        },
+        Err(DecodeFault::NoMemory) => {
+            refusals.note("decode");
+            match decode(alloc, BYTES) {
+                Ok(program) => Ok(is_it(&program)),
+                Err(_) => Ok(false),
+            }
+        }
     }
 }
 
 /// `encode`.
-pub fn programs_are_encoded(alloc: Global) -> Result<bool, NoMemory> {
+pub fn programs_are_encoded(alloc: Global, refusals: &mut Refusals) -> Result<bool, NoMemory> {
     let program = program(alloc)?;
     let bytes = match encode(alloc, &program) {
         Ok(bytes) => bytes,
-        Err(_) => match encode(alloc, &program) {
-            Ok(bytes) => bytes,
-            Err(_) => return Ok(false),
-        },
+        Err(_) => {
+            refusals.note("encode");
+            match encode(alloc, &program) {
+                Ok(bytes) => bytes,
+                Err(_) => return Ok(false),
+            }
+        }
     };
     Ok(is_it(&program) && bytes.as_slice() == BYTES)
 }
 
 /// `assemble`.
-pub fn texts_are_assembled(alloc: Global) -> Result<bool, NoMemory> {
+pub fn texts_are_assembled(alloc: Global, refusals: &mut Refusals) -> Result<bool, NoMemory> {
     match assemble(alloc, TEXT) {
         Ok(program) => Ok(is_it(&program)),
-        Err(fault) => match assemble(alloc, TEXT) {
-            Ok(program) => Ok(fault.line == 0 && fault.code == 1 && is_it(&program)),
-            Err(_) => Ok(false),
-        },
+        Err(fault) => {
+            refusals.note("assemble");
+            match assemble(alloc, TEXT) {
+                Ok(program) => Ok(fault.line == 0 && fault.code == 1 && is_it(&program)),
+                Err(_) => Ok(false),
+            }
+        }
     }
 }
 
 /// `disassemble`.
-pub fn programs_are_listed(alloc: Global) -> Result<bool, NoMemory> {
+pub fn programs_are_listed(alloc: Global, refusals: &mut Refusals) -> Result<bool, NoMemory> {
     let program = program(alloc)?;
     let text = match disassemble(alloc, &program) {
         Ok(text) => text,
-        Err(_) => match disassemble(alloc, &program) {
-            Ok(text) => text,
-            Err(_) => return Ok(false),
-        },
+        Err(_) => {
+            refusals.note("disassemble");
+            match disassemble(alloc, &program) {
+                Ok(text) => text,
+                Err(_) => return Ok(false),
+            }
+        }
     };
     Ok(is_it(&program) && text.as_str() == LISTING)
 }
 
 /// `verify`, which drops the program where memory is refused.
-pub fn programs_are_verified(alloc: Global) -> Result<bool, NoMemory> {
+pub fn programs_are_verified(alloc: Global, refusals: &mut Refusals) -> Result<bool, NoMemory> {
     match verify(alloc, program(alloc)?, HelperTable::none()) {
         Ok(accepted) => Ok(is_it(accepted.program())),
         Err(VerifyFault::Refused(_)) => Ok(false),
-        Err(VerifyFault::NoMemory) => match verify(alloc, program(alloc)?, HelperTable::none()) {
-            Ok(accepted) => Ok(is_it(accepted.program())),
-            Err(_) => Ok(false),
-        },
+        Err(VerifyFault::NoMemory) => {
+            refusals.note("verify");
+            match verify(alloc, program(alloc)?, HelperTable::none()) {
+                Ok(accepted) => Ok(is_it(accepted.program())),
+                Err(_) => Ok(false),
+            }
+        }
     }
 }
 
@@ -129,13 +148,16 @@ fn branching(alloc: Global) -> Result<Program, NoMemory> {
 }
 
 /// `verify` of a program with jumps.
-pub fn jumps_are_verified(alloc: Global) -> Result<bool, NoMemory> {
+pub fn jumps_are_verified(alloc: Global, refusals: &mut Refusals) -> Result<bool, NoMemory> {
     match verify(alloc, branching(alloc)?, HelperTable::none()) {
         Ok(accepted) => Ok(accepted.slots() == 8),
         Err(VerifyFault::Refused(_)) => Ok(false),
-        Err(VerifyFault::NoMemory) => match verify(alloc, branching(alloc)?, HelperTable::none()) {
-            Ok(accepted) => Ok(accepted.slots() == 8),
-            Err(_) => Ok(false),
-        },
+        Err(VerifyFault::NoMemory) => {
+            refusals.note("verify");
+            match verify(alloc, branching(alloc)?, HelperTable::none()) {
+                Ok(accepted) => Ok(accepted.slots() == 8),
+                Err(_) => Ok(false),
+            }
+        }
     }
 }

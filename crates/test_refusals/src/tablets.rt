@@ -1,66 +1,77 @@
-//! A tablet whose chunks are full when the next edits are done.
+//! Tables and tablets, also of tablets whose chunks are full when the next edits are done.
 ghost use Rattle.std.specs.Prelude.{◌≡◌, ◌<◌};
 ghost use Rattle.pb_base.specs.Cell.{row_of};
 ghost use Rattle.pb_store.specs.Contents.{edit_row, PutsOfSort};
 
+use crate::refusals::Refusals;
+use crate::twins::SORTS;
 use pb_base::{Cell, Column, NoMemory, Row, Ts};
-use pb_memtablet::ListTablet;
-use pb_store::{Edit, Item, Slot, Sort, Tablet};
+use pb_memtablet::{EitherTablet, ListTablet, SlabTablet};
+use pb_store::{Edit, Item, Slot, Sort, Table, Tablet};
 use std::alloc::Global;
+use test_fixtures::table_of;
 
 // How many entries, and how many marks, fill a chunk.
 const FULL: u64 = 64;
 
-fn cell_in(column: u8) -> Cell
+fn cell_in(row: u64, column: u8) -> Cell
     requires { column < 16 }
-    ensures { (row_of result).0 ≡ 7 }
+    ensures { (row_of result).0 ≡ row }
 {
-    Cell::Data(Row(7), Column::new(column).unwrap())
+    Cell::Data(Row(row), Column::new(column).unwrap())
 }
 
-fn put_edit(ts: u64) -> Edit
-    ensures row { edit_row result ≡ 7 }
+fn slot_in(row: u64, ts: u64) -> Slot {
+    Slot {
+        cell: cell_in(row, 0),
+        sort: Sort::Lock,
+        ts: Ts(ts),
+    }
+}
+
+fn put_edit(row: u64, ts: u64) -> Edit
+    ensures row { edit_row result ≡ row }
     ensures sort { PutsOfSort result }
 {
     let slot = Slot {
-        cell: cell_in(0),
+        cell: cell_in(row, 0),
         sort: Sort::Lock,
         ts: Ts(ts),
     };
     Edit::Put(slot, Item::Lock(slot.cell))
 }
 
-fn mark_edit(column: u8) -> Edit
+fn mark_edit(row: u64, column: u8) -> Edit
     requires { column < 16 }
-    ensures row { edit_row result ≡ 7 }
+    ensures row { edit_row result ≡ row }
     ensures sort { PutsOfSort result }
 {
-    Edit::Mark(cell_in(column))
+    Edit::Mark(cell_in(row, column))
 }
 
 // The n-th mark: one in each row.
 fn mark_at(n: u64) -> Cell {
-    Cell::Data(Row(n), cell_in(0).column())
+    cell_in(n, 0)
 }
 
 // Puts a chunk of entries, and makes a chunk of marks.
-fn fill_chunks(tablet: &mut ListTablet) -> Result<(), NoMemory> {
+fn fill_chunks<T: Tablet>(tablet: &mut T) -> Result<(), NoMemory> {
     for n in 0..FULL {
-        tablet.apply(&[put_edit(n)])?;
-        tablet.apply(&[Edit::Mark(mark_at(n))])?;
+        tablet.apply(&[put_edit(7, n)])?;
+        tablet.apply(&[mark_edit(n, 0)])?;
     }
     Ok(())
 }
 
 // Whether the entries and marks are those that fill the chunks, and no more.
-fn is_full(tablet: &ListTablet) -> bool {
+fn is_full<T: Tablet>(tablet: &T) -> bool {
     let mut held = tablet.len() == 64;
     let mut last = None;
     for n in 0..FULL {
         last = tablet.next_mark(last);
         held = held && last == Some(mark_at(n));
         if let Some((slot, _)) = tablet.at(n as usize) {
-            held = held && slot.cell == cell_in(0) && slot.ts.0 == n;
+            held = held && slot.cell == cell_in(7, 0) && slot.ts.0 == n;
         } else {
             held = false;
         }
@@ -69,31 +80,81 @@ fn is_full(tablet: &ListTablet) -> bool {
 }
 
 // Puts five entries and makes five marks, more than there is room for in the lists of chunks and of spares.
-fn part_chunks(tablet: &mut ListTablet) -> Result<(), NoMemory> {
+fn part_chunks<T: Tablet>(tablet: &mut T) -> Result<(), NoMemory> {
     tablet.apply(&[
-        put_edit(64),
-        put_edit(65),
-        put_edit(66),
-        put_edit(67),
-        put_edit(68),
-        mark_edit(1),
-        mark_edit(2),
-        mark_edit(3),
-        mark_edit(4),
-        mark_edit(5),
+        put_edit(7, 64),
+        put_edit(7, 65),
+        put_edit(7, 66),
+        put_edit(7, 67),
+        put_edit(7, 68),
+        mark_edit(7, 1),
+        mark_edit(7, 2),
+        mark_edit(7, 3),
+        mark_edit(7, 4),
+        mark_edit(7, 5),
     ])
 }
 
-/// `ListTablet::apply` where chunks are parted.
-pub fn chunks_are_parted(alloc: Global) -> Result<bool, NoMemory> {
-    let mut tablet = ListTablet::new(alloc);
-    fill_chunks(&mut tablet)?;
-    let mut held = is_full(&tablet);
-    if part_chunks(&mut tablet).is_err() {
-        held = held && is_full(&tablet) && part_chunks(&mut tablet).is_ok();
+fn are_parted<T: Tablet>(tablet: &mut T, call: &'static str, refusals: &mut Refusals) -> bool {
+    if !is_full(tablet) {
+        return false;
     }
-    let held = held && tablet.len() == 69 && tablet.next_mark(Some(cell_in(4))) == Some(cell_in(5));
+    if part_chunks(tablet).is_err() {
+        refusals.note(call);
+        if !is_full(tablet) || part_chunks(tablet).is_err() {
+            return false;
+        }
+    }
+    tablet.len() == 69 && tablet.next_mark(Some(cell_in(7, 4))) == Some(cell_in(7, 5))
+}
+
+fn are_parted_in<T: Tablet>(
+    tablet: T,
+    call: &'static str,
+    refusals: &mut Refusals,
+) -> Result<bool, NoMemory> {
+    let mut tablet = tablet;
+    let filled = fill_chunks(&mut tablet);
+    let held = filled.is_ok() && are_parted(&mut tablet, call, refusals);
     tablet.clear();
     tablet.end();
+    filled?;
     Ok(held)
+}
+
+/// `Tablet::apply` of both sorts where chunks are parted.
+pub fn chunks_are_parted(alloc: Global, refusals: &mut Refusals) -> Result<bool, NoMemory> {
+    let list = ListTablet::new(alloc);
+    let slab = SlabTablet::new(alloc);
+    Ok(
+        are_parted_in(list, "ListTablet::apply", refusals)?
+            && are_parted_in(slab, "SlabTablet::apply", refusals)?,
+    )
+}
+
+// Whether both edits are done, or none where that is refused once, and then both.
+fn applies(table: &mut Table<EitherTablet>, row: u64, refusals: &mut Refusals) -> bool {
+    let edits = [put_edit(row, 3), mark_edit(row, 0)];
+    if table.apply(&edits).is_err() {
+        refusals.note("Table::apply");
+        if !table.is_empty() || table.apply(&edits).is_err() {
+            return false;
+        }
+    }
+    table.at(0) == Some((slot_in(row, 3), Item::Lock(cell_in(row, 0))))
+        && table.at(1).is_none()
+        && table.next_mark(None) == Some(cell_in(row, 0))
+}
+
+/// `Table::apply`, to the first tablet and to the second.
+pub fn tables_apply(alloc: Global, refusals: &mut Refusals) -> Result<bool, NoMemory> {
+    for row in [7u64, 1007] {
+        let mut table = table_of(alloc, &SORTS)?;
+        let held = applies(&mut table, row, refusals);
+        table.close();
+        if !held {
+            return Ok(false);
+        }
+    }
+    Ok(true)
 }

@@ -1,20 +1,25 @@
 //! Runs of workers.
-ghost use Rattle.std.specs.Prelude.{◌≡◌, false, IfOk};
+ghost use Rattle.std.specs.Prelude.{◌≡◌, IfOk};
 ghost use Rattle.pb_core.specs.Calls.{AreSeats};
 
 use crate::jobs::program;
 use crate::observers::observers;
 use crate::page::Page;
+use crate::refusals::Refusals;
+use crate::reports::is_reported;
 use crate::runs::SCRIPT;
-use crate::same::{are_seats_same, are_shared_same};
-use pb_base::{Batch, MAX_ENTRIES, NoMemory, Refusal, Sink, Ts};
-use pb_core::{Answer, Observer, Phase, Seat, Shared, Step, Work};
-use pb_memtablet::ListTablet;
-use pb_script::{parse_script, report};
+use crate::same::{are_all_seats_same, are_batches_same, are_shared_same};
+use crate::twins::SORTS;
+use pb_base::{Batch, MAX_ENTRIES, NoMemory, Refusal, Ts};
+use pb_core::{Answer, Phase, Seat, Shared, Step, Work};
+use pb_memtablet::EitherTablet;
+use pb_script::parse_script;
+use pb_store::Tablet;
 use pb_worker::{NotRun, Open, Worked, finish, run_workers};
 use std::alloc::Global;
 use std::sync::Wait;
 use std::thread::Threads;
+use test_fixtures::{opened_over, spares_of, table_of};
 
 // What the script leaves. Its changes take 1 to 4; the runs on the two cells of column 0, which each delete cell 5 15, take
 // 5 to 8.
@@ -42,53 +47,48 @@ fn batches(alloc: Global) -> Result<Vec<Batch>, NoMemory> {
 
 // A table with an observer, and two seats. Its journal has room for all passes: the lock that a refused run leaves on cell
 // 5 15 is in the way of each later run, since nobody reads that cell.
-fn opened(alloc: Global) -> Result<(Shared<ListTablet>, Vec<Seat>), NoMemory>
+fn opened(alloc: Global) -> Result<(Shared<EitherTablet>, Vec<Seat>), NoMemory>
     ensures { IfOk result (λ s. AreSeats s.0 s.1.items) }
 {
     let observers = observers(alloc, &program(alloc)?)?;
-    test_fixtures::opened(alloc, observers, 2, Ts(0), MAX_ENTRIES)
+    let table = table_of(alloc, &SORTS)?;
+    opened_over(alloc, table, observers, 2, Ts(0), MAX_ENTRIES)
 }
 
-fn are_observers_same(a: &[Observer], b: &[Observer]) -> bool {
-    match (a, b) {
-        ([a], [b]) => {
-            a.name.as_str() == b.name.as_str()
-                && a.column == b.column
-                && a.program.is_same(&b.program)
+// Whether both have the same places, each with an empty tablet of the same sort.
+fn are_spares_same(a: &[(usize, EitherTablet)], b: &[(usize, EitherTablet)]) -> bool {
+    if a.len() != b.len() {
+        return false;
+    }
+    for (spare, other) in a.iter().zip(b) {
+        let is_slab = matches!(&spare.1, EitherTablet::Slab(_));
+        let is_empty = spare.1.is_empty() && spare.1.len() == 0;
+        if spare.0 != other.0 || is_slab != matches!(&other.1, EitherTablet::Slab(_)) || !is_empty {
+            return false;
         }
-        _ => false,
     }
+    true
 }
 
-fn are_all_seats_same(a: &[Seat], b: &[Seat]) -> bool {
-    match (a, b) {
-        ([a, more], [b, others]) => are_seats_same(a, b) && are_seats_same(more, others),
-        _ => false,
-    }
-}
-
-fn are_batches_same(a: &[Batch], b: &[Batch]) -> bool {
-    match (a, b) {
-        ([a, more], [b, others]) => a.is_same(b) && more.is_same(others),
-        _ => false,
-    }
-}
-
-// Whether all that was handed in comes back, as it was.
-fn are_handed_back(alloc: Global, handed: &NotRun<ListTablet>) -> Result<bool, NoMemory> {
+// Whether all that was handed in comes back, as it was, with so many spares.
+fn are_handed_back(
+    alloc: Global,
+    handed: &NotRun<EitherTablet>,
+    count: usize,
+) -> Result<bool, NoMemory> {
     let batches = batches(alloc)?;
+    let spares = spares_of(alloc, SORTS, count)?;
     let (shared, seats) = opened(alloc)?;
     let held = are_shared_same(&handed.shared, &shared)
-        && are_observers_same(handed.shared.observers(), shared.observers())
         && are_all_seats_same(&handed.seats, &seats)
         && are_batches_same(&handed.batches, &batches)
-        && handed.spares.is_empty();
+        && are_spares_same(&handed.spares, &spares);
     shared.close();
     Ok(held)
 }
 
 // How many changes are committed.
-fn committed_changes(shared: &Shared<ListTablet>) -> usize {
+fn committed_changes(shared: &Shared<EitherTablet>) -> usize {
     let mut count: usize = 0;
     for entry in shared.journal() {
         if let (Step::Begin(Work::Script), Answer::At(start)) = (&entry.step, &entry.answer)
@@ -100,28 +100,19 @@ fn committed_changes(shared: &Shared<ListTablet>) -> usize {
     count
 }
 
-// Whether a table's report is written, also where that is refused once.
-fn reports(alloc: Global, shared: &Shared<ListTablet>, page: &mut Page) -> bool
-    requires { page.old.failed ≡ false }
-{
-    if report(alloc, page, shared).is_ok() {
-        return true;
-    }
-    !page.has_failed() && page.holds(b"") && report(alloc, page, shared).is_ok()
-}
-
 // What an accepted table shows.
 fn shown(
     alloc: Global,
-    shared: &Shared<ListTablet>,
-    refusals: &[Option<Refusal>],
+    shared: &Shared<EitherTablet>,
+    seats: &[Option<Refusal>],
     unfinished: &[usize],
+    refusals: &mut Refusals,
 ) -> Remains {
     let mut page = Page::new();
-    if !reports(alloc, shared, &mut page) {
+    if !is_reported(alloc, shared, &mut page, refusals) {
         return Remains::Wrong;
     }
-    match refusals {
+    match seats {
         [None, None] => {
             let is_whole = unfinished.is_empty() && shared.journal().len() == ENTRIES;
             if is_whole && page.holds(REPORT) {
@@ -131,6 +122,7 @@ fn shown(
             }
         }
         [None, Some(Refusal(1))] | [Some(Refusal(1)), None] => {
+            refusals.note("run_workers, a seat");
             let unmade = 2usize.saturating_sub(committed_changes(shared));
             if unfinished.len() == unmade {
                 Remains::Short
@@ -143,16 +135,16 @@ fn shown(
 }
 
 // What workers left.
-fn left_by(alloc: Global, worked: Worked<ListTablet>) -> Remains {
+fn left_by(alloc: Global, worked: Worked<EitherTablet>, refusals: &mut Refusals) -> Remains {
     let Worked {
         shared,
         seats,
-        refusals,
+        refusals: told,
         unfinished,
     } = worked;
     match finish(shared, seats) {
         Ok(ended) => {
-            let left = shown(alloc, ended.shared(), &refusals, &unfinished);
+            let left = shown(alloc, ended.shared(), &told, &unfinished, refusals);
             ended.close();
             left
         }
@@ -167,23 +159,25 @@ fn left_by(alloc: Global, worked: Worked<ListTablet>) -> Remains {
 fn left_again<R: Threads + Wait + Sync>(
     rt: &R,
     alloc: Global,
-    handed: NotRun<ListTablet>,
+    handed: NotRun<EitherTablet>,
+    count: usize,
+    refusals: &mut Refusals,
 ) -> Remains
     requires { AreSeats handed.shared handed.seats.items }
 {
-    let held = are_handed_back(alloc, &handed);
+    let held = are_handed_back(alloc, &handed, count);
     let NotRun {
         shared,
         seats,
         batches,
-        spares: _,
+        spares,
     } = handed;
     if held != Ok(true) || seats.len() < 2 {
         shared.close();
         return Remains::Wrong;
     }
-    match run_workers(rt, alloc, shared, seats, batches, Vec::new(alloc), &Open) {
-        Ok(worked) => left_by(alloc, worked),
+    match run_workers(rt, alloc, shared, seats, batches, spares, &Open) {
+        Ok(worked) => left_by(alloc, worked, refusals),
         Err(
             NotRun {
                 shared,
@@ -198,26 +192,40 @@ fn left_again<R: Threads + Wait + Sync>(
     }
 }
 
-// What is left of the script, by one worker.
-fn left<R: Threads + Wait + Sync>(rt: &R, alloc: Global) -> Result<Remains, NoMemory> {
+// What is left of the script, by one worker, beside so many swaps.
+fn left<R: Threads + Wait + Sync>(
+    rt: &R,
+    alloc: Global,
+    count: usize,
+    refusals: &mut Refusals,
+) -> Result<Remains, NoMemory> {
     let batches = batches(alloc)?;
+    let spares = spares_of(alloc, SORTS, count)?;
     let (shared, seats) = opened(alloc)?;
     if seats.len() < 2 {
         shared.close();
         return Ok(Remains::Wrong);
     }
-    match run_workers(rt, alloc, shared, seats, batches, Vec::new(alloc), &Open) {
-        Ok(worked) => Ok(left_by(alloc, worked)),
-        Err(handed) => Ok(left_again(rt, alloc, handed)),
+    match run_workers(rt, alloc, shared, seats, batches, spares, &Open) {
+        Ok(worked) => Ok(left_by(alloc, worked, refusals)),
+        Err(handed) => {
+            refusals.note("run_workers");
+            Ok(left_again(rt, alloc, handed, count, refusals))
+        }
     }
 }
 
-/// `run_workers`, and `report`. Refused before the first call, all comes back, and the same call again is whole; refused later,
-/// it names the seat, and `finish` accepts what is left. On a table of its own it is whole then.
-pub fn workers_run<R: Threads + Wait + Sync>(rt: &R, alloc: Global) -> Result<bool, NoMemory> {
-    match left(rt, alloc)? {
+/// `run_workers`, beside so many swaps. Refused before the first call, all comes back, and the same call again is whole; refused
+/// later, it names the seat, and `finish` accepts what is left. On a table of its own it is whole then.
+pub fn workers_run<R: Threads + Wait + Sync>(
+    rt: &R,
+    alloc: Global,
+    count: usize,
+    refusals: &mut Refusals,
+) -> Result<bool, NoMemory> {
+    match left(rt, alloc, count, refusals)? {
         Remains::Whole => Ok(true),
-        Remains::Short => Ok(left(rt, alloc)? == Remains::Whole),
+        Remains::Short => Ok(left(rt, alloc, count, refusals)? == Remains::Whole),
         Remains::Wrong => Ok(false),
     }
 }

@@ -1,36 +1,115 @@
 //! Worlds, and the events that happen in them.
+ghost use Rattle.std.specs.Prelude.{IfOk};
 ghost use Rattle.pb_core.specs.Calls.{AreSeats};
+ghost use Rattle.pb_world.specs.Sound.{IsSound};
 
-use crate::calls::three_cells;
 use crate::jobs::program;
 use crate::observers::observers;
+use crate::refusals::Refusals;
+use crate::same::{are_all_seats_same, are_batches_same, are_shared_same};
+use crate::steps::{batch, three_cells};
+use crate::twins::SORTS;
+use law_worlds::opened_worlds_are_sound;
 use pb_base::{Batch, NoMemory, Ts};
-use pb_core::{Answer, Seat, Shared};
-use pb_memtablet::ListTablet;
+use pb_core::{Seat, Shared};
+use pb_memtablet::EitherTablet;
 use pb_script::{Event, parse_schedule};
-use pb_world::World;
+use pb_world::{World, worlds_stay_sound};
 use std::alloc::Global;
-use test_fixtures::opened;
+use test_fixtures::{opened_over, table_of};
+
+// What happens before: a change, another that crashes with its lock there, and a look at it by the main seat.
+const BEFORE: &str =
+    "launch 1 change 2\nstep 1 5\nlaunch 2 change 2\nstep 2 3\ncrash 2\nsweep 7 0\n";
 
 // A change, a run that crashes while others' locks may stand, a second run of its cell, and what the main seat clears.
 const SCHEDULE: &str =
-    "launch 1 change 1\nstep 1 4\nlaunch 2 change 1\nstep 1 100\nstep 2 4\ncrash 2\nlaunch 2 run watch 7\nstep 2 30\ncrash 2\nlaunch 3 run watch 7\nstep 3 100\nsettle ack watch 7\nclear 7 1\nsweep 7 0\n";
+    "settle 7 0\nlaunch 1 change 1\nstep 1 4\nlaunch 2 change 1\nstep 1 100\nstep 2 4\ncrash 2\nlaunch 2 run watch 7\nstep 2 30\ncrash 2\nlaunch 3 run watch 7\nstep 3 100\nsettle ack watch 7\nclear 1007 1\nsweep 7 0\n";
 
 // How many events it has.
-const EVENTS: usize = 247;
+const EVENTS: usize = 248;
 
-// Whether these are the seats and batches that a world was to be opened with.
-fn are_handed_back(seats: &[Seat], batches: &[Batch], same: &Batch) -> bool {
-    let are_seats = seats.len() == 4 && seats.iter().all(|seat| seat.received().is_empty());
-    are_seats && matches!(batches, [batch] if batch.is_same(same))
+fn events(alloc: Global, schedule: &str) -> Result<Vec<Event>, NoMemory> {
+    let observers = observers(alloc, &program(alloc)?)?;
+    match parse_schedule(alloc, schedule, &observers) {
+        Ok(events) => Ok(events),
+        Err(_) => Err(NoMemory),
+    }
+}
+
+// A change of three cells, and one of one.
+fn batches(alloc: Global) -> Result<Vec<Batch>, NoMemory> {
+    let mut batches = Vec::new(alloc);
+    batches.push(three_cells(alloc)?)?;
+    batches.push(batch(alloc)?)?;
+    Ok(batches)
+}
+
+// What a world leaves once these events happened there.
+fn left_after(
+    alloc: Global,
+    world: World<EitherTablet>,
+    events: &[Event],
+) -> Result<(Shared<EitherTablet>, Vec<Seat>), NoMemory>
+    requires { IsSound world }
+    ensures { IfOk result (λ s. AreSeats s.0 s.1.items) }
+{
+    // For the proof: the seats of a world are those of its table, whatever happens.
+    worlds_stay_sound();
+    let mut world = world;
+    let happened = world.run(alloc, events);
+    let (shared, seats) = world.close();
+    match happened {
+        Ok(_) => Ok((shared, seats)),
+        Err(_) => {
+            shared.close();
+            Err(NoMemory)
+        }
+    }
+}
+
+// A table and its four seats, once those events happened there.
+fn used(alloc: Global) -> Result<(Shared<EitherTablet>, Vec<Seat>), NoMemory>
+    ensures { IfOk result (λ s. AreSeats s.0 s.1.items) }
+{
+    // For the proof: an opened world is sound.
+    opened_worlds_are_sound();
+    let events = events(alloc, BEFORE)?;
+    let batches = batches(alloc)?;
+    let observers = observers(alloc, &program(alloc)?)?;
+    let table = table_of(alloc, &SORTS)?;
+    let (shared, seats) = opened_over(alloc, table, observers, 4, Ts(0), 100)?;
+    match World::open(alloc, shared, seats, batches) {
+        Ok(world) => left_after(alloc, world, &events),
+        Err((shared, _seats, _batches)) => {
+            shared.close();
+            Err(NoMemory)
+        }
+    }
+}
+
+// Whether these are the table, the seats and the batches that a world was to be opened with.
+fn are_handed_back(
+    alloc: Global,
+    shared: &Shared<EitherTablet>,
+    seats: &[Seat],
+    changes: &[Batch],
+) -> Result<bool, NoMemory> {
+    let batches = batches(alloc)?;
+    let (other, others) = used(alloc)?;
+    let held = are_shared_same(shared, &other)
+        && are_all_seats_same(seats, &others)
+        && are_batches_same(changes, &batches);
+    other.close();
+    Ok(held)
 }
 
 fn reopened(
     alloc: Global,
-    shared: Shared<ListTablet>,
+    shared: Shared<EitherTablet>,
     seats: Vec<Seat>,
     batches: Vec<Batch>,
-) -> Option<World<ListTablet>>
+) -> Option<World<EitherTablet>>
     requires { AreSeats shared seats.items }
 {
     match World::open(alloc, shared, seats, batches) {
@@ -42,96 +121,119 @@ fn reopened(
     }
 }
 
-// A world, also where it is refused once and all is handed back.
-fn world_over(
-    alloc: Global,
-    shared: Shared<ListTablet>,
-    seats: Vec<Seat>,
-    batches: Vec<Batch>,
-    same: &Batch,
-) -> Option<World<ListTablet>>
-    requires { AreSeats shared seats.items }
-{
+// A world over a used table, also where it is refused once and all is handed back.
+fn opened(alloc: Global, refusals: &mut Refusals) -> Result<Option<World<EitherTablet>>, NoMemory> {
+    let batches = batches(alloc)?;
+    let (shared, seats) = used(alloc)?;
     match World::open(alloc, shared, seats, batches) {
-        Ok(world) => Some(world),
+        Ok(world) => Ok(Some(world)),
         Err((shared, seats, batches)) => {
-            let held = shared.journal().is_empty() && are_handed_back(&seats, &batches, same);
-            if !held {
+            refusals.note("World::open");
+            let held = are_handed_back(alloc, &shared, &seats, &batches);
+            if held != Ok(true) {
                 shared.close();
-                return None;
+                return Ok(None);
             }
-            reopened(alloc, shared, seats, batches)
+            Ok(reopened(alloc, shared, seats, batches))
         }
     }
 }
 
-// Whether the events happen; refused for memory, those from the refused one on.
-fn happen(alloc: Global, world: &mut World<ListTablet>, events: &[Event]) -> bool {
-    match world.run(alloc, events) {
-        Ok(_) => true,
-        Err(fault) => {
-            let is_within = fault.code == 1 && fault.event < events.len();
-            is_within && world.run(alloc, &events[fault.event..]).is_ok()
-        }
-    }
-}
-
-fn answers(alloc: Global, world: &World<ListTablet>) -> Result<Vec<Answer>, NoMemory> {
-    let mut answers = Vec::new(alloc);
-    for entry in world.shared().journal() {
-        answers.push(entry.answer)?;
-    }
-    Ok(answers)
-}
-
-// The answers of a world's journal after the events, where they happened.
-fn left_in(
-    alloc: Global,
-    shared: Shared<ListTablet>,
-    seats: Vec<Seat>,
-    batches: Vec<Batch>,
-    same: &Batch,
-    events: &[Event],
-) -> Result<Option<Vec<Answer>>, NoMemory>
-    requires { AreSeats shared seats.items }
-{
-    let Some(world) = world_over(alloc, shared, seats, batches, same) else {
-        return Ok(None);
-    };
-    let mut world = world;
-    let held = happen(alloc, &mut world, events);
-    let answers = answers(alloc, &world);
+fn end(world: World<EitherTablet>) {
     let (shared, _seats) = world.close();
     shared.close();
-    if held { Ok(Some(answers?)) } else { Ok(None) }
 }
 
-fn events(alloc: Global) -> Result<Vec<Event>, NoMemory> {
-    let observers = observers(alloc, &program(alloc)?)?;
-    match parse_schedule(alloc, SCHEDULE, &observers) {
-        Ok(events) => Ok(events),
-        Err(_) => Err(NoMemory),
+// Whether a world is as one in which these events happened, and no others.
+fn is_after(
+    alloc: Global,
+    world: &World<EitherTablet>,
+    events: &[Event],
+    refusals: &mut Refusals,
+) -> Result<bool, NoMemory> {
+    let Some(other) = opened(alloc, refusals)? else {
+        return Ok(false);
+    };
+    let mut other = other;
+    let held = match other.run(alloc, events) {
+        Ok(notes) => {
+            notes.len() == events.len() && are_shared_same(world.shared(), other.shared())
+        }
+        Err(_) => false,
+    };
+    end(other);
+    Ok(held)
+}
+
+// Whether the events happen; refused for memory, those before happened, and then the rest does.
+fn happen(
+    alloc: Global,
+    world: &mut World<EitherTablet>,
+    events: &[Event],
+    refusals: &mut Refusals,
+) -> Result<bool, NoMemory> {
+    let fault = match world.run(alloc, events) {
+        Ok(notes) => return Ok(notes.len() == events.len()),
+        Err(fault) => fault,
+    };
+    refusals.note("World::run");
+    if fault.code != 1 || fault.event >= events.len() {
+        return Ok(false);
+    }
+    let rest = &events[fault.event..];
+    if !is_after(alloc, world, &events[..fault.event], refusals)? {
+        return Ok(false);
+    }
+    match world.run(alloc, rest) {
+        Ok(notes) => Ok(notes.len() == rest.len()),
+        Err(_) => Ok(false),
     }
 }
 
-fn left(alloc: Global, events: &[Event]) -> Result<Option<Vec<Answer>>, NoMemory> {
-    let mut batches = Vec::new(alloc);
-    let same = three_cells(alloc)?;
-    batches.push(same.copy()?)?;
-    let observers = observers(alloc, &program(alloc)?)?;
-    let (shared, seats) = opened(alloc, observers, 4, Ts(0), 100)?;
-    left_in(alloc, shared, seats, batches, &same, events)
+// Whether two worlds leave the same tables and seats.
+fn leave_the_same(first: World<EitherTablet>, second: World<EitherTablet>) -> bool {
+    let (shared, seats) = first.close();
+    let (other, others) = second.close();
+    let is_same = are_shared_same(&shared, &other) && are_all_seats_same(&seats, &others);
+    shared.close();
+    other.close();
+    is_same
 }
 
-/// `World::open` and `World::run`: refused, they go on to the answers that they have where nothing is refused.
-pub fn worlds_run(alloc: Global) -> Result<bool, NoMemory> {
-    let events = events(alloc)?;
-    let first = left(alloc, &events)?;
-    let second = left(alloc, &events)?;
-    match (first, second) {
-        (Some(first), Some(second)) => {
-            Ok(events.len() == EVENTS && first.as_slice() == second.as_slice())
+// Whether the events happen in both worlds, and leave the same.
+fn happen_in_both(
+    alloc: Global,
+    first: World<EitherTablet>,
+    second: World<EitherTablet>,
+    events: &[Event],
+    refusals: &mut Refusals,
+) -> Result<bool, NoMemory> {
+    let mut first = first;
+    let mut second = second;
+    let in_first = happen(alloc, &mut first, events, refusals);
+    let in_second = happen(alloc, &mut second, events, refusals);
+    let is_same = leave_the_same(first, second);
+    Ok(in_first? && in_second? && is_same)
+}
+
+/// `World::open` and `World::run`: refused, they go on to what is left where nothing is refused.
+pub fn worlds_run(alloc: Global, refusals: &mut Refusals) -> Result<bool, NoMemory> {
+    let events = events(alloc, SCHEDULE)?;
+    let Some(first) = opened(alloc, refusals)? else {
+        return Ok(false);
+    };
+    match opened(alloc, refusals) {
+        Ok(Some(second)) => {
+            let held = happen_in_both(alloc, first, second, &events, refusals)?;
+            Ok(events.len() == EVENTS && held)
         }
-        _ => Ok(false),
+        Ok(None) => {
+            end(first);
+            Ok(false)
+        }
+        Err(fault) => {
+            end(first);
+            Err(fault)
+        }
     }
 }
