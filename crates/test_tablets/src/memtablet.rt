@@ -98,7 +98,8 @@ struct Seen {
     places: usize,
 }
 
-fn end_all<T: Tablet>(mut parts: Vec<(Row, T)>) {
+/// Ends tablets that make no table.
+pub fn end_all<T: Tablet>(mut parts: Vec<(Row, T)>) {
     while let Some((_, mut tablet)) = parts.pop() {
         tablet.clear();
         tablet.end();
