@@ -97,11 +97,22 @@ fn change<T: Tablet>(tablet: &mut T, count: u32) -> Result<(), NoMemory> {
     Ok(())
 }
 
-// How many entries a walk meets.
+// Whether it is the write record of a transaction that began before. Slot and item are both read for that: of a list, whether an
+// entry is there would be told without a look at it.
+fn is_record(entry: &(Slot, Item)) -> bool {
+    match entry.1 {
+        Item::Write(start) => entry.0.ts > start,
+        _ => false,
+    }
+}
+
+// How many write records a walk meets.
 fn walk<T: Tablet>(tablet: &T) -> usize {
     let mut met = 0_usize;
     for place in 0..tablet.len() {
-        if tablet.at(place).is_some() {
+        if let Some(entry) = tablet.at(place)
+            && is_record(&entry)
+        {
             met = met.wrapping_add(1);
         }
     }
