@@ -5,6 +5,7 @@ pub mod FramesAfter
 pub mod Pairs
 pub mod Pending
 pub mod Resolved
+pub mod CallsCounted
 pub mod FramesAreMeets
 pub mod OneVerdict
 pub mod JumpsForward

@@ -8,3 +8,4 @@ pub mod Forward
 pub mod Accesses
 pub mod Effects
 pub mod Versions
+pub mod Needs

@@ -1,5 +1,5 @@
 //! The cells that a program writes, in order of their first write.
-ghost use Rattle.std.specs.Prelude.{◌≡◌, ◌≤◌, length, vec_capacity};
+ghost use Rattle.std.specs.Prelude.{◌≡◌, ◌<◌, ◌≤◌, ◌+◌, length, vec_capacity};
 ghost use Rattle.pb_isa.specs.Meaning.{kept_writes};
 ghost use Rattle.pb_isa.specs.Machine.{add_write, write_result};
 ghost use Rattle.pb_vm.specs.Places.{place_in};
@@ -38,12 +38,13 @@ pub fn kept(end: u64, writes: Vec<(Cell, Content)>) -> Vec<(Cell, Content)>
 /// Writes to a cell, which keeps its place where it was written before. It tells 0, or 3 for a 17th cell, which is not
 /// taken.
 pub fn write(writes: &mut Vec<(Cell, Content)>, cell: Cell, content: Content) -> u64
-    requires room { MAX_CELLS ≤ vec_capacity writes.old }
     requires few { length writes.old.items ≤ MAX_CELLS }
+    requires room { length writes.old.items < MAX_CELLS → length writes.old.items < vec_capacity writes.old }
     ensures writes { writes.new.items ≡ add_write cell content writes.old.items }
     ensures result { result ≡ write_result cell writes.old.items }
-    ensures room { MAX_CELLS ≤ vec_capacity writes.new }
     ensures few { length writes.new.items ≤ MAX_CELLS }
+    ensures one { length writes.new.items ≤ length writes.old.items + 1 }
+    ensures room { vec_capacity writes.old ≤ vec_capacity writes.new }
 {
     let place = place_in(writes, &cell);
     let written = (cell, content);
