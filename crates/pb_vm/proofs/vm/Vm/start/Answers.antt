@@ -1,8 +1,9 @@
-use Rattle.std.proofs.Common.{◌≡◌, ◌≤◌, sym, length, ap, subst, ◌∙◌, arith}
+use Rattle.std.proofs.Common.{◌≡◌, ◌≤◌, [], sym, length, ap, subst, ◌∙◌, arith}
 use Rattle.pb_isa.specs.declared.limits.TheConstants.{MAX_RECORD_BYTES}
 use Rattle.pb_isa.specs.Programs.{JudgedOf, IsProgram}
 use Rattle.pb_verify.specs.Arriving.{Accepts}
 use Rattle.pb_verify.specs.Needs.{reads_from, writes_from}
+use Rattle.pb_vm.specs.Core.{core_cells}
 use Rattle.pb_vm.specs.Keeping.{IsRunnable}
 use Rattle.pb_vm.proofs.Starting.{starts}
 use Rattle.pb_vm.proofs.vm.Vm.start.Goals as goal
@@ -21,10 +22,12 @@ invariant_of-result c =
     let writes = c.in_ok-writes.ensures in
     let none_asked = ap length talk.items in
     let none_written = ap length writes.items in
-    let first = ap (λ z. z.slot) (c.new.ensures c.args.change) in
+    let core = c.in_ok-core.ensures.ok in
+    let entry = ap (λ k. core_cells k c.args.change []) core ∙ c.new.ensures c.args.change in
+    let first = ap (λ z. z.slot) entry in
     let reads = c.reads.ensures ∙ ap (λ (z : JudgedOf). reads_from z.program.insns 0) c.deref-2.ensures ∙ ap (λ n. reads_from j.program.insns n) (sym first) in
     let all_writes = c.writes.ensures ∙ ap (λ (z : JudgedOf). writes_from z.program.insns 0) c.deref-3.ensures ∙ ap (λ n. writes_from j.program.insns n) (sym first) in
     let fits = talk.capacity in
     let writes_fit = writes.capacity in
     let least = c.min.ensures in
-    (ok, record { asks = omega (arith, none_asked, reads, fits); few = omega (arith, none_written); writes = λ low. omega (arith, none_written, all_writes, writes_fit, least, low) }, starts c.accepted_cells_run.ensures j c.args.change c.args.run.0 ok c.in_ok-talk.talk.items c.new.result c.in_ok-writes.writes.items talk.items writes.items (c.new.ensures c.args.change), c.padded-given.ensures)
+    (ok, record { asks = omega (arith, none_asked, reads, fits); few = omega (arith, none_written); writes = λ low. omega (arith, none_written, all_writes, writes_fit, least, low) }, starts c.accepted_cells_run.ensures j c.args.change c.args.run.0 ok c.in_ok-talk.talk.items c.in_ok-core.core.value c.in_ok-writes.writes.items talk.items writes.items entry, c.padded-given.ensures)
