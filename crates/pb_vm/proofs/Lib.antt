@@ -5,6 +5,7 @@ pub mod Running
 pub mod Stepping
 pub mod Starting
 pub mod Advancing
+pub mod Skipping
 pub mod Doing
 pub mod LeadingOn
 pub mod Rounds
