@@ -45,8 +45,8 @@ fn change() -> Option<Record> {
     Some(Record::new(Cell::Data(Row(7), Column::new(0)?), &version, Ts(0)))
 }
 
-// A run at 3 to its end, by so many instructions a call, where each cell that it asks for is absent.
-fn run(alloc: Global, program: &Arc<Accepted>, most: u16) -> Option<Ran> {
+// A run at 3 to its end, an instruction a call or up to the next ask, where each cell that it asks for is absent.
+fn run(alloc: Global, program: &Arc<Accepted>, is_by_steps: bool) -> Option<Ran> {
     let record = change()?;
     let version = program.version();
     if record.version() != version {
@@ -56,10 +56,10 @@ fn run(alloc: Global, program: &Arc<Accepted>, most: u16) -> Option<Ran> {
     for _ in 0..CALLS {
         match vm.phase() {
             Phase::Going => {
-                if most > 1 {
-                    vm.advance(most);
-                } else {
+                if is_by_steps {
                     vm.step();
+                } else {
+                    vm.follow();
                 }
             }
             Phase::Asking(_) => vm.reply(Reply::Absent),
@@ -76,7 +76,7 @@ fn run(alloc: Global, program: &Arc<Accepted>, most: u16) -> Option<Ran> {
     }
 }
 
-/// The last of so many runs of the program in a file, with all helpers: step by step, or by as many as go.
+/// The last of so many runs of the program in a file, with all helpers: step by step, or up to each ask.
 pub fn last_of(rt: &HostRuntime, path: &str, runs: u32, is_by_steps: bool) -> Result<Ran, NoRun> {
     let Some(bytes) = bytes_of(rt, path) else {
         return Err(NoRun::Failed);
@@ -89,10 +89,9 @@ pub fn last_of(rt: &HostRuntime, path: &str, runs: u32, is_by_steps: bool) -> Re
     let Ok(program) = Arc::new(rt.alloc(), accepted) else {
         return Err(NoRun::Failed);
     };
-    let most = if is_by_steps { 1 } else { CALLS };
     let mut last = None;
     for _ in 0..runs {
-        last = run(rt.alloc(), &program, most);
+        last = run(rt.alloc(), &program, is_by_steps);
     }
     match last {
         Some(ran) => Ok(ran),
