@@ -5,6 +5,8 @@ pub mod LookTalk
 pub mod RunTalk
 pub mod Led
 pub mod MovedInPlace
+pub mod AdvancedInPlace
+pub mod InstructionsLeft
 pub mod RecordedReads
 pub mod ItsRun
 pub mod PlanSteps

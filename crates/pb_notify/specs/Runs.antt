@@ -11,7 +11,7 @@ use Rattle.pb_notify.specs.declared.need.Need.{Need}
 use Rattle.pb_notify.specs.declared.need.Need.TheVariants as needs
 use Rattle.pb_notify.specs.declared.place.Place.{Place}
 use Rattle.pb_notify.specs.declared.place.Place.TheVariants.{Beginning, Starting, Computing, Over}
-use Rattle.pb_notify.specs.Places.{stored_step, step_at, place_after, locked_at, AtPlace, IsToldAt, ComesFrom}
+use Rattle.pb_notify.specs.Places.{stored_step, step_at, place_after, locked_at, AtPlace, IsToldAt, ComesFrom, GrowsAt}
 
 -- the observer and its program, the row and column of the cell, how many reads met a lock, and where it stands
 pub record RunOf : Type 0 where
@@ -59,6 +59,24 @@ CanTake j a = plans.CanTake (next_of j) a
 pub record Computes (j k : RunOf) : Type 0 where
   pub comes : ComesFrom j.observer j.judged (Data j.row j.column) j.place k.place
   pub same : k ≡ record j { place = k.place }
+
+-- ---- all instructions up to the next ask or the exit
+
+-- any number of instructions, one after the other, each where one is next
+pub data ComputesOn (j : RunOf) : RunOf → Type 0 where
+  at_first : ComputesOn j j
+  one_more : (k l : RunOf) → ComputesOn j k → need_of k ≡ needs.Local → Computes k l → ComputesOn j l
+
+-- at least one
+pub record ComputesSome (j l : RunOf) : Type 0 where
+  pub before : RunOf
+  pub on : ComputesOn j before
+  pub is_next : need_of before ≡ needs.Local
+  pub last : Computes before l
+
+-- its next instruction takes memory: the first, or the exit
+abbrev pub GrowsNext : RunOf → Type 0
+GrowsNext j = GrowsAt j.place
 
 -- ---- how a job is kept
 

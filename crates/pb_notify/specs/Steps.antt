@@ -1,10 +1,11 @@
--- What one instruction of a run's machine does.
-use Rattle.std.specs.Prelude.{◌≡◌, ℕ, ◌≤◌}
+-- What the instructions of a run's machine do.
+use Rattle.std.specs.Prelude.{◌≡◌, ℕ, ◌≤◌, length}
 use Rattle.pb_isa.specs.Slots.{slots}
+use Rattle.pb_isa.specs.Machine.{Placement, IsPlacement}
 use Rattle.pb_vm.specs.Position.{Position}
 use Rattle.pb_vm.specs.declared.moved.Moved.{Moved}
 use Rattle.pb_vm.specs.declared.moved.Phase.TheVariants.{Going}
-use Rattle.pb_vm.specs.Moves.{Went, AskedFor, Moves}
+use Rattle.pb_vm.specs.Moves.{Went, AskedFor, EndsAt, Moves, IsStop}
 use Rattle.pb_vm.specs.Finished.{Meant}
 use Rattle.pb_steps.specs.declared.step.Declared.{Declared}
 use Rattle.pb_steps.specs.declared.step.Declared.TheVariants as declared
@@ -35,3 +36,21 @@ pub record MovesOn (v : Position) (m : Moved) (w : Position) : Type 0 where
   pub going : v.phase ≡ Going
   pub moves : Moves v m w
   pub most : w.taken ≤ slots w.judged.program.insns
+
+-- ---- all instructions up to the next ask or the exit
+
+-- any number of instructions after which it goes on
+pub data Proceeds (v : Position) : Position → Type 0 where
+  at_first : Proceeds v v
+  one_more : (u w : Position) → Proceeds v u → WentOn u w → Proceeds v w
+
+-- what the first one that asks or ends does, after all before it
+pub record AdvancesOn (v : Position) (m : Moved) (w : Position) : Type 0 where
+  pub last : Position
+  pub proceeds : Proceeds v last
+  pub stops : IsStop m
+  pub moves : MovesOn last m w
+
+-- the next instruction is the exit
+abbrev pub IsAtExit : Position → Type 0
+IsAtExit v = (r : ℕ) × ((a : Placement) → IsPlacement (length v.bytes) a → EndsAt v r a)

@@ -1,7 +1,7 @@
 //! Jobs of observers.
 use crate::need::Need;
 use crate::place::{
-    Place, compute, keep_step, locked_at, move_on, step_at, take, tells_old, wait_at,
+    Place, advance, compute, keep_step, locked_at, move_on, step_at, take, tells_old, wait_at,
 };
 use pb_base::{Cell, Column, NoMemory, ObserverNo, Row};
 use pb_steps::{Answer, Step, Work};
@@ -41,9 +41,9 @@ impl Model for ObserverJob {
 }
 
 impl ObserverJob {
-    ghost use Rattle.std.specs.Prelude.{◌≡◌, None, Some, MatchOption, OnOk, OnErr};
+    ghost use Rattle.std.specs.Prelude.{◌≡◌, ◌≢◌, None, Some, MatchOption, OnOk, OnErr};
     ghost use Rattle.pb_notify.specs.declared.need.Need.TheVariants.{Local, Call};
-    ghost use Rattle.pb_notify.specs.Runs.{fresh, next_of, HasNext, need_of, answered, HearsLook, CanTake, Computes};
+    ghost use Rattle.pb_notify.specs.Runs.{fresh, next_of, HasNext, need_of, answered, HearsLook, CanTake, Computes, ComputesOn, ComputesSome, GrowsNext};
 
     /// The run of this observer, whose program this is, on the cell of this row and column. It takes no memory.
     pub fn new(
@@ -131,6 +131,40 @@ impl ObserverJob {
             Some(Moved::Ended(_)) => unreachable!(),
             None => self.compute(alloc),
         }
+    }
+
+    /// Does all instructions of its machine up to the next ask, or up to the exit and that too, as so many calls of
+    /// [`local`](ObserverJob::local) would. Refused for memory, it stands before its first instruction or before its exit,
+    /// with all that it did, and goes on from there when it is called again.
+    pub fn advance(&mut self, alloc: Global) -> Result<(), NoMemory>
+        requires { need_of self.old ≡ Local }
+        ensures on { ComputesOn self.old self.new }
+        ensures ok { OnOk result (need_of self.new ≢ Local) }
+        ensures err { OnErr result (GrowsNext self.new) }
+    {
+        while self.needs() == Need::Local {
+            self.go_on(alloc)?;
+        }
+        Ok(())
+    }
+
+    // Does those up to the next ask, or up to the exit and that too; or the first alone, if its machine isn't started.
+    fn go_on(&mut self, alloc: Global) -> Result<(), NoMemory>
+        requires { need_of self.old ≡ Local }
+        ensures ok { OnOk result (ComputesSome self.old self.new) }
+        ensures err { OnErr result (ComputesOn self.old self.new × GrowsNext self.new) }
+    {
+        if !advance(&mut self.place) {
+            return self.compute(alloc);
+        }
+        keep_step(
+            &mut self.next,
+            self.observer,
+            self.row,
+            self.column,
+            &self.place,
+        );
+        Ok(())
     }
 
     // Does the first instruction, or the exit.

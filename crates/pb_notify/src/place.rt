@@ -1,10 +1,10 @@
 //! Where a job stands, and where an answer or an instruction leads.
-ghost use Rattle.std.specs.Prelude.{◌≡◌, ◌<◌, ℕ, Some, length, IfOk, IfErr, IsTrue, MatchOption};
+ghost use Rattle.std.specs.Prelude.{◌≡◌, ◌<◌, ℕ, Some, length, IfOk, IfErr, IsTrue, IsFalse, MatchOption};
 ghost use Rattle.pb_helpers.specs.OldRecord as versions;
 ghost use Rattle.pb_txn.specs.Plans.{PlanOf};
 ghost use Rattle.pb_txn.specs.Plans as plans;
 ghost use Rattle.pb_notify.specs.declared.place.Place.TheVariants as places;
-ghost use Rattle.pb_notify.specs.Places.{stored_step, place_after, locked_at, place_of, CanTakeAt, AtPlace, IsLocal, IsToldBy, IsToldAt, Starts, Comes, ComesFrom, MovesAt, GoesAt, waiting, by_outcome, IsPlanning};
+ghost use Rattle.pb_notify.specs.Places.{stored_step, place_after, locked_at, place_of, CanTakeAt, AtPlace, IsLocal, IsToldBy, IsToldAt, Starts, Comes, ComesFrom, MovesAt, GoesAt, ProceedsAt, AdvancesAt, WaitsAt, GrowsAt, waiting, by_outcome, IsPlanning};
 ghost use Rattle.pb_notify.specs.declared.place.Place.{Place};
 ghost use Rattle.pb_vm.specs.declared.moved.Moved.TheVariants.{Ended};
 ghost use Rattle.pb_vm.specs.declared.moved.Phase.TheVariants.{Going, Asking};
@@ -386,6 +386,40 @@ pub fn wait_at(place: &mut Place, ask: Ask)
 {
     let asking = mem::replace(place, Place::Beginning);
     *place = waiting(asking, ask);
+}
+
+// Does all instructions of a machine up to the next ask or the exit where it stands, and tells what the last one did; none
+// where it isn't started, and at an exit that was refused.
+fn advance_at(place: &mut Place) -> Option<Moved>
+    requires { IsLocal place.old }
+    ensures { MatchOption result (GrowsAt place.old × (place.new ≡ place.old))
+        (λ m. AdvancesAt place.old m place.new) }
+{
+    match place {
+        Place::Computing(_, machine) => machine.advance(),
+        _ => None,
+    }
+}
+
+/// Does all instructions of a machine up to the next ask or the exit where it stands, and tells whether it waits for what it
+/// asked; else it is before its exit, or isn't started.
+pub fn advance(place: &mut Place) -> bool
+    requires { IsLocal place.old }
+    ensures waits { IsTrue result → WaitsAt place.old place.new }
+    ensures grows { IsFalse result → ProceedsAt place.old place.new × GrowsAt place.new }
+{
+    match advance_at(place) {
+        Some(Moved::Asks(ask)) => {
+            wait_at(place, ask);
+            true
+        }
+        Some(Moved::Ended(_)) => {
+            go_back(place);
+            false
+        }
+        Some(Moved::Went) => unreachable!(),
+        None => false,
+    }
 }
 
 /// Where the next instruction leads, for the run of this observer, whose program this is, on this cell. Refused for memory,

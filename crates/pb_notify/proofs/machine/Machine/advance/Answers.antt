@@ -1,0 +1,20 @@
+use Rattle.std.proofs.Common.{◌≡◌, sym, subst, rules}
+use Rattle.pb_vm.specs.Position.{Position}
+use Rattle.pb_notify.specs.Steps.{AdvancesOn, IsAtExit}
+use Rattle.pb_notify.specs.Machines.{IsKept, position_in}
+use Rattle.pb_notify.proofs.machine.Machine.advance.Goals as goal
+use Rattle.pb_notify.proofs.machine.Machine.advance.Goals.{in-Running, in-Exited}
+
+pub returns : goal.returns
+returns c =
+    let v : Position = c.args.self.now in
+    elim c.match-self.branch [
+      | in-Running w ↦
+          let old : w.deref_mut.result.now ≡ v = search rules in
+          let did = subst (λ (p : Position). AdvancesOn p w.advance.result w.advance.new.vm) old w.advance.ensures in
+          rw (w.result-is, w.self-inside-is) did
+      | in-Exited w ↦
+          let kept = subst IsKept w.in-Exited.is c.self.invariant in
+          let ends = subst (λ s. IsAtExit (position_in s)) (sym w.in-Exited.is) (w.in-Exited.field-0.result, kept.ends) in
+          rw (w.result-is, w.self-inside-is) (subst IsAtExit c.self.view_is ends, c.self.view_is)
+    ]
