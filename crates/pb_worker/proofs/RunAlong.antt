@@ -1,29 +1,18 @@
 -- An observer's run on its way to its end.
-use Rattle.std.proofs.Common.{◌≡◌, ◌≢◌, ℕ, ◌+◌, ◌-◌, ◌<◌, List, [], ◌∷◌, ◌++◌, Option, Some, None, inl, refl, sym, ap, subst, ◌∙◌, arith}
+use Rattle.std.proofs.Common.{◌≡◌, ◌≢◌, ℕ, List, [], ◌∷◌, ◌++◌, Option, Some, None, inl, refl, sym, ap, subst, ◌∙◌}
 use Rattle.pb_base.specs.declared.cell.Cell.{Cell}
-use Rattle.pb_base.specs.declared.cell.Cell.TheVariants.{Data}
 use Rattle.pb_base.specs.Cell.{row_of}
-use Rattle.pb_base.specs.declared.names.Ts.{Ts}
 use Rattle.pb_base.specs.declared.refusal.Refusal.{Refusal}
-use Rattle.pb_isa.specs.Programs.{JudgedOf}
-use Rattle.pb_isa.specs.Slots.{slots}
-use Rattle.pb_vm.specs.Position.{Position}
 use Rattle.pb_steps.specs.declared.step.Step.{Step}
 use Rattle.pb_steps.specs.declared.step.Answer.{Answer}
 use Rattle.pb_steps.specs.Answers.{CanAnswer}
 use Rattle.pb_steps.specs.Observers.{ObserverOf}
 use Rattle.pb_core.specs.Calls.{SeatOf}
 use Rattle.pb_txn.specs.Talks.{told}
-use Rattle.pb_notify.specs.declared.machine.stepped.Stepped.{Stepped}
-use Rattle.pb_notify.specs.declared.machine.stepped.Stepped.TheVariants as did
 use Rattle.pb_notify.specs.declared.need.Need.{Need}
 use Rattle.pb_notify.specs.declared.need.Need.TheVariants.{Local, Call, Over}
 use Rattle.pb_notify.specs.declared.need.JobEnd.{JobEnd}
-use Rattle.pb_notify.specs.declared.place.Place.{Place}
-use Rattle.pb_notify.specs.declared.place.Place.TheVariants.{Starting, Computing}
-use Rattle.pb_notify.specs.Places.{ComesFrom, Comes, place_of}
-use Rattle.pb_notify.specs.Steps.{Steps}
-use Rattle.pb_notify.specs.Runs.{RunOf, HasNext, next_of, need_of, answered, HearsLook, Computes}
+use Rattle.pb_notify.specs.Runs.{RunOf, HasNext, next_of, need_of, answered, HearsLook, ComputesOn, at_first, one_more}
 use Rattle.pb_notify.specs.Talks.{Reaches, made, took, computed}
 use Rattle.pb_notify.specs.Forms.{JobsEnd, JobsTalk}
 use Rattle.pb_worker.specs.Gains.{Gains, Told, MayRefuse, IsStop, IsWant}
@@ -34,39 +23,9 @@ use Rattle.pb_worker.proofs.Gaining.{gains_none, gains_more, gains_as}
 
 -- ---- its machine
 
--- how many instructions are left at most, and one more
-abbrev pub left : JudgedOf → Place → ℕ
-left judged (Starting s seen) = slots judged.program.insns + 2
-left judged (Computing s v) = (slots v.judged.program.insns - v.taken) + 1
-left judged _ = 0
-
-comes_by : (judged : JudgedOf) (o : ℕ) (s : Ts) (v : Position) (stepped : Stepped) → Steps o v stepped → left judged (place_of s stepped) < (slots v.judged.program.insns - v.taken) + 1
-comes_by judged o s v (did.Went w) st =
-    let same : slots w.judged.program.insns ≡ slots v.judged.program.insns = ap (λ (j : JudgedOf). slots j.program.insns) st.went.given.judged in
-    let one = st.went.taken in
-    let most = st.most in
-    omega (arith, same, one, most)
-comes_by judged o s v (did.Asks w q) st = omega arith
-comes_by judged o s v (did.Ended r what) st = omega arith
-
-comes_less : (judged : JudgedOf) (o : ℕ) (s : Ts) (v : Position) (after : Place) → Comes o s v after → left judged after < (slots v.judged.program.insns - v.taken) + 1
-comes_less judged o s v after c = subst (λ p. left judged p < (slots v.judged.program.insns - v.taken) + 1) (sym c.place_is) (comes_by judged o s v c.stepped c.steps)
-
-less_left : (judged : JudgedOf) (o : ℕ) (x : Cell) (before after : Place) → ComesFrom o judged x before after → left judged after < left judged before
-less_left judged o x (Starting s seen) after c = let l = comes_less judged o s _ after c.comes in omega (arith, l)
-less_left judged o x (Computing s v) after c = comes_less judged o s v after c
-less_left judged o x _ after c = absurd c
-
-abbrev pub left_of : RunOf → ℕ
-left_of j = left j.judged j.place
-
-pub less : (j k : RunOf) → Computes j k → left_of k < left_of j
-less j k c =
-    let same : k.judged ≡ j.judged = ap (λ (z : RunOf). z.judged) c.same in
-    subst (λ d. left d k.place < left_of j) (sym same) (less_left j.judged j.observer (Data j.row j.column) j.place k.place c.comes)
-
-pub on : (j k l : RunOf) → ReachesOn j k → need_of k ≡ Local → Computes k l → ReachesOn j l
-on j k l r is c first said h = computed said k l (r first said h) is c
+pub reaches_on : (j k : RunOf) → ComputesOn j k → ReachesOn j k
+reaches_on j k at_first first said h = h
+reaches_on j k (one_more l m on is_next last) first said h = computed said l m (reaches_on j l on first said h) is_next last
 
 -- ---- its steps
 

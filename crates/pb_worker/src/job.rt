@@ -28,8 +28,8 @@ fn compute(alloc: Global, job: &mut ObserverJob) -> Result<(), NoMemory>
     ensures ok { OnOk result (IsComputed job.old job.new) }
     ensures on { ReachesOn job.old job.new }
 {
-    while job.needs() == Need::Local {
-        job.local(alloc)?;
+    if job.needs() == Need::Local {
+        job.advance(alloc)?;
     }
     Ok(())
 }

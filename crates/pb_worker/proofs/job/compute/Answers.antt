@@ -1,13 +1,11 @@
-use Rattle.std.proofs.Common.{◌≡◌, rules}
-use Rattle.pb_notify.specs.declared.need.Need.TheVariants.{Local}
-use Rattle.pb_notify.specs.Runs.{need_of}
-use Rattle.pb_worker.proofs.RunAlong.{less, on}
+use Rattle.pb_worker.proofs.RunAlong.{reaches_on}
 use Rattle.pb_worker.proofs.job.compute.Goals as goal
 
-pub loop-alloc-smaller : goal.loop-alloc-smaller
-loop-alloc-smaller c = less c.loop-alloc.job c.local.new.self c.in_ok-local.ensures.ok
+pub returns-in_err-advance-clause-on : goal.returns-in_err-advance-clause-on
+returns-in_err-advance-clause-on c = reaches_on c.args.job.now c.advance.new.self c.advance.ensures.on
 
-pub loop-alloc-preserved : goal.loop-alloc-preserved
-loop-alloc-preserved c =
-    let local : need_of c.loop-alloc.job ≡ Local = search rules in
-    on c.args.job.now c.loop-alloc.job c.local.new.self c.loop-alloc.invariant local c.in_ok-local.ensures.ok
+pub returns-in_ok-advance-clause-ok : goal.returns-in_ok-advance-clause-ok
+returns-in_ok-advance-clause-ok c = record { reaches = reaches_on c.args.job.now c.advance.new.self c.advance.ensures.on; calls = c.in_ok-advance.ensures.ok }
+
+pub returns-in_ok-advance-clause-on : goal.returns-in_ok-advance-clause-on
+returns-in_ok-advance-clause-on c = reaches_on c.args.job.now c.advance.new.self c.advance.ensures.on
