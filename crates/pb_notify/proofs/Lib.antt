@@ -5,7 +5,7 @@ pub mod LookTalk
 pub mod RunTalk
 pub mod Led
 pub mod MovedInPlace
-pub mod AdvancedInPlace
+pub mod FollowedInPlace
 pub mod InstructionsLeft
 pub mod RecordedReads
 pub mod ItsRun

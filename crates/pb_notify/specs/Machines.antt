@@ -48,7 +48,7 @@ abbrev pub exit_at : Meant → ℕ → Position
 exit_at f taken = record { judged = f.judged; bytes = f.bytes; began = f.began; talk = f.talk; taken = taken; phase = Going }
 
 abbrev pub position_in : Standing → Position
-position_in (Running v) = v.value
+position_in (Running v) = v
 position_in (Exited f taken) = exit_at f taken
 
 abbrev pub IsKept : Standing → Type 0

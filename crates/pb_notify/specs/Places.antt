@@ -34,7 +34,7 @@ use Rattle.pb_notify.specs.declared.place.Place.{Place}
 use Rattle.pb_notify.specs.declared.place.Place.TheVariants.{Beginning, Observing, Acknowledging, Recalling, Starting, Computing, Asking, Planning, Sweeping, Over}
 use Rattle.pb_notify.specs.Looks.{look_step, look_after, locked_after}
 use Rattle.pb_notify.specs.Machines.{first_position, after_reply, HearsReply}
-use Rattle.pb_notify.specs.Steps.{Steps, WentOn, MovesOn, Proceeds, AdvancesOn, IsAtExit}
+use Rattle.pb_notify.specs.Steps.{Steps, WentOn, MovesOn, Proceeds, FollowsOn, IsAtExit}
 use Rattle.pb_vm.specs.declared.moved.Moved.{Moved}
 use Rattle.pb_vm.specs.declared.moved.Moved.TheVariants as moved
 use Rattle.pb_vm.specs.Moves.{AskedFor}
@@ -186,13 +186,13 @@ ProceedsAt (Computing s v) (Computing t w) = (t ≡ s) × Proceeds v w
 ProceedsAt before after = after ≡ before
 
 -- all up to the first that asks or ends were done where the machine stands
-abbrev pub AdvancesAt : Place → Moved → Place → Type 0
-AdvancesAt (Computing s v) m (Computing t w) = (t ≡ s) × AdvancesOn v m w
-AdvancesAt before m after = ⊥
+abbrev pub FollowsAt : Place → Moved → Place → Type 0
+FollowsAt (Computing s v) m (Computing t w) = (t ≡ s) × FollowsOn v m w
+FollowsAt before m after = ⊥
 
 -- and it waits for what it asked
 abbrev pub WaitsAt : Place → Place → Type 0
-WaitsAt before after = (q : Ask) × (place : Place) × AdvancesAt before (moved.Asks q) place × (after ≡ waiting place q)
+WaitsAt before after = (q : Ask) × (place : Place) × FollowsAt before (moved.Asks q) place × (after ≡ waiting place q)
 
 -- the next instruction takes memory: the first, for its machine, or the exit, for what it declares
 abbrev pub GrowsAt : Place → Type 0

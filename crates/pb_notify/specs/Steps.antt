@@ -45,7 +45,7 @@ pub data Proceeds (v : Position) : Position → Type 0 where
   one_more : (u w : Position) → Proceeds v u → WentOn u w → Proceeds v w
 
 -- what the first one that asks or ends does, after all before it
-pub record AdvancesOn (v : Position) (m : Moved) (w : Position) : Type 0 where
+pub record FollowsOn (v : Position) (m : Moved) (w : Position) : Type 0 where
   pub last : Position
   pub proceeds : Proceeds v last
   pub stops : IsStop m

@@ -1,7 +1,7 @@
 //! Jobs of observers.
 use crate::need::Need;
 use crate::place::{
-    Place, advance, compute, keep_step, locked_at, move_on, step_at, take, tells_old, wait_at,
+    Place, follow, compute, keep_step, locked_at, move_on, step_at, take, tells_old, wait_at,
 };
 use pb_base::{Cell, Column, NoMemory, ObserverNo, Row};
 use pb_steps::{Answer, Step, Work};
@@ -136,7 +136,7 @@ impl ObserverJob {
     /// Does all instructions of its machine up to the next ask, or up to the exit and that too, as so many calls of
     /// [`local`](ObserverJob::local) would. Refused for memory, it stands before its first instruction or before its exit,
     /// with all that it did, and goes on from there when it is called again.
-    pub fn advance(&mut self, alloc: Global) -> Result<(), NoMemory>
+    pub fn follow(&mut self, alloc: Global) -> Result<(), NoMemory>
         requires { need_of self.old ≡ Local }
         ensures on { ComputesOn self.old self.new }
         ensures ok { OnOk result (need_of self.new ≢ Local) }
@@ -154,7 +154,7 @@ impl ObserverJob {
         ensures ok { OnOk result (ComputesSome self.old self.new) }
         ensures err { OnErr result (ComputesOn self.old self.new × GrowsNext self.new) }
     {
-        if !advance(&mut self.place) {
+        if !follow(&mut self.place) {
             return self.compute(alloc);
         }
         keep_step(

@@ -24,8 +24,7 @@ pub struct Machine {
 
 #[derive(Drop)]
 enum Standing {
-    /// On the heap, since a job is moved with each of its steps.
-    Running(Box<Vm>),
+    Running(Vm),
     /// What it left at its exit, with the instructions before that.
     Exited(Finished, u16),
 }
@@ -53,7 +52,6 @@ impl Machine {
         ensures { IfOk result (λ m. m ≡ first_position accepted.now.value change run.0) }
     {
         let vm = Vm::start(alloc, accepted, change, run)?;
-        let vm = Box::new(alloc, vm)?;
         Ok(Machine {
             standing: Standing::Running(vm),
         })

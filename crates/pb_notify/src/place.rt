@@ -4,7 +4,7 @@ ghost use Rattle.pb_helpers.specs.OldRecord as versions;
 ghost use Rattle.pb_txn.specs.Plans.{PlanOf};
 ghost use Rattle.pb_txn.specs.Plans as plans;
 ghost use Rattle.pb_notify.specs.declared.place.Place.TheVariants as places;
-ghost use Rattle.pb_notify.specs.Places.{stored_step, place_after, locked_at, place_of, CanTakeAt, AtPlace, IsLocal, IsToldBy, IsToldAt, Starts, Comes, ComesFrom, MovesAt, GoesAt, ProceedsAt, AdvancesAt, WaitsAt, GrowsAt, waiting, by_outcome, IsPlanning};
+ghost use Rattle.pb_notify.specs.Places.{stored_step, place_after, locked_at, place_of, CanTakeAt, AtPlace, IsLocal, IsToldBy, IsToldAt, Starts, Comes, ComesFrom, MovesAt, GoesAt, ProceedsAt, FollowsAt, WaitsAt, GrowsAt, waiting, by_outcome, IsPlanning};
 ghost use Rattle.pb_notify.specs.declared.place.Place.{Place};
 ghost use Rattle.pb_vm.specs.declared.moved.Moved.TheVariants.{Ended};
 ghost use Rattle.pb_vm.specs.declared.moved.Phase.TheVariants.{Going, Asking};
@@ -390,25 +390,25 @@ pub fn wait_at(place: &mut Place, ask: Ask)
 
 // Does all instructions of a machine up to the next ask or the exit where it stands, and tells what the last one did; none
 // where it isn't started, and at an exit that was refused.
-fn advance_at(place: &mut Place) -> Option<Moved>
+fn follow_at(place: &mut Place) -> Option<Moved>
     requires { IsLocal place.old }
     ensures { MatchOption result (GrowsAt place.old × (place.new ≡ place.old))
-        (λ m. AdvancesAt place.old m place.new) }
+        (λ m. FollowsAt place.old m place.new) }
 {
     match place {
-        Place::Computing(_, machine) => machine.advance(),
+        Place::Computing(_, machine) => machine.follow(),
         _ => None,
     }
 }
 
 /// Does all instructions of a machine up to the next ask or the exit where it stands, and tells whether it waits for what it
 /// asked; else it is before its exit, or isn't started.
-pub fn advance(place: &mut Place) -> bool
+pub fn follow(place: &mut Place) -> bool
     requires { IsLocal place.old }
     ensures waits { IsTrue result → WaitsAt place.old place.new }
     ensures grows { IsFalse result → ProceedsAt place.old place.new × GrowsAt place.new }
 {
-    match advance_at(place) {
+    match follow_at(place) {
         Some(Moved::Asks(ask)) => {
             wait_at(place, ask);
             true

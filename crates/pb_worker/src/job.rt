@@ -29,7 +29,7 @@ fn compute(alloc: Global, job: &mut ObserverJob) -> Result<(), NoMemory>
     ensures on { ReachesOn job.old job.new }
 {
     if job.needs() == Need::Local {
-        job.advance(alloc)?;
+        job.follow(alloc)?;
     }
     Ok(())
 }

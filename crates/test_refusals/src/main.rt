@@ -3,8 +3,8 @@
 //! if one was, with the kind of its step; a second one is at fault.
 //!
 //! It is run once for each of its requests for memory, with that request refused (checks/refused-growths). With `start FILE COUNT`
-//! it starts a machine of the program in a file, with `run FILE COUNT` it runs one to its end, which comes after so many
-//! instructions, and with `swap` it runs workers beside swaps.
+//! it starts a machine of the program in a file, with `run FILE COUNT` it runs one to its end, which has to come after just so
+//! many instructions, and with `swap` it runs workers beside swaps.
 #![tactic(auto)]
 
 mod calls;
@@ -99,7 +99,8 @@ fn all<R: Threads + Wait + Sync>(
     )
 }
 
-// Whether what a word with a file and a count behind it asks for held.
+// Whether what a word with a file and a count behind it asks for held. A start has a count too, so that both words make the same
+// requests up to the first instruction.
 fn held_in(
     rt: &HostRuntime,
     word: &str,

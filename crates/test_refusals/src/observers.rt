@@ -1,5 +1,5 @@
 //! Programs, machines, manifests and schedules, and a run up to its commit.
-ghost use Rattle.std.specs.Prelude.{◌≡◌, ◌≤◌, length, IfOk};
+ghost use Rattle.std.specs.Prelude.{◌≤◌, length, IfOk};
 
 use crate::copies::is_declared;
 use crate::machines;

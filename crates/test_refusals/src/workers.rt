@@ -1,16 +1,15 @@
 //! Runs of workers.
-ghost use Rattle.std.specs.Prelude.{◌≡◌, IfOk};
+ghost use Rattle.std.specs.Prelude.{IfOk};
 ghost use Rattle.pb_core.specs.Calls.{AreSeats};
 
-use crate::jobs::program;
-use crate::observers::observers;
 use crate::page::Page;
 use crate::refusals::Refusals;
 use crate::reports::is_reported;
 use crate::runs::SCRIPT;
 use crate::same::{are_all_seats_same, are_batches_same, are_shared_same};
 use crate::twins::SORTS;
-use pb_base::{Batch, MAX_ENTRIES, NoMemory, Refusal, Ts};
+use crate::worlds::used;
+use pb_base::{Batch, MAX_ENTRIES, NoMemory, Refusal};
 use pb_core::{Answer, Phase, Seat, Shared, Step, Work};
 use pb_memtablet::EitherTablet;
 use pb_script::parse_script;
@@ -19,16 +18,20 @@ use pb_worker::{NotRun, Open, Worked, finish, run_workers};
 use std::alloc::Global;
 use std::sync::Wait;
 use std::thread::Threads;
-use test_fixtures::{opened_over, spares_of, table_of};
+use test_fixtures::spares_of;
 
-// What the script leaves. Its changes take 1 to 4; the runs on the two cells of column 0, which each delete cell 5 15, take
-// 5 to 8.
+// What happens before: a run that only begins, with timestamp 1, and a sweep by the main seat, so that both seats have been told
+// something.
+const BEFORE: &str = "launch 1 run watch 7\nstep 1\ncrash 1\nsweep 7 0\n";
+
+// What the script leaves. Its changes take 2 to 5; the runs on the two cells of column 0, which each delete cell 5 15, take
+// 6 to 9.
 const REPORT: &[u8] =
-    b"cell 5 15 commit 8 deleted\ncell 7 0 commit 2 value 2a\ncell 7 1 commit 4 deleted\ncell 8 0 commit 4 value 0b\nruns watch 2\nquiet\n";
+    b"cell 5 15 commit 9 deleted\ncell 7 0 commit 3 value 2a\ncell 7 1 commit 5 deleted\ncell 8 0 commit 5 value 0b\nruns watch 2\nquiet\n";
 
-// Its journal: the changes have five entries and seven; a pass asks three times for a mark, and makes two runs of eleven,
-// each of which asks for a cell and deletes one; and the worker and the main seat each ask for a mark once more.
-const ENTRIES: usize = 39;
+// Its journal: there are two entries before; the changes have five and seven; a pass asks three times for a mark, and makes two
+// runs of eleven, each of which asks for a cell and deletes one; and the worker and the main seat each ask for a mark once more.
+const ENTRIES: usize = 41;
 
 // What is left: all that the script makes; or what one seat left that was refused a growth; or something else.
 #[derive(Clone, Copy, Debug, PartialEq, Eq, Drop)]
@@ -45,14 +48,12 @@ fn batches(alloc: Global) -> Result<Vec<Batch>, NoMemory> {
     }
 }
 
-// A table with an observer, and two seats. Its journal has room for all passes: the lock that a refused run leaves on cell
+// A used table with an observer, and two seats. Its journal has room for all passes: the lock that a refused run leaves on cell
 // 5 15 is in the way of each later run, since nobody reads that cell.
 fn opened(alloc: Global) -> Result<(Shared<EitherTablet>, Vec<Seat>), NoMemory>
     ensures { IfOk result (λ s. AreSeats s.0 s.1.items) }
 {
-    let observers = observers(alloc, &program(alloc)?)?;
-    let table = table_of(alloc, &SORTS)?;
-    opened_over(alloc, table, observers, 2, Ts(0), MAX_ENTRIES)
+    used(alloc, BEFORE, 2, MAX_ENTRIES)
 }
 
 // Whether both have the same places, each with an empty tablet of the same sort.

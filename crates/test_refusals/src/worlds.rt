@@ -1,5 +1,5 @@
 //! Worlds, and the events that happen in them.
-ghost use Rattle.std.specs.Prelude.{IfOk};
+ghost use Rattle.std.specs.Prelude.{◌≤◌, IfOk};
 ghost use Rattle.pb_core.specs.Calls.{AreSeats};
 ghost use Rattle.pb_world.specs.Sound.{IsSound};
 
@@ -18,7 +18,7 @@ use pb_world::{World, worlds_stay_sound};
 use std::alloc::Global;
 use test_fixtures::{opened_over, table_of};
 
-// What happens before: a change, another that crashes with its lock there, and a look at it by the main seat.
+// What happens before: a change, another that crashes with its lock there, and a sweep by the main seat.
 const BEFORE: &str =
     "launch 1 change 2\nstep 1 5\nlaunch 2 change 2\nstep 2 3\ncrash 2\nsweep 7 0\n";
 
@@ -68,17 +68,25 @@ fn left_after(
     }
 }
 
-// A table and its four seats, once those events happened there.
-fn used(alloc: Global) -> Result<(Shared<EitherTablet>, Vec<Seat>), NoMemory>
+/// A table with an observer, and its seats, once the events of a schedule happened there.
+pub fn used(
+    alloc: Global,
+    schedule: &str,
+    seats: u32,
+    limit: usize,
+) -> Result<(Shared<EitherTablet>, Vec<Seat>), NoMemory>
+    requires some { 1 ≤ seats }
+    requires few { seats ≤ 64 }
+    requires bounded { limit ≤ 1000000 }
     ensures { IfOk result (λ s. AreSeats s.0 s.1.items) }
 {
     // For the proof: an opened world is sound.
     opened_worlds_are_sound();
-    let events = events(alloc, BEFORE)?;
+    let events = events(alloc, schedule)?;
     let batches = batches(alloc)?;
     let observers = observers(alloc, &program(alloc)?)?;
     let table = table_of(alloc, &SORTS)?;
-    let (shared, seats) = opened_over(alloc, table, observers, 4, Ts(0), 100)?;
+    let (shared, seats) = opened_over(alloc, table, observers, seats, Ts(0), limit)?;
     match World::open(alloc, shared, seats, batches) {
         Ok(world) => left_after(alloc, world, &events),
         Err((shared, _seats, _batches)) => {
@@ -96,7 +104,7 @@ fn are_handed_back(
     changes: &[Batch],
 ) -> Result<bool, NoMemory> {
     let batches = batches(alloc)?;
-    let (other, others) = used(alloc)?;
+    let (other, others) = used(alloc, BEFORE, 4, 100)?;
     let held = are_shared_same(shared, &other)
         && are_all_seats_same(seats, &others)
         && are_batches_same(changes, &batches);
@@ -124,7 +132,7 @@ fn reopened(
 // A world over a used table, also where it is refused once and all is handed back.
 fn opened(alloc: Global, refusals: &mut Refusals) -> Result<Option<World<EitherTablet>>, NoMemory> {
     let batches = batches(alloc)?;
-    let (shared, seats) = used(alloc)?;
+    let (shared, seats) = used(alloc, BEFORE, 4, 100)?;
     match World::open(alloc, shared, seats, batches) {
         Ok(world) => Ok(Some(world)),
         Err((shared, seats, batches)) => {

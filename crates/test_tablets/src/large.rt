@@ -1,4 +1,5 @@
 //! Tables of one tablet, of either sort, with 700,000 entries and 350,000 marks, and what is answered of some of them.
+//! As built they take a second; `rt try`, which checks each step, gives them up.
 ghost use Rattle.std.specs.Prelude.{◌≡◌};
 ghost use Rattle.pb_base.specs.Cell.{row_of};
 ghost use Rattle.pb_store.specs.Contents.{edit_row, PutsOfSort};

@@ -1,8 +1,7 @@
 //! One instruction of a run's machine, and all up to its next ask or exit.
-ghost use Rattle.std.specs.Prelude.{◌≡◌, ◌<◌, ℕ, IfOk, IfErr, MatchOption};
-ghost use Rattle.pb_isa.specs.declared.limits.TheConstants.{MAX_SLOTS};
+ghost use Rattle.std.specs.Prelude.{◌≡◌, ℕ, IfOk, IfErr, MatchOption};
 ghost use Rattle.pb_notify.specs.Machines.{exit_at, Leaves};
-ghost use Rattle.pb_notify.specs.Steps.{Steps, MovesOn, AdvancesOn, IsAtExit};
+ghost use Rattle.pb_notify.specs.Steps.{Steps, MovesOn, FollowsOn, IsAtExit};
 ghost use Rattle.pb_vm.specs.Position.{Position};
 ghost use Rattle.pb_vm.specs.declared.moved.Moved.TheVariants.{Ended};
 ghost use Rattle.pb_vm.specs.declared.moved.Phase.TheVariants.{Going};
@@ -11,7 +10,7 @@ use crate::machine::{Machine, Standing};
 use pb_base::ObserverNo;
 use pb_helpers::Ask;
 use pb_steps::{Declaration, Declared, EndedRun};
-use pb_vm::{Finished, Moved, Vm};
+use pb_vm::{Finished, Moved};
 use std::alloc::Global;
 
 /// What one instruction did.
@@ -55,27 +54,16 @@ fn declare(
     }
 }
 
-// Does all instructions up to the next ask or the exit, where so many are more than a program has.
-fn advance(vm: &mut Vm, most: u16) -> Moved
-    requires going { vm.old.phase ≡ Going }
-    requires enough { MAX_SLOTS < most }
-    ensures { AdvancesOn vm.old result vm.new }
-{
-    // For the proof: how many slots an accepted program has.
-    let _ = vm.phase();
-    vm.advance(most)
-}
-
 impl Machine {
     /// Does all instructions up to the next ask or the exit where it stands, and tells what the last one did; nothing at an
     /// exit that was refused.
-    pub fn advance(&mut self) -> Option<Moved>
+    pub fn follow(&mut self) -> Option<Moved>
         requires { self.old.phase ≡ Going }
         ensures { MatchOption result (IsAtExit self.old × (self.new ≡ self.old))
-            (λ m. AdvancesOn self.old m self.new) }
+            (λ m. FollowsOn self.old m self.new) }
     {
         match &mut self.standing {
-            Standing::Running(vm) => Some(advance(&mut **vm, u16::MAX)),
+            Standing::Running(vm) => Some(vm.follow()),
             Standing::Exited(..) => None,
         }
     }
@@ -99,7 +87,7 @@ impl Machine {
         match self.standing {
             Standing::Running(vm) => {
                 let taken = vm.taken() - 1;
-                let finished = Box::into_inner(vm).finish();
+                let finished = vm.finish();
                 // For the proof: result and writes are what the program means.
                 finished.known();
                 Machine {
@@ -131,7 +119,7 @@ impl Machine {
                         ask,
                     )),
                     Moved::Ended(_) => {
-                        let finished = Box::into_inner(vm).finish();
+                        let finished = vm.finish();
                         // For the proof: result and writes are what the program means.
                         finished.known();
                         declare(alloc, observer, finished, taken)

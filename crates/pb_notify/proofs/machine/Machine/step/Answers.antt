@@ -8,22 +8,20 @@ use Rattle.pb_notify.proofs.machine.Machine.step.Goals as goal
 
 pub declare-requires : goal.declare-requires
 declare-requires c =
-    let old : Position = c.in-Running.vm.value in
+    let old : Position = c.in-Running.vm in
     let new : Position = c.step.new.self in
-    let lent : c.deref_mut.result.now ≡ old = search rules in
-    let ended : EndedWith old c.in-Ended.field-0 new = subst (λ v. EndedWith v c.in-Ended.field-0 new) lent c.in-Ended.ensures.moves in
-    let finishes : Finishes new c.finish-finished.result = subst (λ v. Finishes v c.finish-finished.result) c.into_inner.ensures c.finish-finished.ensures in
+    let ended : EndedWith old c.in-Ended.field-0 new = c.in-Ended.ensures.moves in
+    let finishes : Finishes new c.finish-finished.result = c.finish-finished.ensures in
     let going : old.phase ≡ Going = search rules in
     let taken : c.taken-taken.result ≡ old.taken = search rules in
     left old new c.in-Ended.field-0 c.finish-finished.result c.taken-taken.result ended finishes going taken c.in-Ended.ensures.most c.known.ensures.meant
 
 pub returns-in-Ended-clause-ok : goal.returns-in-Ended-clause-ok
 returns-in-Ended-clause-ok c =
-    let old : Position = c.in-Running.vm.value in
+    let old : Position = c.in-Running.vm in
     let new : Position = c.step.new.self in
-    let lent : c.deref_mut.result.now ≡ old = search rules in
-    let ended : EndedWith old c.in-Ended.field-0 new = subst (λ v. EndedWith v c.in-Ended.field-0 new) lent c.in-Ended.ensures.moves in
-    let finishes : Finishes new c.finish-finished.result = subst (λ v. Finishes v c.finish-finished.result) c.into_inner.ensures c.finish-finished.ensures in
+    let ended : EndedWith old c.in-Ended.field-0 new = c.in-Ended.ensures.moves in
+    let finishes : Finishes new c.finish-finished.result = c.finish-finished.ensures in
     let going : old.phase ≡ Going = search rules in
     let taken : c.taken-taken.result ≡ old.taken = search rules in
     let here = at_exit old new c.in-Ended.field-0 c.finish-finished.result c.taken-taken.result ended finishes going taken in

@@ -1,6 +1,6 @@
 use Rattle.pb_notify.specs.Runs.{ComputesOn}
 use Rattle.pb_notify.proofs.InstructionsLeft.{left_of}
-use Rattle.pb_notify.proofs.job.ObserverJob.advance.Given as goal
+use Rattle.pb_notify.proofs.job.ObserverJob.follow.Given as goal
 
 abbrev pub invariant-loop-alloc : goal.invariant-loop-alloc
 invariant-loop-alloc l = ComputesOn l.fn.self l.self

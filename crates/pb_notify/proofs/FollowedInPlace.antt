@@ -15,8 +15,8 @@ use Rattle.pb_notify.specs.declared.machine.stepped.Stepped.TheVariants as did
 use Rattle.pb_notify.specs.declared.need.Need.TheVariants.{Local}
 use Rattle.pb_notify.specs.declared.place.Place.{Place}
 use Rattle.pb_notify.specs.declared.place.Place.TheVariants.{Starting, Computing}
-use Rattle.pb_notify.specs.Steps.{WentOn, Proceeds, at_first, one_more, AdvancesOn}
-use Rattle.pb_notify.specs.Places.{ComesFrom, MovesAt, GoesAt, ProceedsAt, AdvancesAt, WaitsAt, GrowsAt, AtPlace, IsLocal, stored_step}
+use Rattle.pb_notify.specs.Steps.{WentOn, Proceeds, at_first, one_more, FollowsOn}
+use Rattle.pb_notify.specs.Places.{ComesFrom, MovesAt, GoesAt, ProceedsAt, FollowsAt, WaitsAt, GrowsAt, AtPlace, IsLocal, stored_step}
 use Rattle.pb_notify.specs.Runs.{RunOf, need_at, Computes, ComputesOn, ComputesSome}
 use Rattle.pb_notify.specs.Runs as runs
 use Rattle.pb_notify.proofs.MovedInPlace.{asks_at, asks_comes}
@@ -47,19 +47,14 @@ later (suc n) v m w (inr on) =
     let one = on.1.taken in
     record { taken = omega (arith, rest.taken, one); same = rest.same ∙ same_slots v on.0 on.1.given.judged }
 
--- with more than the program has slots it doesn't end before an ask or the exit
-pub advances : (n : ℕ) (v u : Position) (m : Moved) (w : Position) → Proceeds v u → u.phase ≡ Going → Advances n u m w → w.taken ≤ slots_of w → slots_of u < u.taken + n → AdvancesOn v m w
-advances zero v u m w on going h most enough =
-    let same : w.taken ≡ u.taken = ap (λ (p : Position). p.taken) h.1 in
-    let all : slots_of w ≡ slots_of u = ap slots_of h.1 in
-    absurd (omega (arith, same, all, most, enough))
-advances (suc n) v u m w on going (inl stop) most enough = record { last = u; proceeds = on; stops = stop.0; moves = record { going = going; moves = stop.1; most = most } }
-advances (suc n) v u m w on going (inr more) most enough =
+-- all that lead to an ask or the exit
+pub follows : (n : ℕ) (v u : Position) (m : Moved) (w : Position) → Proceeds v u → u.phase ≡ Going → IsStop m → Advances n u m w → w.taken ≤ slots_of w → FollowsOn v m w
+follows zero v u m w on going stops h most = absurd (subst IsStop h.0 stops)
+follows (suc n) v u m w on going stops (inl stop) most = record { last = u; proceeds = on; stops = stop.0; moves = record { going = going; moves = stop.1; most = most } }
+follows (suc n) v u m w on going stops (inr more) most =
     let rest = later n more.0 m w more.2 in
-    let one = more.1.taken in
-    let same = same_slots u more.0 more.1.given.judged in
     let went : WentOn u more.0 = record { went = more.1; most = omega (arith, rest.taken, rest.same, most) } in
-    advances n v more.0 m w (one_more u more.0 on went) more.1.phase more.2 most (omega (arith, one, same, enough))
+    follows n v more.0 m w (one_more u more.0 on went) more.1.phase stops more.2 most
 
 -- ---- a place
 
@@ -68,9 +63,9 @@ proceeds_going v w at_first going = going
 proceeds_going v w (one_more u x on went) going = went.went.phase
 
 -- its last instruction is done from where all before it led
-pub advanced_at : (before : Place) (m : Moved) (after : Place) → AdvancesAt before m after → (last : Place) × ProceedsAt before last × MovesAt last m after
-advanced_at (Computing s v) m (Computing t w) h = (Computing s h.1.last, (refl, h.1.proceeds), (h.0, h.1.moves))
-advanced_at _ m _ h = absurd h
+pub followed_at : (before : Place) (m : Moved) (after : Place) → FollowsAt before m after → (last : Place) × ProceedsAt before last × MovesAt last m after
+followed_at (Computing s v) m (Computing t w) h = (Computing s h.1.last, (refl, h.1.proceeds), (h.0, h.1.moves))
+followed_at _ m _ h = absurd h
 
 pub still_at : (place : Place) → IsLocal place → ProceedsAt place place
 still_at (Starting s seen) at = refl
@@ -95,7 +90,7 @@ asks_goes _ _ q h = absurd h
 
 pub waits_at : (locked : ℕ) (before after : Place) → AtPlace locked before → WaitsAt before after → AtPlace locked after
 waits_at locked before after at w =
-    let last = advanced_at before (moved.Asks w.0) w.1 w.2 in
+    let last = followed_at before (moved.Asks w.0) w.1 w.2 in
     subst (AtPlace locked) (sym w.3) (asks_at locked last.0 w.1 w.0 (proceeds_at locked before last.0 last.1 at) (asks_goes last.0 w.1 w.0 last.2))
 
 -- ---- a job
@@ -118,7 +113,7 @@ local_at _ m new h = absurd h
 
 pub some_at : (j : RunOf) (before after : Place) → WaitsAt before after → ComputesSome (job_at j before) (job_at j after)
 some_at j before after w =
-    let last = advanced_at before (moved.Asks w.0) w.1 w.2 in
+    let last = followed_at before (moved.Asks w.0) w.1 w.2 in
     let x = Data j.row j.column in
     record {
       before = job_at j last.0;

@@ -1,7 +1,7 @@
 use Rattle.pb_notify.specs.Runs.{at_first}
-use Rattle.pb_notify.proofs.AdvancedInPlace.{joined, some_joined}
+use Rattle.pb_notify.proofs.FollowedInPlace.{joined, some_joined}
 use Rattle.pb_notify.proofs.InstructionsLeft.{fewer}
-use Rattle.pb_notify.proofs.job.ObserverJob.advance.Goals as goal
+use Rattle.pb_notify.proofs.job.ObserverJob.follow.Goals as goal
 
 pub loop-alloc-init : goal.loop-alloc-init
 loop-alloc-init c = at_first
