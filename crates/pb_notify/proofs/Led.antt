@@ -13,12 +13,9 @@ use Rattle.pb_isa.specs.Machine.{Placement, IsPlacement, Environment, State}
 use Rattle.pb_isa.specs.Meaning.{Leads, environment_of}
 use Rattle.pb_helpers.specs.declared.ask.Ask.{Ask}
 use Rattle.pb_vm.specs.Position.{Position}
-use Rattle.pb_vm.specs.Moves.{IsAtState, SameGiven, Went, AskedFor, AsksAt, environment_at}
+use Rattle.pb_vm.specs.Moves.{IsAtState, SameGiven, Went, AskedFor, AsksAt}
 use Rattle.pb_isa.specs.Machine.{act, Asks}
 use Rattle.pb_helpers.specs.Replies.{ask_of}
-use Rattle.pb_vm.specs.Finished.{Meant}
-use Rattle.pb_steps.specs.declared.step.Declared.{Declared}
-use Rattle.pb_steps.specs.declared.step.Declared.TheVariants as declared
 use Rattle.pb_txn.specs.Talks as plan_talks
 use Rattle.pb_steps.specs.declared.seen.Seen.{Seen}
 use Rattle.pb_steps.specs.declared.step.Answer.{Answer}
@@ -43,7 +40,7 @@ use Rattle.pb_notify.specs.Places.{place_after, after_begin, if_found, after_cel
 use Rattle.pb_notify.specs.Runs.{RunOf, fresh}
 use Rattle.pb_notify.specs.Talks.{Reaches, made, took, computed}
 use Rattle.pb_notify.specs.Forms.{IsLooking}
-use Rattle.pb_notify.specs.Led.{MachineStandsAt, IsLed, IsMachineOf, MachinesAreLed, IsAskingAt, HasEnded, IsEndedRun, AsksAreOpen, EndedRunsMean}
+use Rattle.pb_notify.specs.Led.{MachineStandsAt, IsLed, IsMachineOf, MachinesAreLed, IsAskingAt, HasEnded, AsksAreOpen, EndedRunsMean}
 use Rattle.pb_notify.proofs.LookTalk as looks
 use Rattle.pb_notify.proofs.RunTalk as talk
 

@@ -1,7 +1,7 @@
 //! Jobs of observers.
 use crate::need::Need;
 use crate::place::{
-    Place, follow, compute, keep_step, locked_at, move_on, step_at, take, tells_old, wait_at,
+    Place, compute, follow, keep_step, locked_at, move_on, step_at, take, tells_old, wait_at,
 };
 use pb_base::{Cell, Column, NoMemory, ObserverNo, Row};
 use pb_steps::{Answer, Step, Work};

@@ -10,6 +10,6 @@ invariant_of-result c =
     let new : Position = c.args.self in
     let did = c.requires.2 in
     let inner : c.in-Running.vm ≡ new = search rules in
-    let finishes : Finishes new c.finish-finished.result = subst (λ w. Finishes w c.finish-finished.result) inner c.finish-finished.ensures in
+    let finishes : Finishes new c.finish-finished.result = subst (λ w. Finishes w c.finish-finished.result) inner (rw c.in-Running.is at c.finish-finished.ensures) in
     let taken : c.taken-taken.result ≡ new.taken = search rules in
     left v new c.requires.1 c.finish-finished.result (c.taken-taken.result - 1) did.moves finishes did.going (omega (arith, did.moves.taken, taken)) did.most c.known.ensures.meant

@@ -10,7 +10,7 @@ pub declare-requires : goal.declare-requires
 declare-requires c =
     let old : Position = c.in-Running.vm in
     let new : Position = c.step.new.self in
-    let ended : EndedWith old c.in-Ended.field-0 new = c.in-Ended.ensures.moves in
+    let ended : EndedWith old c.in-Ended.field-0 new = rw c.in-Running.is at c.in-Ended.ensures.moves in
     let finishes : Finishes new c.finish-finished.result = c.finish-finished.ensures in
     let going : old.phase ≡ Going = search rules in
     let taken : c.taken-taken.result ≡ old.taken = search rules in
@@ -20,7 +20,7 @@ pub returns-in-Ended-clause-ok : goal.returns-in-Ended-clause-ok
 returns-in-Ended-clause-ok c =
     let old : Position = c.in-Running.vm in
     let new : Position = c.step.new.self in
-    let ended : EndedWith old c.in-Ended.field-0 new = c.in-Ended.ensures.moves in
+    let ended : EndedWith old c.in-Ended.field-0 new = rw c.in-Running.is at c.in-Ended.ensures.moves in
     let finishes : Finishes new c.finish-finished.result = c.finish-finished.ensures in
     let going : old.phase ≡ Going = search rules in
     let taken : c.taken-taken.result ≡ old.taken = search rules in
