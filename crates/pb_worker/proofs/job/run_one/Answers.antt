@@ -1,5 +1,6 @@
+use Rattle.std.proofs.Common.{◌≡◌}
 use Rattle.std.proofs.lemmas.Result.{err_from_is_err_and}
-use Rattle.pb_worker.proofs.RunAlong.{first, first_calls, not_made, next, wants, ran}
+use Rattle.pb_worker.proofs.RunAlong.{first, first_calls, not_made, next, refused, wants, ran}
 use Rattle.pb_worker.proofs.job.run_one.Goals as goal
 
 pub returns-in_default-clause-err : goal.returns-in_default-clause-err
@@ -28,3 +29,9 @@ returns-in_err-compute_on-clause-err g c =
     let after = next c.args.observers.now c.args.number c.args.cell c.args.seat.now c.loop-turn.seat c.loop-turn.job c.loop-turn.invariant.along
     c.in-Some-next.step.now c.in-Some-next.ensures.next c.in_ok-answer.answer c.in_ok-answer.ensures.can c.ask.new.seat c.in_ok-answer.ensures.told c.took.new.self c.took.ensures.answered c.took.ensures.told c.compute_on.new.job c.compute_on.ensures.on in
     rw (p.1, p.2) (wants c.args.observers.now c.args.number c.args.cell c.args.seat.now c.ask.new.seat c.compute_on.new.job after c.jobs_talk.ensures.talks c.in_err-compute_on.field-0.0 c.in_err-compute_on.ensures.want)
+
+pub returns-in_err-answer-clause-err : goal.returns-in_err-answer-clause-err
+returns-in_err-answer-clause-err g c =
+    let p = err_from_is_err_and c.from_residual.result c.from_residual.ensures.1 in
+    let same : c.ask.new.seat ≡ c.loop-turn.seat = c.in_err-answer.ensures.seat in
+    rw (p.1, p.2, same) (refused c.args.observers.now c.args.number c.args.cell c.args.seat.now c.loop-turn.seat c.loop-turn.job c.loop-turn.invariant.along c.jobs_talk.ensures.talks c.in-Some-next.step.now c.in-Some-next.ensures.next c.in_err-answer.field-0.0 c.in_err-answer.ensures.refused)
