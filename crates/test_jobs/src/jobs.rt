@@ -48,6 +48,8 @@ pub enum Turn {
     Calls(usize, u32),
     /// A run does so many instructions.
     Computes(usize, u32),
+    /// A run does all instructions up to its next ask or its exit.
+    Advances(usize),
     /// A run is over, with this end.
     Ends(usize, JobEnd),
     /// Seat 0 settles the cell of this column in row 7.
@@ -129,6 +131,11 @@ fn computes(alloc: Global, job: &mut ObserverJob, count: u32) -> bool {
     true
 }
 
+// Whether a run does all instructions up to its next ask or its exit.
+fn advances(alloc: Global, job: &mut ObserverJob) -> bool {
+    job.needs() == Need::Local && job.advance(alloc).is_ok() && job.needs() != Need::Local
+}
+
 // The cell of this column in row 7.
 fn data_cell(number: u8) -> Option<Cell> {
     Some(Cell::Data(Row(7), Column::new(number)?))
@@ -177,6 +184,10 @@ fn takes<T: Tablet>(
         },
         Turn::Computes(place, count) => match jobs.get_mut(place) {
             Some(Job::Run(_, job)) => computes(alloc, job, count),
+            _ => false,
+        },
+        Turn::Advances(place) => match jobs.get_mut(place) {
+            Some(Job::Run(_, job)) => advances(alloc, job),
             _ => false,
         },
         Turn::Ends(place, end) => match jobs.get(place) {

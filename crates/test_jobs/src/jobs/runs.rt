@@ -156,6 +156,26 @@ fn a_run_asks_for_a_value(rt: HostRuntime) -> Result<(), NoMemory> {
     goes(&rt, rt.alloc(), ASK, &tasks, &turns, 1, TOLD)
 }
 
+// From wherever it stands before its ask.
+#[test]
+fn a_run_goes_on_to_its_ask_by_one_call(rt: HostRuntime) -> Result<(), NoMemory> {
+    let tasks = [Task::Changes(&[0, 1]), Task::Runs(1)];
+    for done in 0..5u32 {
+        let turns = [
+            Turn::Calls(0, 7),
+            Turn::Calls(1, 3),
+            Turn::Computes(1, done),
+            Turn::Advances(1),
+            Turn::Calls(1, 1),
+            Turn::Advances(1),
+            Turn::Calls(1, 5),
+            Turn::Ends(1, JobEnd::Ran(0)),
+        ];
+        goes(&rt, rt.alloc(), ASK, &tasks, &turns, 1, TOLD)?;
+    }
+    Ok(())
+}
+
 // A change that commits while a run goes on, which the next run handles.
 const CHANGED_AGAIN: &str = "\
 0 begin script -> at 1
