@@ -99,6 +99,15 @@ fn answers(twins: &mut Twins, job: &mut ObserverJob, refusals: &mut Refusals) ->
     }
 }
 
+// How a machine's instructions are done.
+#[derive(Clone, Copy, PartialEq, Eq)]
+enum Pace {
+    /// One by a call.
+    Steps,
+    /// All up to the next ask or the exit by a call.
+    Leaps,
+}
+
 // Whether a job does an instruction, or is refused with nothing changed and then does it.
 fn computes(alloc: Global, job: &mut ObserverJob, refusals: &mut Refusals) -> bool
     requires { need_of job.old ≡ Local }
@@ -111,11 +120,24 @@ fn computes(alloc: Global, job: &mut ObserverJob, refusals: &mut Refusals) -> bo
     is_same && job.local(alloc).is_ok()
 }
 
-// Follows a job to its end, and tells after how many instructions it came there so, each done once.
+// Whether a job does all instructions up to the next ask or the exit, or is refused before one and then does the others.
+fn advances(alloc: Global, job: &mut ObserverJob, refusals: &mut Refusals) -> bool
+    requires { need_of job.old ≡ Local }
+{
+    if job.advance(alloc).is_ok() {
+        return true;
+    }
+    refusals.note("ObserverJob::advance");
+    let goes_on = job.needs() == Need::Local && job.next().is_none();
+    goes_on && job.advance(alloc).is_ok()
+}
+
+// Follows a job to its end, and tells after how many calls for instructions it came there so, each instruction done once.
 fn followed(
     alloc: Global,
     twins: &mut Twins,
     job: &mut ObserverJob,
+    pace: Pace,
     refusals: &mut Refusals,
 ) -> Option<u32> {
     let mut taken = 0u32;
@@ -123,7 +145,10 @@ fn followed(
         let held = match job.needs() {
             Need::Local => {
                 taken = taken.saturating_add(1);
-                computes(alloc, job, refusals)
+                match pace {
+                    Pace::Steps => computes(alloc, job, refusals),
+                    Pace::Leaps => advances(alloc, job, refusals),
+                }
             }
             Need::Call => answers(twins, job, refusals),
             Need::Over(_) => true,
@@ -177,9 +202,13 @@ fn steps_of(
     Ok(steps)
 }
 
-/// `ObserverJob::local`, from the start of its machine to the declaration at its exit, in nine instructions, and all that the job
-/// asks.
-pub fn observers_run(alloc: Global, refusals: &mut Refusals) -> Result<bool, NoMemory> {
+// Whether a job comes to its end at this pace after so many calls, and asks all that it is to.
+fn observer_runs(
+    alloc: Global,
+    pace: Pace,
+    count: u32,
+    refusals: &mut Refusals,
+) -> Result<bool, NoMemory> {
     let program = program(alloc)?;
     let Some(watch) = ObserverNo::new(0) else {
         return Ok(false);
@@ -194,9 +223,18 @@ pub fn observers_run(alloc: Global, refusals: &mut Refusals) -> Result<bool, NoM
     let mut job = ObserverJob::new(watch, program, Row(7), column()?);
     let mut twins = opened_twice(alloc, first, second)?;
     let held = all_called(&mut twins, &steps[..5], refusals)
-        && followed(alloc, &mut twins, &mut job, refusals) == Some(9)
+        && followed(alloc, &mut twins, &mut job, pace, refusals) == Some(count)
         && job.needs() == Need::Over(JobEnd::Ran(0))
         && are_entries(twins.shared.journal(), &steps);
     close(twins);
     Ok(held)
+}
+
+/// `ObserverJob::local` and `ObserverJob::advance`, from the start of the machine to the declaration at its exit, by nine calls and
+/// by two, and all that the job asks.
+pub fn observers_run(alloc: Global, refusals: &mut Refusals) -> Result<bool, NoMemory> {
+    Ok(
+        observer_runs(alloc, Pace::Steps, 9, refusals)?
+            && observer_runs(alloc, Pace::Leaps, 2, refusals)?,
+    )
 }
