@@ -42,7 +42,7 @@ BY_ITSELF = {
     "ListTablet::apply": 7,
     # its machine's start, and what it declares at its exit
     "ObserverJob::local": 5,
-    "ObserverJob::advance": 5,
+    "ObserverJob::follow": 5,
     "parse_schedule": 1,
     "parse_script": 2,
     "Program::new": 1,

@@ -49,7 +49,7 @@ pub enum Turn {
     /// A run does so many instructions.
     Computes(usize, u32),
     /// A run does all instructions up to its next ask or its exit.
-    Advances(usize),
+    Follows(usize),
     /// A run is over, with this end.
     Ends(usize, JobEnd),
     /// Seat 0 settles the cell of this column in row 7.
@@ -132,8 +132,8 @@ fn computes(alloc: Global, job: &mut ObserverJob, count: u32) -> bool {
 }
 
 // Whether a run does all instructions up to its next ask or its exit.
-fn advances(alloc: Global, job: &mut ObserverJob) -> bool {
-    job.needs() == Need::Local && job.advance(alloc).is_ok() && job.needs() != Need::Local
+fn follows(alloc: Global, job: &mut ObserverJob) -> bool {
+    job.needs() == Need::Local && job.follow(alloc).is_ok() && job.needs() != Need::Local
 }
 
 // The cell of this column in row 7.
@@ -186,8 +186,8 @@ fn takes<T: Tablet>(
             Some(Job::Run(_, job)) => computes(alloc, job, count),
             _ => false,
         },
-        Turn::Advances(place) => match jobs.get_mut(place) {
-            Some(Job::Run(_, job)) => advances(alloc, job),
+        Turn::Follows(place) => match jobs.get_mut(place) {
+            Some(Job::Run(_, job)) => follows(alloc, job),
             _ => false,
         },
         Turn::Ends(place, end) => match jobs.get(place) {

@@ -121,15 +121,15 @@ fn computes(alloc: Global, job: &mut ObserverJob, refusals: &mut Refusals) -> bo
 }
 
 // Whether a job does all instructions up to the next ask or the exit, or is refused before one and then does the others.
-fn advances(alloc: Global, job: &mut ObserverJob, refusals: &mut Refusals) -> bool
+fn follows(alloc: Global, job: &mut ObserverJob, refusals: &mut Refusals) -> bool
     requires { need_of job.old ≡ Local }
 {
-    if job.advance(alloc).is_ok() {
+    if job.follow(alloc).is_ok() {
         return true;
     }
-    refusals.note("ObserverJob::advance");
+    refusals.note("ObserverJob::follow");
     let goes_on = job.needs() == Need::Local && job.next().is_none();
-    goes_on && job.advance(alloc).is_ok()
+    goes_on && job.follow(alloc).is_ok()
 }
 
 // Follows a job to its end, and tells after how many calls for instructions it came there so, each instruction done once.
@@ -147,7 +147,7 @@ fn followed(
                 taken = taken.saturating_add(1);
                 match pace {
                     Pace::Steps => computes(alloc, job, refusals),
-                    Pace::Leaps => advances(alloc, job, refusals),
+                    Pace::Leaps => follows(alloc, job, refusals),
                 }
             }
             Need::Call => answers(twins, job, refusals),
@@ -230,7 +230,7 @@ fn observer_runs(
     Ok(held)
 }
 
-/// `ObserverJob::local` and `ObserverJob::advance`, from the start of the machine to the declaration at its exit, by nine calls and
+/// `ObserverJob::local` and `ObserverJob::follow`, from the start of the machine to the declaration at its exit, by nine calls and
 /// by two, and all that the job asks.
 pub fn observers_run(alloc: Global, refusals: &mut Refusals) -> Result<bool, NoMemory> {
     Ok(

@@ -165,9 +165,9 @@ fn a_run_goes_on_to_its_ask_by_one_call(rt: HostRuntime) -> Result<(), NoMemory>
             Turn::Calls(0, 7),
             Turn::Calls(1, 3),
             Turn::Computes(1, done),
-            Turn::Advances(1),
+            Turn::Follows(1),
             Turn::Calls(1, 1),
-            Turn::Advances(1),
+            Turn::Follows(1),
             Turn::Calls(1, 5),
             Turn::Ends(1, JobEnd::Ran(0)),
         ];
