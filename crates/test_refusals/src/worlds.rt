@@ -1,5 +1,6 @@
 //! Worlds, and the events that happen in them.
 ghost use Rattle.std.specs.Prelude.{◌≤◌, IfOk};
+ghost use Rattle.pb_base.specs.declared.limits.TheConstants.{MAX_ENTRIES, MAX_SEATS};
 ghost use Rattle.pb_core.specs.Calls.{AreSeats};
 ghost use Rattle.pb_world.specs.Sound.{IsSound};
 
@@ -76,8 +77,8 @@ pub fn used(
     limit: usize,
 ) -> Result<(Shared<EitherTablet>, Vec<Seat>), NoMemory>
     requires some { 1 ≤ seats }
-    requires few { seats ≤ 64 }
-    requires bounded { limit ≤ 1000000 }
+    requires few { seats ≤ MAX_SEATS }
+    requires bounded { limit ≤ MAX_ENTRIES }
     ensures { IfOk result (λ s. AreSeats s.0 s.1.items) }
 {
     // For the proof: an opened world is sound.
