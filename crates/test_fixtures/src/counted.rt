@@ -1,4 +1,4 @@
-//! A tablet that counts how often it is changed.
+//! A tablet that counts how often it is changed, and may refuse a change.
 ghost use Rattle.std.specs.Prelude.{◌≡◌};
 ghost use Rattle.pb_store.specs.Contents.{Contents};
 
@@ -8,11 +8,13 @@ use pb_store::{Edit, Item, Slot, Sort, Tablet};
 use std::sync::Arc;
 use std::sync::atomic::{AtomicUsize, Ordering};
 
-/// A list tablet that counts the calls of `apply`, where others can read it.
+/// A list tablet that counts the calls of `apply`, where others can read it, and refuses the one of this number, counted from 0,
+/// for want of memory.
 #[derive(Drop)]
 pub struct CountedTablet {
     pub inner: ListTablet,
     pub calls: Arc<AtomicUsize>,
+    pub refused: Option<usize>,
 }
 
 impl Tablet for CountedTablet {
@@ -43,7 +45,10 @@ impl Tablet for CountedTablet {
     }
 
     fn apply(&mut self, edits: &[Edit]) -> Result<(), NoMemory> {
-        self.calls.fetch_add(1, Ordering::SeqCst);
+        let number = self.calls.fetch_add(1, Ordering::SeqCst);
+        if self.refused == Some(number) {
+            return Err(NoMemory);
+        }
         self.inner.apply(edits)
     }
 

@@ -1,17 +1,16 @@
 //! Swaps of a table's tablets for tablets of either sort.
 ghost use Rattle.std.specs.Prelude.{◌≡◌};
-ghost use Rattle.pb_base.specs.Cell.{row_of};
-ghost use Rattle.pb_store.specs.Contents.{edit_row, nothing, PutsOfSort};
+ghost use Rattle.pb_store.specs.Contents.{nothing};
 
 use crate::refusals::Refusals;
 use crate::same::{are_shared_same, are_states_same, are_tables_same};
-use pb_base::{Cell, Column, NoMemory, Refusal, Row, Ts};
+use pb_base::{NoMemory, Refusal};
 use pb_core::Shared;
 use pb_memtablet::EitherTablet;
 use pb_state::State;
-use pb_store::{Edit, Item, Slot, Sort, Table, Tablet};
+use pb_store::{Table, Tablet};
 use std::alloc::Global;
-use test_fixtures::table_of;
+use test_fixtures::{fill, table_of};
 
 /// A table, by itself or within what keeps more of it, whose tablets can be swapped.
 pub trait Swaps<T: Tablet> {
@@ -60,43 +59,10 @@ impl<T: Tablet> Swaps<T> for Shared<T> {
 // The rows that are filled, some in each of the two tablets.
 const ROWS: [u64; 4] = [3, 7, 1000, 1001];
 
-fn cell_in(row: u64) -> Cell
-    ensures { (row_of result).0 ≡ row }
-{
-    Cell::Data(Row(row), Column::new(0).unwrap())
-}
-
-fn put_edit(row: u64) -> Edit
-    ensures row { edit_row result ≡ row }
-    ensures sort { PutsOfSort result }
-{
-    let slot = Slot {
-        cell: cell_in(row),
-        sort: Sort::Lock,
-        ts: Ts(3),
-    };
-    Edit::Put(slot, Item::Lock(slot.cell))
-}
-
-fn mark_edit(row: u64) -> Edit
-    ensures row { edit_row result ≡ row }
-    ensures sort { PutsOfSort result }
-{
-    Edit::Mark(cell_in(row))
-}
-
-fn fill<T: Tablet>(table: &mut Table<T>) -> Result<(), NoMemory> {
-    for row in ROWS {
-        table.apply(&[put_edit(row)])?;
-        table.apply(&[mark_edit(row)])?;
-    }
-    Ok(())
-}
-
 // A table of two tablets with an entry and a mark in each row.
 fn filled(alloc: Global, slabs: [bool; 2]) -> Result<Table<EitherTablet>, NoMemory> {
     let mut table = table_of(alloc, &slabs)?;
-    match fill(&mut table) {
+    match fill(&mut table, &ROWS) {
         Ok(()) => Ok(table),
         Err(fault) => {
             table.close();

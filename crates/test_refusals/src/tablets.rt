@@ -1,53 +1,14 @@
 //! Tables and tablets, also of tablets whose chunks are full when the next edits are done.
-ghost use Rattle.std.specs.Prelude.{◌≡◌, ◌<◌};
-ghost use Rattle.pb_base.specs.Cell.{row_of};
-ghost use Rattle.pb_store.specs.Contents.{edit_row, PutsOfSort};
-
 use crate::refusals::Refusals;
 use crate::twins::SORTS;
-use pb_base::{Cell, Column, NoMemory, Row, Ts};
+use pb_base::{Cell, NoMemory};
 use pb_memtablet::{EitherTablet, ListTablet, SlabTablet};
-use pb_store::{Edit, Item, Slot, Sort, Table, Tablet};
+use pb_store::{Item, Table, Tablet};
 use std::alloc::Global;
-use test_fixtures::table_of;
+use test_fixtures::{cell_in, mark_edit, put_edit, slot_in, table_of};
 
 // How many entries, and how many marks, fill a chunk.
 const FULL: u64 = 64;
-
-fn cell_in(row: u64, column: u8) -> Cell
-    requires { column < 16 }
-    ensures { (row_of result).0 ≡ row }
-{
-    Cell::Data(Row(row), Column::new(column).unwrap())
-}
-
-fn slot_in(row: u64, ts: u64) -> Slot {
-    Slot {
-        cell: cell_in(row, 0),
-        sort: Sort::Lock,
-        ts: Ts(ts),
-    }
-}
-
-fn put_edit(row: u64, ts: u64) -> Edit
-    ensures row { edit_row result ≡ row }
-    ensures sort { PutsOfSort result }
-{
-    let slot = Slot {
-        cell: cell_in(row, 0),
-        sort: Sort::Lock,
-        ts: Ts(ts),
-    };
-    Edit::Put(slot, Item::Lock(slot.cell))
-}
-
-fn mark_edit(row: u64, column: u8) -> Edit
-    requires { column < 16 }
-    ensures row { edit_row result ≡ row }
-    ensures sort { PutsOfSort result }
-{
-    Edit::Mark(cell_in(row, column))
-}
 
 // The n-th mark: one in each row.
 fn mark_at(n: u64) -> Cell {

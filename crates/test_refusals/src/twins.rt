@@ -6,11 +6,11 @@ ghost use Rattle.pb_store.specs.Contents.{nothing};
 use crate::refusals::Refusals;
 use crate::same::{are_seats_same, are_shared_same};
 use pb_base::{NoMemory, Ts};
-use pb_core::{Answer, Observer, OpenRefused, Seat, Shared, Step};
+use pb_core::{Answer, Observer, Seat, Shared, Step};
 use pb_memtablet::EitherTablet;
 use pb_store::Table;
 use std::alloc::Global;
-use test_fixtures::table_of;
+use test_fixtures::{opened_over, table_of};
 
 /// Of the two tablets of a table, the first is a list, and the second a slab.
 pub const SORTS: [bool; 2] = [false, true];
@@ -48,23 +48,16 @@ fn with_other(
     requires empty { table.contents ≡ nothing }
     requires few { length observers.items ≤ 32 }
 {
-    match Shared::open(alloc, table, observers, 1, Ts(0), 100) {
+    match opened_over(alloc, table, observers, 1, Ts(0), 100) {
         Ok((other, others)) => Ok(Twins {
             shared,
             seats,
             other,
             others,
         }),
-        Err(
-            OpenRefused {
-                table,
-                observers: _,
-                code: _,
-            },
-        ) => {
-            table.close();
+        Err(fault) => {
             shared.close();
-            Err(NoMemory)
+            Err(fault)
         }
     }
 }
@@ -79,18 +72,11 @@ pub fn opened_twice(
     requires as_few { length second.items ≤ 32 }
 {
     let (table, other) = two_tables(alloc)?;
-    match Shared::open(alloc, table, first, 1, Ts(0), 100) {
+    match opened_over(alloc, table, first, 1, Ts(0), 100) {
         Ok((shared, seats)) => with_other(alloc, shared, seats, other, second),
-        Err(
-            OpenRefused {
-                table,
-                observers: _,
-                code: _,
-            },
-        ) => {
-            table.close();
+        Err(fault) => {
             other.close();
-            Err(NoMemory)
+            Err(fault)
         }
     }
 }

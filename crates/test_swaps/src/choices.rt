@@ -3,7 +3,7 @@ ghost use Rattle.std.specs.Prelude.{◌≡◌};
 ghost use Rattle.pb_base.specs.Cell.{row_of};
 
 use pb_base::{Batch, Cell, Column, Content, NoMemory, Row, Ts};
-use pb_core::{Answer, Declaration, Declared, OpenRefused, Seat, Shared, Step, Work};
+use pb_core::{Answer, Declaration, Declared, Seat, Shared, Step, Work};
 use pb_memtablet::{ListTablet, SlabTablet};
 use pb_store::{Edit, Item, Slot, Sort, Table, Tablet};
 use std::alloc::Global;
@@ -11,7 +11,7 @@ use std::process::Abort;
 use std::rt::HostRuntime;
 use std::sync::Arc;
 use std::sync::atomic::{AtomicUsize, Ordering};
-use test_fixtures::CountedTablet;
+use test_fixtures::{CountedTablet, opened_over};
 
 // A data cell of the first column.
 fn cell(rt: &impl Abort, row: u64) -> Cell {
@@ -150,7 +150,7 @@ fn left<T: Tablet>(
             return Ok(None);
         }
     };
-    match Shared::open(alloc, table, Vec::new(alloc), 1, Ts(0), 100) {
+    match opened_over(alloc, table, Vec::new(alloc), 1, Ts(0), 100) {
         Ok((shared, seats)) => {
             let mut shared = shared;
             let mut seats = seats;
@@ -159,16 +159,9 @@ fn left<T: Tablet>(
             shared.close();
             if held { Ok(Some(all?)) } else { Ok(None) }
         }
-        Err(
-            OpenRefused {
-                table,
-                observers: _,
-                code: _,
-            },
-        ) => {
-            table.close();
+        Err(fault) => {
             end_all(spares);
-            Ok(None)
+            Err(fault)
         }
     }
 }
@@ -308,7 +301,7 @@ fn refusals<T: Tablet>(
             return None;
         }
     };
-    match Shared::open(alloc, table, Vec::new(alloc), 1, Ts(0), 100) {
+    match opened_over(alloc, table, Vec::new(alloc), 1, Ts(0), 100) {
         Ok((shared, seats)) => {
             let mut shared = shared;
             let mut seats = seats;
@@ -319,14 +312,7 @@ fn refusals<T: Tablet>(
             shared.close();
             Some((numbers, held && before.ok()? == after.ok()?))
         }
-        Err(
-            OpenRefused {
-                table,
-                observers: _,
-                code: _,
-            },
-        ) => {
-            table.close();
+        Err(_) => {
             end_one(empty);
             end_one(full);
             end_one(other);
@@ -362,6 +348,7 @@ fn changes_in(alloc: Global, told: &[(Step, Answer)]) -> Result<usize, NoMemory>
     let counted = CountedTablet {
         inner: ListTablet::new(alloc),
         calls: calls.clone()?,
+        refused: None,
     };
     let mut parts = Vec::new(alloc);
     parts.push((Row(0), boxed(alloc, true)?))?;

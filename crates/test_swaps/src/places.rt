@@ -1,87 +1,37 @@
 //! Tables of one tablet to nine, of both sorts in turn, with entries and marks in each.
-ghost use Rattle.std.specs.Prelude.{◌≡◌};
-ghost use Rattle.pb_base.specs.Cell.{row_of};
-ghost use Rattle.pb_store.specs.Contents.{edit_row, PutsOfSort};
-
-use pb_base::{Cell, Column, NoMemory, Row, Ts};
+use pb_base::{NoMemory, Ts};
 use pb_memtablet::EitherTablet;
-use pb_store::{Edit, Item, Slot, Sort, Table, Tablet};
+use pb_store::{Item, Sort, Table, Tablet};
 use std::alloc::Global;
 use std::rt::HostRuntime;
-use test_fixtures::table_of;
+use test_fixtures::{cell_in, fill, slot_in, table_of};
 
 const SLABS: [bool; 9] = [false, true, false, true, false, true, false, true, false];
 
-// The n-th filled row: the first and the last of each tablet but the last one, whose rows go on.
-fn row_at(n: u64) -> u64 {
-    let first = (n / 2).wrapping_mul(1000);
-    if n % 2 == 0 {
-        first
-    } else {
-        first.wrapping_add(999)
-    }
+// The first row and the last of each tablet but the last one, whose rows go on.
+const ROWS: [u64; 18] = [
+    0, 999, 1000, 1999, 2000, 2999, 3000, 3999, 4000, 4999, 5000, 5999, 6000, 6999, 7000, 7999,
+    8000, 8999,
+];
+
+// Whether the entry at a place is that of this row.
+fn is_entry<T: Tablet>(table: &Table<T>, place: usize, row: u64) -> bool {
+    table.at(place) == Some((slot_in(row, 6), Item::Lock(cell_in(row, 0))))
+        && table.get(slot_in(row, 6)) == Some(Item::Lock(cell_in(row, 0)))
+        && table.newest(cell_in(row, 0), Sort::Lock, Ts(7))
+            == Some((Ts(6), Item::Lock(cell_in(row, 0))))
 }
 
-fn cell_in(row: u64) -> Cell
-    ensures { (row_of result).0 ≡ row }
-{
-    Cell::Data(Row(row), Column::new(2).unwrap())
-}
-
-fn slot_in(row: u64) -> Slot {
-    Slot {
-        cell: cell_in(row),
-        sort: Sort::Lock,
-        ts: Ts(6),
-    }
-}
-
-fn put_edit(row: u64) -> Edit
-    ensures row { edit_row result ≡ row }
-    ensures sort { PutsOfSort result }
-{
-    let slot = Slot {
-        cell: cell_in(row),
-        sort: Sort::Lock,
-        ts: Ts(6),
-    };
-    Edit::Put(slot, Item::Lock(slot.cell))
-}
-
-fn mark_edit(row: u64) -> Edit
-    ensures row { edit_row result ≡ row }
-    ensures sort { PutsOfSort result }
-{
-    Edit::Mark(cell_in(row))
-}
-
-fn fill<T: Tablet>(table: &mut Table<T>, count: u64) -> Result<(), NoMemory> {
-    for n in 0..count {
-        let row = row_at(n);
-        table.apply(&[put_edit(row)])?;
-        table.apply(&[mark_edit(row)])?;
-    }
-    Ok(())
-}
-
-// Whether the n-th entry is that of this row.
-fn is_entry<T: Tablet>(table: &Table<T>, n: u64, row: u64) -> bool {
-    table.at(n as usize) == Some((slot_in(row), Item::Lock(cell_in(row))))
-        && table.get(slot_in(row)) == Some(Item::Lock(cell_in(row)))
-        && table.newest(cell_in(row), Sort::Lock, Ts(7)) == Some((Ts(6), Item::Lock(cell_in(row))))
-}
-
-// Whether the entries and marks of so many rows are there, in order, and no others.
-fn is_filled<T: Tablet>(table: &Table<T>, count: u64) -> bool {
+// Whether the entries and marks of these rows are there, in order, and no others.
+fn is_filled<T: Tablet>(table: &Table<T>, rows: &[u64]) -> bool {
     let mut last = None;
-    for n in 0..count {
-        let row = row_at(n);
+    for place in 0..rows.len() {
         last = table.next_mark(last);
-        if last != Some(cell_in(row)) || !is_entry(table, n, row) {
+        if last != Some(cell_in(rows[place], 0)) || !is_entry(table, place, rows[place]) {
             return false;
         }
     }
-    table.next_mark(last).is_none() && table.at(count as usize).is_none()
+    table.next_mark(last).is_none() && table.at(rows.len()).is_none()
 }
 
 // Whether a place takes a spare, and an empty tablet comes back.
@@ -100,24 +50,23 @@ fn is_swapped<T: Tablet>(table: &mut Table<T>, place: usize, spare: T) -> bool {
 }
 
 // Whether each place takes a spare of the other sort, and nothing is seen of it.
-fn are_swapped(alloc: Global, table: &mut Table<EitherTablet>, count: u64) -> bool {
+fn are_swapped(alloc: Global, table: &mut Table<EitherTablet>, rows: &[u64]) -> bool {
     for place in 0..table.places() {
         let spare = EitherTablet::new(alloc, place % 2 == 0);
-        if !is_swapped(table, place, spare) || !is_filled(table, count) {
+        if !is_swapped(table, place, spare) || !is_filled(table, rows) {
             return false;
         }
     }
     true
 }
 
-// Whether a table of so many tablets keeps two rows in each.
-fn keeps_all(alloc: Global, slabs: &[bool]) -> Result<bool, NoMemory> {
+// Whether a table of these tablets keeps these rows, two in each.
+fn keeps_all(alloc: Global, slabs: &[bool], rows: &[u64]) -> Result<bool, NoMemory> {
     let mut table = table_of(alloc, slabs)?;
-    let count = (table.places() as u64).wrapping_mul(2);
-    let is_kept = fill(&mut table, count).is_ok()
+    let is_kept = fill(&mut table, rows).is_ok()
         && table.places() == slabs.len()
-        && is_filled(&table, count)
-        && are_swapped(alloc, &mut table, count);
+        && is_filled(&table, rows)
+        && are_swapped(alloc, &mut table, rows);
     table.close();
     Ok(is_kept)
 }
@@ -125,7 +74,8 @@ fn keeps_all(alloc: Global, slabs: &[bool]) -> Result<bool, NoMemory> {
 #[test]
 fn each_tablet_keeps_its_rows(rt: HostRuntime) -> Result<(), NoMemory> {
     for places in 1..10usize {
-        assert!(rt; keeps_all(rt.alloc(), &SLABS[..places])?, "{places}");
+        let held = keeps_all(rt.alloc(), &SLABS[..places], &ROWS[..places * 2])?;
+        assert!(rt; held, "{places}");
     }
     Ok(())
 }

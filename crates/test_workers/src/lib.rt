@@ -15,8 +15,6 @@ mod finishes;
 #[cfg(test)]
 mod gates;
 #[cfg(test)]
-mod refusing;
-#[cfg(test)]
 mod rows;
 #[cfg(test)]
 mod spares;

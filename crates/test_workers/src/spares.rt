@@ -27,6 +27,7 @@ fn tablet(rt: &impl Abort, alloc: Global, calls: &Arc<AtomicUsize>) -> CountedTa
     CountedTablet {
         inner: ListTablet::new(alloc),
         calls: Arc::try_clone(calls).expect(rt, "memory"),
+        refused: None,
     }
 }
 

@@ -1,5 +1,4 @@
 //! A worker that is stopped at each of its steps, and what the main seat makes of what it left.
-use crate::refusing::RefusingTablet;
 use crate::tables::{COPY, Task, codes_of, observers, ran, report_of, told, worked};
 use pb_base::{Cell, Column, MAX_ENTRIES, ObserverNo, Row, Ts};
 use pb_core::{Seat, Shared, Step};
@@ -9,9 +8,10 @@ use pb_store::{Table, Tablet};
 use pb_worker::{Open, Worked};
 use std::alloc::Global;
 use std::process::Abort;
-use std::sync::Wait;
+use std::sync::atomic::AtomicUsize;
+use std::sync::{Arc, Wait};
 use std::thread::Threads;
-use test_fixtures::opened_over;
+use test_fixtures::{CountedTablet, opened_over};
 
 const ONE_CELL: &str = "put 7 0 2a\n";
 
@@ -236,13 +236,13 @@ fn left_by<R: Threads + Wait + Abort + Sync>(
     rt: &R,
     alloc: Global,
     refused: usize,
-) -> Worked<RefusingTablet> {
+) -> Worked<CountedTablet> {
     let observers = observers(alloc, COPY).ok().expect(rt, "observers");
     let batches = parse_script(alloc, THREE_CELLS).ok().expect(rt, "batches");
-    let tablet = RefusingTablet {
+    let tablet = CountedTablet {
         inner: ListTablet::new(alloc),
-        refused,
-        changes: 0,
+        calls: Arc::new(alloc, AtomicUsize::new(0)).expect(rt, "memory"),
+        refused: Some(refused),
     };
     let mut parts = Vec::new(alloc);
     parts.push((Row(0), tablet)).expect(rt, "memory");
