@@ -14,13 +14,13 @@ DRAWN = {
     "verify: verifying to DPDK's load": "#2ca02c",
     "verify: verifying to DPDK's load without machine code": "#98df8a",
     "verify: verifying to the kernel's verifier": "#006d2c",
-    "machine: straight by advance to DPDK": "#9467bd",
-    "machine: copying by advance to DPDK": "#c5b0d5",
-    "machine: jumps by advance to DPDK": "#6a3d9a",
+    "machine: straight by one call to DPDK": "#9467bd",
+    "machine: copying by one call to DPDK": "#c5b0d5",
+    "machine: jumps by one call to DPDK": "#6a3d9a",
     "workers: changes, spread by 4 workers to one": "#ff7f0e",
     "workers: copies, spread by 4 workers to one": "#8c564b",
 }
-LEFT, TOP, HEIGHT, STEP, LEGEND = 50, 20, 300, 90, 340
+LEFT, TOP, HEIGHT, STEP, LEGEND = 50, 20, 300, 90, 420
 MARKS = (0.1, 0.2, 0.5, 1, 2, 5)
 
 
