@@ -231,22 +231,28 @@ fn clock_ends_at_each_timestamp(rt: HostRuntime) {
     }
 }
 
+// A count of a tablet's changes, before the first.
+fn no_calls<R: Abort>(rt: &R, alloc: Global) -> Arc<AtomicUsize> {
+    Arc::new(alloc, AtomicUsize::new(0)).expect(rt, "memory")
+}
+
 // What one worker and the main seat leave of THREE_CELLS over a table that refuses this one of its changes.
 fn left_by<R: Threads + Wait + Abort + Sync>(
     rt: &R,
     alloc: Global,
     refused: usize,
 ) -> Worked<CountedTablet> {
-    let observers = observers(alloc, COPY).ok().expect(rt, "observers");
+    let calls = no_calls(rt, alloc);
     let batches = parse_script(alloc, THREE_CELLS).ok().expect(rt, "batches");
     let tablet = CountedTablet {
         inner: ListTablet::new(alloc),
-        calls: Arc::new(alloc, AtomicUsize::new(0)).expect(rt, "memory"),
+        calls,
         refused: Some(refused),
     };
     let mut parts = Vec::new(alloc);
     parts.push((Row(0), tablet)).expect(rt, "memory");
     let table = Table::new(parts).ok().expect(rt, "a table");
+    let observers = observers(alloc, COPY).ok().expect(rt, "observers");
     let (shared, seats) = opened_over(alloc, table, observers, 2, Ts(0), MAX_ENTRIES)
         .ok()
         .expect(rt, "opened");
