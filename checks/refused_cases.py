@@ -60,8 +60,8 @@ BY_ITSELF = {
     "Table::apply": 8,
     "Table::swap": 80,
     "verify": 4,
-    # of six machines, each with room for asks and for writes
-    "Vm::start": 12,
+    # of six machines, each in a box, with rooms where its program reads or writes
+    "Vm::start": 11,
     "World::open": 2,
     "World::run": 40,
     **{f"Shared::call {kind}": 6 for kind in KINDS},
