@@ -1,11 +1,11 @@
 -- What a tablet contains, copied entry by entry and mark by mark into another.
-use Rattle.std.proofs.Common.{◌≡◌, ◌&&◌, ℕ, ◌+◌, ◌-◌, ◌<◌, ◌≤◌, Bool, true, false, cond, not, T, List, [], ◌∷◌, ◌++◌, Option, None, Some, refl, sym, ap, ◌∙◌, arith, zero, suc, is_some, length, get_or, slice_get, take}
+use Rattle.std.proofs.Common.{◌≡◌, ◌&&◌, ℕ, ◌+◌, ◌-◌, ◌<◌, ◌≤◌, Bool, true, false, cond, not, T, List, [], ◌∷◌, ◌++◌, Option, None, Some, refl, sym, ap, ◌∙◌, arith, zero, suc, is_some, length, get_or, slice_get, take, drop, subst}
 use Rattle.std.proofs.lemmas.List.{take_more, take_all}
 use Rattle.std.proofs.lemmas.Option.{slice_get_within, get_or_from_slice_get}
 use Rattle.std.specs.declared.cmp.Ordering.{Ordering}
 use Rattle.std.specs.declared.cmp.Ordering.TheVariants.{Less, Equal, Greater}
 use Rattle.std.specs.Ordering.{is_lt, is_eq, eq_by_cmp, ordering_reverse}
-use Rattle.std.specs.Cmp.{IsTotalOrder, tied_itself}
+use Rattle.std.specs.Cmp.{IsTotalOrder}
 use Rattle.std.specs.FinMap as map
 use Rattle.std.specs.FinMap.{find, is_sorted}
 use Rattle.std.specs.FinMap.Entries.{below_all, where_key, is_sorted-where_key, find-where_key}
@@ -14,7 +14,8 @@ use Rattle.pb_base.specs.Cell.{cell_cmp, cell_cmp_total, cell_cmp-IsAntisymmetri
 use Rattle.pb_store.specs.declared.slot.Slot.{Slot}
 use Rattle.pb_store.specs.declared.slot.Item.{Item}
 use Rattle.pb_store.specs.Slot.{slot_cmp_total, slot_cmp-IsAntisymmetric}
-use Rattle.pb_store.specs.Contents.{Contents, Entries, Marks, ComesAfter, IsNextMark}
+use Rattle.pb_store.specs.Contents.{Contents, Entries, Marks, ComesAfter, IsNextMark, entries_after}
+use Rattle.pb_store.proofs.Following.{behind}
 
 first : (a b : Bool) → T (a && b) → T a
 first true b p = tt
@@ -178,6 +179,28 @@ module _ (m : Marks) (after : Option Cell) where
         let same = ap map.len one_more_mark in
         omega (arith, more, most, same)
 
+-- ---- what is left of entries
+first_of_drop : {E : Type 0} (xs : List E) (i : ℕ) → slice_get (drop i xs) 0 ≡ slice_get xs i
+first_of_drop [] zero = refl
+first_of_drop [] (suc i) = refl
+first_of_drop (x ∷ xs) zero = refl
+first_of_drop (x ∷ xs) (suc i) = first_of_drop xs i
+
+drop_next : {E : Type 0} (xs : List E) (i : ℕ) → drop 1 (drop i xs) ≡ drop (suc i) xs
+drop_next [] zero = refl
+drop_next [] (suc i) = refl
+drop_next (x ∷ xs) zero = refl
+drop_next (x ∷ xs) (suc i) = drop_next xs i
+
+none_past : {E : Type 0} (xs : List E) (i : ℕ) → None ≡ slice_get xs i → length xs ≤ i
+none_past [] i p = omega arith
+none_past (x ∷ xs) zero p = cc
+none_past (x ∷ xs) (suc i) p = let rest = none_past xs i p in omega (arith, rest)
+
+shorter : {E : Type 0} (xs : List E) (x : E) → Some x ≡ slice_get xs 0 → length (drop 1 xs) < length xs
+shorter [] x p = cc
+shorter (y ∷ xs) x p = omega arith
+
 -- ---- both, as a tablet's contents
 pub copied_entry : (m : Entries) (i : ℕ) (old new : Contents) (slot : Slot) (item : Item) → old ≡ record { entries = map.from_entries (take i (map.entries m)); marks = map.empty }
     → Some (slot, item) ≡ slice_get (map.entries m) i → new ≡ record { entries = map.insert old.entries slot item; marks = old.marks }
@@ -190,7 +213,22 @@ copied_entry m i old new slot item was at done =
 pub copied_entries : (m : Entries) (i : ℕ) (c : Contents) → c ≡ record { entries = map.from_entries (take i (map.entries m)); marks = map.empty } → map.len m ≤ i → c ≡ record { entries = m; marks = map.empty }
 copied_entries m i c was le = was ∙ ap (λ es. record { entries = es; marks = map.empty }) (all_entries_of slot_cmp_total slot_cmp-IsAntisymmetric m i le)
 
-pub none_within : {X : Type 0} (xs : List X) (i : ℕ) → None ≡ slice_get xs i → i < length xs → ⊥
-none_within [] i e lt = omega (arith, lt)
-none_within (x ∷ xs) zero e lt = cc
-none_within (x ∷ xs) (suc i) e lt = none_within xs i e (omega arith)
+-- the entries before place i are copied, and those after the slot are left, of which e is the first
+module _ (m : Entries) (after : Option Slot) (i : ℕ) (left : entries_after after (map.entries m) ≡ drop i (map.entries m)) where
+  pub none_left : None ≡ slice_get (entries_after after (map.entries m)) 0 → map.len m ≤ i
+  none_left p = let size = map.len-entries m in omega (arith, size, none_past (map.entries m) i (p ∙ ap (λ es. slice_get es 0) left ∙ first_of_drop (map.entries m) i))
+
+  module _ (e : Slot × Item) (p : Some e ≡ slice_get (entries_after after (map.entries m)) 0) where
+    rest : entries_after (Some e.0) (map.entries m) ≡ drop 1 (entries_after after (map.entries m))
+    rest = behind after (map.entries m) e (map.entries_sorted m) p
+
+    pub stands_there : Some e ≡ slice_get (map.entries m) i
+    stands_there = p ∙ ap (λ es. slice_get es 0) left ∙ first_of_drop (map.entries m) i
+
+    pub left_behind : entries_after (Some e.0) (map.entries m) ≡ drop (i + 1) (map.entries m)
+    left_behind =
+        let more : suc i ≡ i + 1 = omega arith in
+        rest ∙ ap (drop 1) left ∙ drop_next (map.entries m) i ∙ ap (λ n. drop n (map.entries m)) more
+
+    pub fewer_entries : length (entries_after (Some e.0) (map.entries m)) < length (entries_after after (map.entries m))
+    fewer_entries = subst (λ es. length es < length (entries_after after (map.entries m))) (sym rest) (shorter (entries_after after (map.entries m)) e p)

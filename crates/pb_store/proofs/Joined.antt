@@ -28,7 +28,7 @@ joined-marks tiles = refl
 pub cells_by_row : (x y : Cell) → (row_of x).0 < (row_of y).0 → cell_cmp x y ≡ Less
 cells_by_row x y lt = ap (λ r. ordering_then r (ordering_then (nat_cmp (column_of x) (column_of y)) (nat_cmp (rank_of x) (rank_of y)))) (sym (nat_cmp_is (row_of x).0 (row_of y).0 Less lt))
 
-slots_by_row : (x y : Slot) → (row_of x.cell).0 < (row_of y.cell).0 → slot_cmp x y ≡ Less
+pub slots_by_row : (x y : Slot) → (row_of x.cell).0 < (row_of y.cell).0 → slot_cmp x y ≡ Less
 slots_by_row x y lt = ap (λ r. ordering_then r (ordering_then (nat_cmp (sort_rank x.sort) (sort_rank y.sort)) (nat_cmp x.ts.0 y.ts.0))) (cells_by_row x.cell y.cell lt)
 
 abbrev entry_half : Half slot_cmp Item

@@ -7,3 +7,4 @@ pub mod Reading
 pub mod Marked
 pub mod Counting
 pub mod Copied
+pub mod Following

@@ -1,5 +1,7 @@
 -- What a tablet or a table contains: entries by slot, and marked cells.
 use Rattle.std.specs.Prelude.{◌≡◌, ℕ, ◌<◌, ◌≤◌, Bool, true, false, List, [], ◌∷◌, Option, None, Some, refl, ◌==◌, ◌&&◌}
+use Rattle.std.specs.List.{filter}
+use Rattle.std.specs.Ordering.{is_lt}
 use Rattle.std.specs.FinMap as map
 use Rattle.std.specs.declared.cmp.Ordering.TheVariants.{Less}
 use Rattle.pb_base.specs.declared.cell.Cell.{Cell}
@@ -68,6 +70,11 @@ IsNewest m cell sort high (Some found) =
     × (map.get m (slot_at cell sort found.0.0) ≡ Some found.1)
     × IsOfSort sort found.1
     × ((t : ℕ) → found.0.0 < t → t ≤ high.0 → map.get m (slot_at cell sort t) ≡ None)
+
+-- the entries after the given slot, or all where none is given
+abbrev pub entries_after : {X : Type 0} → Option Slot → List (Slot × X) → List (Slot × X)
+entries_after None es = es
+entries_after (Some before) es = filter (λ e. is_lt (slot_cmp before e.0)) es
 
 -- whether a cell comes after the given one, or none is given
 abbrev pub ComesAfter : Option Cell → Cell → Type 0

@@ -28,10 +28,10 @@ fn copy_entries<T: Tablet>(from: &T, to: &mut T) -> Result<(), NoMemory>
     requires { T.contents to.old ≡ nothing }
     ensures { OnOk result (T.contents to.new ≡ record { entries = (T.contents from.now).entries; marks = map.empty }) }
 {
-    for place in 0..from.len() {
-        if let Some((slot, item)) = from.at(place) {
-            put_in(to, &slot, &item)?;
-        }
+    let mut after: Option<Slot> = None;
+    while let Some((slot, item)) = from.next_entry(after) {
+        put_in(to, &slot, &item)?;
+        after = Some(slot);
     }
     Ok(())
 }

@@ -1,7 +1,8 @@
 //! Tablets side by side, seen as one.
-ghost use Rattle.std.specs.Prelude.{◌≡◌, ◌<◌, IfOk, IfErr, OnOk, OnErr, IfSome, None, Some, length, slice_get, unwrap_or};
+ghost use Rattle.std.specs.Prelude.{◌≡◌, ◌<◌, IfOk, IfErr, OnOk, OnErr, IfSome, None, Some, drop, length, slice_get, unwrap_or};
 ghost use Rattle.std.specs.FinMap as map;
-ghost use Rattle.pb_store.specs.Contents.{nothing, is_nothing, after_edits, AreEdits, IsOfSort, IsNewest, IsNextMark};
+ghost use Rattle.std.specs.Option.{option_map};
+ghost use Rattle.pb_store.specs.Contents.{nothing, is_nothing, after_edits, entries_after, AreEdits, IsOfSort, IsNewest, IsNextMark};
 ghost use Rattle.pb_store.specs.TableOf.{TableOf, firsts_of};
 ghost use Rattle.pb_store.specs.Tiles.{tiles_of, IsPlace, IsStart, IsTiling, rise_from_zero, all_nothing, table_reason, swap_reason, all_entries, joined};
 ghost use Rattle.pb_base.specs.Reasons.{TellsReason, refusal_by};
@@ -122,6 +123,30 @@ fn entry_in<T: Tablet>(parts: &[(Row, T)], place: usize) -> Option<(Slot, Item)>
     None
 }
 
+// The cell of a slot.
+fn cell_of(slot: &Option<Slot>) -> Option<Cell>
+    ensures { result ≡ option_map (λ s. s.cell) slot.now }
+{
+    match slot {
+        Some(slot) => Some(slot.cell),
+        None => None,
+    }
+}
+
+// The first entry after the slot, or of all.
+fn entry_after<T: Tablet>(parts: &[(Row, T)], after: &Option<Slot>) -> Option<(Slot, Item)>
+    requires { IsTiling (tiles_of T.contents parts.now) }
+    ensures { result ≡ slice_get (entries_after after.now (all_entries (tiles_of T.contents parts.now))) 0 }
+{
+    for i in start_in(parts, cell_of(after))..parts.len() {
+        let next = parts[i].1.next_entry(*after);
+        if let Some(entry) = next {
+            return Some(entry);
+        }
+    }
+    None
+}
+
 // The tablet with all entries and marks taken out.
 fn emptied<T: Tablet>(tablet: T) -> T
     ensures { T.contents result ≡ nothing }
@@ -184,6 +209,15 @@ impl<T: Tablet> Table<T> {
         ensures { result ≡ slice_get (map.entries self.now.contents.entries) place }
     {
         entry_in(&self.parts, place)
+    }
+
+    /// The first entry after the given slot, or of all. Behind it stand the others.
+    pub fn next_entry(&self, after: Option<Slot>) -> Option<(Slot, Item)>
+        ensures entry { result ≡ slice_get (entries_after after (map.entries self.now.contents.entries)) 0 }
+        ensures rest { IfSome result (λ e. entries_after (Some e.0) (map.entries self.now.contents.entries) ≡ drop 1
+            (entries_after after (map.entries self.now.contents.entries))) }
+    {
+        entry_after(&self.parts, &after)
     }
 
     /// How many tablets it has.

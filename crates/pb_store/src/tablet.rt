@@ -1,7 +1,7 @@
 //! What keeps entries and marks.
 ghost use Rattle.std.specs.Prelude.{◌≡◌, OnOk, OnErr, IfSome, slice_get};
 ghost use Rattle.std.specs.FinMap as map;
-ghost use Rattle.pb_store.specs.Contents.{Contents, nothing, is_nothing, after_edits, IsOfSort, IsNewest, IsNextMark, AreEdits};
+ghost use Rattle.pb_store.specs.Contents.{Contents, nothing, is_nothing, after_edits, entries_after, IsOfSort, IsNewest, IsNextMark, AreEdits};
 
 use crate::slot::{Edit, Item, Slot, Sort};
 use pb_base::{Cell, NoMemory, Ts};
@@ -32,6 +32,11 @@ pub trait Tablet {
     /// The entry at a place, counted by rising slot.
     fn at(&self, place: usize) -> Option<(Slot, Item)>
         ensures entry { result ≡ slice_get (map.entries (contents self.now).entries) place }
+        ensures sort { IfSome result (λ e. IsOfSort e.0.sort e.1) };
+
+    /// The first entry after the given slot, or of all.
+    fn next_entry(&self, after: Option<Slot>) -> Option<(Slot, Item)>
+        ensures entry { result ≡ slice_get (entries_after after (map.entries (contents self.now).entries)) 0 }
         ensures sort { IfSome result (λ e. IsOfSort e.0.sort e.1) };
 
     /// Whether it has no entry and no mark.
@@ -76,6 +81,10 @@ impl Tablet for Box<dyn Tablet + Send + Drop> {
 
     fn at(&self, place: usize) -> Option<(Slot, Item)> {
         (**self).at(place)
+    }
+
+    fn next_entry(&self, after: Option<Slot>) -> Option<(Slot, Item)> {
+        (**self).next_entry(after)
     }
 
     fn is_empty(&self) -> bool {

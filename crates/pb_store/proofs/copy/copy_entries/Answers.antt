@@ -1,21 +1,23 @@
-use Rattle.std.proofs.Common.{sym, ap, ◌∙◌, arith}
-use Rattle.std.specs.FinMap as map
-use Rattle.pb_store.proofs.Copied.{copied_entry, copied_entries, none_within}
+use Rattle.std.proofs.Common.{◌+◌}
+use Rattle.pb_store.proofs.Copied.{copied_entry, copied_entries, none_left, stands_there, left_behind, fewer_entries}
 use Rattle.pb_store.proofs.copy.copy_entries.Goals as goal
-use Rattle.pb_store.proofs.copy.copy_entries.Goals.{in-Some+in_ok-put_in, in_default}
 
-pub loop-place-preserved : goal.loop-place-preserved
-loop-place-preserved g c =
-    elim c.match-at.branch [
-      | in-Some+in_ok-put_in w ↦
-          ap g.T.Tablet.contents w.to-is
-          ∙ copied_entry (g.T.Tablet.contents c.args.from.now).entries c.loop-place.place (g.T.Tablet.contents c.loop-place.to) (g.T.Tablet.contents w.put_in.new.tablet)
-          w.in-Some.slot w.in-Some.item c.loop-place.invariant (sym w.in-Some.is ∙ c.at.ensures.entry) w.in_ok-put_in.ensures
-      | in_default w ↦
-          let size = map.len-entries (g.T.Tablet.contents c.args.from.now).entries in
-          absurd (none_within (map.entries (g.T.Tablet.contents c.args.from.now).entries) c.loop-place.place (sym w.in_default.is ∙ c.at.ensures.entry)
-          (omega (arith, size, c.len-place-end.ensures, c.loop-place-test.true)))
-    ]
+pub loop-slot-smaller : goal.loop-slot-smaller
+loop-slot-smaller g c =
+    fewer_entries (g.T.Tablet.contents c.args.from.now).entries c.loop-slot.after c.loop-slot.invariant.place c.loop-slot.invariant.left (c.in-Some.slot, c.in-Some.item) c.in-Some.ensures.entry
+
+pub loop-slot-preserved : goal.loop-slot-preserved
+loop-slot-preserved g c =
+    let m = (g.T.Tablet.contents c.args.from.now).entries in
+    let i = c.loop-slot.invariant.place in
+    record {
+      place = i + 1;
+      left = left_behind m c.loop-slot.after i c.loop-slot.invariant.left (c.in-Some.slot, c.in-Some.item) c.in-Some.ensures.entry;
+      copied = copied_entry m i (g.T.Tablet.contents c.loop-slot.to) (g.T.Tablet.contents c.put_in.new.tablet) c.in-Some.slot c.in-Some.item c.loop-slot.invariant.copied
+          (stands_there m c.loop-slot.after i c.loop-slot.invariant.left (c.in-Some.slot, c.in-Some.item) c.in-Some.ensures.entry) c.in_ok-put_in.ensures;
+    }
 
 pub returns : goal.returns
-returns g c = copied_entries (g.T.Tablet.contents c.args.from.now).entries c.loop-place.place (g.T.Tablet.contents c.loop-place.to) c.loop-place.invariant (omega (arith, c.len-place-end.ensures, c.loop-place-test.false))
+returns g c =
+    copied_entries (g.T.Tablet.contents c.args.from.now).entries c.loop-slot.invariant.place (g.T.Tablet.contents c.loop-slot.to) c.loop-slot.invariant.copied
+    (none_left (g.T.Tablet.contents c.args.from.now).entries c.loop-slot.after c.loop-slot.invariant.place c.loop-slot.invariant.left c.in_default.ensures.entry)
