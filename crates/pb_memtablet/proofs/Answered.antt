@@ -1,12 +1,12 @@
 -- What sorted lists answer is what they contain.
-use Rattle.std.proofs.Common.{◌≡◌, ◌==◌, ◌&&◌, ℕ, cond, [], ◌∷◌, Some, IfSome, refl, sym, ap, ◌∙◌, subst, length, slice_get, zero, suc}
+use Rattle.std.proofs.Common.{◌≡◌, ◌==◌, ◌&&◌, ℕ, cond, true, false, [], ◌∷◌, Option, None, Some, IfSome, refl, sym, ap, ◌∙◌, subst, length, slice_get, zero, suc}
 use Rattle.std.specs.declared.cmp.Ordering.TheVariants.{Less, Equal, Greater}
-use Rattle.std.specs.Ordering.{is_eq}
+use Rattle.std.specs.Ordering.{is_eq, is_lt}
 use Rattle.std.specs.FinMap as map
 use Rattle.pb_base.specs.Cell.{cell_cmp}
 use Rattle.pb_store.specs.declared.slot.Slot.{Slot}
 use Rattle.pb_store.specs.Slot.{slot_cmp, slot_cmp-IsAntisymmetric}
-use Rattle.pb_store.specs.Contents.{IsOfSort, is_nothing}
+use Rattle.pb_store.specs.Contents.{IsOfSort, is_nothing, entries_after}
 use Rattle.pb_memtablet.specs.Listed.{EntryList, MarkList, contents_of, AllOfSort, AreLists}
 use Rattle.pb_memtablet.proofs.Spots.{holds}
 
@@ -23,6 +23,15 @@ pub of_sort_there : (es : EntryList) (i : ℕ) → AllOfSort es → IfSome (slic
 of_sort_there [] i all = tt
 of_sort_there (e ∷ es) zero all = all.0
 of_sort_there (e ∷ es) (suc i) all = of_sort_there es i all.1
+
+pub of_sort_after : (after : Option Slot) (es : EntryList) → AllOfSort es → IfSome (slice_get (entries_after after es) 0) (λ e. IsOfSort e.0.sort e.1)
+of_sort_after None es all = of_sort_there es 0 all
+of_sort_after (Some slot) [] all = tt
+of_sort_after (Some slot) (e ∷ es) all =
+    elim (is_lt (slot_cmp slot e.0)) as (λ b. IfSome (slice_get (cond b (e ∷ entries_after (Some slot) es) (entries_after (Some slot) es)) 0) (λ x. IsOfSort x.0.sort x.1)) [
+      | true ↦ all.0
+      | false ↦ of_sort_after (Some slot) es all.1
+    ]
 
 module _ (es : EntryList) (ms : MarkList) (l : AreLists es ms) where
   pub get-listed : (q : Slot) → map.get (contents_of es ms).entries q ≡ map.find slot_cmp q es

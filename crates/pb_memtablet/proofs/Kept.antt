@@ -13,6 +13,7 @@ use Rattle.pb_store.specs.declared.slot.Slot.{Slot as Name}
 use Rattle.pb_store.specs.declared.slot.Item.{Item}
 use Rattle.pb_store.specs.declared.slot.Item.TheVariants.{Write}
 use Rattle.pb_store.specs.Slot.{slot_cmp, slot_cmp_total}
+use Rattle.pb_store.specs.Contents.{entries_after}
 use Rattle.pb_memtablet.specs.Stored.{Items, KeyList, found_at, HasItem, item_at, seen, AllKeys, AreApart, AreStored}
 use Rattle.pb_memtablet.specs.Listed.{EntryList}
 use Rattle.pb_memtablet.proofs.Spots.{truth}
@@ -242,6 +243,26 @@ pub stored_at : (P : ℕ → Type 0) (ks : KeyList) (i : ℕ) → AllKeys P ks �
 stored_at P [] i all = tt
 stored_at P (k ∷ ks) zero all = all.0
 stored_at P (k ∷ ks) (suc i) all = stored_at P ks i all.1
+
+pub next-seen : (s : Items) (after : Option Name) (ks : KeyList) → option_map (as_entry s) (slice_get (entries_after after ks) 0) ≡ slice_get (entries_after after (seen s ks)) 0
+next-seen s None ks = sym (at-seen s ks 0)
+next-seen s (Some slot) [] = refl
+next-seen s (Some slot) (k ∷ ks) =
+    elim (is_lt (slot_cmp slot k.0)) as (λ b.
+    option_map (as_entry s) (slice_get (cond b (k ∷ entries_after (Some slot) ks) (entries_after (Some slot) ks)) 0)
+    ≡ slice_get (cond b (as_entry s k ∷ entries_after (Some slot) (seen s ks)) (entries_after (Some slot) (seen s ks))) 0) [
+      | true ↦ refl
+      | false ↦ next-seen s (Some slot) ks
+    ]
+
+pub next_stored : (P : ℕ → Type 0) (after : Option Name) (ks : KeyList) → AllKeys P ks → IfSome (slice_get (entries_after after ks) 0) (λ k. P k.1)
+next_stored P None ks all = stored_at P ks 0 all
+next_stored P (Some slot) [] all = tt
+next_stored P (Some slot) (k ∷ ks) all =
+    elim (is_lt (slot_cmp slot k.0)) as (λ b. IfSome (slice_get (cond b (k ∷ entries_after (Some slot) ks) (entries_after (Some slot) ks)) 0) (λ x. P x.1)) [
+      | true ↦ all.0
+      | false ↦ next_stored P (Some slot) ks all.1
+    ]
 
 -- ---- what is kept, with other slots
 pub sorted_keys : (s : Items) (ks : KeyList) → IsTrue (is_sorted slot_cmp (seen s ks)) → IsTrue (is_sorted slot_cmp ks)

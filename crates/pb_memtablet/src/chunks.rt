@@ -118,7 +118,7 @@ pub(crate) fn last_up_to<K: Ord + Copy, V: Copy>(
     }
 }
 
-// The first entry whose key is above the given one.
+// The first entry whose key is above the given one. It notes the entry's place as the next likely one.
 pub(crate) fn first_above<K: Ord + Copy, V: Copy>(
     chunks: &[Chunk<K, V>],
     key: &K,
@@ -134,8 +134,11 @@ pub(crate) fn first_above<K: Ord + Copy, V: Copy>(
     let chunk = &chunks[home];
     let place = place_above(chunk, key, &likely.place);
     if place < chunk.len() {
+        likely.place.set(place);
         Some(chunk[place])
     } else if home + 1 < chunks.len() {
+        likely.chunk.set(home + 1);
+        likely.place.set(0);
         Some(chunks[home + 1][0])
     } else {
         None

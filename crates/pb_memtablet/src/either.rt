@@ -68,6 +68,13 @@ impl Tablet for EitherTablet {
         }
     }
 
+    fn next_entry(&self, after: Option<Slot>) -> Option<(Slot, Item)> {
+        match self {
+            EitherTablet::List(tablet) => tablet.next_entry(after),
+            EitherTablet::Slab(tablet) => tablet.next_entry(after),
+        }
+    }
+
     fn is_empty(&self) -> bool {
         match self {
             EitherTablet::List(tablet) => tablet.is_empty(),

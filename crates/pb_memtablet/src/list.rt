@@ -1,8 +1,8 @@
 //! A tablet of two sorted lists.
-ghost use Rattle.std.specs.Prelude.{◌≡◌, ◌+◌, ◌≤◌, ◌↔◌, IsTrue, count_by, cond, drop, length};
+ghost use Rattle.std.specs.Prelude.{◌≡◌, ◌+◌, ◌≤◌, ◌↔◌, IsTrue, count_by, cond, drop, length, slice_get};
 ghost use Rattle.std.specs.Option.{option_map};
 ghost use Rattle.std.specs.FinMap as map;
-ghost use Rattle.pb_store.specs.Contents.{nothing, after_edit, after_edits, IsNewest, IsNextMark, PutsOfSort, AllPutOfSort};
+ghost use Rattle.pb_store.specs.Contents.{nothing, after_edit, after_edits, entries_after, IsNewest, IsNextMark, PutsOfSort, AllPutOfSort};
 ghost use Rattle.pb_memtablet.specs.Listed.{contents_of, AreLists, AllOfSort, is_put, is_mark};
 ghost use Rattle.pb_base.specs.Cell.{cell_cmp};
 ghost use Rattle.pb_store.specs.Slot.{slot_cmp};
@@ -92,6 +92,19 @@ pub(crate) fn next_in(marks: &SortedList<Cell, ()>, after: Option<Cell>) -> Opti
     match after {
         Some(cell) => marked_cell(marks.first_above(&cell)),
         None => marked_cell(marks.at(0)),
+    }
+}
+
+// The first entry after the slot, or of all.
+pub(crate) fn entry_after<V: Copy>(
+    entries: &SortedList<Slot, V>,
+    after: Option<Slot>,
+) -> Option<(Slot, V)>
+    ensures { result ≡ slice_get (entries_after after entries.now.entries) 0 }
+{
+    match after {
+        Some(slot) => entries.first_above(&slot),
+        None => entries.at(0),
     }
 }
 
@@ -226,6 +239,10 @@ impl Tablet for ListTablet {
 
     fn at(&self, place: usize) -> Option<(Slot, Item)> {
         self.entries.at(place)
+    }
+
+    fn next_entry(&self, after: Option<Slot>) -> Option<(Slot, Item)> {
+        entry_after(&self.entries, after)
     }
 
     fn is_empty(&self) -> bool {

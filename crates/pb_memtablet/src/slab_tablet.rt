@@ -16,7 +16,7 @@ ghost use Rattle.slab.specs.Slab.{ContainsKey};
 ghost use Rattle.std.specs.Option.{option_map};
 ghost use Rattle.std.specs.Prelude.{ℕ, ◌<◌, not, false};
 
-use crate::list::{is_beside, marks_in, next_in, puts_in};
+use crate::list::{entry_after, is_beside, marks_in, next_in, puts_in};
 use crate::sorted_list::SortedList;
 use pb_base::{Cell, NoMemory, Ts};
 use pb_store::{Edit, Item, Slot, Sort, Tablet};
@@ -398,6 +398,10 @@ impl Tablet for SlabTablet {
 
     fn at(&self, place: usize) -> Option<(Slot, Item)> {
         entry_at(&self.items, self.keys.at(place))
+    }
+
+    fn next_entry(&self, after: Option<Slot>) -> Option<(Slot, Item)> {
+        entry_at(&self.items, entry_after(&self.keys, after))
     }
 
     fn is_empty(&self) -> bool {
