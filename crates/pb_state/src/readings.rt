@@ -129,12 +129,12 @@ pub(crate) fn count_locks<T: Tablet>(table: &Table<T>) -> usize
     ensures { result ≡ lock_count table.now.contents.entries }
 {
     let mut count = 0;
-    let mut place = 0;
-    while let Some((slot, _)) = table.at(place) {
+    let mut after = None;
+    while let Some((slot, _)) = table.next_entry(after) {
         if is_lock(slot.sort) {
             count += 1;
         }
-        place += 1;
+        after = Some(slot);
     }
     count
 }

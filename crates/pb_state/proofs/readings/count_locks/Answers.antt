@@ -1,12 +1,11 @@
-use Rattle.std.proofs.Common.{◌≡◌, ℕ, ◌+◌, inl, inr, ◌≤◌, Bool, true, false, ap, sym, ◌∙◌, arith, take, length, Some, None, List}
-use Rattle.std.proofs.Math.Seq.{take-length}
+use Rattle.std.proofs.Common.{◌≡◌, ℕ, ◌+◌, ◌<◌, Bool, true, false, cond, sym, ap, ◌∙◌, subst, arith, length, drop, List, [], ◌∷◌, Some, None}
 use Rattle.std.specs.Prelude.{count_by}
 use Rattle.std.specs.List.{slice_get}
 use Rattle.std.specs.FinMap as map
-use Rattle.std.proofs.lemmas.Option.{slice_get_within, get_or_from_slice_get, slice_get_cases}
-use Rattle.std.proofs.lemmas.List.Sums.{count_by_more_no, count_by_more_yes}
+use Rattle.std.proofs.lemmas.List.Sums.{sum_by-cons, count_by-le-length}
 use Rattle.pb_store.specs.declared.slot.Slot.{Slot}
 use Rattle.pb_store.specs.declared.slot.Item.{Item}
+use Rattle.pb_store.specs.Contents.{entries_after}
 use Rattle.pb_steps.specs.Readings.{is_lock}
 use Rattle.pb_state.proofs.readings.count_locks.Goals as goal
 use Rattle.pb_state.proofs.readings.count_locks.Goals.{then-is_lock, else-is_lock}
@@ -14,48 +13,61 @@ use Rattle.pb_state.proofs.readings.count_locks.Goals.{then-is_lock, else-is_loc
 abbrev counts : Slot × Item → Bool
 counts p = is_lock p.0.sort
 
-yes : (es : List (Slot × Item)) (i n : ℕ) (x : Slot × Item) → slice_get es i ≡ Some x → counts x ≡ true → n ≡ count_by counts (take i es) → n + 1 ≡ count_by counts (take (i + 1) es)
-yes es i n x at is so = ap (λ k. k + 1) so ∙ sym (count_by_more_yes counts es i x (slice_get_within es i x at) (ap counts (get_or_from_slice_get es i x x at) ∙ is))
+first_counted : (xs : List (Slot × Item)) (e : Slot × Item) → Some e ≡ slice_get xs 0 → count_by counts xs ≡ cond (counts e) 1 0 + count_by counts (drop 1 xs)
+first_counted [] e p = cc
+first_counted (x ∷ xs) e p =
+    let same : x ≡ e = cc in
+    sum_by-cons (λ y. cond (counts y) 1 0) x xs ∙ ap (λ y. cond (counts y) 1 0 + count_by counts xs) same
 
-no : (es : List (Slot × Item)) (i n : ℕ) (x : Slot × Item) → slice_get es i ≡ Some x → counts x ≡ false → n ≡ count_by counts (take i es) → n ≡ count_by counts (take (i + 1) es)
-no es i n x at is so = so ∙ sym (count_by_more_no counts es i x (slice_get_within es i x at) (ap counts (get_or_from_slice_get es i x x at) ∙ is))
+shorter : (xs : List (Slot × Item)) (e : Slot × Item) → Some e ≡ slice_get xs 0 → length (drop 1 xs) < length xs
+shorter [] e p = cc
+shorter (x ∷ xs) e p = omega arith
+
+-- of the entries, xs are left, whose first is e and whose others are ys
+module _ (es xs ys : List (Slot × Item)) (e : Slot × Item) (first : Some e ≡ slice_get xs 0) (rest : ys ≡ drop 1 xs) where
+  fewer : length ys < length xs
+  fewer = subst (λ (zs : List (Slot × Item)). length zs < length xs) (sym rest) (shorter xs e first)
+
+  split : (b : Bool) → counts e ≡ b → count_by counts xs ≡ cond b 1 0 + count_by counts ys
+  split b is = first_counted xs e first ∙ ap (λ zs. cond (counts e) 1 0 + count_by counts zs) (sym rest) ∙ ap (λ a. cond a 1 0 + count_by counts ys) is
+
+  module _ (n : ℕ) (so : n + count_by counts xs ≡ count_by counts es) where
+    room : counts e ≡ true → n < length es
+    room is = let one = split true is in let most = count_by-le-length counts es in omega (arith, so, one, most)
+
+    yes : (m : ℕ) → m ≡ n + 1 → counts e ≡ true → m + count_by counts ys ≡ count_by counts es
+    yes m more is = let one = split true is in omega (arith, so, one, more)
+
+    no : (m : ℕ) → m ≡ n → counts e ≡ false → m + count_by counts ys ≡ count_by counts es
+    no m same is = let none = split false is in omega (arith, so, none, same)
+
+none_counted : (xs : List (Slot × Item)) → None ≡ slice_get xs 0 → count_by counts xs ≡ 0
+none_counted [] p = omega arith
+none_counted (x ∷ xs) p = cc
 
 pub overflow_add-count : goal.overflow_add-count
 overflow_add-count g c =
-    let on = slice_get_within (map.entries c.args.table.now.contents.entries) c.loop-slot.place _ (sym c.at.ensures ∙ c.in-Some.is) in
+    let es = map.entries c.args.table.now.contents.entries in
     let long = map.len-entries c.args.table.now.contents.entries in
-    omega (arith, on, long, c.requires)
-
-pub overflow_add-place : goal.overflow_add-place
-overflow_add-place g c =
-    let on = slice_get_within (map.entries c.args.table.now.contents.entries) c.loop-slot.place _ (sym c.at.ensures ∙ c.in-Some.is) in
-    let long = map.len-entries c.args.table.now.contents.entries in
-    omega (arith, on, long, c.requires)
+    let few = room es (entries_after c.loop-slot.after es) _ _ (sym c.in-Some.is ∙ c.next_entry.ensures.entry) c.in-Some.ensures.rest c.loop-slot.count c.loop-slot.invariant (sym c.is_lock.ensures ∙ c.if-is_lock.true) in
+    omega (arith, few, long, c.requires)
 
 pub loop-slot-smaller : goal.loop-slot-smaller
 loop-slot-smaller g c =
-    let on = slice_get_within (map.entries c.args.table.now.contents.entries) c.loop-slot.place _ (sym c.at.ensures ∙ c.in-Some.is) in
-    omega (arith, on)
+    let es = map.entries c.args.table.now.contents.entries in
+    fewer es (entries_after c.loop-slot.after es) _ _ (sym c.in-Some.is ∙ c.next_entry.ensures.entry) c.in-Some.ensures.rest
 
 pub loop-slot-preserved : goal.loop-slot-preserved
 loop-slot-preserved g c =
-    let at = sym c.at.ensures ∙ c.in-Some.is in
-    let on = slice_get_within (map.entries c.args.table.now.contents.entries) c.loop-slot.place _ at in
-    let so = c.loop-slot.invariant.counted in
+    let es = map.entries c.args.table.now.contents.entries in
+    let first = sym c.in-Some.is ∙ c.next_entry.ensures.entry in
     elim c.if-is_lock.branch [
-      | then-is_lock w ↦ record { counted = w.count-is ∙ yes (map.entries c.args.table.now.contents.entries) c.loop-slot.place c.loop-slot.count _ at (sym c.is_lock.ensures ∙ w.if-is_lock.true) so; few = omega (arith, w.count-is); within = omega (arith, on) }
-      | else-is_lock w ↦ record { counted = w.count-is ∙ no (map.entries c.args.table.now.contents.entries) c.loop-slot.place c.loop-slot.count _ at (sym c.is_lock.ensures ∙ w.if-is_lock.false) so; few = omega (arith, w.count-is); within = omega (arith, on) }
-    ]
-
-both : (a b : ℕ) → a ≤ b → b ≤ a → a ≡ b
-both a b p q = omega arith
-
-all : (es : List (Slot × Item)) (i n : ℕ) → slice_get es i ≡ None → i ≤ length es → n ≡ count_by counts (take i es) → n ≡ count_by counts es
-all es i n past le so =
-    so ∙ elim ((slice_get_cases es i).1) [
-      | inl there ↦ let found = there.2 in cc
-      | inr over ↦ ap (count_by counts) (ap (λ k. take k es) (both i (length es) le over.0) ∙ take-length es)
+      | then-is_lock w ↦ yes es (entries_after c.loop-slot.after es) _ _ first c.in-Some.ensures.rest c.loop-slot.count c.loop-slot.invariant _ w.count-is (sym c.is_lock.ensures ∙ w.if-is_lock.true)
+      | else-is_lock w ↦ no es (entries_after c.loop-slot.after es) _ _ first c.in-Some.ensures.rest c.loop-slot.count c.loop-slot.invariant _ w.count-is (sym c.is_lock.ensures ∙ w.if-is_lock.false)
     ]
 
 pub returns : goal.returns
-returns g c = all (map.entries c.args.table.now.contents.entries) c.loop-slot.place c.loop-slot.count (sym c.at.ensures ∙ c.in_default.is) c.loop-slot.invariant.within c.loop-slot.invariant.counted
+returns g c =
+    let es = map.entries c.args.table.now.contents.entries in
+    let none = none_counted (entries_after c.loop-slot.after es) (sym c.in_default.is ∙ c.next_entry.ensures.entry) in
+    omega (arith, none, c.loop-slot.invariant)
