@@ -1,8 +1,9 @@
 //! Times tablets of both sorts, SORT being `list` or `slab`: `SORT build COUNT` puts so many entries, one at a time and in mixed
-//! order, and `SORT walk COUNT` then goes over all of them by `at`, 20 times. `SORT change COUNT` does what so many changes of
-//! random cells do: each looks at its cell, puts data and lock, and then replaces the lock by a write record. `SORT copy COUNT
-//! TIMES` builds a tablet of so many entries, a quarter of whose cells are marked, in a table, and swaps so many spares in, each
-//! of the other sort than the one before it. It prints how many entries there are, a walk met, or how many spares were taken.
+//! order, and `SORT walk COUNT` then goes over all of them, from each entry to the next, 20 times. `SORT change COUNT` does what
+//! so many changes of random cells do: each looks at its cell, puts data and lock, and then replaces the lock by a write record.
+//! `SORT copy COUNT TIMES` builds a tablet of so many entries, a quarter of whose cells are marked, in a table, and swaps so many
+//! spares in, each of the other sort than the one before it. It prints how many entries there are, a walk met, or how many spares
+//! were taken.
 #![tactic(auto)]
 
 ghost use Rattle.std.specs.Prelude.{◌≡◌};
@@ -99,9 +100,9 @@ fn change<T: Tablet>(tablet: &mut T, count: u32) -> Result<(), NoMemory> {
 
 // Whether it is the write record of a transaction that began before. Slot and item are both read for that: of a list, whether an
 // entry is there would be told without a look at it.
-fn is_record(entry: &(Slot, Item)) -> bool {
-    match entry.1 {
-        Item::Write(start) => entry.0.ts > start,
+fn is_record(slot: &Slot, item: &Item) -> bool {
+    match *item {
+        Item::Write(start) => slot.ts > start,
         _ => false,
     }
 }
@@ -109,12 +110,15 @@ fn is_record(entry: &(Slot, Item)) -> bool {
 // How many write records a walk meets.
 fn walk<T: Tablet>(tablet: &T) -> usize {
     let mut met = 0_usize;
-    for place in 0..tablet.len() {
-        if let Some(entry) = tablet.at(place)
-            && is_record(&entry)
-        {
+    let mut after: Option<Slot> = None;
+    for _ in 0..tablet.len() {
+        let Some((slot, item)) = tablet.next_entry(after) else {
+            return met;
+        };
+        if is_record(&slot, &item) {
             met = met.wrapping_add(1);
         }
+        after = Some(slot);
     }
     met
 }
