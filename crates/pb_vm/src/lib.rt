@@ -6,6 +6,7 @@ mod acting;
 mod cells;
 mod finished;
 mod instructions;
+mod interpreter;
 mod local;
 mod memory;
 mod moved;
