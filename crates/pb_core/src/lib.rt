@@ -4,7 +4,7 @@
 mod seat;
 mod shared;
 
-pub use pb_history::{Entry, Received};
+pub use pb_history::{Entry, KeptAnswer, Received};
 pub use pb_state::{
     Accepted, Answer, Declaration, Declared, EndedRun, Finished, Moved, Observer, Phase, Record,
     RecordedRead, Seen, Step, Vm, Work, acknowledged_in, version_in,

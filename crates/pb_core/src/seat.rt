@@ -7,7 +7,7 @@ use std::marker::Model;
 /// The places of one seat's entries in the journal.
 #[derive(Drop)]
 pub(crate) struct Book {
-    pub(crate) places: Vec<u64>,
+    pub(crate) places: Vec<u32>,
 }
 
 impl Model for Book {

@@ -1,14 +1,14 @@
 //! The shared table: a state with the journal that led to it.
-ghost use Rattle.std.specs.Prelude.{◌≡◌, ◌<◌, ◌++◌, ◌∷◌, [], OnOk, IfOk, vec_len, vec_capacity};
+ghost use Rattle.std.specs.Prelude.{◌≡◌, ◌<◌, ◌++◌, ◌∷◌, [], OnOk, IfOk, vec_len, vec_capacity, true};
 ghost use Rattle.pb_core.specs.Calls.{IsFresh, IsBlank};
 
 use crate::seat::{Book, Seat};
 use pb_base::{MAX_ENTRIES, MAX_OBSERVERS, MAX_SEATS, NoMemory, Reason, Refusal, Ts};
 use pb_history::{
-    Entry, Received, behind_is_marked, commits_are_ordered, handled_at_most_once,
-    handled_when_quiet, histories_are_told, quiet_is_counted, reads_are_told, reads_tell_snapshots,
-    records_are_told, runs_are_counted, runs_are_told, scripts_write_batches, steps_can_answer,
-    timestamps_rise, writers_are_apart,
+    AnswerRoom, Entry, KeptAnswer, Received, behind_is_marked, commits_are_ordered,
+    handled_at_most_once, handled_when_quiet, histories_are_told, quiet_is_counted, reads_are_told,
+    reads_tell_snapshots, records_are_told, runs_are_counted, runs_are_told, scripts_write_batches,
+    steps_can_answer, timestamps_rise, writers_are_apart,
 };
 use pb_state::State;
 use pb_steps::{Answer, Observer, Phase, Step};
@@ -25,6 +25,9 @@ pub struct Shared<T: Tablet> {
     books: Vec<Book>,
     opened: u64,
     limit: usize,
+    // Room for the next answer of the journal, and of a seat.
+    journal_room: AnswerRoom,
+    seat_room: AnswerRoom,
 }
 
 impl<T: Tablet> Model for Shared<T> {
@@ -68,7 +71,7 @@ fn append<X: Drop>(list: &mut Vec<X>, item: X)
 // Room for one item more in each list, or none of them changed.
 fn make_rooms(
     journal: &mut Vec<Entry>,
-    places: &mut Vec<u64>,
+    places: &mut Vec<u32>,
     received: &mut Vec<Received>,
 ) -> Result<(), NoMemory>
     ensures journal { journal.new.items ≡ journal.old.items }
@@ -85,19 +88,26 @@ fn make_rooms(
 }
 
 // The journal's entry of a step.
-fn entry_of(seat: u32, step: Step, answer: &Answer) -> Entry
+fn entry_of(seat: u32, step: Step, answer: &Answer, room: &mut AnswerRoom) -> Entry
+    requires { room.old ≡ true }
     ensures { result ≡ record { seat = seat; step = step; answer = answer.now } }
 {
-    let answer = *answer;
-    Entry { seat, step, answer }
+    Entry {
+        seat,
+        step,
+        answer: KeptAnswer::new(*answer, room),
+    }
 }
 
 // A step as its seat received it.
-fn received_of(step: Step, answer: &Answer) -> Received
+fn received_of(step: Step, answer: &Answer, room: &mut AnswerRoom) -> Received
+    requires { room.old ≡ true }
     ensures { result ≡ record { step = step; answer = answer.now } }
 {
-    let answer = *answer;
-    Received { step, answer }
+    Received {
+        step,
+        answer: KeptAnswer::new(*answer, room),
+    }
 }
 
 // Empty books, one a seat.
@@ -200,6 +210,8 @@ impl<T: Tablet> Shared<T> {
             books,
             opened: last.0,
             limit,
+            journal_room: AnswerRoom::new(alloc),
+            seat_room: AnswerRoom::new(alloc),
         };
         Ok((shared, all))
     }
@@ -227,6 +239,8 @@ impl<T: Tablet> Shared<T> {
             books: _,
             opened: _,
             limit: _,
+            journal_room: _,
+            seat_room: _,
         } = self;
         state.close();
     }
@@ -388,13 +402,17 @@ impl<T: Tablet> Shared<T> {
         let kept = step.copy()?;
         let told = step.copy()?;
         let number = seat.number;
-        let place = self.journal.len() as u64;
+        let place = self.journal.len() as u32;
         let book = &mut self.books[number as usize];
         make_rooms(&mut self.journal, &mut book.places, &mut seat.received)?;
+        self.journal_room.make()?;
+        self.seat_room.make()?;
         let answer = self.state.take(number, step)?;
         append(&mut book.places, place);
-        append(&mut self.journal, entry_of(number, kept, &answer));
-        append(&mut seat.received, received_of(told, &answer));
+        let entry = entry_of(number, kept, &answer, &mut self.journal_room);
+        append(&mut self.journal, entry);
+        let received = received_of(told, &answer, &mut self.seat_room);
+        append(&mut seat.received, received);
         Ok(answer)
     }
 }

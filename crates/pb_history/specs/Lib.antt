@@ -1,3 +1,4 @@
+pub mod KeptAnswers
 pub mod Places
 pub mod Journals
 pub mod History

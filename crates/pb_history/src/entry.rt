@@ -1,17 +1,18 @@
 //! Entries of the journal.
-use pb_steps::{Answer, Step};
+use crate::kept_answer::KeptAnswer;
+use pb_steps::Step;
 
 /// An entry of the journal: who took which step, and what it was answered.
 #[derive(Drop)]
 pub struct Entry {
     pub seat: u32,
     pub step: Step,
-    pub answer: Answer,
+    pub answer: KeptAnswer,
 }
 
 /// A step that a seat took, and what it was answered.
 #[derive(Drop)]
 pub struct Received {
     pub step: Step,
-    pub answer: Answer,
+    pub answer: KeptAnswer,
 }

@@ -2,9 +2,11 @@
 #![tactic(auto)]
 
 mod entry;
+mod kept_answer;
 mod laws;
 
 pub use entry::{Entry, Received};
+pub use kept_answer::{AnswerRoom, KeptAnswer};
 pub use laws::{
     acknowledged_is_earlier, behind_is_marked, clock_is_last_given, commits_are_ordered,
     first_marks_are_found, handled_at_most_once, handled_when_quiet, histories_are_told,

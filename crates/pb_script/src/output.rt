@@ -66,7 +66,7 @@ fn note_entry<T: Tablet>(
     ensures { OnOk result ((puts : List Put) → AreNewest puts table.old
         → AreNewest (puts ++ puts_by shared.now.state entry.now) table.new) }
 {
-    if entry.answer != Answer::Done {
+    if entry.answer.get() != Answer::Done {
         return Ok(());
     }
     let Step::Declare(start, what) = &entry.step else {

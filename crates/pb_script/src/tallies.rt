@@ -22,10 +22,10 @@ fn begins_committed_run<T: Tablet>(shared: &Shared<T>, number: usize, entry: &En
     let Step::Begin(Work::Run(observer, _)) = &entry.step else {
         return false;
     };
-    let Answer::At(start) = &entry.answer else {
+    let Answer::At(start) = entry.answer.get() else {
         return false;
     };
-    observer.number() as usize == number && phase_is_committed(shared.phase(*start))
+    observer.number() as usize == number && phase_is_committed(shared.phase(start))
 }
 
 fn run_count<T: Tablet>(shared: &Shared<T>, number: usize) -> usize

@@ -59,7 +59,8 @@ fn are_entries_told_same(a: &[Entry], b: &[Entry]) -> bool {
         return false;
     }
     for (entry, other) in a.iter().zip(b) {
-        let is_told_same = entry.answer == other.answer && entry.step.is_same(&other.step);
+        let is_told_same = entry.answer.get() == other.answer.get()
+            && entry.step.is_same(&other.step);
         if entry.seat != other.seat || !is_told_same {
             return false;
         }
@@ -72,7 +73,7 @@ fn are_received_same(a: &[Received], b: &[Received]) -> bool {
         return false;
     }
     for (received, other) in a.iter().zip(b) {
-        if received.answer != other.answer || !received.step.is_same(&other.step) {
+        if received.answer.get() != other.answer.get() || !received.step.is_same(&other.step) {
             return false;
         }
     }

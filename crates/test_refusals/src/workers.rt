@@ -92,8 +92,8 @@ fn are_handed_back(
 fn committed_changes(shared: &Shared<EitherTablet>) -> usize {
     let mut count: usize = 0;
     for entry in shared.journal() {
-        if let (Step::Begin(Work::Script), Answer::At(start)) = (&entry.step, &entry.answer)
-            && matches!(shared.phase(*start), Some(Phase::Committed(_)))
+        if let (Step::Begin(Work::Script), Answer::At(start)) = (&entry.step, entry.answer.get())
+            && matches!(shared.phase(start), Some(Phase::Committed(_)))
         {
             count = count.saturating_add(1);
         }

@@ -13,7 +13,7 @@ pub fn commits_of(alloc: Global, journal: &[Entry]) -> Result<Commits, Fault> {
     let mut stamped: BTreeMap<u64, u64> = BTreeMap::new(alloc);
     let mut commits: BTreeMap<u64, usize> = BTreeMap::new(alloc);
     for place in 0..journal.len() {
-        match (&journal[place].step, &journal[place].answer) {
+        match (&journal[place].step, journal[place].answer.get()) {
             (Step::Declare(start, _), Answer::Done) => {
                 declared.insert(start.0, place)?;
             }
@@ -60,6 +60,6 @@ pub fn runs_of(journal: &[Entry], commits: &Commits, observer: usize) -> usize {
 pub fn conflicts_in(journal: &[Entry]) -> usize {
     journal
         .iter()
-        .filter(|entry| entry.answer == Answer::Conflict)
+        .filter(|entry| entry.answer.get() == Answer::Conflict)
         .count()
 }

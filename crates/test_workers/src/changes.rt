@@ -36,7 +36,7 @@ fn committed(rt: &impl Abort, alloc: Global, journal: &[Entry]) -> Vec<(usize, u
     let mut declared = BTreeMap::new(alloc);
     let mut all = Vec::new(alloc);
     for entry in journal {
-        match (&entry.step, &entry.answer) {
+        match (&entry.step, entry.answer.get()) {
             (Step::Declare(start, what), Answer::Done) => {
                 if let Declared::Script(batch) = what.get() {
                     let number = number_in(batch).expect(rt, "a numbered change");

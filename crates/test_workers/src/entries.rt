@@ -24,7 +24,7 @@ fn script(rt: &impl Abort, alloc: Global) -> String {
 
 // Whether a seat was told what the journal's entry says.
 fn is_told(received: &Received, entry: &Entry) -> bool {
-    received.answer == entry.answer && received.step.is_same(&entry.step)
+    received.answer.get() == entry.answer.get() && received.step.is_same(&entry.step)
 }
 
 // Whether a seat received the journal's entries of it, in their order, and nothing else.
@@ -73,7 +73,7 @@ fn four_workers_received_their_entries(rt: HostRuntime) {
 fn run_in(seat: &Seat) -> (u64, u64, bool) {
     let mut run = (0, 0, false);
     for received in seat.received() {
-        match (&received.step, &received.answer) {
+        match (&received.step, received.answer.get()) {
             (Step::Begin(Work::Run(_, _)), Answer::At(start)) => run.0 = start.0,
             (Step::Stamp(_), Answer::At(commit)) => run.1 = commit.0,
             (Step::CommitPrimary(_), Answer::Committed) => run.2 = run.0 > 0,

@@ -15,7 +15,7 @@ use std::time::Clock;
 fn stamps(rt: &impl Abort, alloc: Global, seat: &Seat) -> Vec<u64> {
     let mut all = Vec::new(alloc);
     for received in seat.received() {
-        if let (Step::Stamp(_), Answer::At(commit)) = (&received.step, &received.answer) {
+        if let (Step::Stamp(_), Answer::At(commit)) = (&received.step, received.answer.get()) {
             all.push(commit.0).expect(rt, "memory");
         }
     }
@@ -26,7 +26,7 @@ fn stamps(rt: &impl Abort, alloc: Global, seat: &Seat) -> Vec<u64> {
 fn committed(rt: &impl Abort, alloc: Global, shared: &Shared<EitherTablet>) -> Vec<u32> {
     let mut all = Vec::new(alloc);
     for entry in shared.journal() {
-        if entry.answer == Answer::Committed {
+        if entry.answer.get() == Answer::Committed {
             all.push(entry.seat).expect(rt, "memory");
         }
     }
@@ -100,7 +100,7 @@ fn are_in_conflict(seat: &Seat) -> bool {
     let mut next: u64 = 2;
     let mut conflicts: u64 = 0;
     for received in seat.received() {
-        match (&received.step, &received.answer) {
+        match (&received.step, received.answer.get()) {
             (Step::Begin(_), Answer::At(start)) => {
                 if start.0 != next || next > 101 {
                     return false;

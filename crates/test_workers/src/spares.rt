@@ -97,7 +97,7 @@ fn is_whole(
     };
     // The worker has made all passes that found a mark.
     let is_drained = match seats.first() {
-        Some(main) => matches!(main.received(), [one] if one.answer == Answer::NoMark),
+        Some(main) => matches!(main.received(), [one] if one.answer.get() == Answer::NoMark),
         None => false,
     };
     report.as_slice() == COPIED

@@ -152,7 +152,7 @@ fn answer_text(alloc: Global, answer: Answer) -> Text {
 fn line_of(alloc: Global, entry: &Entry) -> Text {
     let seat = entry.seat;
     let step = step_text(alloc, &entry.step)?;
-    let answer = answer_text(alloc, entry.answer)?;
+    let answer = answer_text(alloc, entry.answer.get())?;
     format!(in alloc; "{seat} {step} -> {answer}\n")
 }
 
