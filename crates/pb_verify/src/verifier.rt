@@ -13,7 +13,7 @@ use crate::accesses::access_of;
 use crate::arriving::{arrive, no_jumps, spread};
 use crate::following::step;
 use crate::op::Op;
-use crate::resolving::resolve;
+use crate::resolving::{resolve, resolve_next};
 use crate::rules::lowest_broken;
 use pb_base::Refused;
 use pb_helpers::{Code, HelperTable, Version};
@@ -86,7 +86,9 @@ pub fn verify_for(
     let mut next = 0;
     for slot in 0..program.slots() {
         let Some(insn) = program.at(slot) else {
-            if ops.push(Op::Exit).is_err() {
+            // The instruction of the first slot is that before.
+            let first = program.at(slot.saturating_sub(1));
+            if ops.push(resolve_next(first)).is_err() {
                 return Err(VerifyFault::NoMemory);
             }
             continue;

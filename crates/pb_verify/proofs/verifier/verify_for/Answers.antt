@@ -1,4 +1,4 @@
-use Rattle.std.proofs.Common.{◌≡◌, ◌<◌, ◌≤◌, ◌+◌, ◌*◌, ◌++◌, take, drop, [], ◌∷◌, Some, None, nat_eq, refl, length, sym, ap, ◌∙◌, arith, rules, below_more, add-one}
+use Rattle.std.proofs.Common.{◌≡◌, ℕ, subst, ◌<◌, ◌≤◌, ◌+◌, ◌*◌, ◌++◌, take, drop, [], ◌∷◌, Some, None, nat_eq, refl, length, sym, ap, ◌∙◌, arith, rules, below_more, add-one}
 use Rattle.std.proofs.lemmas.List.{take_at}
 use Rattle.std.specs.Prelude.{slice_index_or, option_map, if◌then◌else◌}
 use Rattle.std.specs.Box.{box_value}
@@ -8,11 +8,11 @@ use Rattle.pb_verify.specs.Arriving.{merge, if_leads, outs, in_at, frame_before,
 use Rattle.pb_verify.specs.Within.{IsWithinIf}
 use Rattle.pb_verify.proofs.PointersWithin.{within_arriving, within_if_more, within_push, none_within}
 use Rattle.pb_verify.proofs.FramesAfter.{outs_more, in_is, outs_none}
-use Rattle.pb_verify.specs.declared.op.Op.TheVariants.{Exit}
+use Rattle.pb_isa.specs.declared.insn.Insn.{Insn}
 use Rattle.pb_verify.specs.Accesses.{access_at}
-use Rattle.pb_verify.specs.Effects.{effect_at}
+use Rattle.pb_verify.specs.Effects.{effect_of, effect_at, next_imm, IsNextImm, with_next}
 use Rattle.pb_verify.proofs.Pairs.{behind_pair}
-use Rattle.pb_verify.proofs.Resolved.{none_resolved, resolved_more}
+use Rattle.pb_verify.proofs.Resolved.{AreResolvedTo, none_resolved, resolved_more, no_pair_before, all_resolved}
 use Rattle.pb_verify.proofs.Pending.{before_next, before_past, merge_none, not_here, none_broken}
 use Rattle.pb_verify.proofs.verifier.verify_for.Goals as goal
 use Rattle.pb_verify.proofs.verifier.verify_for.Goals.{After-arrive-is_reached}
@@ -33,7 +33,7 @@ loop-slot-preserved-in_default-at c =
     let n = c.loop-slot.slot in
     let p = c.args.program.insns in
     let none : insn_at p n ≡ None = sym c.at.ensures ∙ c.in_default-at.is in
-    let pushed : c.push.new.self.items ≡ c.loop-slot.ops.items ++ Exit ∷ [] = search rules in
+    let pushed : c.push.new.self.items ≡ c.loop-slot.ops.items ++ c.resolve_next.result ∷ [] = search rules in
     record {
       len = c.loop-slot.invariant.len;
       known = λ k l h.
@@ -42,7 +42,7 @@ loop-slot-preserved-in_default-at c =
       most = let most = c.loop-slot.invariant.most in omega (arith, most);
       pair = λ h. let most = c.loop-slot.invariant.most in absurd (omega (arith, most, h));
       fine = below_more (λ m. faults (judged_by c.args.version c.args.program c.args.helpers) m ≡ []) n c.loop-slot.invariant.fine (rw none refl);
-      resolved = resolved_more p n c.loop-slot.ops.items _ Exit c.loop-slot.invariant.resolved pushed (λ i at. let wrong : None ≡ Some i = sym none ∙ at in absurd (cc));
+      resolved = resolved_more p n c.loop-slot.ops.items _ c.resolve_next.result c.loop-slot.invariant.resolved pushed (λ i at. let wrong : None ≡ Some i = sym none ∙ at in absurd (cc)) (λ m i same at. let first : c.saturating_sub.result ≡ m = search rules in c.resolve_next.ensures i (c.at-first.ensures ∙ ap (λ k. insn_at p k) first ∙ at));
       near = rw (outs_more p n, none) (within_push (n * 2147483648) ((n + 1) * 2147483648) _ None (omega arith) c.loop-slot.invariant.near tt);
     }
 
@@ -119,6 +119,13 @@ loop-slot-preserved c =
           (λ i at.
           let same : c.in-Some.insn ≡ i = (let both : Some c.in-Some.insn ≡ Some i = sym insn ∙ at in cc) in
           let access : c.access_of-access.result ≡ access_at p n = rw (insn, ← known) c.access_of-access.ensures in
-          c.resolve.ensures ∙ (λ k. effect_at n (same k) (access k)));
+          subst (λ k. (h : ℕ) → IsNextImm h k → with_next h (effect_of c.resolve.result) ≡ effect_at n k (access_at p n)) same (subst (λ a. (h : ℕ) → IsNextImm h c.in-Some.insn → with_next h (effect_of c.resolve.result) ≡ effect_at n c.in-Some.insn a) access c.resolve.ensures))
+          (λ m i same at. no_pair_before p m i c.in-Some.insn (next_imm c.resolve.result) at (rw same insn));
       near = rw more (within_push (n * 2147483648) ((n + 1) * 2147483648) _ _ (omega arith) c.loop-slot.invariant.near (within_if_more (n * 2147483648 + 2147483648) _ (Some c.step.new.frame) (omega arith) (c.step.ensures.near _ near)));
     }
+
+pub new-requires-clause-resolved : goal.new-requires-clause-resolved
+new-requires-clause-resolved c =
+    let p = c.args.program.insns in
+    let all : c.loop-slot.slot ≡ slots p = search rules in
+    all_resolved p c.loop-slot.ops.items (subst (λ k. AreResolvedTo p k c.loop-slot.ops.items) all c.loop-slot.invariant.resolved)

@@ -5,7 +5,7 @@ use Rattle.pb_isa.specs.Slots.{slots, insn_at}
 use Rattle.pb_verify.specs.Versions.{judged_by}
 use Rattle.pb_verify.specs.Arriving.{merge, outs, frame_before, faults}
 use Rattle.pb_verify.proofs.PointersWithin.{AllWithin}
-use Rattle.pb_verify.specs.Effects.{AreResolved}
+use Rattle.pb_verify.proofs.Resolved.{AreResolvedTo}
 use Rattle.pb_verify.proofs.verifier.verify_for.Given as goal
 
 abbrev pub invariant-loop-slot : goal.invariant-loop-slot
@@ -15,6 +15,6 @@ invariant-loop-slot l = record {
   most : l.next ≤ l.slot + 1;
   pair : l.slot < l.next → insn_at l.fn.program.insns l.slot ≡ None;
   fine : (m : ℕ) → m < l.slot → faults (judged_by l.fn.version l.fn.program l.fn.helpers) m ≡ [];
-  resolved : AreResolved l.fn.program.insns l.slot l.ops.items;
+  resolved : AreResolvedTo l.fn.program.insns l.slot l.ops.items;
   near : AllWithin (l.slot * 2147483648) (outs l.fn.program.insns l.slot);
 }
