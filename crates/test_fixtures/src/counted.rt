@@ -40,6 +40,10 @@ impl Tablet for CountedTablet {
         self.inner.at(place)
     }
 
+    fn next_entry(&self, after: Option<Slot>) -> Option<(Slot, Item)> {
+        self.inner.next_entry(after)
+    }
+
     fn is_empty(&self) -> bool {
         self.inner.is_empty()
     }

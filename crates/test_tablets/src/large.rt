@@ -78,6 +78,8 @@ fn are_entries<T: Tablet>(table: &Table<T>, n: u64) -> bool {
     let place = (n as usize).wrapping_mul(2);
     table.at(place) == Some((slot_in(row, 2), Item::Write(Ts(1))))
         && table.at(place.wrapping_add(1)) == Some((slot_in(row, 5), Item::Write(Ts(4))))
+        && table.next_entry(Some(slot_in(row, 2))) == table.at(place.wrapping_add(1))
+        && table.next_entry(Some(slot_in(row, 5))) == table.at(place.wrapping_add(2))
         && table.get(slot_in(row, 2)) == wrote(2)
         && table.get(slot_in(row, 5)) == wrote(5)
         && table.get(slot_in(row, 3)).is_none()
@@ -120,7 +122,9 @@ fn is_filled<T: Tablet>(table: &Table<T>) -> bool {
             return false;
         }
     }
-    table.next_mark(None) == Some(cell_in(0)) && table.at(700_000).is_none()
+    table.next_mark(None) == Some(cell_in(0))
+        && table.next_entry(None) == table.at(0)
+        && table.at(700_000).is_none()
 }
 
 // Whether a spare takes all of it, and an empty tablet comes back.

@@ -1,9 +1,9 @@
-//! Times tablets of both sorts, SORT being `list` or `slab`: `SORT build COUNT` puts so many entries, one at a time and in mixed
-//! order, and `SORT walk COUNT` then goes over all of them, from each entry to the next, 20 times. `SORT change COUNT` does what
-//! so many changes of random cells do: each looks at its cell, puts data and lock, and then replaces the lock by a write record.
-//! `SORT copy COUNT TIMES` builds a tablet of so many entries, a quarter of whose cells are marked, in a table, and swaps so many
-//! spares in, each of the other sort than the one before it. It prints how many entries there are, a walk met, or how many spares
-//! were taken.
+//! Times tablets of both sorts, SORT being `list` or `slab`: `SORT build COUNT` puts so many entries, one at a time and
+//! in mixed order, and `SORT walk COUNT` then goes over all of them, from each entry to the next, 20 times. `SORT
+//! change COUNT` does what so many changes of random cells do: each looks at its cell, puts data and lock, and then
+//! replaces the lock by a write record. `SORT copy COUNT TIMES` builds a tablet of so many entries, a quarter of whose
+//! cells are marked, in a table, and swaps so many spares in, each of the other sort than the one before it. It prints
+//! how many entries there are, a walk met, or how many spares were taken.
 #![tactic(auto)]
 
 ghost use Rattle.std.specs.Prelude.{◌≡◌};
