@@ -69,9 +69,23 @@ fn run_writes(what: &Declared) -> &[(Cell, Content)]
 }
 
 impl Cells {
-    ghost use Rattle.std.specs.Prelude.{◌≡◌};
+    ghost use Rattle.std.specs.Prelude.{◌≡◌, length};
     ghost use Rattle.pb_base.specs.Batch.{primary_in};
     ghost use Rattle.pb_state.specs.Cells.{cells_in};
+
+    /// How many there are.
+    pub(crate) fn len(&self) -> usize
+        ensures { result ≡ length (cells_in self.now) }
+    {
+        match self {
+            Cells::Nothing => 0,
+            Cells::Batch(what) => match what.get() {
+                Declared::Script(batch) => batch.len(),
+                Declared::Run(_, _) => 0,
+            },
+            Cells::Run { what, .. } => run_writes(what.get()).len() + 1,
+        }
+    }
 
     /// The first of them.
     pub(crate) fn primary(&self) -> Option<Cell>

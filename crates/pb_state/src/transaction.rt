@@ -8,6 +8,9 @@ use pb_store::{Edit, Table, Tablet};
 use std::alloc::Global;
 use std::marker::Model;
 
+// How many reads a run makes, if its program asks for nothing: of its cell and of its acknowledgment.
+const RUN_READS: usize = 2;
+
 /// A transaction.
 #[derive(Drop)]
 pub(crate) struct Transaction {
@@ -170,12 +173,13 @@ impl Transaction {
         ensures ok { OnOk result (self.new ≡ with_read self.old cell at answer.now) }
         ensures err { OnErr result (self.new ≡ self.old) }
     {
+        make_room(&mut self.reads, RUN_READS)?;
         let read = RecordedRead {
             cell,
             at,
             answer: *answer,
         };
-        self.reads.push(read)?;
+        append(&mut self.reads, read);
         Ok(())
     }
 
@@ -192,7 +196,7 @@ impl Transaction {
         ensures err { OnErr result (self.new ≡ self.old) }
         ensures kept { OnErr result (table.new.contents ≡ table.old.contents) }
     {
-        make_room(&mut self.prewritten)?;
+        make_room(&mut self.prewritten, self.cells.len())?;
         table.apply(edits)?;
         append(&mut self.prewritten, cell);
         Ok(())
@@ -206,13 +210,14 @@ impl Transaction {
     }
 }
 
-// Makes room for one item more: for the first alone at first, since mostly there is one.
-fn make_room<X>(list: &mut Vec<X>) -> Result<(), NoMemory>
+// Makes room for one item more: for a few in all while there are fewer, since mostly there are no more.
+fn make_room<X>(list: &mut Vec<X>, few: usize) -> Result<(), NoMemory>
     ensures items { list.new.items ≡ list.old.items }
     ensures room { OnOk result (vec_len list.new < vec_capacity list.new) }
 {
-    if list.is_empty() {
-        list.reserve_exact(1)?;
+    let len = list.len();
+    if len < few {
+        list.reserve_exact(few - len)?;
     } else {
         list.reserve(1)?;
     }
