@@ -11,7 +11,7 @@
 #include <stdlib.h>
 #include <string.h>
 
-#define MOST_SLOTS 512
+#define MOST_SLOTS 4096
 #define RECORD_BYTES 80
 
 int __real_bpf_jit(struct rte_bpf *program);

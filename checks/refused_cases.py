@@ -74,13 +74,19 @@ OF_A_MACHINE = {"a preparation": 5, "Vm::start": 2}
 
 # on the record of a deletion, where each cell that is asked for is absent: each instruction of `copy` and of `counter`, which
 # have no jump that is taken; of the others those of a deletion
-INSTRUCTIONS = {"copy": 16, "copier": 9, "counter": 18, "grader": 14}
+INSTRUCTIONS = {"copy": 16, "copier": 9, "counter": 18, "grader": 14, "meter": 12}
+
+# what is accepted in profile 1 with the change record of version 1 alone is run here
+NO_MACHINES = ("keeper", "indexer", "meter.v4")
 
 COPY = (
     "bf1600000000000079623000000000007b2ae0ff0000000079623800000000007b2ae8ff0000000079624000000000007b2af0ff00000000"
     "79624800000000007b2af8ff000000007961000000000000b702000001000000bfa300000000000007030000e0ffffff8500000002000000"
     "b7000000000000009500000000000000"
 )
+
+# loads the flag of a change record of version 2
+KEEP = "7910500000000000" "b700000000000000" "9500000000000000"
 
 
 @dataclass
@@ -177,9 +183,9 @@ def scripts():
     }
 
 
-def of(observers):
+def of(observers, profile=1):
     """A manifest with the texts of these observers."""
-    return f'{{"profile":1,"observers":[{observers}]}}'
+    return f'{{"profile":{profile},"observers":[{observers}]}}'
 
 
 def observer(name="watch", column=0, helpers="[]", code="b7000000000000009500000000000000"):
@@ -193,7 +199,10 @@ def manifests():
         "code-50": ('{"profile":1,"observers":[', "code 50"),
         "code-50-deep": ("[" * 200, "code 50"),
         "code-51-member": ('{"profile":1}', "code 51"),
-        "code-51-twice": ('{"profile":1,"observers":[],"profile":2}', "code 51"),
+        "code-51-twice": ('{"profile":1,"observers":[],"profile":3}', "code 51"),
+        "code-51-record": (of(f'{observer()[:-1]},"record":2}}'), "code 51"),
+        "code-54-record": (of(f'{observer()[:-1]},"record":3}}', 2), "observer 0 code 54"),
+        "code-56-record": (of(observer(code=KEEP), 2), "observer 0 code 56 slot 0 code 27"),
         "code-51-number": ('{"profile":1.0,"observers":[]}', "code 51"),
         "code-51-large": ('{"profile":18446744073709551616,"observers":[]}', "code 51"),
         "code-51-observer": (of("5"), "code 51"),
@@ -252,6 +261,16 @@ def program_cases(room):
     yield Case("check-refused", ["check", "no-exit"], 1, b"refused slot 0 code 36\n")
     yield Case("check-no-program", ["check", "bad-code"], 1, b"refused slot 1 code 12\n")
     yield Case("check-missing", ["check", "missing"], 1, b"", b"cannot read missing\n")
+    (room / "second-text").write_bytes(b"movsx64 r0, r1, 8\nldxsb r0, [r1+80]\nexit\n")
+    second = bytes.fromhex("bf10080000000000" "9110500000000000" "9500000000000000")
+    (room / "second").write_bytes(second)
+    (room / "keep").write_bytes(bytes.fromhex(KEEP))
+    yield Case("asm-profile-2", ["asm", "--profile", "2", "second-text", "out"], 0, writes=True, wrote=second)
+    yield Case("asm-profile-1", ["asm", "second-text", "out"], 1, b"", b"line 1 code 80\n", writes=True)
+    yield Case("dis-profile-2", ["dis", "second", "--profile", "2"], 0, b"movsx64 r0, r1, 8\nldxsb r0, [r1+80]\nexit\n")
+    yield Case("check-profile-2", ["check", "second", "--profile", "2"], 1, b"refused slot 0 code 23\n")
+    yield Case("check-record-2", ["check", "keep", "--profile", "2", "--record", "2"], 0, b"accepted 3 slots\n")
+    yield Case("check-record-1", ["check", "keep"], 1, b"refused slot 0 code 27\n")
     yield Case("check-full-output", ["check", "code"], 1, b"", b"cannot write the output\n", "/dev/full")
 
 
@@ -264,6 +283,9 @@ def word_cases():
     lines += [["run", "m", "s", "--swaps"], *(["run", "m", "s", "--swaps", swaps] for swaps in ("1001", "+1", "x", ""))]
     lines += [["replay", "m", "s"], ["replay", "m", "s", "e", "x"], ["replay", "m", "s", "e", "--clock"]]
     lines += [["replay", "m", "s", "e", "--clock", clock] for clock in ("x", "-1", "1.0", "", "18446744073709551616")]
+    lines += [[*words, "--profile", "3"] for words in (["asm", "i", "o"], ["dis", "f"], ["check", "f"])]
+    lines += [["check", "f", "--profile"], ["check", "f", "--profile", "+1"], ["check", "f", "--record", "3"]]
+    lines += [["check", "f", "--record", "+2"], ["dis", "f", "--record", "2"]]
     for number, words in enumerate(lines, 1):
         yield Case(f"words-{number}", words, 2, b"", None)
     # it is told before the words are read
@@ -325,7 +347,7 @@ def machine_cases(room):
     (room / "copy").write_bytes(bytes.fromhex(COPY))
     names = ["copy"]
     for path in sorted((TOP / "examples/c").glob("*.bin")):
-        if not path.name.startswith("keeper"):
+        if not path.name.startswith(NO_MACHINES):
             (room / path.name).write_bytes(path.read_bytes())
             names.append(path.name)
     if len(names) < MACHINES:
@@ -396,7 +418,7 @@ def cases(room):
     copied = b"cell 7 0 commit 2 value 2a\ncell 7 1 commit 4 value 2a\nruns copy 1\nquiet\n"
     yield reports(room, "copy", "copy.json", "first.txt", copied)
     yield from worker_cases(room)
-    for name in ("copier", "counter", "grader", "chain"):
+    for name in ("copier", "counter", "grader", "chain", "meter", "indexer"):
         for end in ("json", "txt"):
             (room / f"{name}.{end}").write_bytes((TOP / "examples" / f"{name}.{end}").read_bytes())
         # `checks/examples` has their reports.
@@ -404,6 +426,9 @@ def cases(room):
     for name in ("crash.txt", "crash.schedule"):
         (room / name).write_bytes((TOP / "examples" / name).read_bytes())
     yield Case("example-crash", ["replay", "copy.json", "crash.txt", "crash.schedule"], 0, None)
+    (room / "indexer.schedule").write_bytes((TOP / "examples/indexer.schedule").read_bytes())
+    indexed = b"cell 5 12 commit 8 deleted\ncell 6 12 commit 8 value 07\ncell 7 0 commit 6 value 06\nruns indexer 2\nquiet\n"
+    yield Case("example-indexer-replayed", ["replay", "indexer.json", "indexer.txt", "indexer.schedule"], 0, indexed)
     yield from file_cases(room)
     yield from program_cases(room)
     yield from replay_cases(room)

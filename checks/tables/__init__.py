@@ -10,8 +10,8 @@ import struct
 from dataclasses import dataclass, field, replace
 
 # how many tables there are, and how many rows in all, so that a lost one is noticed
-TABLE_COUNT = 165
-ROW_COUNT = 5755
+TABLE_COUNT = 178
+ROW_COUNT = 6095
 
 TOO_LARGE = bytes(16_777_217)
 
@@ -54,9 +54,9 @@ class Row:
 Tables = dict[str, list[Row]]
 
 
-def manifest_of(*observers: str) -> str:
+def manifest_of(*observers: str, profile: int | str = 1) -> str:
     """The text of a manifest of these observers."""
-    return f'{{"profile":1,"observers":[{",".join(observers)}]}}'
+    return f'{{"profile":{profile},"observers":[{",".join(observers)}]}}'
 
 
 def observer(name: str = "watch", column: int | str = 0, helpers: str = "", digits: str = WATCH) -> str:
@@ -132,6 +132,11 @@ def refused(code: bytes, slot: int, number: int) -> Row:
     return Row(["check", "i"], {"i": code}, 1, f"refused slot {slot} code {number}\n".encode())
 
 
+def in_profile(profile: int, row: Row) -> Row:
+    """The same words, with this profile named behind them."""
+    return replace(row, words=[*row.words, "--profile", str(profile)])
+
+
 ARITHMETIC_CODES = "add sub mul div or and lsh rsh neg mod xor mov arsh".split()
 ARITHMETIC_CLASSES = {"32": 4, "64": 7}
 JUMP_CODES = "ja jeq jgt jge jset jne jsgt jsge call exit jlt jle jslt jsle".split()
@@ -144,12 +149,14 @@ WITHOUT_WIDTH = ("ja", "call", "exit")
 SIZES = {"b": 1, "h": 2, "w": 4, "dw": 8}
 SIZE_BITS = {"w": 0x00, "h": 0x08, "b": 0x10, "dw": 0x18}
 MEM = 0x60
+MEMSX = 0x80
 
 # the forms of MACHINE.md, "Assembler text", by what is behind the first word
 FORMS = {
     "place to register": r"r(?P<dst>\d+), \[r(?P<src>\d+)(?P<offset>[+-]\d+)\]",
     "register to place": r"\[r(?P<dst>\d+)(?P<offset>[+-]\d+)\], r(?P<src>\d+)",
     "immediate to place": r"\[r(?P<dst>\d+)(?P<offset>[+-]\d+)\], (?P<imm>-?\d+)",
+    "two registers and bits": r"r(?P<dst>\d+), r(?P<src>\d+), (?P<bits>\d+)",
     "two registers": r"r(?P<dst>\d+), r(?P<src>\d+)(, (?P<offset>[+-]\d+))?",
     "register and immediate": r"r(?P<dst>\d+), (?P<imm>-?\d+)(, (?P<offset>[+-]\d+))?",
     "register": r"r(?P<dst>\d+)",
@@ -165,6 +172,9 @@ def slot(opcode: int, dst: int = 0, src: int = 0, offset: int = 0, imm: int = 0)
 
 def opcode(word: str, has_register: bool) -> int:
     """The opcode of a first word, by sections 3 to 5 of RFC 9669."""
+    signed = re.fullmatch(r"ldxs(b|h|w)", word)
+    if signed:
+        return 1 | SIZE_BITS[signed[1]] | MEMSX
     named = re.fullmatch(r"(ldx|stx|st)(b|h|w|dw)", word)
     if named:
         return {"ldx": 1, "st": 2, "stx": 3}[named[1]] | SIZE_BITS[named[2]] | MEM
@@ -188,6 +198,8 @@ def instruction(text: str) -> bytes:
     if found is None:
         raise ValueError(f"{text} is of no form")
     fields = {name: int(number) for name, number in found.groupdict().items() if number is not None}
+    if word in ("movsx64", "movsx32"):
+        return slot(opcode(f"mov{word[-2:]}", True), fields["dst"], fields["src"], fields["bits"])
     if word == "lddw":
         low, high = struct.unpack("<ii", struct.pack("<Q", fields["imm"]))
         return slot(0x18, fields["dst"], imm=low) + slot(0, imm=high)

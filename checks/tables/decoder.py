@@ -43,7 +43,6 @@ ONE_SLOT = [
     first_refused("18b0000005000000", 13),
     first_refused("1810000005000000", 14),
     first_refused("3f10010000000000", 14),
-    first_refused("bf10080000000000", 14),
     first_refused("8510000001000000", 14),
     first_refused("0500000001000000", 14),
     first_refused("9500000000000001", 14),

@@ -48,13 +48,16 @@ TEXTS = [
 ]
 
 PROFILES = [
-    whole('{"profile":2,"observers":[]}', 51),
+    registered('{"profile":2,"observers":[]}'),
+    whole('{"profile":3,"observers":[]}', 51),
+    whole('{"profile":0,"observers":[]}', 51),
     whole('{"profile":1.0,"observers":[]}', 51),
     whole('{"profile":1e0,"observers":[]}', 51),
     whole('{"profile":-1,"observers":[]}', 51),
     whole('{"profile":"1","observers":[]}', 51),
     registered('{"profile":2,"observers":[],"profile":1}'),
-    whole('{"profile":1,"observers":[],"profile":2}', 51),
+    registered('{"profile":1,"observers":[],"profile":2}'),
+    whole('{"profile":1,"observers":[],"profile":3}', 51),
     registered('{"profile":1,"observers":[5],"observers":[]}'),
     whole('{"profile":1,"observers":[5]}', 51),
 ]

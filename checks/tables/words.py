@@ -148,6 +148,33 @@ COMMAND_LINES = [
     helps("check", "--help"),
 ]
 
+
+# of `asm`, `dis` and `check`, before, between and behind the operands
+PROFILES = [
+    *(Row(["check", *words], {"i": PROGRAM}, out=b"accepted 2 slots\n") for words in (
+        ["i", "--profile", "1"], ["i", "--profile", "2"], ["--profile", "2", "i"], ["--profile=2", "i"], ["i", "--profile", "02"])),
+    Row(["dis", "--profile", "2", "i"], {"i": PROGRAM}, out=b"mov64 r0, 0\nexit\n"),
+    Row(["asm", "i", "--profile", "2", "o"], {"i": b"mov64 r0, 0\nexit\n"}, written={"o": PROGRAM}),
+]
+
+OTHER_PROFILES = [
+    *(
+        wrong(*words, "--profile", profile)
+        for words in (["asm", "i", "o"], ["dis", "i"], ["check", "i"])
+        for profile in ("0", "3", "+1", "+2", "x", "", "-1", "1.0", " 1", "1 ", "0x1", "12", "4294967297")
+    ),
+    wrong("check", "i", "--profile"),
+    wrong("check", "--profile", "i"),
+    wrong("check", "i", "--profile=3"),
+    wrong("dis", "i", "--profile="),
+    wrong("dis", "i", "--profile", "1", "--profile", "1"),
+    wrong("asm", "i", "o", "--profile", "1", "2"),
+    wrong("check", "i", "--profil", "1"),
+    wrong("run", "m", "s", "--profile", "1"),
+    wrong("replay", "m", "s", "e", "--profile", "2"),
+    wrong("--profile", "1", "check", "i"),
+]
+
 TABLES: Tables = {
     "subcommands": SUBCOMMANDS,
     "clocks": CLOCKS,
@@ -156,5 +183,7 @@ TABLES: Tables = {
     "other workers": OTHER_WORKERS,
     "swaps": SWAPS,
     "other swaps": OTHER_SWAPS,
+    "profiles": PROFILES,
+    "other profiles": OTHER_PROFILES,
     "command lines": COMMAND_LINES,
 }

@@ -15,7 +15,7 @@ typedef unsigned char u8;
 typedef unsigned int u32;
 typedef unsigned long long u64;
 
-/* 80 bytes, which may be read and not written. */
+/* The change record of version 1: 80 bytes, which may be read and not written. */
 struct change {
     u64 row;
     u64 column;
@@ -24,6 +24,20 @@ struct change {
     u64 present;      /* 1: the cell has a value; 0: it was deleted */
     u64 acknowledged; /* the start of this observer's last committed run on the cell, or 0 */
     u64 value[4];     /* 32 bytes as four little-endian words; zero where the cell was deleted */
+};
+
+/* That of version 2, for an observer whose element of the manifest has `"record": 2`: 120 bytes, which begin as those of
+ * version 1. The old value is that of the cell as of `acknowledged`: what the observer's last committed run on it saw. */
+struct change_with_old {
+    u64 row;
+    u64 column;
+    u64 start;
+    u64 commit;
+    u64 present;
+    u64 acknowledged;
+    u64 value[4];
+    u64 had_value; /* 1: the cell had a value then; 0: it had none, or there was no run */
+    u64 old[4];    /* that value; zero where there was none */
 };
 
 /* The content of a cell: 32 bytes. */

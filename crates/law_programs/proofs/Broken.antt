@@ -7,7 +7,7 @@ use Rattle.std.proofs.Math.IntN.{+ℤ_idr}
 use Rattle.std.proofs.lemmas.List.Elements.{All-nil, All-append}
 use Rattle.std.proofs.lemmas.Bool.Decides.{Decides-eqb, Decides-not, Decides-or, not_from_Decides}
 use Rattle.pb_isa.specs.declared.insn.Insn.{Insn}
-use Rattle.pb_isa.specs.declared.insn.Insn.TheVariants.{Alu, Neg, LoadImm, Load, StoreImm, Store, Jump, JumpIf, Call, Exit}
+use Rattle.pb_isa.specs.declared.insn.Insn.TheVariants.{Alu, MovSx, Neg, LoadImm, Load, StoreImm, Store, Jump, JumpIf, Call, Exit}
 use Rattle.pb_isa.specs.declared.insn.AluOp.{AluOp}
 use Rattle.pb_isa.specs.declared.insn.AluOp.TheVariants.{Add, Sub, Mov}
 use Rattle.pb_isa.specs.declared.insn.Width.{Width}
@@ -211,6 +211,13 @@ all_broken j n f (Alu op w d x) =
     let a = alu_breaks j n f op w d x in
     let b = falls_breaks j n f (Alu op w d x) (n + 1) refl in
     search (All-append, a, b)
+all_broken j n f (MovSx w z d r) =
+    let i = MovSx w z d r in
+    let a = unset_breaks j n f i (number r) refl in
+    let s = sets_breaks j n f i d (λ e. e) in
+    let p = each_when (Broken j n f i) (is_pointer (at f r)) PointerArithmetic (λ e. (tt, (number r, refl, (Decides-pointer (at f r)).0 e))) in
+    let b = falls_breaks j n f i (n + 1) refl in
+    search (All-append, a, s, p, b)
 all_broken j n f (Neg w d) =
     let a = numeric_breaks j n f (Neg w d) d (operands.Imm (pos 0)) (λ r h. elim h as (λ _. r ≡ number d) [ inl e ↦ e | inr e ↦ absurd e ]) (λ e. e) tt in
     let b = falls_breaks j n f (Neg w d) (n + 1) refl in
@@ -219,8 +226,8 @@ all_broken j n f (LoadImm d v) =
     let a = sets_breaks j n f (LoadImm d v) d (λ e. e) in
     let b = falls_breaks j n f (LoadImm d v) (n + 2) refl in
     search (All-append, a, b)
-all_broken j n f (Load z d r o) =
-    let i = Load z d r o in
+all_broken j n f (Load z x d r o) =
+    let i = Load z x d r o in
     let a = unset_breaks j n f i (number r) refl in
     let s = sets_breaks j n f i d (λ e. e) in
     let m = subst (λ b. All (Broken j n f i) (loads j.record_size f (at f r) o b)) (bytes_are z) (loads_breaks j n f i (touch Loading (number r) o (size_bytes z)) (at f r) refl refl refl) in

@@ -4,7 +4,7 @@ use Rattle.std.specs.List.{Contains}
 use Rattle.std.specs.Option.{IsSomeAnd}
 use Rattle.std.proofs.lemmas.List.Elements.{All-contains, Contains-append_left, Contains-append_right}
 use Rattle.pb_isa.specs.declared.insn.Insn.{Insn}
-use Rattle.pb_isa.specs.declared.insn.Insn.TheVariants.{Alu, Neg, LoadImm, Load, StoreImm, Store, Jump, JumpIf, Call, Exit}
+use Rattle.pb_isa.specs.declared.insn.Insn.TheVariants.{Alu, MovSx, Neg, LoadImm, Load, StoreImm, Store, Jump, JumpIf, Call, Exit}
 use Rattle.pb_isa.specs.declared.insn.Operand.TheVariants as operands
 use Rattle.pb_isa.specs.Registers.{number}
 use Rattle.pb_isa.specs.Helpers.{Helper, Read, Write, Delete, Start, declared_helper}
@@ -34,11 +34,12 @@ reads_unset j n f (Alu op w d (operands.Imm k)) (r, inr h, e) = absurd h
 reads_unset j n f (Alu op w d (operands.Reg s)) (r, inr h, e) =
     let a = alu_operand f op w d s (unset_at f r (number s) h e) in
     search (Contains-append_left, a)
+reads_unset j n f (MovSx w z d r) b = let e = unset_at f b.0 (number r) b.1 b.2 in search (Contains-append_left, stands)
 reads_unset j n f (Neg w d) b =
     let a = numeric_unset f d (operands.Imm (pos 0)) (unset_at f b.0 (number d) b.1 b.2) in
     search (Contains-append_left, a)
 reads_unset j n f (LoadImm d v) b = absurd b.1
-reads_unset j n f (Load z d r o) b = let e = unset_at f b.0 (number r) b.1 b.2 in search (Contains-append_left, stands)
+reads_unset j n f (Load z x d r o) b = let e = unset_at f b.0 (number r) b.1 b.2 in search (Contains-append_left, stands)
 reads_unset j n f (StoreImm z d o k) b = let e = unset_at f b.0 (number d) b.1 b.2 in search (Contains-append_left, stands)
 reads_unset j n f (Store z d s o) (r, inl h, e) = let u = unset_at f r (number d) h e in search (Contains-append_left, stands)
 reads_unset j n f (Store z d s o) (r, inr h, e) = let u = unset_at f r (number s) h e in search (Contains-append_left, Contains-append_right, stands)
@@ -50,13 +51,15 @@ reads_unset j n f Exit b = let e = unset_at f b.0 0 b.1 b.2 in search (Contains-
 
 writes_r10 : Lists WritesR10
 writes_r10 j n f (Alu op w d x) b = let a = alu_sets f op w d x (is_ten d b) in search (Contains-append_left, a)
+writes_r10 j n f (MovSx w z d r) b = let e = is_ten d b in search (Contains-append_left, Contains-append_right, stands)
 writes_r10 j n f (Neg w d) b = let a = numeric_sets f d (operands.Imm (pos 0)) (is_ten d b) in search (Contains-append_left, a)
 writes_r10 j n f (LoadImm d v) b = let e = is_ten d b in search (Contains-append_left, stands)
-writes_r10 j n f (Load z d r o) b = let e = is_ten d b in search (Contains-append_left, Contains-append_right, stands)
+writes_r10 j n f (Load z x d r o) b = let e = is_ten d b in search (Contains-append_left, Contains-append_right, stands)
 writes_r10 j n f _ b = absurd b
 
 pointer_arithmetic : Lists PointerArithmetic
 pointer_arithmetic j n f (Alu op w d x) b = let a = alu_pointer f op w d x b.1.0 b.0 b.1.1 b.1.2 in search (Contains-append_left, a)
+pointer_arithmetic j n f (MovSx w z d r) b = let e = pointer_at f b.1.0 (number r) b.1.1 b.1.2 in search (Contains-append_left, Contains-append_right, stands)
 pointer_arithmetic j n f (Neg w d) b =
     let a = numeric_pointer f d (operands.Imm (pos 0)) (pointing f d (operands.Imm (pos 0)) b.1.0 (inl b.1.1) b.1.2) in
     search (Contains-append_left, a)
@@ -67,7 +70,7 @@ pointer_stored j n f (Store z d s o) b = let e = pointer_at f b.0 (number s) b.1
 pointer_stored j n f _ b = absurd b.1
 
 outside_stack : Lists OutsideStack
-outside_stack j n f (Load z d r o) (t, k, h, is, out) =
+outside_stack j n f (Load z x d r o) (t, k, h, is, out) =
     let q = subst (λ (u : Touch). (kind_of f u.base ≡ Stack k) × ¬ (LieInStack (k +ℤ u.offset) u.bytes)) h (is, out) in
     let a = subst (λ b. Contains (loads j.record_size f (at f r) o b) OutsideStack) (bytes_are z) (loads_outside j.record_size f (at f r) o (size_bytes z) k q.0 q.1) in
     search (Contains-append_left, Contains-append_right, a)
@@ -96,7 +99,7 @@ not_loading (Some Delete) t h how = absurd h
 not_loading (Some Start) t h how = absurd h
 
 unwritten_byte : Lists UnwrittenByte
-unwritten_byte j n f (Load z d r o) (t, k, h, reading, is, lie, some) =
+unwritten_byte j n f (Load z x d r o) (t, k, h, reading, is, lie, some) =
     let q = subst (λ (u : Touch). (kind_of f u.base ≡ Stack k) × LieInStack (k +ℤ u.offset) u.bytes × SomeUnwritten f (k +ℤ u.offset) u.bytes) h (is, lie, some) in
     let a = subst (λ b. Contains (loads j.record_size f (at f r) o b) UnwrittenByte) (bytes_are z) (loads_unwritten j.record_size f (at f r) o (size_bytes z) k q.0 q.1 q.2) in
     search (Contains-append_left, Contains-append_right, a)
@@ -106,7 +109,7 @@ unwritten_byte j n f (Call v) (t, k, h, reading, is, lie, some) = let a = call_u
 unwritten_byte j n f _ b = absurd b.2
 
 outside_record : Lists OutsideRecord
-outside_record j n f (Load z d r o) (t, k, h, how, is, out) =
+outside_record j n f (Load z x d r o) (t, k, h, how, is, out) =
     let q = subst (λ (u : Touch). (kind_of f u.base ≡ Record k) × ¬ (LieInRecord j.record_size (k +ℤ u.offset) u.bytes)) h (is, out) in
     let a = subst (λ b. Contains (loads j.record_size f (at f r) o b) OutsideRecord) (bytes_are z) (loads_beyond j.record_size f (at f r) o (size_bytes z) k q.0 q.1) in
     search (Contains-append_left, Contains-append_right, a)
@@ -116,7 +119,7 @@ outside_record j n f (Call v) (t, k, h, how, is, out) = absurd (not_loading (dec
 outside_record j n f _ b = absurd b.2
 
 writes_record : Lists WritesRecord
-writes_record j n f (Load z d r o) (t, k, h, how, is) = let e = ap (λ (u : Touch). u.how) h in cc
+writes_record j n f (Load z x d r o) (t, k, h, how, is) = let e = ap (λ (u : Touch). u.how) h in cc
 writes_record j n f (StoreImm z d o v) (t, k, h, how, is) =
     let a = subst (λ b. Contains (stores (at f d) o b) WritesRecord) (bytes_are z) (stores_record j.record_size f (at f d) o (size_bytes z) k (subst (λ (u : Touch). kind_of f u.base ≡ Record k) h is)) in
     search (Contains-append_left, Contains-append_right, a)
@@ -127,7 +130,7 @@ writes_record j n f (Call v) (t, k, h, how, is) = absurd (not_loading (declared_
 writes_record j n f _ b = absurd b.2
 
 through_number : Lists ThroughNumber
-through_number j n f (Load z d r o) (t, h, how, is) =
+through_number j n f (Load z x d r o) (t, h, how, is) =
     let a = subst (λ b. Contains (loads j.record_size f (at f r) o b) ThroughNumber) (bytes_are z) (loads_number j.record_size f (at f r) o (size_bytes z) (subst (λ (u : Touch). kind_of f u.base ≡ Number) h is)) in
     search (Contains-append_left, Contains-append_right, a)
 through_number j n f (StoreImm z d o v) (t, h, how, is) =

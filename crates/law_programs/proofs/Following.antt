@@ -8,7 +8,7 @@ use Rattle.std.proofs.lemmas.List.{get_or-set_other, get_or_past}
 use Rattle.std.proofs.lemmas.Grind.{get_or-set_at}
 use Rattle.std.proofs.lemmas.Bool.Decides.{not_from_Decides}
 use Rattle.pb_isa.specs.declared.insn.Insn.{Insn}
-use Rattle.pb_isa.specs.declared.insn.Insn.TheVariants.{Alu, Neg, LoadImm, Load, StoreImm, Store, Jump, JumpIf, Call, Exit}
+use Rattle.pb_isa.specs.declared.insn.Insn.TheVariants.{Alu, MovSx, Neg, LoadImm, Load, StoreImm, Store, Jump, JumpIf, Call, Exit}
 use Rattle.pb_isa.specs.declared.insn.AluOp.{AluOp}
 use Rattle.pb_isa.specs.declared.insn.AluOp.TheVariants.{Add, Sub, Mov}
 use Rattle.pb_isa.specs.declared.insn.Width.{Width}
@@ -257,12 +257,14 @@ sets_one j f i d k l is set_to from to other none = rw_after is
 pub frames_after_are_told : RulesAreByCode → FramesAfterAreTold
 frames_after_are_told rules j n f (Alu op w d x) l hold =
     sets_one j f (Alu op w d x) d (kind_after f op w d x) l refl (set_to f op w d x) (λ r s. s) (λ r s. s) (λ c. c) (λ p w. w.2)
+frames_after_are_told rules j n f (MovSx w z d s) l hold =
+    sets_one j f (MovSx w z d s) d Number l refl refl (λ r s. s) (λ r s. s) (λ c. c) (λ p w. w.2)
 frames_after_are_told rules j n f (Neg w d) l hold =
     sets_one j f (Neg w d) d Number l refl refl (λ r s. s) (λ r s. s) (λ c. c) (λ p w. w.2)
 frames_after_are_told rules j n f (LoadImm d v) l hold =
     sets_one j f (LoadImm d v) d Number l refl refl (λ r s. s) (λ r s. s) (λ c. c) (λ p w. w.2)
-frames_after_are_told rules j n f (Load z d s o) l hold =
-    sets_one j f (Load z d s o) d Number l refl refl (λ r s. s) (λ r s. s) (λ c. c) (λ p w. not_writing w.0 (inl (ap (λ (u : Touch). u.how) w.2)) w.3)
+frames_after_are_told rules j n f (Load z x d s o) l hold =
+    sets_one j f (Load z x d s o) d Number l refl refl (λ r s. s) (λ r s. s) (λ c. c) (λ p w. not_writing w.0 (inl (ap (λ (u : Touch). u.how) w.2)) w.3)
 frames_after_are_told rules j n f (StoreImm z d o v) l hold = record {
   set = λ r s. absurd s;
   result = λ c. absurd c;

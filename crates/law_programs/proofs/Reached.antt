@@ -6,7 +6,7 @@ use Rattle.std.proofs.lemmas.List.Elements.{All-contains}
 use Rattle.std.proofs.lemmas.Bool.{cases_lt}
 use Rattle.std.proofs.lemmas.Bool.Decides.{Decides-eqb, Decides-or}
 use Rattle.pb_isa.specs.declared.insn.Insn.{Insn}
-use Rattle.pb_isa.specs.declared.insn.Insn.TheVariants.{Alu, Neg, LoadImm, Load, StoreImm, Store, Jump, JumpIf, Call, Exit}
+use Rattle.pb_isa.specs.declared.insn.Insn.TheVariants.{Alu, MovSx, Neg, LoadImm, Load, StoreImm, Store, Jump, JumpIf, Call, Exit}
 use Rattle.pb_isa.specs.Programs.{JudgedOf}
 use Rattle.pb_isa.specs.Slots.{insn_at}
 use Rattle.pb_kinds.specs.declared.frame.Kind.TheVariants.{Number, Stack}
@@ -61,8 +61,9 @@ follows m n (JumpIf c w d x o) =
     )
 follows m n Exit = ((λ h. cc), (λ h. elim h as (λ _. false ≡ true) [ inl e ↦ cc | inr e ↦ absurd e ]))
 follows m n (Alu op w d x) = only_next m n (m + 1) (Alu op w d x) refl refl (λ h. h)
+follows m n (MovSx w z d r) = only_next m n (m + 1) (MovSx w z d r) refl refl (λ h. h)
 follows m n (Neg w d) = only_next m n (m + 1) (Neg w d) refl refl (λ h. h)
-follows m n (Load z d r o) = only_next m n (m + 1) (Load z d r o) refl refl (λ h. h)
+follows m n (Load z x d r o) = only_next m n (m + 1) (Load z x d r o) refl refl (λ h. h)
 follows m n (StoreImm z d o v) = only_next m n (m + 1) (StoreImm z d o v) refl refl (λ h. h)
 follows m n (Store z d s o) = only_next m n (m + 1) (Store z d s o) refl refl (λ h. h)
 follows m n (Call k) = only_next m n (m + 1) (Call k) refl refl (λ h. h)

@@ -2,7 +2,7 @@
 use Rattle.std.specs.Prelude.{◌≡◌, ◌≢◌, ◌⊎◌, ℕ, ℤ}
 use Rattle.std.specs.Option.{IsSomeAnd}
 use Rattle.pb_isa.specs.declared.insn.Insn.{Insn}
-use Rattle.pb_isa.specs.declared.insn.Insn.TheVariants.{Alu, Neg, LoadImm, Load, StoreImm, Store, Jump, JumpIf, Call, Exit}
+use Rattle.pb_isa.specs.declared.insn.Insn.TheVariants.{Alu, MovSx, Neg, LoadImm, Load, StoreImm, Store, Jump, JumpIf, Call, Exit}
 use Rattle.pb_isa.specs.declared.insn.AluOp.{AluOp}
 use Rattle.pb_isa.specs.declared.insn.AluOp.TheVariants.{Add, Sub, Mov}
 use Rattle.pb_isa.specs.declared.insn.Width.{Width}
@@ -46,12 +46,14 @@ abbrev pub IsOperand : Operand → ℕ → Type 0
 IsOperand (operands.Imm imm) r = ⊥
 IsOperand (operands.Reg src) r = r ≡ number src
 
--- mov alone doesn't read its destination. A call reads the arguments of a declared helper, and exit the result in R0
+-- moves don't read their destination, and all other arithmetic does. A call reads the arguments of a declared helper, and
+-- exit the result in R0
 abbrev pub ReadsRegister : JudgedOf → Insn → ℕ → Type 0
 ReadsRegister j (Alu op w dst src) r = ((op ≢ Mov) × (r ≡ number dst)) ⊎ IsOperand src r
+ReadsRegister j (MovSx w z dst src) r = r ≡ number src
 ReadsRegister j (Neg w dst) r = r ≡ number dst
 ReadsRegister j (LoadImm dst imm) r = ⊥
-ReadsRegister j (Load z dst src offset) r = r ≡ number src
+ReadsRegister j (Load z x dst src offset) r = r ≡ number src
 ReadsRegister j (StoreImm z dst offset imm) r = r ≡ number dst
 ReadsRegister j (Store z dst src offset) r = (r ≡ number dst) ⊎ (r ≡ number src)
 ReadsRegister j (Jump offset) r = ⊥
@@ -59,12 +61,13 @@ ReadsRegister j (JumpIf c w dst src offset) r = (r ≡ number dst) ⊎ IsOperand
 ReadsRegister j (Call imm) r = IsSomeAnd (declared_helper j.helpers imm) (λ h. IsCellArgument h r ⊎ IsPlaceArgument h r)
 ReadsRegister j Exit r = r ≡ 0
 
--- the destination of arithmetic, of the 64-bit immediate and of a load
+-- the destination of arithmetic and of moves, of the 64-bit immediate and of a load
 abbrev pub SetsRegister : Insn → ℕ → Type 0
 SetsRegister (Alu op w dst src) r = r ≡ number dst
+SetsRegister (MovSx w z dst src) r = r ≡ number dst
 SetsRegister (Neg w dst) r = r ≡ number dst
 SetsRegister (LoadImm dst imm) r = r ≡ number dst
-SetsRegister (Load z dst src offset) r = r ≡ number dst
+SetsRegister (Load z x dst src offset) r = r ≡ number dst
 SetsRegister i r = ⊥
 
 -- the source of a store
@@ -81,9 +84,10 @@ KeepsPointers Add Bits64 (operands.Imm imm) = Unit {0}
 KeepsPointers Sub Bits64 (operands.Imm imm) = Unit {0}
 KeepsPointers op w src = ⊥
 
--- arithmetic on numbers alone
+-- arithmetic on numbers alone, and with it a move that extends the sign
 abbrev pub IsArithmetic : Insn → Type 0
 IsArithmetic (Alu op w dst src) = ¬ (KeepsPointers op w src)
+IsArithmetic (MovSx w z dst src) = Unit {0}
 IsArithmetic (Neg w dst) = Unit {0}
 IsArithmetic i = ⊥
 

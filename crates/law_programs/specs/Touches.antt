@@ -43,7 +43,7 @@ HelperTouches Write t = t ≡ touch Taking 3 (pos 0) 32
 HelperTouches h t = ⊥
 
 abbrev pub Touches : JudgedOf → Insn → Touch → Type 0
-Touches j (Load z dst src offset) t = t ≡ touch Loading (number src) offset (size_bytes z)
+Touches j (Load z x dst src offset) t = t ≡ touch Loading (number src) offset (size_bytes z)
 Touches j (StoreImm z dst offset imm) t = t ≡ touch Storing (number dst) offset (size_bytes z)
 Touches j (Store z dst src offset) t = t ≡ touch Storing (number dst) offset (size_bytes z)
 Touches j (Call imm) t = IsSomeAnd (declared_helper j.helpers imm) (λ h. HelperTouches h t)

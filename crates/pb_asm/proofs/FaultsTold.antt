@@ -10,17 +10,19 @@ use Rattle.pb_isa.specs.declared.insn.Operand.{Operand}
 use Rattle.pb_isa.specs.declared.insn.Reg.{Reg}
 use Rattle.pb_isa.specs.Bounds.{Fits}
 use Rattle.pb_isa.specs.Slots.{slots}
-use Rattle.pb_isa.specs.declared.limits.TheConstants.{MAX_SLOTS}
+use Rattle.pb_isa.specs.declared.profile.Profile.{Profile}
+use Rattle.pb_isa.specs.declared.insn.Width.{Width}
+use Rattle.pb_isa.specs.Profiles.{max_slots, IsOf}
 use Rattle.pb_asm.specs.declared.fault.Code.{Code}
 use Rattle.pb_asm.specs.declared.fault.Code.TheVariants as code
 use Rattle.pb_asm.specs.declared.names.Word.{Word}
 use Rattle.pb_asm.specs.declared.names.Word.TheVariants as word
-use Rattle.pb_asm.specs.Names.{name, words, word_named, reg_named}
+use Rattle.pb_asm.specs.Names.{name, words, IsWordOf, sizes, word_in, word_named, reg_named}
 use Rattle.pb_base.specs.Reading.{◌>>=◌}
 use Rattle.std.specs.Prelude.{ok_or}
 use Rattle.pb_asm.specs.Cuts.{strip_prefix, strip_suffix, split_once}
 use Rattle.pb_base.specs.Reading.{is_numeral, numeral_upto, next_word, no_word}
-use Rattle.pb_asm.specs.Operands.{minus, plus, signed_or, imm_of_text, plus_or_fault, offset_of_text, reg_of_text, operand_of_text, base_and_offset, at_minus, at_plus, place_of_text, comma, last, alu_operands, load_imm_operands, load_operands, store_imm_operands, store_operands, jump_if_operands, operands, insn_of_words, line_of}
+use Rattle.pb_asm.specs.Operands.{minus, plus, signed_or, imm_of_text, plus_or_fault, offset_of_text, reg_of_text, operand_of_text, size_in, bits_of_text, base_and_offset, at_minus, at_plus, place_of_text, comma, last, alu_operands, mov_sx_operands, load_imm_operands, load_operands, store_imm_operands, store_operands, jump_if_operands, operands, insn_of_words, line_of}
 use Rattle.pb_asm.specs.Listing.{insn_text}
 use Rattle.pb_base.specs.Reading.{is_skipped, ◌>>=◌}
 use Rattle.pb_asm.specs.Texts.{instruction_lines, with_insn_line, some_of, program_of_text, IsFirstFault, HasNone}
@@ -28,7 +30,7 @@ use Rattle.pb_asm.proofs.NamesAndDigits.{word_back}
 use Rattle.pb_asm.proofs.ListingsReadBack.{line_back, insn_shown}
 use Rattle.pb_asm.proofs.FirstFault.{first}
 use Rattle.pb_asm.proofs.OnlyListings.{read, back}
-use Rattle.pb_asm.proofs.OneSpelling.{word_among, line_spelled}
+use Rattle.pb_asm.proofs.OneSpelling.{named_is, word_among, line_spelled}
 
 -- operands are told as of another form or out of range
 abbrev Tells : {A : Type 0} → Result A Code → Type 0
@@ -89,6 +91,10 @@ operand_tells : (text : List ℕ) → Tells (operand_of_text text)
 unfolding operand_of_text
 operand_tells text = if_tells (slice_index text 0 == 114) _ _ (then_tells (reg_of_text text) _ (reg_tells text) (λ r. tt)) (then_tells (imm_of_text text) _ (imm_tells text) (λ k. tt))
 
+bits_tell : (w : Width) (text : List ℕ) → Tells (bits_of_text w text)
+unfolding bits_of_text
+bits_tell w text = then_tells (numeral_upto code.Form code.Range (2 ^ 64 - 1) text) _ (number_tells (2 ^ 64 - 1) text) (λ n. there_tells _ (size_in w n sizes) tt)
+
 based_tells : (register : List ℕ) (offset : Result ℤ Code) → Tells offset → Tells (base_and_offset register offset)
 unfolding base_and_offset
 based_tells register offset h = then_tells (reg_of_text register) _ (reg_tells register) (λ r. then_tells offset _ h (λ o. tt))
@@ -125,6 +131,10 @@ alu_tells : (make : Reg → Operand → Insn) (texts : List (List ℕ)) → Tell
 unfolding alu_operands
 alu_tells make texts = then_tells (comma texts) _ (comma_tells texts) (λ first. then_tells (reg_of_text first.0) _ (reg_tells first.0) (λ r. then_tells (last operand_of_text first.1) _ (last_tells operand_of_text first.1 operand_tells) (λ a. tt)))
 
+mov_sx_tells : (w : Width) (texts : List (List ℕ)) → Tells (mov_sx_operands w texts)
+unfolding mov_sx_operands
+mov_sx_tells w texts = then_tells (comma texts) _ (comma_tells texts) (λ first. then_tells (reg_of_text first.0) _ (reg_tells first.0) (λ d. then_tells (comma first.1) _ (comma_tells first.1) (λ second. then_tells (reg_of_text second.0) _ (reg_tells second.0) (λ s. then_tells (last (bits_of_text w) second.1) _ (last_tells (bits_of_text w) second.1 (bits_tell w)) (λ z. tt)))))
+
 wide_tells : (texts : List (List ℕ)) → Tells (load_imm_operands texts)
 unfolding load_imm_operands
 wide_tells texts = then_tells (comma texts) _ (comma_tells texts) (λ first. then_tells (reg_of_text first.0) _ (reg_tells first.0) (λ r. then_tells (last (numeral_upto code.Form code.Range (2 ^ 64 - 1)) first.1) _ (last_tells (numeral_upto code.Form code.Range (2 ^ 64 - 1)) first.1 (number_tells (2 ^ 64 - 1))) (λ n. tt)))
@@ -147,9 +157,10 @@ jump_if_tells make texts = then_tells (comma texts) _ (comma_tells texts) (λ fi
 
 operands_tell : (w : Word) (texts : List (List ℕ)) → Tells (operands w texts)
 operands_tell (word.Alu op w) texts = alu_tells (insn.Alu op w) texts
+operands_tell (word.MovSx w) texts = mov_sx_tells w texts
 operands_tell (word.Neg w) texts = then_tells (last reg_of_text texts) _ (last_tells reg_of_text texts reg_tells) (λ r. tt)
 operands_tell word.LoadImm texts = wide_tells texts
-operands_tell (word.Load z) texts = load_tells (insn.Load z) texts
+operands_tell (word.Load z x) texts = load_tells (insn.Load z x) texts
 operands_tell (word.StoreImm z) texts = store_imm_tells (insn.StoreImm z) texts
 operands_tell (word.Store z) texts = store_tells (insn.Store z) texts
 operands_tell word.Jump texts = then_tells (last offset_of_text texts) _ (last_tells offset_of_text texts offset_tells) (λ o. tt)
@@ -173,23 +184,27 @@ first_word : (line : List ℕ) → (others : List (List ℕ)) × (slice_split bl
 first_word [] = ([], refl)
 first_word (b ∷ bs) = let h = first_word bs in first_step b bs h.0 (blank b) refl h.1
 
-named_cases : (text : List ℕ) (texts : List (List ℕ)) (o : Option Word) → word_named text ≡ o → (ok_or o code.Word >>= λ w. operands w texts) ≡ Err code.Word → (w : Word) → text ≢ name w
-named_cases text texts None is h w same = let no : None ≡ Some w = sym is ∙ ap word_named same ∙ word_back w in absurd cc
-named_cases text texts (Some v) is h w same = absurd (subst Tells h (operands_tell v texts))
+-- the word is no name of the profile's
+abbrev Unnamed : Profile → List ℕ → Type 0
+Unnamed q text = (w : Word) → IsWordOf q w → text ≢ name w
 
-unnamed : (text : List ℕ) (o : Option Word) → word_named text ≡ o → ((w : Word) → text ≢ name w) → word_named text ≡ None
-unnamed text None is none = is
-unnamed text (Some w) is none = absurd (none w (word_among text words w is))
+named_cases : (q : Profile) (text : List ℕ) (texts : List (List ℕ)) (o : Option Word) → word_named q text ≡ o → (ok_or o code.Word >>= λ w. operands w texts) ≡ Err code.Word → Unnamed q text
+named_cases q text texts None is h w has same = let no : None ≡ Some w = sym is ∙ ap (word_named q) same ∙ word_back q w has in absurd cc
+named_cases q text texts (Some v) is h w has same = absurd (subst Tells h (operands_tell v texts))
 
-words_word : (text : List ℕ) (texts : List (List ℕ)) → (insn_of_words (text ∷ texts) ≡ Err code.Word) ↔ ((w : Word) → text ≢ name w)
+unnamed : (q : Profile) (text : List ℕ) (o : Option Word) → word_named q text ≡ o → Unnamed q text → word_named q text ≡ None
+unnamed q text None is none = is
+unnamed q text (Some w) is none = let n = named_is q (word_in text words) w is in absurd (none w n.1 (word_among text words w n.0))
+
+words_word : (q : Profile) (text : List ℕ) (texts : List (List ℕ)) → (insn_of_words q (text ∷ texts) ≡ Err code.Word) ↔ Unnamed q text
 unfolding insn_of_words
-words_word text texts = (named_cases text texts (word_named text) refl, λ none. ap (λ (o : Option Word). ok_or o code.Word >>= λ w. operands w texts) (unnamed text (word_named text) refl none))
+words_word q text texts = (named_cases q text texts (word_named q text) refl, λ none. ap (λ (o : Option Word). ok_or o code.Word >>= λ w. operands w texts) (unnamed q text (word_named q text) refl none))
 
-pub word_told : (line : List ℕ) → (line_of line ≡ Err code.Word) ↔ ((w : Word) → before_first (λ b. b == 32) line ≢ name w)
-word_told line =
+pub word_told : (q : Profile) (line : List ℕ) → (line_of q line ≡ Err code.Word) ↔ ((w : Word) → IsWordOf q w → before_first (λ b. b == 32) line ≢ name w)
+word_told q line =
     let f = first_word line in
-    let e = words_word (before_first blank line) f.0 in
-    (λ h. e.0 (ap insn_of_words (sym f.1) ∙ h), λ h. ap insn_of_words f.1 ∙ e.1 h)
+    let e = words_word q (before_first blank line) f.0 in
+    (λ h. e.0 (ap (insn_of_words q) (sym f.1) ∙ h), λ h. ap (insn_of_words q) f.1 ∙ e.1 h)
 
 -- ---- the slots
 
@@ -197,13 +212,13 @@ words_short : (texts : List (List ℕ)) (o : Option Word) → (ok_or o code.Word
 words_short texts None h = absurd cc
 words_short texts (Some w) h = subst Tells h (operands_tell w texts)
 
-line_short : (texts : List (List ℕ)) → insn_of_words texts ≡ Err code.TooLong → ⊥
+line_short : (q : Profile) (texts : List (List ℕ)) → insn_of_words q texts ≡ Err code.TooLong → ⊥
 unfolding insn_of_words
-line_short [] h = absurd cc
-line_short (text ∷ texts) h = words_short texts (word_named text) h
+line_short q [] h = absurd cc
+line_short q (text ∷ texts) h = words_short texts (word_named q text) h
 
-abbrev PastEnd : List Insn → List ℕ → Type 0
-PastEnd front line = (i : Insn) × (line ≡ insn_text i) × Fits i × (MAX_SLOTS < slots (front ++ i ∷ []))
+abbrev PastEnd : Profile → List Insn → List ℕ → Type 0
+PastEnd q front line = (i : Insn) × (line ≡ insn_text i) × Fits i × IsOf q i × (max_slots q < slots (front ++ i ∷ []))
 
 slots_past : (front p : List Insn) (b : Bool) → cond b (Err code.TooLong) (Ok p) ≡ Err code.TooLong → b ≡ true
 slots_past front p true h = refl
@@ -218,23 +233,23 @@ same_code A c d h = cc
 pub moved : (A B : Type 0) (c d : Code) → failed A c ≡ failed A d → failed B c ≡ failed B d
 moved A B c d h = ap (failed B) (same_code A c d h)
 
-read_past : (front : List Insn) (line : List ℕ) (r : Result Insn Code) → line_of line ≡ r → (r >>= λ i. cond (nat_lt MAX_SLOTS (slots (front ++ i ∷ []))) (Err code.TooLong) (Ok (front ++ i ∷ []))) ≡ Err code.TooLong → PastEnd front line
-read_past front line (Err c) is h = absurd (line_short (slice_split blank line) (is ∙ moved (List Insn) Insn c code.TooLong h))
-read_past front line (Ok i) is h =
-    let s = line_spelled line i is in
-    (i, s.0, s.1, ltb-true _ _ (slots_past front (front ++ i ∷ []) (nat_lt MAX_SLOTS (slots (front ++ i ∷ []))) h))
+read_past : (q : Profile) (front : List Insn) (line : List ℕ) (r : Result Insn Code) → line_of q line ≡ r → (r >>= λ i. cond (nat_lt (max_slots q) (slots (front ++ i ∷ []))) (Err code.TooLong) (Ok (front ++ i ∷ []))) ≡ Err code.TooLong → PastEnd q front line
+read_past q front line (Err c) is h = absurd (line_short q (slice_split blank line) (is ∙ moved (List Insn) Insn c code.TooLong h))
+read_past q front line (Ok i) is h =
+    let s = line_spelled q line i is in
+    (i, s.0, s.1, s.2, ltb-true _ _ (slots_past front (front ++ i ∷ []) (nat_lt (max_slots q) (slots (front ++ i ∷ []))) h))
 
-shown_past : (front : List Insn) (line : List ℕ) (b : Bool) → cond b (Ok front) (line_of line >>= λ i. cond (nat_lt MAX_SLOTS (slots (front ++ i ∷ []))) (Err code.TooLong) (Ok (front ++ i ∷ []))) ≡ Err code.TooLong → PastEnd front line
-shown_past front line true h = absurd cc
-shown_past front line false h = read_past front line (line_of line) refl h
+shown_past : (q : Profile) (front : List Insn) (line : List ℕ) (b : Bool) → cond b (Ok front) (line_of q line >>= λ i. cond (nat_lt (max_slots q) (slots (front ++ i ∷ []))) (Err code.TooLong) (Ok (front ++ i ∷ []))) ≡ Err code.TooLong → PastEnd q front line
+shown_past q front line true h = absurd cc
+shown_past q front line false h = read_past q front line (line_of q line) refl h
 
-past_told : (front : List Insn) (line : List ℕ) → PastEnd front line → with_insn_line front line ≡ Err code.TooLong
+past_told : (q : Profile) (front : List Insn) (line : List ℕ) → PastEnd q front line → with_insn_line q front line ≡ Err code.TooLong
 unfolding with_insn_line
-past_told front line h = ap (with_insn_line front) h.1 ∙ rw (insn_shown h.0, line_back h.0 h.2, lt-ltb _ _ h.3) refl
+past_told q front line h = ap (with_insn_line q front) h.1 ∙ rw (insn_shown h.0, line_back q h.0 h.2 h.3, lt-ltb _ _ h.4) refl
 
-pub too_long_told : (front : List Insn) (line : List ℕ) → (with_insn_line front line ≡ Err code.TooLong) ↔ ((i : Insn) × (line ≡ insn_text i) × Fits i × (MAX_SLOTS < slots (front ++ i ∷ [])))
+pub too_long_told : (q : Profile) (front : List Insn) (line : List ℕ) → (with_insn_line q front line ≡ Err code.TooLong) ↔ ((i : Insn) × (line ≡ insn_text i) × Fits i × IsOf q i × (max_slots q < slots (front ++ i ∷ [])))
 unfolding with_insn_line
-too_long_told front line = (shown_past front line (is_skipped line), past_told front line)
+too_long_told q front line = (shown_past q front line (is_skipped line), past_told q front line)
 
 -- ---- no other code of a line
 
@@ -242,17 +257,17 @@ only_past : (p : List Insn) (c : Code) (b : Bool) → cond b (Err code.TooLong) 
 only_past p c true h = sym (same_code (List Insn) code.TooLong c h)
 only_past p c false h = absurd cc
 
-read_own : (front : List Insn) (line : List ℕ) (c : Code) (r : Result Insn Code) → line_of line ≡ r → (r >>= λ i. cond (nat_lt MAX_SLOTS (slots (front ++ i ∷ []))) (Err code.TooLong) (Ok (front ++ i ∷ []))) ≡ Err c → (c ≡ code.TooLong) ⊎ (line_of line ≡ Err c)
-read_own front line c (Err d) is h = inr (is ∙ moved (List Insn) Insn d c h)
-read_own front line c (Ok i) is h = inl (only_past (front ++ i ∷ []) c (nat_lt MAX_SLOTS (slots (front ++ i ∷ []))) h)
+read_own : (q : Profile) (front : List Insn) (line : List ℕ) (c : Code) (r : Result Insn Code) → line_of q line ≡ r → (r >>= λ i. cond (nat_lt (max_slots q) (slots (front ++ i ∷ []))) (Err code.TooLong) (Ok (front ++ i ∷ []))) ≡ Err c → (c ≡ code.TooLong) ⊎ (line_of q line ≡ Err c)
+read_own q front line c (Err d) is h = inr (is ∙ moved (List Insn) Insn d c h)
+read_own q front line c (Ok i) is h = inl (only_past (front ++ i ∷ []) c (nat_lt (max_slots q) (slots (front ++ i ∷ []))) h)
 
-shown_own : (front : List Insn) (line : List ℕ) (c : Code) (b : Bool) → cond b (Ok front) (line_of line >>= λ i. cond (nat_lt MAX_SLOTS (slots (front ++ i ∷ []))) (Err code.TooLong) (Ok (front ++ i ∷ []))) ≡ Err c → (c ≡ code.TooLong) ⊎ (line_of line ≡ Err c)
-shown_own front line c true h = absurd cc
-shown_own front line c false h = read_own front line c (line_of line) refl h
+shown_own : (q : Profile) (front : List Insn) (line : List ℕ) (c : Code) (b : Bool) → cond b (Ok front) (line_of q line >>= λ i. cond (nat_lt (max_slots q) (slots (front ++ i ∷ []))) (Err code.TooLong) (Ok (front ++ i ∷ []))) ≡ Err c → (c ≡ code.TooLong) ⊎ (line_of q line ≡ Err c)
+shown_own q front line c true h = absurd cc
+shown_own q front line c false h = read_own q front line c (line_of q line) refl h
 
-pub own_told : (front : List Insn) (line : List ℕ) (c : Code) → with_insn_line front line ≡ Err c → (c ≡ code.TooLong) ⊎ (line_of line ≡ Err c)
+pub own_told : (q : Profile) (front : List Insn) (line : List ℕ) (c : Code) → with_insn_line q front line ≡ Err c → (c ≡ code.TooLong) ⊎ (line_of q line ≡ Err c)
 unfolding with_insn_line
-own_told front line c h = shown_own front line c (is_skipped line) h
+own_told q front line c h = shown_own q front line c (is_skipped line) h
 
 told_so : (c : Code) → Tells (failed Insn c) → (c ≡ code.Word) ⊎ (c ≡ code.Form) ⊎ (c ≡ code.Range)
 told_so code.Memory h = absurd h
@@ -266,22 +281,22 @@ words_told : (texts : List (List ℕ)) (o : Option Word) (c : Code) → (ok_or o
 words_told texts None c h = inl (sym (same_code Insn code.Word c h))
 words_told texts (Some w) c h = told_so c (subst Tells h (operands_tell w texts))
 
-fields_told : (texts : List (List ℕ)) (c : Code) → insn_of_words texts ≡ Err c → (c ≡ code.Word) ⊎ (c ≡ code.Form) ⊎ (c ≡ code.Range)
+fields_told : (q : Profile) (texts : List (List ℕ)) (c : Code) → insn_of_words q texts ≡ Err c → (c ≡ code.Word) ⊎ (c ≡ code.Form) ⊎ (c ≡ code.Range)
 unfolding insn_of_words
-fields_told [] c h = inr (inl (sym (same_code Insn code.Form c h)))
-fields_told (text ∷ texts) c h = words_told texts (word_named text) c h
+fields_told q [] c h = inr (inl (sym (same_code Insn code.Form c h)))
+fields_told q (text ∷ texts) c h = words_told texts (word_named q text) c h
 
-pub line_told : (line : List ℕ) (c : Code) → line_of line ≡ Err c → (c ≡ code.Word) ⊎ (c ≡ code.Form) ⊎ (c ≡ code.Range)
-line_told line c h = fields_told (slice_split blank line) c h
+pub line_told : (q : Profile) (line : List ℕ) (c : Code) → line_of q line ≡ Err c → (c ≡ code.Word) ⊎ (c ≡ code.Form) ⊎ (c ≡ code.Range)
+line_told q line c h = fields_told q (slice_split blank line) c h
 
 -- ---- no instruction
 
-has_none : (text : List ℕ) → IsFirstFault text 0 84 ⊎ HasNone text 0 84 → instruction_lines text ≡ []
-has_none text (inl f) = let k = f.number in let no : ⊥ = omega (arith, k) in absurd no
-has_none text (inr f) = let r = read 0 [] [] (slice_split (λ b. b == 10) text) f.read (omega arith) in r.lines ∙ ap (map insn_text) (sym r.whole)
+has_none : (q : Profile) (text : List ℕ) → IsFirstFault q text 0 84 ⊎ HasNone q text 0 84 → instruction_lines text ≡ []
+has_none q text (inl f) = let k = f.number in let no : ⊥ = omega (arith, k) in absurd no
+has_none q text (inr f) = let r = read q 0 [] [] (slice_split (λ b. b == 10) text) f.read (omega arith) in r.lines ∙ ap (map insn_text) (sym r.whole)
 
-none_told : (text : List ℕ) → instruction_lines text ≡ [] → program_of_text text ≡ Err (0, 84)
-none_told text h = ap (λ (r : Result (List Insn) (ℕ × ℕ)). r >>= some_of) (back 0 (slice_split (λ b. b == 10) text) [] [] h tt (omega arith))
+none_told : (q : Profile) (text : List ℕ) → instruction_lines text ≡ [] → program_of_text q text ≡ Err (0, 84)
+none_told q text h = ap (λ (r : Result (List Insn) (ℕ × ℕ)). r >>= some_of q) (back q 0 (slice_split (λ b. b == 10) text) [] [] h tt tt (omega arith))
 
-pub nothing_told : (text : List ℕ) → (program_of_text text ≡ Err (0, 84)) ↔ (instruction_lines text ≡ [])
-nothing_told text = (λ h. has_none text (first text 0 84 h), none_told text)
+pub nothing_told : (q : Profile) (text : List ℕ) → (program_of_text q text ≡ Err (0, 84)) ↔ (instruction_lines text ≡ [])
+nothing_told q text = (λ h. has_none q text (first q text 0 84 h), none_told q text)

@@ -3,21 +3,22 @@ use Rattle.std.proofs.Common.{◌≡◌, ℕ, ◌+◌, ◌⊎◌, List, [], ◌�
 use Rattle.std.specs.Prelude.{◌==◌}
 use Rattle.std.specs.List.{slice_split}
 use Rattle.pb_isa.specs.declared.insn.Insn.{Insn}
+use Rattle.pb_isa.specs.declared.profile.Profile.{Profile}
 use Rattle.pb_asm.specs.declared.fault.Code.{Code}
 use Rattle.pb_asm.specs.declared.fault.Code.TheVariants.{Nothing}
 use Rattle.pb_asm.specs.Texts.{with_insn_line, insns_of_lines, some_of, program_of_text, IsFirstFault, HasNone}
 use Rattle.pb_base.specs.Reading.{◌>>=◌, numbered}
 use Rattle.pb_asm.specs.Codes.{asm_code}
 
-record Stops (n : ℕ) (start : List Insn) (lines : List (List ℕ)) (line told : ℕ) : Type 0 where
+record Stops (q : Profile) (n : ℕ) (start : List Insn) (lines : List (List ℕ)) (line told : ℕ) : Type 0 where
   front : List (List ℕ)
   here : List ℕ
   after : List (List ℕ)
   before : List Insn
   cause : Code
   parts : lines ≡ front ++ here ∷ after
-  read : insns_of_lines n start front ≡ Ok before
-  fault : with_insn_line before here ≡ Err cause
+  read : insns_of_lines q n start front ≡ Ok before
+  fault : with_insn_line q before here ≡ Err cause
   number : line ≡ n + length front + 1
   code : told ≡ asm_code cause
 
@@ -27,30 +28,30 @@ failed p = Err p
 err_is : {A : Type 0} (p q : ℕ × ℕ) → failed {A = A} p ≡ failed {A = A} q → p ≡ q
 err_is p q e = cc
 
-step : (n : ℕ) (start : List Insn) (l : List ℕ) (ls : List (List ℕ)) (line told : ℕ) (r : Result (List Insn) Code) → with_insn_line start l ≡ r → ((numbered asm_code n r) >>= (λ p. insns_of_lines (n + 1) p ls)) ≡ Err (line, told)
-    → ((p : List Insn) → insns_of_lines (n + 1) p ls ≡ Err (line, told) → Stops (n + 1) p ls line told) → Stops n start (l ∷ ls) line told
-step n start l ls line told (Err c) is h others =
+step : (q : Profile) (n : ℕ) (start : List Insn) (l : List ℕ) (ls : List (List ℕ)) (line told : ℕ) (r : Result (List Insn) Code) → with_insn_line q start l ≡ r → ((numbered asm_code n r) >>= (λ p. insns_of_lines q (n + 1) p ls)) ≡ Err (line, told)
+    → ((p : List Insn) → insns_of_lines q (n + 1) p ls ≡ Err (line, told) → Stops q (n + 1) p ls line told) → Stops q n start (l ∷ ls) line told
+step q n start l ls line told (Err c) is h others =
     let e = err_is (n + 1, asm_code c) (line, told) h in
     let k : n + 1 ≡ line = ap (λ (p : ℕ × ℕ). p.0) e in
     record { front = []; here = l; after = ls; before = start; cause = c; parts = refl; read = refl; fault = is; number = omega (arith, k); code = sym (ap (λ (p : ℕ × ℕ). p.1) e) }
-step n start l ls line told (Ok p) is h others =
+step q n start l ls line told (Ok p) is h others =
     let f = others p h in
     let k = f.number in
     record { front = l ∷ f.front; here = f.here; after = f.after; before = f.before; cause = f.cause; parts = ap (λ (ys : List (List ℕ)). l ∷ ys) f.parts; read = rw is f.read; fault = f.fault; number = omega (arith, k); code = f.code }
 
-stops : (n : ℕ) (start : List Insn) (ls : List (List ℕ)) (line told : ℕ) → insns_of_lines n start ls ≡ Err (line, told) → Stops n start ls line told
-stops n start [] line told h = absurd cc
-stops n start (l ∷ ls) line told h = step n start l ls line told (with_insn_line start l) refl h (λ p. stops (n + 1) p ls line told)
+stops : (q : Profile) (n : ℕ) (start : List Insn) (ls : List (List ℕ)) (line told : ℕ) → insns_of_lines q n start ls ≡ Err (line, told) → Stops q n start ls line told
+stops q n start [] line told h = absurd cc
+stops q n start (l ∷ ls) line told h = step q n start l ls line told (with_insn_line q start l) refl h (λ p. stops q (n + 1) p ls line told)
 
-whole : (text : List ℕ) (line told : ℕ) (r : Result (List Insn) (ℕ × ℕ)) → insns_of_lines 0 [] (slice_split (λ b. b == 10) text) ≡ r → (r >>= some_of) ≡ Err (line, told) → IsFirstFault text line told ⊎ HasNone text line told
-whole text line told (Err p) is h =
-    let f = stops 0 [] (slice_split (λ b. b == 10) text) line told (is ∙ ap failed (err_is p (line, told) h)) in
+whole : (q : Profile) (text : List ℕ) (line told : ℕ) (r : Result (List Insn) (ℕ × ℕ)) → insns_of_lines q 0 [] (slice_split (λ b. b == 10) text) ≡ r → (r >>= some_of q) ≡ Err (line, told) → IsFirstFault q text line told ⊎ HasNone q text line told
+whole q text line told (Err p) is h =
+    let f = stops q 0 [] (slice_split (λ b. b == 10) text) line told (is ∙ ap failed (err_is p (line, told) h)) in
     let k = f.number in
     inl (record { front = f.front; here = f.here; after = f.after; before = f.before; cause = f.cause; parts = f.parts; read = f.read; fault = f.fault; number = omega (arith, k); code = f.code })
-whole text line told (Ok []) is h =
+whole q text line told (Ok []) is h =
     let e = err_is (0, asm_code Nothing) (line, told) h in
     inr (record { read = is; number = sym (ap (λ (p : ℕ × ℕ). p.0) e); code = sym (ap (λ (p : ℕ × ℕ). p.1) e) })
-whole text line told (Ok (i ∷ p)) is h = absurd cc
+whole q text line told (Ok (i ∷ p)) is h = absurd cc
 
-pub first : (text : List ℕ) (line told : ℕ) → program_of_text text ≡ Err (line, told) → IsFirstFault text line told ⊎ HasNone text line told
-first text line told h = whole text line told (insns_of_lines 0 [] (slice_split (λ b. b == 10) text)) refl h
+pub first : (q : Profile) (text : List ℕ) (line told : ℕ) → program_of_text q text ≡ Err (line, told) → IsFirstFault q text line told ⊎ HasNone q text line told
+first q text line told h = whole q text line told (insns_of_lines q 0 [] (slice_split (λ b. b == 10) text)) refl h

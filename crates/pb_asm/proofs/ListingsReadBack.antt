@@ -13,29 +13,37 @@ use Rattle.pb_isa.specs.declared.insn.Insn.{Insn}
 use Rattle.pb_isa.specs.declared.insn.Insn.TheVariants as insn
 use Rattle.pb_isa.specs.declared.insn.Operand.{Operand}
 use Rattle.pb_isa.specs.declared.insn.Operand.TheVariants as operand
+use Rattle.pb_isa.specs.declared.profile.Profile.{Profile}
+use Rattle.pb_isa.specs.declared.profile.Profile.TheVariants.{One, Two}
+use Rattle.pb_isa.specs.declared.insn.Width.{Width}
+use Rattle.pb_isa.specs.declared.insn.Width.TheVariants.{Bits32, Bits64}
+use Rattle.pb_isa.specs.declared.insn.Size.{Size}
+use Rattle.pb_isa.specs.declared.insn.Size.TheVariants.{B, H, W, Dw}
+use Rattle.pb_isa.specs.declared.insn.Extension.{Extension}
+use Rattle.pb_isa.specs.declared.insn.Extension.TheVariants.{Zeros, Sign}
 use Rattle.pb_isa.specs.declared.insn.Reg.{Reg}
 use Rattle.pb_isa.specs.declared.insn.Reg.TheVariants.{R0, R1, R2, R3, R4, R5, R6, R7, R8, R9, R10}
 use Rattle.pb_isa.specs.Bounds.{OperandFits, Fits}
 use Rattle.pb_isa.specs.Slots.{places_of, layout, slots}
 use Rattle.pb_isa.specs.Programs.{ProgramOf, IsProgram}
-use Rattle.pb_isa.specs.declared.limits.TheConstants.{MAX_SLOTS}
+use Rattle.pb_isa.specs.Profiles.{is_narrower, max_slots, IsOf}
 use Rattle.pb_asm.specs.declared.fault.Code.{Code}
 use Rattle.pb_asm.specs.declared.fault.Code.TheVariants as code
 use Rattle.pb_asm.specs.declared.names.Word.{Word}
 use Rattle.pb_asm.specs.declared.names.Word.TheVariants as word
-use Rattle.pb_asm.specs.Names.{name, words, reg_name, word_named}
+use Rattle.pb_asm.specs.Names.{name, words, IsWordOf, sizes, size_bits, reg_name, word_in}
 use Rattle.pb_base.specs.Reading.{◌>>=◌}
 use Rattle.std.specs.Prelude.{ok_or}
 use Rattle.pb_asm.specs.Cuts.{strip_prefix, strip_suffix, split_once}
 use Rattle.pb_base.specs.Reading.{is_numeral, numeral_upto}
-use Rattle.pb_asm.specs.Operands.{minus, plus, imm_of_text, offset_of_text, reg_of_text, operand_of_text, base_and_offset, at_minus, at_plus, place_of_text, comma, last, alu_operands, load_imm_operands, load_operands, store_imm_operands, store_operands, jump_if_operands, operands, insn_of_words, line_of}
+use Rattle.pb_asm.specs.Operands.{minus, plus, imm_of_text, offset_of_text, reg_of_text, operand_of_text, size_in, bits_of_text, base_and_offset, at_minus, at_plus, place_of_text, comma, last, alu_operands, mov_sx_operands, load_imm_operands, load_operands, store_imm_operands, store_operands, jump_if_operands, operands, insn_of_words, line_of}
 use Rattle.pb_asm.specs.Listing.{operand_text, offset_text, place_text, insn_text, listing}
 use Rattle.pb_base.specs.Reading.{is_skipped, ◌>>=◌, numbered}
 use Rattle.pb_asm.specs.Codes.{asm_code}
 use Rattle.pb_asm.specs.Texts.{with_insn_line, insns_of_lines, some_of, program_of_text}
 use Rattle.pb_asm.proofs.Numerals.{own}
 use Rattle.pb_asm.proofs.TextCuts.{before_there}
-use Rattle.pb_asm.proofs.NamesAndDigits.{above, above_append, above_less, cut_there, cut_none, around_there, around_none, reg_above, name_above, word_back, reg_back, decimal_above, first_is_digit}
+use Rattle.pb_asm.proofs.NamesAndDigits.{above, above_append, above_less, cut_there, cut_none, around_there, around_none, reg_above, name_above, word_back, reg_back, decimal_above, first_is_digit, word_there}
 
 -- ---- numbers
 
@@ -94,6 +102,27 @@ offset_back (pos n) fits =
 offset_back (negsuc n) fits =
     let lt : n < 2 ^ 15 = fits.sfits in
     minus_back (2 ^ 15) n (omega (arith, lt)) (omega (arith, lt))
+
+-- ---- bits
+
+pub size_there : (w : Width) (z : Size) → is_narrower z w ≡ true → size_in w (size_bits z) sizes ≡ Some z
+size_there Bits32 B h = refl
+size_there Bits64 B h = refl
+size_there Bits32 H h = refl
+size_there Bits64 H h = refl
+size_there Bits32 W h = absurd cc
+size_there Bits64 W h = refl
+size_there w Dw h = absurd cc
+
+pub few_bits : (z : Size) → size_bits z < 2 ^ 64
+few_bits B = omega arith
+few_bits H = omega arith
+few_bits W = omega arith
+few_bits Dw = omega arith
+
+bits_back : (w : Width) (z : Size) → is_narrower z w ≡ true → bits_of_text w (decimal (size_bits z)) ≡ Ok z
+unfolding bits_of_text
+bits_back w z h = let lt = few_bits z in rw (number_back (2 ^ 64 - 1) (size_bits z) (omega (arith, lt)) lt, size_there w z h) refl
 
 -- ---- registers, operands, places
 
@@ -205,9 +234,9 @@ three_words w x y z h k l =
     name_cut w (x ++ (codes ", " ++ (y ++ (codes ", " ++ z)))) ∙ ap (λ (ws : List (List ℕ)). name w ∷ ws) (comma_cut x (y ++ (codes ", " ++ z)) h
     ∙ ap (λ (ws : List (List ℕ)). (x ++ 44 ∷ []) ∷ ws) (comma_cut y z k ∙ ap (λ (ws : List (List ℕ)). (y ++ 44 ∷ []) ∷ ws) (last_cut z l)))
 
-pub first_read : (w : Word) (texts : List (List ℕ)) → insn_of_words (name w ∷ texts) ≡ operands w texts
+pub first_read : (q : Profile) (w : Word) (texts : List (List ℕ)) → IsWordOf q w → insn_of_words q (name w ∷ texts) ≡ operands w texts
 unfolding insn_of_words
-first_read w texts = rw (word_back w) refl
+first_read q w texts is = rw (word_back q w is) refl
 
 pub comma_read : (x : List ℕ) (texts : List (List ℕ)) → comma ((x ++ 44 ∷ []) ∷ texts) ≡ Ok (x, texts)
 unfolding comma
@@ -217,42 +246,91 @@ last_read : {A : Type 0} (read : List ℕ → Result A Code) (x : List ℕ) (a :
 unfolding last
 last_read read x a h = rw h refl
 
-pub line_back : (i : Insn) → Fits i → line_of (insn_text i) ≡ Ok i
-unfolding alu_operands load_imm_operands load_operands store_imm_operands store_operands jump_if_operands
-line_back (insn.Alu op w d a) fits =
-    ap insn_of_words (two_words (word.Alu op w) (reg_name d) (operand_text a) (reg_line d) (operand_line a fits)) ∙ first_read (word.Alu op w) _
+-- the first word of an instruction
+abbrev first_of : Insn → Word
+first_of (insn.Alu op w d a) = word.Alu op w
+first_of (insn.MovSx w z d s) = word.MovSx w
+first_of (insn.Neg w d) = word.Neg w
+first_of (insn.LoadImm d v) = word.LoadImm
+first_of (insn.Load z x d b o) = word.Load z x
+first_of (insn.StoreImm z b o k) = word.StoreImm z
+first_of (insn.Store z b s o) = word.Store z
+first_of (insn.Jump o) = word.Jump
+first_of (insn.JumpIf c w d a o) = word.JumpIf c w
+first_of (insn.Call k) = word.Call
+first_of insn.Exit = word.Exit
+
+has_both : (w : Word) → IsWordOf One w → IsWordOf Two w → (q : Profile) → IsWordOf q w
+has_both w one two One = one
+has_both w one two Two = two
+
+has_move : (q : Profile) (w : Width) (z : Size) (d s : Reg) → IsOf q (insn.MovSx w z d s) → IsWordOf q (word.MovSx w)
+has_move One w z d s is = is
+has_move Two w z d s is = refl
+
+has_load : (q : Profile) (z : Size) (x : Extension) (d b : Reg) (o : ℤ) → IsOf q (insn.Load z x d b o) → IsWordOf q (word.Load z x)
+has_load One z Zeros d b o is = refl
+has_load One z Sign d b o is = is
+has_load Two z Zeros d b o is = refl
+has_load Two z Sign d b o is = is
+
+-- a profile that has the instruction has its word
+has_first : (q : Profile) (i : Insn) → IsOf q i → IsWordOf q (first_of i)
+has_first q (insn.Alu op w d a) is = has_both (word.Alu op w) refl refl q
+has_first q (insn.MovSx w z d s) is = has_move q w z d s is
+has_first q (insn.Neg w d) is = has_both (word.Neg w) refl refl q
+has_first q (insn.LoadImm d v) is = has_both word.LoadImm refl refl q
+has_first q (insn.Load z x d b o) is = has_load q z x d b o is
+has_first q (insn.StoreImm z b o k) is = has_both (word.StoreImm z) refl refl q
+has_first q (insn.Store z b s o) is = has_both (word.Store z) refl refl q
+has_first q (insn.Jump o) is = has_both word.Jump refl refl q
+has_first q (insn.JumpIf c w d a o) is = has_both (word.JumpIf c w) refl refl q
+has_first q (insn.Call k) is = has_both word.Call refl refl q
+has_first q insn.Exit is = has_both word.Exit refl refl q
+
+takes_narrower : (q : Profile) (w : Width) (z : Size) (d s : Reg) → IsOf q (insn.MovSx w z d s) → is_narrower z w ≡ true
+takes_narrower One w z d s is = absurd cc
+takes_narrower Two w z d s is = is
+
+pub line_back : (q : Profile) (i : Insn) → Fits i → IsOf q i → line_of q (insn_text i) ≡ Ok i
+unfolding alu_operands mov_sx_operands load_imm_operands load_operands store_imm_operands store_operands jump_if_operands
+line_back q (insn.Alu op w d a) fits is =
+    ap (insn_of_words q) (two_words (word.Alu op w) (reg_name d) (operand_text a) (reg_line d) (operand_line a fits)) ∙ first_read q (word.Alu op w) _ (has_first q (insn.Alu op w d a) is)
     ∙ rw (comma_read (reg_name d) (operand_text a ∷ []), reg_read d, last_read operand_of_text (operand_text a) a (operand_back a fits)) refl
-line_back (insn.Neg w d) fits =
-    ap insn_of_words (one_word (word.Neg w) (reg_name d) (reg_line d)) ∙ first_read (word.Neg w) _
+line_back q (insn.MovSx w z d s) fits is =
+    ap (insn_of_words q) (three_words (word.MovSx w) (reg_name d) (reg_name s) (decimal (size_bits z)) (reg_line d) (reg_line s) (decimal_line (size_bits z) (few_bits z))) ∙ first_read q (word.MovSx w) _ (has_first q (insn.MovSx w z d s) is)
+    ∙ rw (comma_read (reg_name d) ((reg_name s ++ 44 ∷ []) ∷ decimal (size_bits z) ∷ []), reg_read d, comma_read (reg_name s) (decimal (size_bits z) ∷ []), reg_read s, last_read (bits_of_text w) (decimal (size_bits z)) z (bits_back w z (takes_narrower q w z d s is))) refl
+line_back q (insn.Neg w d) fits is =
+    ap (insn_of_words q) (one_word (word.Neg w) (reg_name d) (reg_line d)) ∙ first_read q (word.Neg w) _ (has_first q (insn.Neg w d) is)
     ∙ rw (last_read reg_of_text (reg_name d) d (reg_read d)) refl
-line_back (insn.LoadImm d v) fits =
-    ap insn_of_words (two_words word.LoadImm (reg_name d) (decimal v) (reg_line d) (decimal_line v fits)) ∙ first_read word.LoadImm _
+line_back q (insn.LoadImm d v) fits is =
+    ap (insn_of_words q) (two_words word.LoadImm (reg_name d) (decimal v) (reg_line d) (decimal_line v fits)) ∙ first_read q word.LoadImm _ (has_first q (insn.LoadImm d v) is)
     ∙ rw (comma_read (reg_name d) (decimal v ∷ []), reg_read d, last_read (numeral_upto code.Form code.Range (2 ^ 64 - 1)) (decimal v) v (number_back (2 ^ 64 - 1) v (omega (arith, fits)) fits)) refl
-line_back (insn.Load z d b o) fits =
-    ap insn_of_words (two_words (word.Load z) (reg_name d) (place_text b o) (reg_line d) (place_line b o fits)) ∙ first_read (word.Load z) _
+line_back q (insn.Load z x d b o) fits is =
+    ap (insn_of_words q) (two_words (word.Load z x) (reg_name d) (place_text b o) (reg_line d) (place_line b o fits)) ∙ first_read q (word.Load z x) _ (has_first q (insn.Load z x d b o) is)
     ∙ rw (comma_read (reg_name d) (place_text b o ∷ []), reg_read d, last_read place_of_text (place_text b o) (b, o) (place_back b o fits)) refl
-line_back (insn.StoreImm z b o k) fits =
-    ap insn_of_words (two_words (word.StoreImm z) (place_text b o) (signed_decimal k) (place_line b o fits.0) (signed_line k fits.1)) ∙ first_read (word.StoreImm z) _
+line_back q (insn.StoreImm z b o k) fits is =
+    ap (insn_of_words q) (two_words (word.StoreImm z) (place_text b o) (signed_decimal k) (place_line b o fits.0) (signed_line k fits.1)) ∙ first_read q (word.StoreImm z) _ (has_first q (insn.StoreImm z b o k) is)
     ∙ rw (comma_read (place_text b o) (signed_decimal k ∷ []), place_back b o fits.0, last_read imm_of_text (signed_decimal k) k (imm_back k fits.1)) refl
-line_back (insn.Store z b s o) fits =
-    ap insn_of_words (two_words (word.Store z) (place_text b o) (reg_name s) (place_line b o fits) (reg_line s)) ∙ first_read (word.Store z) _
+line_back q (insn.Store z b s o) fits is =
+    ap (insn_of_words q) (two_words (word.Store z) (place_text b o) (reg_name s) (place_line b o fits) (reg_line s)) ∙ first_read q (word.Store z) _ (has_first q (insn.Store z b s o) is)
     ∙ rw (comma_read (place_text b o) (reg_name s ∷ []), place_back b o fits, last_read reg_of_text (reg_name s) s (reg_read s)) refl
-line_back (insn.Jump o) fits =
-    ap insn_of_words (one_word word.Jump (offset_text o) (offset_line o fits)) ∙ first_read word.Jump _
+line_back q (insn.Jump o) fits is =
+    ap (insn_of_words q) (one_word word.Jump (offset_text o) (offset_line o fits)) ∙ first_read q word.Jump _ (has_first q (insn.Jump o) is)
     ∙ rw (last_read offset_of_text (offset_text o) o (offset_back o fits)) refl
-line_back (insn.JumpIf c w d a o) fits =
-    ap insn_of_words (three_words (word.JumpIf c w) (reg_name d) (operand_text a) (offset_text o) (reg_line d) (operand_line a fits.0) (offset_line o fits.1)) ∙ first_read (word.JumpIf c w) _
+line_back q (insn.JumpIf c w d a o) fits is =
+    ap (insn_of_words q) (three_words (word.JumpIf c w) (reg_name d) (operand_text a) (offset_text o) (reg_line d) (operand_line a fits.0) (offset_line o fits.1)) ∙ first_read q (word.JumpIf c w) _ (has_first q (insn.JumpIf c w d a o) is)
     ∙ rw (comma_read (reg_name d) ((operand_text a ++ 44 ∷ []) ∷ offset_text o ∷ []), reg_read d, comma_read (operand_text a) (offset_text o ∷ []), operand_back a fits.0, last_read offset_of_text (offset_text o) o (offset_back o fits.1)) refl
-line_back (insn.Call k) fits =
-    ap insn_of_words (one_word word.Call (signed_decimal k) (signed_line k fits)) ∙ first_read word.Call _
+line_back q (insn.Call k) fits is =
+    ap (insn_of_words q) (one_word word.Call (signed_decimal k) (signed_line k fits)) ∙ first_read q word.Call _ (has_first q (insn.Call k) is)
     ∙ rw (last_read imm_of_text (signed_decimal k) k (imm_back k fits)) refl
-line_back insn.Exit fits = ap insn_of_words (cut_none 32 48 (name word.Exit) (omega arith) (name_above word.Exit)) ∙ first_read word.Exit []
+line_back q insn.Exit fits is = ap (insn_of_words q) (cut_none 32 48 (name word.Exit) (omega arith) (name_above word.Exit)) ∙ first_read q word.Exit [] (has_first q insn.Exit is)
 
 -- ---- the lines of a listing
 
 name_nil : (w : Word) (xs : List ℕ) → name w ≡ xs → 0 < length xs
 unfolding words
-name_nil w [] e = let h : word_named [] ≡ Some w = sym (ap word_named e) ∙ word_back w in absurd cc
+name_nil w [] e = let h : word_in [] words ≡ Some w = sym (ap (λ (t : List ℕ). word_in t words) e) ∙ word_there w in absurd cc
 name_nil w (x ∷ xs) e = omega arith
 
 shown_cases : (x : ℕ) (xs ys : List ℕ) (b : Bool) → nat_le 48 x ≡ b → cond b (above 48 xs) false ≡ true → is_skipped ((x ∷ xs) ++ ys) ≡ false
@@ -268,9 +346,10 @@ name_shown w ys = shown (name w) ys (name_nil w (name w) refl) (name_above w)
 
 pub insn_shown : (i : Insn) → is_skipped (insn_text i) ≡ false
 insn_shown (insn.Alu op w d a) = name_shown (word.Alu op w) (codes " " ++ (reg_name d ++ (codes ", " ++ operand_text a)))
+insn_shown (insn.MovSx w z d s) = name_shown (word.MovSx w) (codes " " ++ (reg_name d ++ (codes ", " ++ (reg_name s ++ (codes ", " ++ decimal (size_bits z))))))
 insn_shown (insn.Neg w d) = name_shown (word.Neg w) (codes " " ++ reg_name d)
 insn_shown (insn.LoadImm d v) = name_shown word.LoadImm (codes " " ++ (reg_name d ++ (codes ", " ++ decimal v)))
-insn_shown (insn.Load z d b o) = name_shown (word.Load z) (codes " " ++ (reg_name d ++ (codes ", " ++ place_text b o)))
+insn_shown (insn.Load z x d b o) = name_shown (word.Load z x) (codes " " ++ (reg_name d ++ (codes ", " ++ place_text b o)))
 insn_shown (insn.StoreImm z b o k) = name_shown (word.StoreImm z) (codes " " ++ (place_text b o ++ (codes ", " ++ signed_decimal k)))
 insn_shown (insn.Store z b s o) = name_shown (word.Store z) (codes " " ++ (place_text b o ++ (codes ", " ++ reg_name s)))
 insn_shown (insn.Jump o) = name_shown word.Jump (codes " " ++ offset_text o)
@@ -290,9 +369,10 @@ with_comma x y h k = above_append 32 x (codes ", " ++ y) (less x h) k
 
 insn_above : (i : Insn) → Fits i → above 32 (insn_text i) ≡ true
 insn_above (insn.Alu op w d a) fits = with_name (word.Alu op w) (reg_name d ++ (codes ", " ++ operand_text a)) (with_comma (reg_name d) (operand_text a) (reg_line d) (less (operand_text a) (operand_line a fits)))
+insn_above (insn.MovSx w z d s) fits = with_name (word.MovSx w) (reg_name d ++ (codes ", " ++ (reg_name s ++ (codes ", " ++ decimal (size_bits z))))) (with_comma (reg_name d) (reg_name s ++ (codes ", " ++ decimal (size_bits z))) (reg_line d) (with_comma (reg_name s) (decimal (size_bits z)) (reg_line s) (less (decimal (size_bits z)) (decimal_line (size_bits z) (few_bits z)))))
 insn_above (insn.Neg w d) fits = with_name (word.Neg w) (reg_name d) (less (reg_name d) (reg_line d))
 insn_above (insn.LoadImm d v) fits = with_name word.LoadImm (reg_name d ++ (codes ", " ++ decimal v)) (with_comma (reg_name d) (decimal v) (reg_line d) (less (decimal v) (decimal_line v fits)))
-insn_above (insn.Load z d b o) fits = with_name (word.Load z) (reg_name d ++ (codes ", " ++ place_text b o)) (with_comma (reg_name d) (place_text b o) (reg_line d) (less (place_text b o) (place_line b o fits)))
+insn_above (insn.Load z x d b o) fits = with_name (word.Load z x) (reg_name d ++ (codes ", " ++ place_text b o)) (with_comma (reg_name d) (place_text b o) (reg_line d) (less (place_text b o) (place_line b o fits)))
 insn_above (insn.StoreImm z b o k) fits = with_name (word.StoreImm z) (place_text b o ++ (codes ", " ++ signed_decimal k)) (with_comma (place_text b o) (signed_decimal k) (place_line b o fits.0) (less (signed_decimal k) (signed_line k fits.1)))
 insn_above (insn.Store z b s o) fits = with_name (word.Store z) (place_text b o ++ (codes ", " ++ reg_name s)) (with_comma (place_text b o) (reg_name s) (place_line b o fits) (less (reg_name s) (reg_line s)))
 insn_above (insn.Jump o) fits = with_name word.Jump (offset_text o) (less (offset_text o) (offset_line o fits))
@@ -317,26 +397,26 @@ slots_append (i ∷ p) q =
     let a = length-append (places_of i) (layout (p ++ q)) in let b = length-append (places_of i) (layout p) in let h = slots_append p q in
     omega (arith, a, b, h)
 
-pub added : (before : List Insn) (i : Insn) → Fits i → slots (before ++ i ∷ []) ≤ MAX_SLOTS → with_insn_line before (insn_text i) ≡ Ok (before ++ i ∷ [])
+pub added : (q : Profile) (before : List Insn) (i : Insn) → Fits i → IsOf q i → slots (before ++ i ∷ []) ≤ max_slots q → with_insn_line q before (insn_text i) ≡ Ok (before ++ i ∷ [])
 unfolding with_insn_line
-added before i fits most = rw (insn_shown i, line_back i fits, le-ltb MAX_SLOTS (slots (before ++ i ∷ [])) most) refl
+added q before i fits is most = rw (insn_shown i, line_back q i fits is, le-ltb (max_slots q) (slots (before ++ i ∷ [])) most) refl
 
-read_on : (n : ℕ) (before p : List Insn) → AllByRecursion Fits p → slots (before ++ p) ≤ MAX_SLOTS → insns_of_lines n before (map insn_text p ++ [] ∷ []) ≡ Ok (before ++ p)
+read_on : (q : Profile) (n : ℕ) (before p : List Insn) → AllByRecursion Fits p → AllByRecursion (IsOf q) p → slots (before ++ p) ≤ max_slots q → insns_of_lines q n before (map insn_text p ++ [] ∷ []) ≡ Ok (before ++ p)
 unfolding with_insn_line
-read_on n before [] fits most = ap Ok (sym (append-nil before))
-read_on n before (i ∷ p) fits most =
+read_on q n before [] fits is most = ap Ok (sym (append-nil before))
+read_on q n before (i ∷ p) fits is most =
     let grouped : (before ++ i ∷ []) ++ p ≡ before ++ i ∷ p = append_assoc before (i ∷ []) p in
     let a = slots_append (before ++ i ∷ []) p in
-    let whole : slots ((before ++ i ∷ []) ++ p) ≤ MAX_SLOTS = subst (λ (q : List Insn). slots q ≤ MAX_SLOTS) (sym grouped) most in
-    let one_more : slots (before ++ i ∷ []) ≤ MAX_SLOTS = omega (arith, a, whole) in
-    ap (λ (r : Result (List Insn) Code). (numbered asm_code n r >>= λ q. insns_of_lines (n + 1) q (map insn_text p ++ [] ∷ []))) (added before i fits.0 one_more)
-    ∙ read_on (n + 1) (before ++ i ∷ []) p fits.1 whole ∙ ap Ok grouped
+    let whole : slots ((before ++ i ∷ []) ++ p) ≤ max_slots q = subst (λ (is : List Insn). slots is ≤ max_slots q) (sym grouped) most in
+    let one_more : slots (before ++ i ∷ []) ≤ max_slots q = omega (arith, a, whole) in
+    ap (λ (r : Result (List Insn) Code). (numbered asm_code n r >>= λ is. insns_of_lines q (n + 1) is (map insn_text p ++ [] ∷ []))) (added q before i fits.0 is.0 one_more)
+    ∙ read_on q (n + 1) (before ++ i ∷ []) p fits.1 is.1 whole ∙ ap Ok grouped
 
-pub some_there : (is : List Insn) → 0 < slots is → some_of is ≡ Ok (record { insns = is })
-some_there [] some = let no : ⊥ = omega (arith, some) in absurd no
-some_there (i ∷ p) some = refl
+pub some_there : (q : Profile) (is : List Insn) → 0 < slots is → some_of q is ≡ Ok (record { profile = q; insns = is })
+some_there q [] some = let no : ⊥ = omega (arith, some) in absurd no
+some_there q (i ∷ p) some = refl
 
-pub listing_back : (p : ProgramOf) → IsProgram p → AllByRecursion Fits p.insns → program_of_text (listing p.insns) ≡ Ok p
+pub listing_back : (p : ProgramOf) → IsProgram p → AllByRecursion Fits p.insns → program_of_text p.profile (listing p.insns) ≡ Ok p
 listing_back p is fits =
-    ap (λ (ls : List (List ℕ)). insns_of_lines 0 [] ls >>= some_of) (lines_cut p.insns fits)
-    ∙ ap (λ (r : Result (List Insn) (ℕ × ℕ)). r >>= some_of) (read_on 0 [] p.insns fits is.most) ∙ some_there p.insns is.some
+    ap (λ (ls : List (List ℕ)). insns_of_lines p.profile 0 [] ls >>= some_of p.profile) (lines_cut p.insns fits)
+    ∙ ap (λ (r : Result (List Insn) (ℕ × ℕ)). r >>= some_of p.profile) (read_on p.profile 0 [] p.insns fits is.of_profile is.most) ∙ some_there p.profile p.insns is.some

@@ -9,6 +9,9 @@ use Rattle.pb_isa.specs.declared.insn.Width.{Width}
 use Rattle.pb_isa.specs.declared.insn.Width.TheVariants.{Bits32, Bits64}
 use Rattle.pb_isa.specs.declared.insn.Size.{Size}
 use Rattle.pb_isa.specs.declared.insn.Size.TheVariants.{B, H, W, Dw}
+use Rattle.pb_isa.specs.declared.insn.Extension.{Extension}
+use Rattle.pb_isa.specs.declared.insn.Extension.TheVariants.{Zeros, Sign}
+use Rattle.pb_isa.specs.declared.profile.Profile.{Profile}
 use Rattle.std.specs.List.{slice_split, before_first, after_first, position_or_len}
 use Rattle.std.specs.Fmt.{decimal}
 use Rattle.std.proofs.lemmas.Bool.{leb-true, le-ltb}
@@ -17,8 +20,8 @@ use Rattle.std.proofs.lemmas.List.{length-append}
 use Rattle.pb_isa.specs.declared.insn.Reg.{Reg}
 use Rattle.pb_isa.specs.declared.insn.Reg.TheVariants.{R0, R1, R2, R3, R4, R5, R6, R7, R8, R9, R10}
 use Rattle.pb_asm.specs.declared.names.Word.{Word}
-use Rattle.pb_asm.specs.declared.names.Word.TheVariants.{Alu, Neg, LoadImm, Load, StoreImm, Store, Jump, JumpIf, Call, Exit}
-use Rattle.pb_asm.specs.Names.{op_name, cmp_name, size_name, width_name, name, words, word_named, reg_name, registers, reg_named}
+use Rattle.pb_asm.specs.declared.names.Word.TheVariants.{Alu, MovSx, Neg, LoadImm, Load, StoreImm, Store, Jump, JumpIf, Call, Exit}
+use Rattle.pb_asm.specs.Names.{op_name, cmp_name, size_name, width_name, extension_name, name, words, IsWordOf, word_in, word_named, reg_name, registers, reg_named}
 use Rattle.pb_asm.specs.Cuts.{split_once}
 
 -- each byte is at least n
@@ -151,11 +154,16 @@ width_above : (w : Width) → above 48 (width_name w) ≡ true
 width_above Bits32 = refl
 width_above Bits64 = refl
 
+extension_above : (x : Extension) → above 48 (extension_name x) ≡ true
+extension_above Zeros = refl
+extension_above Sign = refl
+
 pub name_above : (w : Word) → above 48 (name w) ≡ true
 name_above (Alu op w) = above_append 48 (op_name op) (width_name w) (op_above op) (width_above w)
+name_above (MovSx w) = above_append 48 (codes "movsx") (width_name w) refl (width_above w)
 name_above (Neg w) = above_append 48 (codes "neg") (width_name w) refl (width_above w)
 name_above LoadImm = refl
-name_above (Load z) = above_append 48 (codes "ldx") (size_name z) refl (size_above z)
+name_above (Load z x) = above_append 48 (codes "ldx") (extension_name x ++ size_name z) refl (above_append 48 (extension_name x) (size_name z) (extension_above x) (size_above z))
 name_above (StoreImm z) = above_append 48 (codes "st") (size_name z) refl (size_above z)
 name_above (Store z) = above_append 48 (codes "stx") (size_name z) refl (size_above z)
 name_above Jump = refl
@@ -168,49 +176,58 @@ each_width P a b Bits32 = a
 each_width P a b Bits64 = b
 
 -- each word is the one of its name
-pub word_back : (w : Word) → word_named (name w) ≡ Some w
+pub word_there : (w : Word) → word_in (name w) words ≡ Some w
 unfolding words
-word_back (Alu Add w) = each_width (λ w. word_named (name (Alu Add w)) ≡ Some (Alu Add w)) refl refl w
-word_back (Alu Sub w) = each_width (λ w. word_named (name (Alu Sub w)) ≡ Some (Alu Sub w)) refl refl w
-word_back (Alu Mul w) = each_width (λ w. word_named (name (Alu Mul w)) ≡ Some (Alu Mul w)) refl refl w
-word_back (Alu Div w) = each_width (λ w. word_named (name (Alu Div w)) ≡ Some (Alu Div w)) refl refl w
-word_back (Alu Or w) = each_width (λ w. word_named (name (Alu Or w)) ≡ Some (Alu Or w)) refl refl w
-word_back (Alu And w) = each_width (λ w. word_named (name (Alu And w)) ≡ Some (Alu And w)) refl refl w
-word_back (Alu Lsh w) = each_width (λ w. word_named (name (Alu Lsh w)) ≡ Some (Alu Lsh w)) refl refl w
-word_back (Alu Rsh w) = each_width (λ w. word_named (name (Alu Rsh w)) ≡ Some (Alu Rsh w)) refl refl w
-word_back (Alu Mod w) = each_width (λ w. word_named (name (Alu Mod w)) ≡ Some (Alu Mod w)) refl refl w
-word_back (Alu Xor w) = each_width (λ w. word_named (name (Alu Xor w)) ≡ Some (Alu Xor w)) refl refl w
-word_back (Alu Mov w) = each_width (λ w. word_named (name (Alu Mov w)) ≡ Some (Alu Mov w)) refl refl w
-word_back (Alu Arsh w) = each_width (λ w. word_named (name (Alu Arsh w)) ≡ Some (Alu Arsh w)) refl refl w
-word_back (JumpIf Eq w) = each_width (λ w. word_named (name (JumpIf Eq w)) ≡ Some (JumpIf Eq w)) refl refl w
-word_back (JumpIf Gt w) = each_width (λ w. word_named (name (JumpIf Gt w)) ≡ Some (JumpIf Gt w)) refl refl w
-word_back (JumpIf Ge w) = each_width (λ w. word_named (name (JumpIf Ge w)) ≡ Some (JumpIf Ge w)) refl refl w
-word_back (JumpIf Set w) = each_width (λ w. word_named (name (JumpIf Set w)) ≡ Some (JumpIf Set w)) refl refl w
-word_back (JumpIf Ne w) = each_width (λ w. word_named (name (JumpIf Ne w)) ≡ Some (JumpIf Ne w)) refl refl w
-word_back (JumpIf Sgt w) = each_width (λ w. word_named (name (JumpIf Sgt w)) ≡ Some (JumpIf Sgt w)) refl refl w
-word_back (JumpIf Sge w) = each_width (λ w. word_named (name (JumpIf Sge w)) ≡ Some (JumpIf Sge w)) refl refl w
-word_back (JumpIf Lt w) = each_width (λ w. word_named (name (JumpIf Lt w)) ≡ Some (JumpIf Lt w)) refl refl w
-word_back (JumpIf Le w) = each_width (λ w. word_named (name (JumpIf Le w)) ≡ Some (JumpIf Le w)) refl refl w
-word_back (JumpIf Slt w) = each_width (λ w. word_named (name (JumpIf Slt w)) ≡ Some (JumpIf Slt w)) refl refl w
-word_back (JumpIf Sle w) = each_width (λ w. word_named (name (JumpIf Sle w)) ≡ Some (JumpIf Sle w)) refl refl w
-word_back (Load B) = refl
-word_back (Load H) = refl
-word_back (Load W) = refl
-word_back (Load Dw) = refl
-word_back (StoreImm B) = refl
-word_back (StoreImm H) = refl
-word_back (StoreImm W) = refl
-word_back (StoreImm Dw) = refl
-word_back (Store B) = refl
-word_back (Store H) = refl
-word_back (Store W) = refl
-word_back (Store Dw) = refl
-word_back (Neg Bits32) = refl
-word_back (Neg Bits64) = refl
-word_back LoadImm = refl
-word_back Jump = refl
-word_back Call = refl
-word_back Exit = refl
+word_there (Alu Add w) = each_width (λ w. word_in (name (Alu Add w)) words ≡ Some (Alu Add w)) refl refl w
+word_there (Alu Sub w) = each_width (λ w. word_in (name (Alu Sub w)) words ≡ Some (Alu Sub w)) refl refl w
+word_there (Alu Mul w) = each_width (λ w. word_in (name (Alu Mul w)) words ≡ Some (Alu Mul w)) refl refl w
+word_there (Alu Div w) = each_width (λ w. word_in (name (Alu Div w)) words ≡ Some (Alu Div w)) refl refl w
+word_there (Alu Or w) = each_width (λ w. word_in (name (Alu Or w)) words ≡ Some (Alu Or w)) refl refl w
+word_there (Alu And w) = each_width (λ w. word_in (name (Alu And w)) words ≡ Some (Alu And w)) refl refl w
+word_there (Alu Lsh w) = each_width (λ w. word_in (name (Alu Lsh w)) words ≡ Some (Alu Lsh w)) refl refl w
+word_there (Alu Rsh w) = each_width (λ w. word_in (name (Alu Rsh w)) words ≡ Some (Alu Rsh w)) refl refl w
+word_there (Alu Mod w) = each_width (λ w. word_in (name (Alu Mod w)) words ≡ Some (Alu Mod w)) refl refl w
+word_there (Alu Xor w) = each_width (λ w. word_in (name (Alu Xor w)) words ≡ Some (Alu Xor w)) refl refl w
+word_there (Alu Mov w) = each_width (λ w. word_in (name (Alu Mov w)) words ≡ Some (Alu Mov w)) refl refl w
+word_there (Alu Arsh w) = each_width (λ w. word_in (name (Alu Arsh w)) words ≡ Some (Alu Arsh w)) refl refl w
+word_there (JumpIf Eq w) = each_width (λ w. word_in (name (JumpIf Eq w)) words ≡ Some (JumpIf Eq w)) refl refl w
+word_there (JumpIf Gt w) = each_width (λ w. word_in (name (JumpIf Gt w)) words ≡ Some (JumpIf Gt w)) refl refl w
+word_there (JumpIf Ge w) = each_width (λ w. word_in (name (JumpIf Ge w)) words ≡ Some (JumpIf Ge w)) refl refl w
+word_there (JumpIf Set w) = each_width (λ w. word_in (name (JumpIf Set w)) words ≡ Some (JumpIf Set w)) refl refl w
+word_there (JumpIf Ne w) = each_width (λ w. word_in (name (JumpIf Ne w)) words ≡ Some (JumpIf Ne w)) refl refl w
+word_there (JumpIf Sgt w) = each_width (λ w. word_in (name (JumpIf Sgt w)) words ≡ Some (JumpIf Sgt w)) refl refl w
+word_there (JumpIf Sge w) = each_width (λ w. word_in (name (JumpIf Sge w)) words ≡ Some (JumpIf Sge w)) refl refl w
+word_there (JumpIf Lt w) = each_width (λ w. word_in (name (JumpIf Lt w)) words ≡ Some (JumpIf Lt w)) refl refl w
+word_there (JumpIf Le w) = each_width (λ w. word_in (name (JumpIf Le w)) words ≡ Some (JumpIf Le w)) refl refl w
+word_there (JumpIf Slt w) = each_width (λ w. word_in (name (JumpIf Slt w)) words ≡ Some (JumpIf Slt w)) refl refl w
+word_there (JumpIf Sle w) = each_width (λ w. word_in (name (JumpIf Sle w)) words ≡ Some (JumpIf Sle w)) refl refl w
+word_there (Load B Zeros) = refl
+word_there (Load H Zeros) = refl
+word_there (Load W Zeros) = refl
+word_there (Load Dw Zeros) = refl
+word_there (Load B Sign) = refl
+word_there (Load H Sign) = refl
+word_there (Load W Sign) = refl
+word_there (Load Dw Sign) = refl
+word_there (StoreImm B) = refl
+word_there (StoreImm H) = refl
+word_there (StoreImm W) = refl
+word_there (StoreImm Dw) = refl
+word_there (Store B) = refl
+word_there (Store H) = refl
+word_there (Store W) = refl
+word_there (Store Dw) = refl
+word_there (MovSx Bits32) = refl
+word_there (MovSx Bits64) = refl
+word_there (Neg Bits32) = refl
+word_there (Neg Bits64) = refl
+word_there LoadImm = refl
+word_there Jump = refl
+word_there Call = refl
+word_there Exit = refl
+
+pub word_back : (q : Profile) (w : Word) → IsWordOf q w → word_named q (name w) ≡ Some w
+word_back q w is = rw (word_there w, is) refl
 
 pub reg_back : (r : Reg) → reg_named (reg_name r) ≡ Some r
 unfolding registers

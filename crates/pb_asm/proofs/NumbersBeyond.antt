@@ -1,13 +1,17 @@
 -- A number beyond its field is told as out of range.
-use Rattle.std.proofs.Common.{◌≡◌, ℕ, ◌+◌, ◌-◌, ◌^◌, ℤ, true, false, List, [], ◌∷◌, ◌++◌, Option, Some, Result, Err, refl, sym, ap, ◌∙◌, append_assoc, append-nil, arith, inl, inr}
-use Rattle.std.specs.Prelude.{◌==◌, nat_le, codes, slice_index, ok_or}
+use Rattle.std.proofs.Common.{◌≡◌, ◌≢◌, ℕ, ◌+◌, ◌-◌, ◌^◌, ℤ, Bool, true, false, cond, List, [], ◌∷◌, ◌++◌, Option, Some, None, Result, Ok, Err, refl, sym, ap, ◌∙◌, append_assoc, append-nil, arith, inl, inr}
+use Rattle.std.specs.Prelude.{◌==◌, ◌&&◌, nat_le, codes, slice_index, ok_or}
 use Rattle.std.specs.Char.{is_ascii_digit}
 use Rattle.std.specs.List.{list_all}
 use Rattle.std.specs.Str.Parse.{digits_value}
-use Rattle.std.proofs.lemmas.Bool.{lt-leb, and_parts}
+use Rattle.std.proofs.lemmas.Bool.{eqb-true, lt-leb, and_parts}
 use Rattle.std.proofs.lemmas.Bool.Decides.{nat_tests}
 use Rattle.pb_isa.specs.declared.insn.Reg.{Reg}
-use Rattle.pb_base.specs.Reading.{◌>>=◌, numeral_upto, is_skipped, numbered}
+use Rattle.pb_isa.specs.declared.insn.Width.{Width}
+use Rattle.pb_isa.specs.declared.insn.Size.{Size}
+use Rattle.pb_isa.specs.declared.profile.Profile.{Profile}
+use Rattle.pb_isa.specs.Profiles.{is_narrower}
+use Rattle.pb_base.specs.Reading.{◌>>=◌, is_numeral, numeral_upto, is_skipped, numbered}
 use Rattle.pb_isa.specs.declared.insn.Insn.{Insn}
 use Rattle.pb_asm.specs.Codes.{asm_code}
 use Rattle.pb_asm.specs.Texts.{with_insn_line}
@@ -15,11 +19,11 @@ use Rattle.pb_asm.specs.declared.fault.Code.{Code}
 use Rattle.pb_asm.specs.declared.fault.Code.TheVariants as code
 use Rattle.pb_asm.specs.declared.names.Word.{Word}
 use Rattle.pb_asm.specs.declared.names.Word.TheVariants as word
-use Rattle.pb_asm.specs.Names.{name, reg_name}
+use Rattle.pb_asm.specs.Names.{name, IsWordOf, sizes, size_bits, reg_name}
 use Rattle.pb_asm.specs.Cuts.{strip_suffix, split_once}
 use Rattle.pb_asm.specs.Listing.{operand_text, place_text}
-use Rattle.pb_asm.specs.Operands.{minus, plus, imm_of_text, offset_of_text, operand_of_text, base_and_offset, at_minus, at_plus, place_of_text, last, alu_operands, load_imm_operands, load_operands, store_imm_operands, store_operands, jump_if_operands, operands, insn_of_words, line_of}
-use Rattle.pb_asm.specs.OutOfRange.{IsAbove, IsImmBeyond, IsOffsetBeyond, NumberPlace, AluImm, LoadImmImm, LoadOffset, StoreImmOffset, StoreImmImm, StoreOffset, JumpOffset, JumpIfImm, JumpIfOffset, CallImm, place_with, line_with, FitsBefore, IsBeyond, EndsWord}
+use Rattle.pb_asm.specs.Operands.{minus, plus, imm_of_text, offset_of_text, operand_of_text, size_in, bits_of_text, base_and_offset, at_minus, at_plus, place_of_text, last, alu_operands, mov_sx_operands, load_imm_operands, load_operands, store_imm_operands, store_operands, jump_if_operands, operands, insn_of_words, line_of}
+use Rattle.pb_asm.specs.OutOfRange.{IsAbove, IsImmBeyond, IsOffsetBeyond, IsUnlisted, NumberPlace, AluImm, MovSxBits, LoadImmImm, LoadOffset, StoreImmOffset, StoreImmImm, StoreOffset, JumpOffset, JumpIfImm, JumpIfOffset, CallImm, place_with, place_word, operands_with, line_with, FitsBefore, IsBeyond, EndsWord}
 use Rattle.pb_asm.proofs.Numerals.{digits_in}
 use Rattle.pb_asm.proofs.TextCuts.{before_there}
 use Rattle.pb_asm.proofs.NamesAndDigits.{above, above_append, above_less, cut_there, around_there, around_none, reg_above}
@@ -82,6 +86,35 @@ offset_line : (text : List ℕ) → IsOffsetBeyond text → above 33 text ≡ tr
 offset_line text (inl h) = ap (above 33) h.1 ∙ above_less 33 48 h.0 (omega arith) (number_above (2 ^ 15 - 1) h.0 h.2)
 offset_line text (inr h) = ap (above 33) h.1 ∙ above_less 33 48 h.0 (omega arith) (number_above (2 ^ 15) h.0 h.2)
 
+-- ---- bits
+
+-- no size of the list has so many bits
+none_sized : (w : Width) (n : ℕ) (zs : List Size) → ((z : Size) → is_narrower z w ≡ true → n ≢ size_bits z) → size_in w n zs ≡ None
+none_sized w n [] none = refl
+none_sized w n (z ∷ zs) none = rw (not_sized (is_narrower z w) refl (size_bits z == n) refl) (none_sized w n zs none)
+  where
+    not_sized : (a : Bool) → is_narrower z w ≡ a → (b : Bool) → (size_bits z == n) ≡ b → (is_narrower z w && (size_bits z == n)) ≡ false
+    not_sized false is b same = rw is refl
+    not_sized true is false same = rw (is, same) refl
+    not_sized true is true same = absurd (none z is (sym (eqb-true _ _ same)))
+
+numeral_cases : (most : ℕ) (text : List ℕ) → is_numeral text ≡ true → (b : Bool) → nat_le (digits_value 10 text) most ≡ b → numeral_upto code.Form code.Range most text ≡ cond b (Ok (digits_value 10 text)) (Err code.Range)
+numeral_cases most text is b le = rw (is, le) refl
+
+bits_over : (w : Width) (text : List ℕ) → IsUnlisted w text → bits_of_text w text ≡ Err code.Range
+unfolding bits_of_text
+bits_over w text h = cases (nat_le (digits_value 10 text) (2 ^ 64 - 1)) refl
+  where
+    found : (b : Bool) → (cond b (Ok (digits_value 10 text)) (Err code.Range) >>= λ n. ok_or (size_in w n sizes) code.Range) ≡ Err code.Range
+    found true = rw (none_sized w (digits_value 10 text) sizes h.unlisted) refl
+    found false = refl
+
+    cases : (b : Bool) → nat_le (digits_value 10 text) (2 ^ 64 - 1) ≡ b → bits_of_text w text ≡ Err code.Range
+    cases b le = ap (λ (r : Result ℕ Code). r >>= λ n. ok_or (size_in w n sizes) code.Range) (numeral_cases (2 ^ 64 - 1) text h.numeral b le) ∙ found b
+
+bits_line : (w : Width) (text : List ℕ) → IsUnlisted w text → above 33 text ≡ true
+bits_line w text h = above_less 33 48 text (omega arith) (digits_above text (digits_in text h.numeral).0)
+
 -- ---- places
 
 based_over : (b : Reg) (read : Result ℤ Code) → read ≡ Err code.Range → base_and_offset (reg_name b) read ≡ Err code.Range
@@ -118,8 +151,8 @@ word_cut : (x rest : List ℕ) → above 33 x ≡ true → EndsWord rest → (ot
 word_cut x rest h (inl e) = ([], ap (λ (t : List ℕ). blanks (x ++ t)) e ∙ ap blanks (append-nil x) ∙ last_cut x h)
 word_cut x rest h (inr e) = (blanks e.0, ap (λ (t : List ℕ). blanks (x ++ t)) e.1 ∙ cut_there 32 33 x e.0 (omega arith) h)
 
-after_name : (w : Word) (y : List ℕ) (ys : List (List ℕ)) → blanks y ≡ ys → line_of (name w ++ (codes " " ++ y)) ≡ operands w ys
-after_name w y ys e = ap insn_of_words (name_cut w y ∙ ap (λ (ws : List (List ℕ)). name w ∷ ws) e) ∙ first_read w ys
+after_name : (q : Profile) (w : Word) (y : List ℕ) (ys : List (List ℕ)) → IsWordOf q w → blanks y ≡ ys → line_of q (name w ++ (codes " " ++ y)) ≡ operands w ys
+after_name q w y ys has e = ap (insn_of_words q) (name_cut w y ∙ ap (λ (ws : List (List ℕ)). name w ∷ ws) e) ∙ first_read q w ys has
 
 then_cut : (x y : List ℕ) (ys : List (List ℕ)) → above 33 x ≡ true → blanks y ≡ ys → blanks (x ++ (codes ", " ++ y)) ≡ (x ++ 44 ∷ []) ∷ ys
 then_cut x y ys h e = comma_cut x y h ∙ ap (λ (ws : List (List ℕ)). (x ++ 44 ∷ []) ∷ ws) e
@@ -131,57 +164,52 @@ last_over read x others h = rw h refl
 with_comma : (x : List ℕ) → above 33 x ≡ true → above 33 (x ++ 44 ∷ []) ≡ true
 with_comma x h = above_append 33 x (44 ∷ []) h refl
 
-pub range_told : (f : NumberPlace) (number rest : List ℕ) → FitsBefore f → IsBeyond f number → EndsWord rest → line_of (line_with f number rest) ≡ Err code.Range
-unfolding alu_operands load_imm_operands load_operands store_imm_operands store_operands jump_if_operands
-range_told (AluImm op w d) number rest fits beyond ends =
+pub range_told : (q : Profile) (f : NumberPlace) (number rest : List ℕ) → IsWordOf q (place_word f) → FitsBefore f → IsBeyond f number → EndsWord rest → line_of q (line_with f number rest) ≡ Err code.Range
+unfolding alu_operands mov_sx_operands load_imm_operands load_operands store_imm_operands store_operands jump_if_operands
+range_told q (AluImm op w d) number rest has fits beyond ends =
     let c = word_cut number rest (imm_line number beyond) ends in
-    after_name (word.Alu op w) (reg_name d ++ (codes ", " ++ (number ++ rest))) _ (then_cut (reg_name d) (number ++ rest) _ (reg_line d) c.1)
+    after_name q (word.Alu op w) (reg_name d ++ (codes ", " ++ (number ++ rest))) _ has (then_cut (reg_name d) (number ++ rest) _ (reg_line d) c.1)
     ∙ rw (comma_read (reg_name d) (number ∷ c.0), reg_read d, last_over operand_of_text number c.0 (operand_over number beyond)) refl
-range_told (LoadImmImm d) number rest fits beyond ends =
+range_told q (MovSxBits w d s) number rest has fits beyond ends =
+    let c = word_cut number rest (bits_line w number beyond) ends in
+    after_name q (word.MovSx w) (reg_name d ++ (codes ", " ++ (reg_name s ++ (codes ", " ++ (number ++ rest))))) _ has (then_cut (reg_name d) (reg_name s ++ (codes ", " ++ (number ++ rest))) _ (reg_line d) (then_cut (reg_name s) (number ++ rest) _ (reg_line s) c.1))
+    ∙ rw (comma_read (reg_name d) ((reg_name s ++ 44 ∷ []) ∷ number ∷ c.0), reg_read d, comma_read (reg_name s) (number ∷ c.0), reg_read s, last_over (bits_of_text w) number c.0 (bits_over w number beyond)) refl
+range_told q (LoadImmImm d) number rest has fits beyond ends =
     let c = word_cut number rest (above_less 33 48 number (omega arith) (number_above (2 ^ 64 - 1) number beyond)) ends in
-    after_name word.LoadImm (reg_name d ++ (codes ", " ++ (number ++ rest))) _ (then_cut (reg_name d) (number ++ rest) _ (reg_line d) c.1)
+    after_name q word.LoadImm (reg_name d ++ (codes ", " ++ (number ++ rest))) _ has (then_cut (reg_name d) (number ++ rest) _ (reg_line d) c.1)
     ∙ rw (comma_read (reg_name d) (number ∷ c.0), reg_read d, last_over (numeral_upto code.Form code.Range (2 ^ 64 - 1)) number c.0 (numeral_over (2 ^ 64 - 1) number beyond)) refl
-range_told (LoadOffset z d s) number rest fits beyond ends =
+range_told q (LoadOffset z x d s) number rest has fits beyond ends =
     let c = word_cut (place_with s number) rest (bracketed_line s number beyond) ends in
-    after_name (word.Load z) (reg_name d ++ (codes ", " ++ (place_with s number ++ rest))) _ (then_cut (reg_name d) (place_with s number ++ rest) _ (reg_line d) c.1)
+    after_name q (word.Load z x) (reg_name d ++ (codes ", " ++ (place_with s number ++ rest))) _ has (then_cut (reg_name d) (place_with s number ++ rest) _ (reg_line d) c.1)
     ∙ rw (comma_read (reg_name d) (place_with s number ∷ c.0), reg_read d, last_over place_of_text (place_with s number) c.0 (place_over s number beyond)) refl
-range_told (StoreImmOffset z d) number rest fits beyond ends =
+range_told q (StoreImmOffset z d) number rest has fits beyond ends =
     let c = word_cut (place_with d number ++ 44 ∷ []) rest (with_comma (place_with d number) (bracketed_line d number beyond)) ends in
-    after_name (word.StoreImm z) ((place_with d number ++ 44 ∷ []) ++ rest) _ c.1 ∙ rw (comma_read (place_with d number) c.0, place_over d number beyond) refl
-range_told (StoreImmImm z d o) number rest fits beyond ends =
+    after_name q (word.StoreImm z) ((place_with d number ++ 44 ∷ []) ++ rest) _ has c.1 ∙ rw (comma_read (place_with d number) c.0, place_over d number beyond) refl
+range_told q (StoreImmImm z d o) number rest has fits beyond ends =
     let c = word_cut number rest (imm_line number beyond) ends in
-    after_name (word.StoreImm z) (place_text d o ++ (codes ", " ++ (number ++ rest))) _ (then_cut (place_text d o) (number ++ rest) _ (place_line d o fits) c.1)
+    after_name q (word.StoreImm z) (place_text d o ++ (codes ", " ++ (number ++ rest))) _ has (then_cut (place_text d o) (number ++ rest) _ (place_line d o fits) c.1)
     ∙ rw (comma_read (place_text d o) (number ∷ c.0), place_back d o fits, last_over imm_of_text number c.0 (imm_over number beyond)) refl
-range_told (StoreOffset z d) number rest fits beyond ends =
+range_told q (StoreOffset z d) number rest has fits beyond ends =
     let c = word_cut (place_with d number ++ 44 ∷ []) rest (with_comma (place_with d number) (bracketed_line d number beyond)) ends in
-    after_name (word.Store z) ((place_with d number ++ 44 ∷ []) ++ rest) _ c.1 ∙ rw (comma_read (place_with d number) c.0, place_over d number beyond) refl
-range_told JumpOffset number rest fits beyond ends =
+    after_name q (word.Store z) ((place_with d number ++ 44 ∷ []) ++ rest) _ has c.1 ∙ rw (comma_read (place_with d number) c.0, place_over d number beyond) refl
+range_told q JumpOffset number rest has fits beyond ends =
     let c = word_cut number rest (offset_line number beyond) ends in
-    after_name word.Jump (number ++ rest) _ c.1 ∙ rw (last_over offset_of_text number c.0 (offset_over number beyond)) refl
-range_told (JumpIfImm k w d) number rest fits beyond ends =
+    after_name q word.Jump (number ++ rest) _ has c.1 ∙ rw (last_over offset_of_text number c.0 (offset_over number beyond)) refl
+range_told q (JumpIfImm k w d) number rest has fits beyond ends =
     let c = word_cut (number ++ 44 ∷ []) rest (with_comma number (imm_line number beyond)) ends in
-    after_name (word.JumpIf k w) (reg_name d ++ (codes ", " ++ ((number ++ 44 ∷ []) ++ rest))) _ (then_cut (reg_name d) ((number ++ 44 ∷ []) ++ rest) _ (reg_line d) c.1)
+    after_name q (word.JumpIf k w) (reg_name d ++ (codes ", " ++ ((number ++ 44 ∷ []) ++ rest))) _ has (then_cut (reg_name d) ((number ++ 44 ∷ []) ++ rest) _ (reg_line d) c.1)
     ∙ rw (comma_read (reg_name d) ((number ++ 44 ∷ []) ∷ c.0), reg_read d, comma_read number c.0, operand_over number beyond) refl
-range_told (JumpIfOffset k w d s) number rest fits beyond ends =
+range_told q (JumpIfOffset k w d s) number rest has fits beyond ends =
     let c = word_cut number rest (offset_line number beyond) ends in
-    after_name (word.JumpIf k w) (reg_name d ++ (codes ", " ++ (operand_text s ++ (codes ", " ++ (number ++ rest))))) _ (then_cut (reg_name d) (operand_text s ++ (codes ", " ++ (number ++ rest))) _ (reg_line d) (then_cut (operand_text s) (number ++ rest) _ (operand_line s fits) c.1))
+    after_name q (word.JumpIf k w) (reg_name d ++ (codes ", " ++ (operand_text s ++ (codes ", " ++ (number ++ rest))))) _ has (then_cut (reg_name d) (operand_text s ++ (codes ", " ++ (number ++ rest))) _ (reg_line d) (then_cut (operand_text s) (number ++ rest) _ (operand_line s fits) c.1))
     ∙ rw (comma_read (reg_name d) ((operand_text s ++ 44 ∷ []) ∷ number ∷ c.0), reg_read d, comma_read (operand_text s) (number ∷ c.0), operand_back s fits, last_over offset_of_text number c.0 (offset_over number beyond)) refl
-range_told CallImm number rest fits beyond ends =
+range_told q CallImm number rest has fits beyond ends =
     let c = word_cut number rest (imm_line number beyond) ends in
-    after_name word.Call (number ++ rest) _ c.1 ∙ rw (last_over imm_of_text number c.0 (imm_over number beyond)) refl
+    after_name q word.Call (number ++ rest) _ has c.1 ∙ rw (last_over imm_of_text number c.0 (imm_over number beyond)) refl
 
 line_shown : (f : NumberPlace) (number rest : List ℕ) → is_skipped (line_with f number rest) ≡ false
-line_shown (AluImm op w d) number rest = name_shown (word.Alu op w) (codes " " ++ (reg_name d ++ (codes ", " ++ (number ++ rest))))
-line_shown (LoadImmImm d) number rest = name_shown word.LoadImm (codes " " ++ (reg_name d ++ (codes ", " ++ (number ++ rest))))
-line_shown (LoadOffset z d s) number rest = name_shown (word.Load z) (codes " " ++ (reg_name d ++ (codes ", " ++ (place_with s number ++ rest))))
-line_shown (StoreImmOffset z d) number rest = name_shown (word.StoreImm z) (codes " " ++ ((place_with d number ++ codes ",") ++ rest))
-line_shown (StoreImmImm z d o) number rest = name_shown (word.StoreImm z) (codes " " ++ (place_text d o ++ (codes ", " ++ (number ++ rest))))
-line_shown (StoreOffset z d) number rest = name_shown (word.Store z) (codes " " ++ ((place_with d number ++ codes ",") ++ rest))
-line_shown JumpOffset number rest = name_shown word.Jump (codes " " ++ (number ++ rest))
-line_shown (JumpIfImm k w d) number rest = name_shown (word.JumpIf k w) (codes " " ++ (reg_name d ++ (codes ", " ++ ((number ++ codes ",") ++ rest))))
-line_shown (JumpIfOffset k w d s) number rest = name_shown (word.JumpIf k w) (codes " " ++ (reg_name d ++ (codes ", " ++ (operand_text s ++ (codes ", " ++ (number ++ rest))))))
-line_shown CallImm number rest = name_shown word.Call (codes " " ++ (number ++ rest))
+line_shown f number rest = name_shown (place_word f) (codes " " ++ operands_with f number rest)
 
-pub line_told : (n : ℕ) (before : List Insn) (f : NumberPlace) (number rest : List ℕ) → FitsBefore f → IsBeyond f number → EndsWord rest → numbered asm_code n (with_insn_line before (line_with f number rest)) ≡ Err (n + 1, 82)
+pub line_told : (q : Profile) (n : ℕ) (before : List Insn) (f : NumberPlace) (number rest : List ℕ) → IsWordOf q (place_word f) → FitsBefore f → IsBeyond f number → EndsWord rest → numbered asm_code n (with_insn_line q before (line_with f number rest)) ≡ Err (n + 1, 82)
 unfolding with_insn_line
-line_told n before f number rest fits beyond ends = rw (line_shown f number rest, range_told f number rest fits beyond ends) refl
+line_told q n before f number rest has fits beyond ends = rw (line_shown f number rest, range_told q f number rest has fits beyond ends) refl

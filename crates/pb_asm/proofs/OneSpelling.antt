@@ -1,12 +1,12 @@
 -- What is read as an operand, a line or a text is written as the listing writes it.
 use Rattle.std.proofs.Common.{◌≡◌, ℕ, zero, suc, ◌-◌, ◌^◌, ◌<◌, ◌≤◌, ◌↔◌, ℤ, pos, negsuc, neg_ℤ, Bool, true, false, cond, List, [], ◌∷◌, ◌++◌, length, Option, Some, None, Result, Ok, Err, refl, sym, ap, subst, ◌∙◌, append_assoc, arith, inl, inr}
-use Rattle.std.specs.Prelude.{◌==◌, ◌&&◌, nat_le, nat_lt, codes, slice_index, FitsSigned}
+use Rattle.std.specs.Prelude.{◌==◌, ◌&&◌, nat_le, nat_lt, codes, slice_index, FitsSigned, IfOk}
 use Rattle.std.specs.Int.{w16, w32}
 use Rattle.std.specs.List.{slice_split, join_with_byte, position_or_len, before_first, after_first}
 use Rattle.std.specs.Fmt.{decimal, signed_decimal}
 use Rattle.std.specs.Str.{bytes_eq}
 use Rattle.std.specs.Str.Parse.{digits_value}
-use Rattle.std.proofs.lemmas.Bool.{eqb-true, leb-true, ltb-true, cases_lt}
+use Rattle.std.proofs.lemmas.Bool.{eqb-true, and_parts, leb-true, ltb-true, cases_lt}
 use Rattle.std.proofs.lemmas.Fmt.{decimal-digits_value}
 use Rattle.std.proofs.lemmas.List.Sums.{split_at_first, passes_at_first}
 use Rattle.std.proofs.lemmas.List.Splits.{join_with_byte-slice_split}
@@ -20,17 +20,22 @@ use Rattle.pb_isa.specs.declared.insn.AluOp.{AluOp}
 use Rattle.pb_isa.specs.declared.insn.Cmp.{Cmp}
 use Rattle.pb_isa.specs.declared.insn.Width.{Width}
 use Rattle.pb_isa.specs.declared.insn.Size.{Size}
+use Rattle.pb_isa.specs.declared.insn.Extension.{Extension}
+use Rattle.pb_isa.specs.declared.insn.Extension.TheVariants.{Zeros, Sign}
+use Rattle.pb_isa.specs.declared.profile.Profile.{Profile}
+use Rattle.pb_isa.specs.declared.profile.Profile.TheVariants.{One, Two}
+use Rattle.pb_isa.specs.Profiles.{is_narrower, IsOf}
 use Rattle.pb_isa.specs.Bounds.{OperandFits, Fits}
 use Rattle.pb_asm.specs.declared.fault.Code.{Code}
 use Rattle.pb_asm.specs.declared.fault.Code.TheVariants as code
 use Rattle.pb_asm.specs.declared.names.Word.{Word}
 use Rattle.pb_asm.specs.declared.names.Word.TheVariants as word
-use Rattle.pb_asm.specs.Names.{name, words, registers, word_in, word_named, reg_name, reg_spelled, reg_named}
+use Rattle.pb_asm.specs.Names.{name, words, IsWordOf, is_word_of, sizes, size_bits, registers, word_in, if_word_of, word_named, reg_name, reg_spelled, reg_named}
 use Rattle.pb_base.specs.Reading.{◌>>=◌}
 use Rattle.std.specs.Prelude.{ok_or}
 use Rattle.pb_asm.specs.Cuts.{strip_prefix, strip_suffix, split_once}
-use Rattle.pb_base.specs.Reading.{is_numeral, numeral_upto, no_word}
-use Rattle.pb_asm.specs.Operands.{minus, plus, signed_or, imm_of_text, plus_or_fault, offset_of_text, reg_of_text, operand_of_text, base_and_offset, at_minus, at_plus, place_of_text, comma, last, alu_operands, load_imm_operands, load_operands, store_imm_operands, store_operands, jump_if_operands, map_insn, operands, insn_of_words, line_of}
+use Rattle.pb_base.specs.Reading.{Gives, is_numeral, numeral_upto, no_word}
+use Rattle.pb_asm.specs.Operands.{minus, plus, signed_or, imm_of_text, plus_or_fault, offset_of_text, reg_of_text, operand_of_text, size_in, bits_of_text, base_and_offset, at_minus, at_plus, place_of_text, comma, last, alu_operands, mov_sx_operands, load_imm_operands, load_operands, store_imm_operands, store_operands, jump_if_operands, map_insn, operands, insn_of_words, line_of}
 use Rattle.pb_asm.specs.Listing.{operand_text, offset_text, place_text, insn_text}
 use Rattle.pb_asm.proofs.Numerals.{own, digits_in}
 use Rattle.pb_asm.proofs.TextCuts.{split_end}
@@ -48,7 +53,7 @@ ok_is x y r g h = cc
 some_is : {A : Type 0} (x y : A) (o : Option A) → o ≡ Some x → o ≡ Some y → x ≡ y
 some_is x y o g h = cc
 
-if_ok : {A : Type 0} (b : Bool) (r : Result A Code) (e : Code) (x : A) → cond b r (Err e) ≡ Ok x → (b ≡ true) × (r ≡ Ok x)
+pub if_ok : {A : Type 0} (b : Bool) (r : Result A Code) (e : Code) (x : A) → cond b r (Err e) ≡ Ok x → (b ≡ true) × (r ≡ Ok x)
 if_ok true r e x h = (refl, h)
 if_ok false r e x h = absurd cc
 
@@ -191,8 +196,40 @@ pub word_among : (text : List ℕ) (ws : List Word) (w : Word) → word_in text 
 word_among text [] w h = absurd cc
 word_among text (v ∷ ws) w h = found text name v w (word_in text ws) (bytes_eq text (name v)) refl h (word_among text ws w)
 
-pub word_is : (text : List ℕ) (c : Code) (w : Word) → ok_or (word_named text) c ≡ Ok w → text ≡ name w
-word_is text c w h = word_among text words w (there_ok (word_named text) c w h)
+pub named_is : (q : Profile) (o : Option Word) (w : Word) → if_word_of q o ≡ Some w → (o ≡ Some w) × IsWordOf q w
+named_is q None w h = absurd cc
+named_is q (Some v) w h =
+    let p = if_some (is_word_of q v) v w h in
+    (ap Some p.1, subst (IsWordOf q) p.1 p.0)
+
+pub word_is : (q : Profile) (text : List ℕ) (c : Code) (w : Word) → ok_or (word_named q text) c ≡ Ok w → (text ≡ name w) × IsWordOf q w
+word_is q text c w h =
+    let n = named_is q (word_in text words) w (there_ok (word_named q text) c w h) in
+    (word_among text words w n.0, n.1)
+
+-- ---- bits
+
+-- this many bits, and narrower than the width
+abbrev Narrower : Width → ℕ → Size → Type 0
+Narrower w n z = (n ≡ size_bits z) × (is_narrower z w ≡ true)
+
+sized : (w : Width) (n : ℕ) (z x : Size) (rest : Option Size) (b : Bool) → (is_narrower z w && (size_bits z == n)) ≡ b → cond b (Some z) rest ≡ Some x → (rest ≡ Some x → Narrower w n x) → Narrower w n x
+sized w n z x rest true is h others =
+    let p = and_parts (is_narrower z w) (size_bits z == n) is in
+    subst (Narrower w n) (some_is z x (Some z) refl h) (sym (eqb-true _ _ p.1), p.0)
+sized w n z x rest false is h others = others h
+
+size_is : (w : Width) (n : ℕ) (zs : List Size) (x : Size) → size_in w n zs ≡ Some x → Narrower w n x
+size_is w n [] x h = absurd cc
+size_is w n (z ∷ zs) x h = sized w n z x (size_in w n zs) (is_narrower z w && (size_bits z == n)) refl h (size_is w n zs x)
+
+bits_are : (w : Width) (text : List ℕ) (z : Size) → bits_of_text w text ≡ Ok z → (text ≡ decimal (size_bits z)) × (is_narrower z w ≡ true)
+unfolding bits_of_text
+bits_are w text z h =
+    let a = then_ok (numeral_upto code.Form code.Range (2 ^ 64 - 1) text) _ z h in
+    let n = number_is (2 ^ 64 - 1) a.0 text (omega arith) a.1 in
+    let s = size_is w a.0 sizes z (there_ok (size_in w a.0 sizes) code.Range z a.2) in
+    (n.0 ∙ ap decimal s.0, s.1)
 
 -- ---- operands and places
 
@@ -279,9 +316,18 @@ three_there w texts first second z t u v begins goes ends same_t same_u same_v =
     ∙ ap (λ (r : List ℕ). name w ++ 32 ∷ r) (append_assoc first.0 (44 ∷ []) (32 ∷ ((second.0 ++ 44 ∷ []) ++ 32 ∷ z)) ∙ ap (λ (r : List ℕ). r ++ 44 ∷ 32 ∷ ((second.0 ++ 44 ∷ []) ++ 32 ∷ z)) same_t
     ∙ ap (λ (r : List ℕ). t ++ 44 ∷ 32 ∷ r) (append_assoc second.0 (44 ∷ []) (32 ∷ z) ∙ ap (λ (r : List ℕ). r ++ 44 ∷ 32 ∷ z) same_u ∙ ap (λ (r : List ℕ). u ++ 44 ∷ 32 ∷ r) same_v))
 
+-- each profile that has the word has the instruction
+abbrev OfWord : Word → Insn → Type 0
+OfWord w i = (q : Profile) → IsWordOf q w → IsOf q i
+
+-- where it is of each profile
+of_any : (w : Word) (i : Insn) → IsOf One i → IsOf Two i → OfWord w i
+of_any w i one two One is = one
+of_any w i one two Two is = two
+
 -- a line of these words is the instruction's
 abbrev Written : Word → List (List ℕ) → Insn → Type 0
-Written w texts i = (join_with_byte 32 (name w ∷ texts) ≡ insn_text i) × Fits i
+Written w texts i = (join_with_byte 32 (name w ∷ texts) ≡ insn_text i) × Fits i × OfWord w i
 
 alu_is : (op : AluOp) (w : Width) (texts : List (List ℕ)) (i : Insn) → alu_operands (insn.Alu op w) texts ≡ Ok i → Written (word.Alu op w) texts i
 unfolding alu_operands
@@ -292,7 +338,24 @@ alu_is op w texts i h =
     let d = last_is operand_of_text a.0.1 c.0 c.1 in
     let e = operand_is d.0 c.0 d.2 in
     subst (Written (word.Alu op w) texts) (ok_is (insn.Alu op w b.0 c.0) i (Ok (insn.Alu op w b.0 c.0)) refl c.2)
-    (two_there (word.Alu op w) texts a.0 d.0 (reg_name b.0) (operand_text c.0) a.1 d.1 (reg_is a.0.0 b.0 b.1) e.0, e.1)
+    (two_there (word.Alu op w) texts a.0 d.0 (reg_name b.0) (operand_text c.0) a.1 d.1 (reg_is a.0.0 b.0 b.1) e.0, e.1, of_any (word.Alu op w) (insn.Alu op w b.0 c.0) refl refl)
+
+moved_of : (w : Width) (z : Size) (d s : Reg) → is_narrower z w ≡ true → OfWord (word.MovSx w) (insn.MovSx w z d s)
+moved_of w z d s narrow One is = is
+moved_of w z d s narrow Two is = narrow
+
+mov_sx_is : (w : Width) (texts : List (List ℕ)) (i : Insn) → mov_sx_operands w texts ≡ Ok i → Written (word.MovSx w) texts i
+unfolding mov_sx_operands
+mov_sx_is w texts i h =
+    let a = then_ok (comma texts) _ i h in
+    let b = then_ok (reg_of_text a.0.0) _ i a.2 in
+    let k = then_ok (comma a.0.1) _ i b.2 in
+    let l = then_ok (reg_of_text k.0.0) _ i k.2 in
+    let m = then_ok (last (bits_of_text w) k.0.1) _ i l.2 in
+    let d = last_is (bits_of_text w) k.0.1 m.0 m.1 in
+    let z = bits_are w d.0 m.0 d.2 in
+    subst (Written (word.MovSx w) texts) (ok_is (insn.MovSx w m.0 b.0 l.0) i (Ok (insn.MovSx w m.0 b.0 l.0)) refl m.2)
+    (three_there (word.MovSx w) texts a.0 k.0 d.0 (reg_name b.0) (reg_name l.0) (decimal (size_bits m.0)) a.1 k.1 d.1 (reg_is a.0.0 b.0 b.1) (reg_is k.0.0 l.0 l.1) z.0, tt, moved_of w m.0 b.0 l.0 z.1)
 
 wide_is : (texts : List (List ℕ)) (i : Insn) → load_imm_operands texts ≡ Ok i → Written word.LoadImm texts i
 unfolding load_imm_operands
@@ -304,18 +367,24 @@ wide_is texts i h =
     let e = number_is (2 ^ 64 - 1) c.0 d.0 (omega arith) d.2 in
     let le = e.1 in
     subst (Written word.LoadImm texts) (ok_is (insn.LoadImm b.0 c.0) i (Ok (insn.LoadImm b.0 c.0)) refl c.2)
-    (two_there word.LoadImm texts a.0 d.0 (reg_name b.0) (decimal c.0) a.1 d.1 (reg_is a.0.0 b.0 b.1) e.0, omega (arith, le))
+    (two_there word.LoadImm texts a.0 d.0 (reg_name b.0) (decimal c.0) a.1 d.1 (reg_is a.0.0 b.0 b.1) e.0, omega (arith, le), of_any word.LoadImm (insn.LoadImm b.0 c.0) refl refl)
 
-load_is : (z : Size) (texts : List (List ℕ)) (i : Insn) → load_operands (insn.Load z) texts ≡ Ok i → Written (word.Load z) texts i
+loaded_of : (z : Size) (x : Extension) (d b : Reg) (o : ℤ) → OfWord (word.Load z x) (insn.Load z x d b o)
+loaded_of z Zeros d b o One is = refl
+loaded_of z Sign d b o One is = is
+loaded_of z Zeros d b o Two is = refl
+loaded_of z Sign d b o Two is = is
+
+load_is : (z : Size) (x : Extension) (texts : List (List ℕ)) (i : Insn) → load_operands (insn.Load z x) texts ≡ Ok i → Written (word.Load z x) texts i
 unfolding load_operands
-load_is z texts i h =
+load_is z x texts i h =
     let a = then_ok (comma texts) _ i h in
     let b = then_ok (reg_of_text a.0.0) _ i a.2 in
     let c = then_ok (last place_of_text a.0.1) _ i b.2 in
     let d = last_is place_of_text a.0.1 c.0 c.1 in
     let e = place_is d.0 c.0 d.2 in
-    subst (Written (word.Load z) texts) (ok_is (insn.Load z b.0 c.0.0 c.0.1) i (Ok (insn.Load z b.0 c.0.0 c.0.1)) refl c.2)
-    (two_there (word.Load z) texts a.0 d.0 (reg_name b.0) (place_text c.0.0 c.0.1) a.1 d.1 (reg_is a.0.0 b.0 b.1) e.0, e.1)
+    subst (Written (word.Load z x) texts) (ok_is (insn.Load z x b.0 c.0.0 c.0.1) i (Ok (insn.Load z x b.0 c.0.0 c.0.1)) refl c.2)
+    (two_there (word.Load z x) texts a.0 d.0 (reg_name b.0) (place_text c.0.0 c.0.1) a.1 d.1 (reg_is a.0.0 b.0 b.1) e.0, e.1, loaded_of z x b.0 c.0.0 c.0.1)
 
 store_imm_is : (z : Size) (texts : List (List ℕ)) (i : Insn) → store_imm_operands (insn.StoreImm z) texts ≡ Ok i → Written (word.StoreImm z) texts i
 unfolding store_imm_operands
@@ -327,7 +396,7 @@ store_imm_is z texts i h =
     let p = place_is a.0.0 b.0 b.1 in
     let e = imm_is d.0 c.0 d.2 in
     subst (Written (word.StoreImm z) texts) (ok_is (insn.StoreImm z b.0.0 b.0.1 c.0) i (Ok (insn.StoreImm z b.0.0 b.0.1 c.0)) refl c.2)
-    (two_there (word.StoreImm z) texts a.0 d.0 (place_text b.0.0 b.0.1) (signed_decimal c.0) a.1 d.1 p.0 e.0, (p.1, e.1))
+    (two_there (word.StoreImm z) texts a.0 d.0 (place_text b.0.0 b.0.1) (signed_decimal c.0) a.1 d.1 p.0 e.0, (p.1, e.1), of_any (word.StoreImm z) (insn.StoreImm z b.0.0 b.0.1 c.0) refl refl)
 
 store_is : (z : Size) (texts : List (List ℕ)) (i : Insn) → store_operands (insn.Store z) texts ≡ Ok i → Written (word.Store z) texts i
 unfolding store_operands
@@ -338,7 +407,7 @@ store_is z texts i h =
     let d = last_is reg_of_text a.0.1 c.0 c.1 in
     let p = place_is a.0.0 b.0 b.1 in
     subst (Written (word.Store z) texts) (ok_is (insn.Store z b.0.0 c.0 b.0.1) i (Ok (insn.Store z b.0.0 c.0 b.0.1)) refl c.2)
-    (two_there (word.Store z) texts a.0 d.0 (place_text b.0.0 b.0.1) (reg_name c.0) a.1 d.1 p.0 (reg_is d.0 c.0 d.2), p.1)
+    (two_there (word.Store z) texts a.0 d.0 (place_text b.0.0 b.0.1) (reg_name c.0) a.1 d.1 p.0 (reg_is d.0 c.0 d.2), p.1, of_any (word.Store z) (insn.Store z b.0.0 c.0 b.0.1) refl refl)
 
 jump_if_is : (c : Cmp) (w : Width) (texts : List (List ℕ)) (i : Insn) → jump_if_operands (insn.JumpIf c w) texts ≡ Ok i → Written (word.JumpIf c w) texts i
 unfolding jump_if_operands
@@ -352,14 +421,14 @@ jump_if_is c w texts i h =
     let e = operand_is k.0.0 l.0 l.1 in
     let o = offset_is d.0 m.0 d.2 in
     subst (Written (word.JumpIf c w) texts) (ok_is (insn.JumpIf c w b.0 l.0 m.0) i (Ok (insn.JumpIf c w b.0 l.0 m.0)) refl m.2)
-    (three_there (word.JumpIf c w) texts a.0 k.0 d.0 (reg_name b.0) (operand_text l.0) (offset_text m.0) a.1 k.1 d.1 (reg_is a.0.0 b.0 b.1) e.0 o.0, (e.1, o.1))
+    (three_there (word.JumpIf c w) texts a.0 k.0 d.0 (reg_name b.0) (operand_text l.0) (offset_text m.0) a.1 k.1 d.1 (reg_is a.0.0 b.0 b.1) e.0 o.0, (e.1, o.1), of_any (word.JumpIf c w) (insn.JumpIf c w b.0 l.0 m.0) refl refl)
 
 neg_is : (w : Width) (texts : List (List ℕ)) (i : Insn) → map_insn (insn.Neg w) (last reg_of_text texts) ≡ Ok i → Written (word.Neg w) texts i
 neg_is w texts i h =
     let a = then_ok (last reg_of_text texts) _ i h in
     let d = last_is reg_of_text texts a.0 a.1 in
     subst (Written (word.Neg w) texts) (ok_is (insn.Neg w a.0) i (Ok (insn.Neg w a.0)) refl a.2)
-    (one_there (word.Neg w) texts d.0 (reg_name a.0) d.1 (reg_is d.0 a.0 d.2), tt)
+    (one_there (word.Neg w) texts d.0 (reg_name a.0) d.1 (reg_is d.0 a.0 d.2), tt, of_any (word.Neg w) (insn.Neg w a.0) refl refl)
 
 jump_is : (texts : List (List ℕ)) (i : Insn) → map_insn insn.Jump (last offset_of_text texts) ≡ Ok i → Written word.Jump texts i
 jump_is texts i h =
@@ -367,7 +436,7 @@ jump_is texts i h =
     let d = last_is offset_of_text texts a.0 a.1 in
     let o = offset_is d.0 a.0 d.2 in
     subst (Written word.Jump texts) (ok_is (insn.Jump a.0) i (Ok (insn.Jump a.0)) refl a.2)
-    (one_there word.Jump texts d.0 (offset_text a.0) d.1 o.0, o.1)
+    (one_there word.Jump texts d.0 (offset_text a.0) d.1 o.0, o.1, of_any word.Jump (insn.Jump a.0) refl refl)
 
 call_is : (texts : List (List ℕ)) (i : Insn) → map_insn insn.Call (last imm_of_text texts) ≡ Ok i → Written word.Call texts i
 call_is texts i h =
@@ -375,17 +444,18 @@ call_is texts i h =
     let d = last_is imm_of_text texts a.0 a.1 in
     let k = imm_is d.0 a.0 d.2 in
     subst (Written word.Call texts) (ok_is (insn.Call a.0) i (Ok (insn.Call a.0)) refl a.2)
-    (one_there word.Call texts d.0 (signed_decimal a.0) d.1 k.0, k.1)
+    (one_there word.Call texts d.0 (signed_decimal a.0) d.1 k.0, k.1, of_any word.Call (insn.Call a.0) refl refl)
 
 exit_is : (texts : List (List ℕ)) (i : Insn) → map_insn (λ _. insn.Exit) (no_word code.Form texts) ≡ Ok i → Written word.Exit texts i
-exit_is [] i h = subst (Written word.Exit []) (ok_is insn.Exit i (Ok insn.Exit) refl h) (refl, tt)
+exit_is [] i h = subst (Written word.Exit []) (ok_is insn.Exit i (Ok insn.Exit) refl h) (refl, tt, of_any word.Exit insn.Exit refl refl)
 exit_is (text ∷ texts) i h = absurd cc
 
 operands_are : (w : Word) (texts : List (List ℕ)) (i : Insn) → operands w texts ≡ Ok i → Written w texts i
 operands_are (word.Alu op w) texts i h = alu_is op w texts i h
+operands_are (word.MovSx w) texts i h = mov_sx_is w texts i h
 operands_are (word.Neg w) texts i h = neg_is w texts i h
 operands_are word.LoadImm texts i h = wide_is texts i h
-operands_are (word.Load z) texts i h = load_is z texts i h
+operands_are (word.Load z x) texts i h = load_is z x texts i h
 operands_are (word.StoreImm z) texts i h = store_imm_is z texts i h
 operands_are (word.Store z) texts i h = store_is z texts i h
 operands_are word.Jump texts i h = jump_is texts i h
@@ -393,18 +463,23 @@ operands_are (word.JumpIf c w) texts i h = jump_if_is c w texts i h
 operands_are word.Call texts i h = call_is texts i h
 operands_are word.Exit texts i h = exit_is texts i h
 
-words_are : (texts : List (List ℕ)) (i : Insn) → insn_of_words texts ≡ Ok i → (join_with_byte 32 texts ≡ insn_text i) × Fits i
+words_are : (q : Profile) (texts : List (List ℕ)) (i : Insn) → insn_of_words q texts ≡ Ok i → (join_with_byte 32 texts ≡ insn_text i) × Fits i × IsOf q i
 unfolding insn_of_words
-words_are [] i h = absurd cc
-words_are (text ∷ texts) i h =
-    let a = then_ok (ok_or (word_named text) _) _ i h in
+words_are q [] i h = absurd cc
+words_are q (text ∷ texts) i h =
+    let a = then_ok (ok_or (word_named q text) _) _ i h in
     let b = operands_are a.0 texts i a.2 in
-    (ap (λ (t : List ℕ). join_with_byte 32 (t ∷ texts)) (word_is text _ a.0 a.1) ∙ b.0, b.1)
+    let n = word_is q text _ a.0 a.1 in
+    (ap (λ (t : List ℕ). join_with_byte 32 (t ∷ texts)) n.0 ∙ b.0, b.1, b.2 q n.1)
 
-pub line_spelled : (line : List ℕ) (i : Insn) → line_of line ≡ Ok i → (line ≡ insn_text i) × Fits i
-line_spelled line i h =
-    let a = words_are (slice_split (λ b. b == 32) line) i h in
-    (sym (join_with_byte-slice_split 32 line) ∙ a.0, a.1)
+pub line_spelled : (q : Profile) (line : List ℕ) (i : Insn) → line_of q line ≡ Ok i → (line ≡ insn_text i) × Fits i × IsOf q i
+line_spelled q line i h =
+    let a = words_are q (slice_split (λ b. b == 32) line) i h in
+    (sym (join_with_byte-slice_split 32 line) ∙ a.0, a.1, a.2)
 
-pub line_is : (line : List ℕ) (i : Insn) → (line_of line ≡ Ok i) ↔ ((line ≡ insn_text i) × Fits i)
-line_is line i = (line_spelled line i, λ h. ap line_of h.0 ∙ line_back i h.1)
+pub read_of : (q : Profile) (texts : List (List ℕ)) (r : Result Insn Code) → Gives (λ _. false) (λ i. i) r (insn_of_words q texts) → IfOk r (IsOf q)
+read_of q texts (Ok i) h = (words_are q texts i h).2
+read_of q texts (Err c) h = tt
+
+pub line_is : (q : Profile) (line : List ℕ) (i : Insn) → (line_of q line ≡ Ok i) ↔ ((line ≡ insn_text i) × Fits i × IsOf q i)
+line_is q line i = (line_spelled q line i, λ h. ap (line_of q) h.0 ∙ line_back q i h.1 h.2)

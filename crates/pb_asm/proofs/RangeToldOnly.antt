@@ -1,5 +1,5 @@
 -- A line that is told as out of range is an instruction's up to a number beyond its field.
-use Rattle.std.proofs.Common.{◌≡◌, ◌⊎◌, ℕ, ◌+◌, ◌-◌, ◌^◌, ◌↔◌, ℤ, Bool, true, false, cond, List, [], ◌∷◌, ◌++◌, Option, Some, None, Result, Ok, Err, refl, sym, ap, subst, ◌∙◌, append_assoc, append-nil, arith, inl, inr}
+use Rattle.std.proofs.Common.{◌≡◌, ◌≢◌, ◌⊎◌, ℕ, ◌+◌, ◌-◌, ◌^◌, ◌<◌, ◌↔◌, ℤ, Bool, true, false, cond, List, [], ◌∷◌, ◌++◌, Option, Some, None, Result, Ok, Err, refl, sym, ap, subst, ◌∙◌, append_assoc, append-nil, arith, inl, inr}
 use Rattle.std.specs.Prelude.{◌==◌, nat_le, codes, slice_index, ok_or}
 use Rattle.std.specs.List.{slice_split, join_with_byte}
 use Rattle.std.specs.Str.Parse.{digits_value}
@@ -13,19 +13,23 @@ use Rattle.pb_isa.specs.declared.insn.AluOp.{AluOp}
 use Rattle.pb_isa.specs.declared.insn.Cmp.{Cmp}
 use Rattle.pb_isa.specs.declared.insn.Width.{Width}
 use Rattle.pb_isa.specs.declared.insn.Size.{Size}
+use Rattle.pb_isa.specs.declared.insn.Extension.{Extension}
+use Rattle.pb_isa.specs.declared.profile.Profile.{Profile}
+use Rattle.pb_isa.specs.Profiles.{is_narrower}
 use Rattle.pb_base.specs.Reading.{◌>>=◌, is_numeral, numeral_upto, no_word, numbered}
 use Rattle.pb_asm.specs.declared.fault.Code.{Code}
 use Rattle.pb_asm.specs.declared.fault.Code.TheVariants as code
 use Rattle.pb_asm.specs.declared.names.Word.{Word}
 use Rattle.pb_asm.specs.declared.names.Word.TheVariants as word
-use Rattle.pb_asm.specs.Names.{name, word_named, reg_name, reg_named}
+use Rattle.pb_asm.specs.Names.{name, IsWordOf, sizes, size_bits, word_named, reg_name, reg_named}
 use Rattle.pb_asm.specs.Cuts.{strip_prefix, strip_suffix, split_once}
 use Rattle.pb_asm.specs.Listing.{operand_text, place_text}
-use Rattle.pb_asm.specs.Operands.{minus, plus, signed_or, imm_of_text, plus_or_fault, offset_of_text, reg_of_text, operand_of_text, base_and_offset, at_minus, at_plus, place_of_text, comma, last, alu_operands, load_imm_operands, load_operands, store_imm_operands, store_operands, jump_if_operands, map_insn, operands, insn_of_words, line_of}
-use Rattle.pb_asm.specs.OutOfRange.{IsAbove, IsImmBeyond, IsOffsetBeyond, NumberPlace, AluImm, LoadImmImm, LoadOffset, StoreImmOffset, StoreImmImm, StoreOffset, JumpOffset, JumpIfImm, JumpIfOffset, CallImm, place_with, line_with, FitsBefore, IsBeyond, EndsWord, IsOutOfRange}
+use Rattle.pb_asm.specs.Operands.{minus, plus, signed_or, imm_of_text, plus_or_fault, offset_of_text, reg_of_text, operand_of_text, size_in, bits_of_text, base_and_offset, at_minus, at_plus, place_of_text, comma, last, alu_operands, mov_sx_operands, load_imm_operands, load_operands, store_imm_operands, store_operands, jump_if_operands, map_insn, operands, insn_of_words, line_of}
+use Rattle.pb_asm.specs.OutOfRange.{IsAbove, IsImmBeyond, IsOffsetBeyond, IsUnlisted, NumberPlace, AluImm, MovSxBits, LoadImmImm, LoadOffset, StoreImmOffset, StoreImmImm, StoreOffset, JumpOffset, JumpIfImm, JumpIfOffset, CallImm, place_with, place_word, line_with, FitsBefore, IsBeyond, EndsWord, IsOutOfRange}
 use Rattle.pb_asm.specs.Codes.{asm_code}
 use Rattle.pb_asm.specs.Texts.{with_insn_line}
-use Rattle.pb_asm.proofs.OneSpelling.{there_ok, behind_whole, before_whole, around_whole, reg_is, word_is, operand_is, place_is, comma_is}
+use Rattle.pb_asm.proofs.ListingsReadBack.{size_there, few_bits}
+use Rattle.pb_asm.proofs.OneSpelling.{ok_is, if_ok, there_ok, behind_whole, before_whole, around_whole, reg_is, word_is, operand_is, place_is, comma_is}
 use Rattle.pb_asm.proofs.FaultsTold.{failed, moved, own_told}
 use Rattle.pb_asm.proofs.NumbersBeyond.{range_told}
 
@@ -100,6 +104,40 @@ operand_kinds_beyond text false h = then_over (imm_of_text text) (λ k. Ok (oper
 operand_beyond : (text : List ℕ) → IsOver (operand_of_text text) → IsImmBeyond text
 unfolding operand_of_text
 operand_beyond text h = operand_kinds_beyond text (slice_index text 0 == 114) h
+
+-- ---- bits
+
+-- these digits are the bits of no size that is narrower than the width
+abbrev Unlisted : Width → ℕ → Type 0
+Unlisted w n = (z : Size) → is_narrower z w ≡ true → n ≢ size_bits z
+
+not_found : (w : Width) (n : ℕ) → size_in w n sizes ≡ None → Unlisted w n
+not_found w n none z narrow same = let no : None ≡ Some z = sym none ∙ ap (λ (m : ℕ). size_in w m sizes) same ∙ size_there w z narrow in absurd cc
+
+too_many : (w : Width) (n : ℕ) → 2 ^ 64 - 1 < n → Unlisted w n
+too_many w n over z narrow same = let few = few_bits z in let no : ⊥ = omega (arith, few, over, same) in absurd no
+
+never_found : (o : Option Size) → IsOver (ok_or o code.Range) → o ≡ None
+never_found None h = refl
+never_found (Some z) h = absurd cc
+
+numeral_read : (most n : ℕ) (text : List ℕ) → numeral_upto code.Form code.Range most text ≡ Ok n → (is_numeral text ≡ true) × (n ≡ digits_value 10 text)
+numeral_read most n text h =
+    let p = if_ok (is_numeral text) _ code.Form n h in
+    let q = if_ok (nat_le (digits_value 10 text) most) (Ok (digits_value 10 text)) code.Range n p.1 in
+    (p.0, sym (ok_is _ n (Ok (digits_value 10 text)) refl q.1))
+
+many_beyond : (w : Width) (text : List ℕ) → IsAbove (2 ^ 64 - 1) text → IsUnlisted w text
+many_beyond w text h = record { numeral = h.numeral; unlisted = too_many w (digits_value 10 text) h.above }
+
+unlisted_beyond : (w : Width) (text : List ℕ) (n : ℕ) → numeral_upto code.Form code.Range (2 ^ 64 - 1) text ≡ Ok n → size_in w n sizes ≡ None → IsUnlisted w text
+unlisted_beyond w text n is none =
+    let p = numeral_read (2 ^ 64 - 1) n text is in
+    record { numeral = p.0; unlisted = subst (Unlisted w) p.1 (not_found w n none) }
+
+bits_beyond : (w : Width) (text : List ℕ) → IsOver (bits_of_text w text) → IsUnlisted w text
+unfolding bits_of_text
+bits_beyond w text h = then_over (numeral_upto code.Form code.Range (2 ^ 64 - 1) text) _ h (λ over. many_beyond w text (number_beyond (2 ^ 64 - 1) text over)) (λ n is over. unlisted_beyond w text n is (never_found (size_in w n sizes) over))
 
 -- ---- places
 
@@ -194,10 +232,10 @@ third_there w texts others first second t u y begins goes same_t same_u ends =
 
 -- a line of these words is out of range
 abbrev Beyond : Word → List (List ℕ) → Type 0
-Beyond w texts = IsOutOfRange (join_with_byte 32 (name w ∷ texts))
+Beyond w texts = (q : Profile) → IsWordOf q w → IsOutOfRange q (join_with_byte 32 (name w ∷ texts))
 
-beyond_there : (w : Word) (texts : List (List ℕ)) (f : NumberPlace) (number : List ℕ) (others : List (List ℕ)) → FitsBefore f → IsBeyond f number → join_with_byte 32 (name w ∷ texts) ≡ line_with f number (rest_of others) → Beyond w texts
-beyond_there w texts f number others fits beyond is = record { place = f; number = number; rest = rest_of others; fits = fits; beyond = beyond; ends = rest_ends others; parts = is }
+beyond_there : (w : Word) (texts : List (List ℕ)) (f : NumberPlace) (number : List ℕ) (others : List (List ℕ)) → place_word f ≡ w → FitsBefore f → IsBeyond f number → join_with_byte 32 (name w ∷ texts) ≡ line_with f number (rest_of others) → Beyond w texts
+beyond_there w texts f number others of fits beyond is q has = record { place = f; number = number; rest = rest_of others; of_profile = subst (IsWordOf q) (sym of) has; fits = fits; beyond = beyond; ends = rest_ends others; parts = is }
 
 alu_beyond : (op : AluOp) (w : Width) (texts : List (List ℕ)) → IsOver (alu_operands (insn.Alu op w) texts) → Beyond (word.Alu op w) texts
 unfolding alu_operands
@@ -206,8 +244,20 @@ alu_beyond op w texts h =
     then_over (reg_of_text first.0) _ a (reg_never first.0) (λ d is b.
     then_over (last operand_of_text first.1) _ b (λ over.
     let n = last_beyond operand_of_text first.1 over in
-    beyond_there (word.Alu op w) texts (AluImm op w d) n.0 n.1 tt (operand_beyond n.0 n.3) (second_there (word.Alu op w) texts n.1 first (reg_name d) n.0 begins (reg_is first.0 d is) n.2))
+    beyond_there (word.Alu op w) texts (AluImm op w d) n.0 n.1 refl tt (operand_beyond n.0 n.3) (second_there (word.Alu op w) texts n.1 first (reg_name d) n.0 begins (reg_is first.0 d is) n.2))
     (λ x at over. ok_never _ over)))
+
+mov_sx_beyond : (w : Width) (texts : List (List ℕ)) → IsOver (mov_sx_operands w texts) → Beyond (word.MovSx w) texts
+unfolding mov_sx_operands
+mov_sx_beyond w texts h =
+    then_over (comma texts) _ h (comma_never texts) (λ first begins a.
+    then_over (reg_of_text first.0) _ a (reg_never first.0) (λ d is b.
+    then_over (comma first.1) _ b (comma_never first.1) (λ second goes e.
+    then_over (reg_of_text second.0) _ e (reg_never second.0) (λ s at g.
+    then_over (last (bits_of_text w) second.1) _ g (λ over.
+    let n = last_beyond (bits_of_text w) second.1 over in
+    beyond_there (word.MovSx w) texts (MovSxBits w d s) n.0 n.1 refl tt (bits_beyond w n.0 n.3) (third_there (word.MovSx w) texts n.1 first second (reg_name d) (reg_name s) n.0 begins goes (reg_is first.0 d is) (reg_is second.0 s at) n.2))
+    (λ x there over. ok_never _ over)))))
 
 wide_beyond : (texts : List (List ℕ)) → IsOver (load_imm_operands texts) → Beyond word.LoadImm texts
 unfolding load_imm_operands
@@ -216,18 +266,18 @@ wide_beyond texts h =
     then_over (reg_of_text first.0) _ a (reg_never first.0) (λ d is b.
     then_over (last (numeral_upto code.Form code.Range (2 ^ 64 - 1)) first.1) _ b (λ over.
     let n = last_beyond (numeral_upto code.Form code.Range (2 ^ 64 - 1)) first.1 over in
-    beyond_there word.LoadImm texts (LoadImmImm d) n.0 n.1 tt (number_beyond (2 ^ 64 - 1) n.0 n.3) (second_there word.LoadImm texts n.1 first (reg_name d) n.0 begins (reg_is first.0 d is) n.2))
+    beyond_there word.LoadImm texts (LoadImmImm d) n.0 n.1 refl tt (number_beyond (2 ^ 64 - 1) n.0 n.3) (second_there word.LoadImm texts n.1 first (reg_name d) n.0 begins (reg_is first.0 d is) n.2))
     (λ x at over. ok_never _ over)))
 
-load_beyond : (z : Size) (texts : List (List ℕ)) → IsOver (load_operands (insn.Load z) texts) → Beyond (word.Load z) texts
+load_beyond : (z : Size) (x : Extension) (texts : List (List ℕ)) → IsOver (load_operands (insn.Load z x) texts) → Beyond (word.Load z x) texts
 unfolding load_operands
-load_beyond z texts h =
+load_beyond z x texts h =
     then_over (comma texts) _ h (comma_never texts) (λ first begins a.
     then_over (reg_of_text first.0) _ a (reg_never first.0) (λ d is b.
     then_over (last place_of_text first.1) _ b (λ over.
     let n = last_beyond place_of_text first.1 over in
     let p = place_beyond n.0 n.3 in
-    beyond_there (word.Load z) texts (LoadOffset z d p.0) p.1 n.1 tt p.3 (second_there (word.Load z) texts n.1 first (reg_name d) (place_with p.0 p.1) begins (reg_is first.0 d is) (n.2 ∙ ap (λ (t : List ℕ). t ∷ n.1) p.2)))
+    beyond_there (word.Load z x) texts (LoadOffset z x d p.0) p.1 n.1 refl tt p.3 (second_there (word.Load z x) texts n.1 first (reg_name d) (place_with p.0 p.1) begins (reg_is first.0 d is) (n.2 ∙ ap (λ (t : List ℕ). t ∷ n.1) p.2)))
     (λ x at over. ok_never _ over)))
 
 -- a place with its comma, as the word at fault
@@ -241,12 +291,12 @@ store_imm_beyond z texts h =
     then_over (comma texts) _ h (comma_never texts) (λ first begins a.
     then_over (place_of_text first.0) _ a (λ over.
     let p = place_beyond first.0 over in
-    beyond_there (word.StoreImm z) texts (StoreImmOffset z p.0) p.1 first.1 tt p.3 (place_first (word.StoreImm z) texts first p.0 p.1 begins p.2))
+    beyond_there (word.StoreImm z) texts (StoreImmOffset z p.0) p.1 first.1 refl tt p.3 (place_first (word.StoreImm z) texts first p.0 p.1 begins p.2))
     (λ p at b.
     then_over (last imm_of_text first.1) _ b (λ over.
     let n = last_beyond imm_of_text first.1 over in
     let q = place_is first.0 p at in
-    beyond_there (word.StoreImm z) texts (StoreImmImm z p.0 p.1) n.0 n.1 q.1 (imm_beyond n.0 n.3) (second_there (word.StoreImm z) texts n.1 first (place_text p.0 p.1) n.0 begins q.0 n.2))
+    beyond_there (word.StoreImm z) texts (StoreImmImm z p.0 p.1) n.0 n.1 refl q.1 (imm_beyond n.0 n.3) (second_there (word.StoreImm z) texts n.1 first (place_text p.0 p.1) n.0 begins q.0 n.2))
     (λ x is over. ok_never _ over)))
 
 store_beyond : (z : Size) (texts : List (List ℕ)) → IsOver (store_operands (insn.Store z) texts) → Beyond (word.Store z) texts
@@ -255,7 +305,7 @@ store_beyond z texts h =
     then_over (comma texts) _ h (comma_never texts) (λ first begins a.
     then_over (place_of_text first.0) _ a (λ over.
     let p = place_beyond first.0 over in
-    beyond_there (word.Store z) texts (StoreOffset z p.0) p.1 first.1 tt p.3 (place_first (word.Store z) texts first p.0 p.1 begins p.2))
+    beyond_there (word.Store z) texts (StoreOffset z p.0) p.1 first.1 refl tt p.3 (place_first (word.Store z) texts first p.0 p.1 begins p.2))
     (λ p at b. then_over (last reg_of_text first.1) _ b (last_reg_never first.1) (λ x is over. ok_never _ over)))
 
 jump_if_beyond : (c : Cmp) (w : Width) (texts : List (List ℕ)) → IsOver (jump_if_operands (insn.JumpIf c w) texts) → Beyond (word.JumpIf c w) texts
@@ -265,12 +315,12 @@ jump_if_beyond c w texts h =
     then_over (reg_of_text first.0) _ a (reg_never first.0) (λ d is b.
     then_over (comma first.1) _ b (comma_never first.1) (λ second goes e.
     then_over (operand_of_text second.0) _ e (λ over.
-    beyond_there (word.JumpIf c w) texts (JumpIfImm c w d) second.0 second.1 tt (operand_beyond second.0 over) (second_there (word.JumpIf c w) texts second.1 first (reg_name d) (second.0 ++ 44 ∷ []) begins (reg_is first.0 d is) (comma_is first.1 second goes)))
+    beyond_there (word.JumpIf c w) texts (JumpIfImm c w d) second.0 second.1 refl tt (operand_beyond second.0 over) (second_there (word.JumpIf c w) texts second.1 first (reg_name d) (second.0 ++ 44 ∷ []) begins (reg_is first.0 d is) (comma_is first.1 second goes)))
     (λ s at g.
     then_over (last offset_of_text second.1) _ g (λ over.
     let n = last_beyond offset_of_text second.1 over in
     let q = operand_is second.0 s at in
-    beyond_there (word.JumpIf c w) texts (JumpIfOffset c w d s) n.0 n.1 q.1 (offset_beyond n.0 n.3) (third_there (word.JumpIf c w) texts n.1 first second (reg_name d) (operand_text s) n.0 begins goes (reg_is first.0 d is) q.0 n.2))
+    beyond_there (word.JumpIf c w) texts (JumpIfOffset c w d s) n.0 n.1 refl q.1 (offset_beyond n.0 n.3) (third_there (word.JumpIf c w) texts n.1 first second (reg_name d) (operand_text s) n.0 begins goes (reg_is first.0 d is) q.0 n.2))
     (λ x there over. ok_never _ over)))))
 
 neg_never : {P : Type 0} (w : Width) (texts : List (List ℕ)) → IsOver (map_insn (insn.Neg w) (last reg_of_text texts)) → P
@@ -280,14 +330,14 @@ jump_beyond : (texts : List (List ℕ)) → IsOver (map_insn insn.Jump (last off
 jump_beyond texts h =
     then_over (last offset_of_text texts) _ h (λ over.
     let n = last_beyond offset_of_text texts over in
-    beyond_there word.Jump texts JumpOffset n.0 n.1 tt (offset_beyond n.0 n.3) (first_there word.Jump texts n.1 n.0 n.2))
+    beyond_there word.Jump texts JumpOffset n.0 n.1 refl tt (offset_beyond n.0 n.3) (first_there word.Jump texts n.1 n.0 n.2))
     (λ x is over. ok_never _ over)
 
 call_beyond : (texts : List (List ℕ)) → IsOver (map_insn insn.Call (last imm_of_text texts)) → Beyond word.Call texts
 call_beyond texts h =
     then_over (last imm_of_text texts) _ h (λ over.
     let n = last_beyond imm_of_text texts over in
-    beyond_there word.Call texts CallImm n.0 n.1 tt (imm_beyond n.0 n.3) (first_there word.Call texts n.1 n.0 n.2))
+    beyond_there word.Call texts CallImm n.0 n.1 refl tt (imm_beyond n.0 n.3) (first_there word.Call texts n.1 n.0 n.2))
     (λ x is over. ok_never _ over)
 
 exit_never : {P : Type 0} (texts : List (List ℕ)) → IsOver (map_insn (λ _. insn.Exit) (no_word code.Form texts)) → P
@@ -295,9 +345,10 @@ exit_never texts h = then_over (no_word code.Form texts) _ h (ended_never texts)
 
 operands_beyond : (w : Word) (texts : List (List ℕ)) → IsOver (operands w texts) → Beyond w texts
 operands_beyond (word.Alu op w) texts h = alu_beyond op w texts h
+operands_beyond (word.MovSx w) texts h = mov_sx_beyond w texts h
 operands_beyond (word.Neg w) texts h = neg_never w texts h
 operands_beyond word.LoadImm texts h = wide_beyond texts h
-operands_beyond (word.Load z) texts h = load_beyond z texts h
+operands_beyond (word.Load z x) texts h = load_beyond z x texts h
 operands_beyond (word.StoreImm z) texts h = store_imm_beyond z texts h
 operands_beyond (word.Store z) texts h = store_beyond z texts h
 operands_beyond word.Jump texts h = jump_beyond texts h
@@ -309,18 +360,19 @@ unnamed_never : {P : Type 0} (o : Option Word) → IsOver (ok_or o code.Word) �
 unnamed_never None h = absurd cc
 unnamed_never (Some w) h = absurd cc
 
-words_beyond : (texts : List (List ℕ)) → IsOver (insn_of_words texts) → IsOutOfRange (join_with_byte 32 texts)
+words_beyond : (q : Profile) (texts : List (List ℕ)) → IsOver (insn_of_words q texts) → IsOutOfRange q (join_with_byte 32 texts)
 unfolding insn_of_words
-words_beyond [] h = absurd cc
-words_beyond (text ∷ texts) h =
-    then_over (ok_or (word_named text) code.Word) _ h (unnamed_never (word_named text)) (λ w is over.
-    subst (λ (t : List ℕ). IsOutOfRange (join_with_byte 32 (t ∷ texts))) (sym (word_is text code.Word w is)) (operands_beyond w texts over))
+words_beyond q [] h = absurd cc
+words_beyond q (text ∷ texts) h =
+    then_over (ok_or (word_named q text) code.Word) _ h (unnamed_never (word_named q text)) (λ w is over.
+    let n = word_is q text code.Word w is in
+    subst (λ (t : List ℕ). IsOutOfRange q (join_with_byte 32 (t ∷ texts))) (sym n.0) (operands_beyond w texts over q n.1))
 
-line_beyond : (line : List ℕ) → IsOver (line_of line) → IsOutOfRange line
-line_beyond line h = subst IsOutOfRange (join_with_byte-slice_split 32 line) (words_beyond (slice_split (λ b. b == 32) line) h)
+line_beyond : (q : Profile) (line : List ℕ) → IsOver (line_of q line) → IsOutOfRange q line
+line_beyond q line h = subst (IsOutOfRange q) (join_with_byte-slice_split 32 line) (words_beyond q (slice_split (λ b. b == 32) line) h)
 
-pub range_is : (line : List ℕ) → (line_of line ≡ Err code.Range) ↔ IsOutOfRange line
-range_is line = (line_beyond line, λ h. ap line_of h.parts ∙ range_told h.place h.number h.rest h.fits h.beyond h.ends)
+pub range_is : (q : Profile) (line : List ℕ) → (line_of q line ≡ Err code.Range) ↔ IsOutOfRange q line
+range_is q line = (line_beyond q line, λ h. ap (line_of q) h.parts ∙ range_told q h.place h.number h.rest h.of_profile h.fits h.beyond h.ends)
 
 -- ---- the code as it is told
 
@@ -342,9 +394,9 @@ told_range : (n : ℕ) (r : Result (List Insn) Code) → numbered asm_code n r �
 told_range n (Ok is) h = absurd cc
 told_range n (Err c) h = ap (failed (List Insn)) (range_number c (ap (λ (f : ℕ × ℕ). f.1) (same_fault (List Insn) (n + 1, asm_code c) (n + 1, 82) h)))
 
-own_beyond : (line : List ℕ) → (code.Range ≡ code.TooLong) ⊎ IsOver (line_of line) → IsOutOfRange line
-own_beyond line (inl h) = absurd cc
-own_beyond line (inr h) = line_beyond line h
+own_beyond : (q : Profile) (line : List ℕ) → (code.Range ≡ code.TooLong) ⊎ IsOver (line_of q line) → IsOutOfRange q line
+own_beyond q line (inl h) = absurd cc
+own_beyond q line (inr h) = line_beyond q line h
 
-pub told_only : (n : ℕ) (before : List Insn) (line : List ℕ) → numbered asm_code n (with_insn_line before line) ≡ Err (n + 1, 82) → IsOutOfRange line
-told_only n before line h = own_beyond line (own_told before line code.Range (told_range n (with_insn_line before line) h))
+pub told_only : (q : Profile) (n : ℕ) (before : List Insn) (line : List ℕ) → numbered asm_code n (with_insn_line q before line) ≡ Err (n + 1, 82) → IsOutOfRange q line
+told_only q n before line h = own_beyond q line (own_told q before line code.Range (told_range n (with_insn_line q before line) h))

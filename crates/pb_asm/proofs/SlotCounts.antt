@@ -3,10 +3,11 @@ use Rattle.std.proofs.Common.{◌≡◌, ◌+◌, ◌<◌, ◌≤◌, ◌⊎◌,
 use Rattle.std.specs.List.{AllByRecursion}
 use Rattle.std.proofs.lemmas.List.{length-append}
 use Rattle.pb_isa.specs.declared.insn.Insn.{Insn}
-use Rattle.pb_isa.specs.declared.insn.Insn.TheVariants.{Alu, Neg, LoadImm, Load, StoreImm, Store, Jump, JumpIf, Call, Exit}
+use Rattle.pb_isa.specs.declared.insn.Insn.TheVariants.{Alu, MovSx, Neg, LoadImm, Load, StoreImm, Store, Jump, JumpIf, Call, Exit}
 use Rattle.pb_isa.specs.Bounds.{Fits}
 use Rattle.pb_isa.specs.Slots.{places_of, layout, slots}
-use Rattle.pb_isa.specs.declared.limits.TheConstants.{MAX_SLOTS}
+use Rattle.pb_isa.specs.declared.profile.Profile.{Profile}
+use Rattle.pb_isa.specs.Profiles.{max_slots, IsOf}
 
 pub slots_push : (p : List Insn) (i : Insn) → slots (p ++ i ∷ []) ≡ slots p + slots (i ∷ [])
 slots_push [] i = omega arith
@@ -16,9 +17,10 @@ slots_push (j ∷ p) i =
 
 pub some_place : (i : Insn) → 0 < length (places_of i)
 some_place (Alu op w d a) = omega arith
+some_place (MovSx w z d s) = omega arith
 some_place (Neg w d) = omega arith
 some_place (LoadImm d v) = omega arith
-some_place (Load z d b o) = omega arith
+some_place (Load z x d b o) = omega arith
 some_place (StoreImm z b o k) = omega arith
 some_place (Store z b o s) = omega arith
 some_place (Jump o) = omega arith
@@ -26,13 +28,19 @@ some_place (JumpIf c w d a o) = omega arith
 some_place (Call k) = omega arith
 some_place Exit = omega arith
 
--- one more instruction whose numbers fit
-pub all_push : (p : List Insn) (i : Insn) → AllByRecursion Fits p → Fits i → AllByRecursion Fits (p ++ i ∷ [])
-all_push [] i h f = (f, tt)
-all_push (j ∷ p) i h f = (h.0, all_push p i h.1 f)
+-- one more instruction of which the same holds
+all_push : (P : Insn → Type 0) (p : List Insn) (i : Insn) → AllByRecursion P p → P i → AllByRecursion P (p ++ i ∷ [])
+all_push P [] i h f = (f, tt)
+all_push P (j ∷ p) i h f = (h.0, all_push P p i h.1 f)
 
--- some instructions that take at most MAX_SLOTS slots are a program
-pub never_refused : (p : List Insn) → 0 < length p → slots p ≤ MAX_SLOTS → (slots p ≡ 0) ⊎ (MAX_SLOTS < slots p) → ⊥
-never_refused [] some most h = omega (arith, some)
-never_refused (i ∷ p) some most (inl none) = let a = length-append (places_of i) (layout p) in let k = some_place i in omega (arith, a, k, none)
-never_refused (i ∷ p) some most (inr many) = omega (arith, most, many)
+pub fit_push : (p : List Insn) (i : Insn) → AllByRecursion Fits p → Fits i → AllByRecursion Fits (p ++ i ∷ [])
+fit_push p i h f = all_push Fits p i h f
+
+pub of_push : (q : Profile) (p : List Insn) (i : Insn) → AllByRecursion (IsOf q) p → IsOf q i → AllByRecursion (IsOf q) (p ++ i ∷ [])
+of_push q p i h f = all_push (IsOf q) p i h f
+
+-- some instructions that take at most so many slots as the profile has are a program
+pub never_refused : (q : Profile) (p : List Insn) → 0 < length p → slots p ≤ max_slots q → (slots p ≡ 0) ⊎ (max_slots q < slots p) → ⊥
+never_refused q [] some most h = omega (arith, some)
+never_refused q (i ∷ p) some most (inl none) = let a = length-append (places_of i) (layout p) in let k = some_place i in omega (arith, a, k, none)
+never_refused q (i ∷ p) some most (inr many) = omega (arith, most, many)

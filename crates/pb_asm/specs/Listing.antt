@@ -3,12 +3,12 @@ use Rattle.std.specs.Prelude.{ℕ, suc, ℤ, pos, negsuc, List, [], ◌∷◌, �
 use Rattle.std.specs.Fmt.{decimal, signed_decimal}
 use Rattle.std.specs.List.{flat_map}
 use Rattle.pb_isa.specs.declared.insn.Insn.{Insn}
-use Rattle.pb_isa.specs.declared.insn.Insn.TheVariants.{Alu, Neg, LoadImm, Load, StoreImm, Store, Jump, JumpIf, Call, Exit}
+use Rattle.pb_isa.specs.declared.insn.Insn.TheVariants.{Alu, MovSx, Neg, LoadImm, Load, StoreImm, Store, Jump, JumpIf, Call, Exit}
 use Rattle.pb_isa.specs.declared.insn.Operand.{Operand}
 use Rattle.pb_isa.specs.declared.insn.Operand.TheVariants.{Imm, Reg}
 use Rattle.pb_isa.specs.declared.insn.Reg as register
 use Rattle.pb_asm.specs.declared.names.Word.TheVariants as word
-use Rattle.pb_asm.specs.Names.{name, reg_name}
+use Rattle.pb_asm.specs.Names.{name, reg_name, size_bits}
 
 abbrev pub operand_text : Operand → List ℕ
 operand_text (Imm imm) = signed_decimal imm
@@ -25,9 +25,10 @@ place_text base offset = 91 ∷ (reg_name base ++ (offset_text offset ++ codes "
 
 abbrev pub insn_text : Insn → List ℕ
 insn_text (Alu op w dst src) = name (word.Alu op w) ++ (codes " " ++ (reg_name dst ++ (codes ", " ++ operand_text src)))
+insn_text (MovSx w z dst src) = name (word.MovSx w) ++ (codes " " ++ (reg_name dst ++ (codes ", " ++ (reg_name src ++ (codes ", " ++ decimal (size_bits z))))))
 insn_text (Neg w dst) = name (word.Neg w) ++ (codes " " ++ reg_name dst)
 insn_text (LoadImm dst imm) = name word.LoadImm ++ (codes " " ++ (reg_name dst ++ (codes ", " ++ decimal imm)))
-insn_text (Load z dst src offset) = name (word.Load z) ++ (codes " " ++ (reg_name dst ++ (codes ", " ++ place_text src offset)))
+insn_text (Load z x dst src offset) = name (word.Load z x) ++ (codes " " ++ (reg_name dst ++ (codes ", " ++ place_text src offset)))
 insn_text (StoreImm z dst offset imm) = name (word.StoreImm z) ++ (codes " " ++ (place_text dst offset ++ (codes ", " ++ signed_decimal imm)))
 insn_text (Store z dst src offset) = name (word.Store z) ++ (codes " " ++ (place_text dst offset ++ (codes ", " ++ reg_name src)))
 insn_text (Jump offset) = name word.Jump ++ (codes " " ++ offset_text offset)

@@ -1,7 +1,10 @@
 -- The words of the assembler text.
-use Rattle.std.specs.Prelude.{ℕ, if◌then◌else◌, List, [], ◌∷◌, ◌++◌, map, codes, Option, Some, None}
+use Rattle.std.specs.Prelude.{ℕ, Bool, true, false, IsTrue, if◌then◌else◌, List, [], ◌∷◌, ◌++◌, map, codes, Option, Some, None}
 use Rattle.std.specs.List.{flat_map}
 use Rattle.std.specs.Str.{bytes_eq}
+use mir.Val.{bits}
+use Rattle.pb_isa.specs.declared.profile.Profile.{Profile}
+use Rattle.pb_isa.specs.declared.profile.Profile.TheVariants.{One, Two}
 use Rattle.pb_isa.specs.declared.insn.Reg.{Reg}
 use Rattle.pb_isa.specs.declared.insn.Reg.TheVariants.{R0, R1, R2, R3, R4, R5, R6, R7, R8, R9, R10}
 use Rattle.pb_isa.specs.declared.insn.AluOp.{AluOp}
@@ -12,8 +15,12 @@ use Rattle.pb_isa.specs.declared.insn.Width.{Width}
 use Rattle.pb_isa.specs.declared.insn.Width.TheVariants.{Bits32, Bits64}
 use Rattle.pb_isa.specs.declared.insn.Size.{Size}
 use Rattle.pb_isa.specs.declared.insn.Size.TheVariants.{B, H, W, Dw}
+use Rattle.pb_isa.specs.declared.insn.Extension.{Extension}
+use Rattle.pb_isa.specs.declared.insn.Extension.TheVariants.{Zeros, Sign}
+use Rattle.pb_isa.specs.Profiles.{is_narrower}
+use Rattle.pb_isa.specs.Machine.{width}
 use Rattle.pb_asm.specs.declared.names.Word.{Word}
-use Rattle.pb_asm.specs.declared.names.Word.TheVariants.{Alu, Neg, LoadImm, Load, StoreImm, Store, Jump, JumpIf, Call, Exit}
+use Rattle.pb_asm.specs.declared.names.Word.TheVariants.{Alu, MovSx, Neg, LoadImm, Load, StoreImm, Store, Jump, JumpIf, Call, Exit}
 
 abbrev pub op_name : AluOp → List ℕ
 op_name Add = codes "add"
@@ -52,12 +59,17 @@ abbrev pub width_name : Width → List ℕ
 width_name Bits32 = codes "32"
 width_name Bits64 = codes "64"
 
+abbrev pub extension_name : Extension → List ℕ
+extension_name Zeros = []
+extension_name Sign = codes "s"
+
 -- the first word of a line
 abbrev pub name : Word → List ℕ
 name (Alu op w) = op_name op ++ width_name w
+name (MovSx w) = codes "movsx" ++ width_name w
 name (Neg w) = codes "neg" ++ width_name w
 name LoadImm = codes "lddw"
-name (Load z) = codes "ldx" ++ size_name z
+name (Load z x) = codes "ldx" ++ (extension_name x ++ size_name z)
 name (StoreImm z) = codes "st" ++ size_name z
 name (Store z) = codes "stx" ++ size_name z
 name Jump = codes "ja"
@@ -68,21 +80,40 @@ name Exit = codes "exit"
 abbrev pub sizes : List Size
 sizes = B ∷ H ∷ W ∷ Dw ∷ []
 
+-- how many bits a size has
+abbrev pub size_bits : Size → ℕ
+size_bits z = bits (width z)
+
 -- every word that there is
 unfoldable pub words : List Word
 words =
     flat_map (λ op. Alu op Bits32 ∷ Alu op Bits64 ∷ []) (Add ∷ Sub ∷ Mul ∷ Div ∷ Or ∷ And ∷ Lsh ∷ Rsh ∷ Mod ∷ Xor ∷ Mov ∷ Arsh ∷ [])
     ++ flat_map (λ c. JumpIf c Bits32 ∷ JumpIf c Bits64 ∷ []) (Eq ∷ Gt ∷ Ge ∷ Set ∷ Ne ∷ Sgt ∷ Sge ∷ Lt ∷ Le ∷ Slt ∷ Sle ∷ [])
-    ++ map Load sizes ++ map StoreImm sizes ++ map Store sizes
-    ++ Neg Bits32 ∷ Neg Bits64 ∷ LoadImm ∷ Jump ∷ Call ∷ Exit ∷ []
+    ++ map (λ z. Load z Zeros) sizes ++ map (λ z. Load z Sign) sizes ++ map StoreImm sizes ++ map Store sizes
+    ++ MovSx Bits32 ∷ MovSx Bits64 ∷ Neg Bits32 ∷ Neg Bits64 ∷ LoadImm ∷ Jump ∷ Call ∷ Exit ∷ []
+
+-- Whether a profile has instructions with this word: profile 1 has none that extend the sign, and a load of 64 bits has no
+-- sign to extend.
+abbrev pub is_word_of : Profile → Word → Bool
+is_word_of One (MovSx w) = false
+is_word_of One (Load z Sign) = false
+is_word_of Two (Load z Sign) = is_narrower z Bits64
+is_word_of p w = true
+
+abbrev pub IsWordOf : Profile → Word → Type 0
+IsWordOf p w = IsTrue (is_word_of p w)
 
 abbrev pub word_in : List ℕ → List Word → Option Word
 word_in text [] = None
 word_in text (w ∷ ws) = if bytes_eq text (name w) then Some w else word_in text ws
 
--- the word of this name, if there is one
-abbrev pub word_named : List ℕ → Option Word
-word_named text = word_in text words
+abbrev pub if_word_of : Profile → Option Word → Option Word
+if_word_of p None = None
+if_word_of p (Some w) = if is_word_of p w then Some w else None
+
+-- the profile's word of this name, if it has one
+abbrev pub word_named : Profile → List ℕ → Option Word
+word_named p text = if_word_of p (word_in text words)
 
 abbrev pub reg_name : Reg → List ℕ
 reg_name R0 = codes "r0"

@@ -1,15 +1,19 @@
 -- The operands of a line, read from left to right.
-use Rattle.std.specs.Prelude.{ℕ, ◌-◌, ◌^◌, ℤ, pos, neg_ℤ, ◌==◌, if◌then◌else◌, List, slice_index, Option, Some, None, ok_or, Result, Ok, Err}
+use Rattle.std.specs.Prelude.{ℕ, ◌-◌, ◌^◌, ℤ, pos, neg_ℤ, ◌==◌, ◌&&◌, if◌then◌else◌, List, [], ◌∷◌, slice_index, Option, Some, None, ok_or, Result, Ok, Err}
 use Rattle.pb_isa.specs.declared.insn.Insn.{Insn}
 use Rattle.pb_isa.specs.declared.insn.Insn.TheVariants as insn
 use Rattle.pb_isa.specs.declared.insn.Operand.{Operand}
 use Rattle.pb_isa.specs.declared.insn.Operand.TheVariants as operand
 use Rattle.pb_isa.specs.declared.insn.Reg.{Reg}
+use Rattle.pb_isa.specs.declared.insn.Width.{Width}
+use Rattle.pb_isa.specs.declared.insn.Size.{Size}
+use Rattle.pb_isa.specs.declared.profile.Profile.{Profile}
+use Rattle.pb_isa.specs.Profiles.{is_narrower}
 use Rattle.pb_asm.specs.declared.names.Word.TheVariants as word
 use Rattle.pb_asm.specs.declared.names.Word.{Word}
 use Rattle.pb_asm.specs.declared.fault.Code.{Code}
 use Rattle.pb_asm.specs.declared.fault.Code.TheVariants as code
-use Rattle.pb_asm.specs.Names.{word_named, reg_named}
+use Rattle.pb_asm.specs.Names.{sizes, size_bits, word_named, reg_named}
 use Rattle.pb_base.specs.Reading.{◌>>=◌, words_of, next_word, no_word, numeral_upto}
 use Rattle.pb_asm.specs.Cuts.{strip_prefix, strip_suffix, split_once}
 
@@ -64,6 +68,17 @@ abbrev pub at_plus : List ℕ → Option (List ℕ × List ℕ) → Result (Reg 
 at_plus text (Some sides) = base_and_offset sides.0 (plus (2 ^ 15) sides.1)
 at_plus text None = at_minus (split_once 45 text)
 
+-- the size of so many bits that is narrower than the width, if there is one
+abbrev pub size_in : Width → ℕ → List Size → Option Size
+size_in w n [] = None
+size_in w n (z ∷ zs) = if is_narrower z w && (size_bits z == n) then Some z else size_in w n zs
+
+-- how many bits a sign-extending move of this width takes from its source: those of a narrower size (RFC 9669, section 4.1)
+unfoldable pub bits_of_text : Width → List ℕ → Result Size Code
+bits_of_text w text = do
+  n ← numeral_upto code.Form code.Range (2 ^ 64 - 1) text
+  ok_or (size_in w n sizes) code.Range
+
 -- a place in memory: `[`, register, offset, `]`
 unfoldable pub place_of_text : List ℕ → Result (Reg × ℤ) Code
 place_of_text text = do
@@ -92,6 +107,15 @@ alu_operands make texts = do
   r ← reg_of_text first.0
   a ← last operand_of_text first.1
   Ok (make r a)
+
+unfoldable pub mov_sx_operands : Width → List (List ℕ) → Result Insn Code
+mov_sx_operands w texts = do
+  first ← comma texts
+  d ← reg_of_text first.0
+  second ← comma first.1
+  s ← reg_of_text second.0
+  z ← last (bits_of_text w) second.1
+  Ok (insn.MovSx w z d s)
 
 unfoldable pub load_imm_operands : List (List ℕ) → Result Insn Code
 load_imm_operands texts = do
@@ -137,9 +161,10 @@ map_insn make read = read >>= λ x. Ok (make x)
 -- the operands that a first word asks for
 abbrev pub operands : Word → List (List ℕ) → Result Insn Code
 operands (word.Alu op w) texts = alu_operands (insn.Alu op w) texts
+operands (word.MovSx w) texts = mov_sx_operands w texts
 operands (word.Neg w) texts = map_insn (insn.Neg w) (last reg_of_text texts)
 operands word.LoadImm texts = load_imm_operands texts
-operands (word.Load z) texts = load_operands (insn.Load z) texts
+operands (word.Load z x) texts = load_operands (insn.Load z x) texts
 operands (word.StoreImm z) texts = store_imm_operands (insn.StoreImm z) texts
 operands (word.Store z) texts = store_operands (insn.Store z) texts
 operands word.Jump texts = map_insn insn.Jump (last offset_of_text texts)
@@ -147,12 +172,12 @@ operands (word.JumpIf c w) texts = jump_if_operands (insn.JumpIf c w) texts
 operands word.Call texts = map_insn insn.Call (last imm_of_text texts)
 operands word.Exit texts = map_insn (λ _. insn.Exit) (no_word code.Form texts)
 
-unfoldable pub insn_of_words : List (List ℕ) → Result Insn Code
-insn_of_words texts = do
+unfoldable pub insn_of_words : Profile → List (List ℕ) → Result Insn Code
+insn_of_words p texts = do
   first ← next_word code.Form texts
-  w ← ok_or (word_named first.0) code.Word
+  w ← ok_or (word_named p first.0) code.Word
   operands w first.1
 
 -- one instruction: its words stand with one blank between them
-abbrev pub line_of : List ℕ → Result Insn Code
-line_of text = insn_of_words (words_of text)
+abbrev pub line_of : Profile → List ℕ → Result Insn Code
+line_of p text = insn_of_words p (words_of text)

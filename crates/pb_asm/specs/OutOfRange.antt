@@ -1,5 +1,5 @@
--- Lines that are an instruction's, but that one number goes beyond its field.
-use Rattle.std.specs.Prelude.{◌≡◌, ◌⊎◌, ◌<◌, ℕ, ◌-◌, ◌^◌, ℤ, List, [], ◌∷◌, ◌++◌, codes, true, FitsSigned}
+-- Lines that are an instruction's, but that one number goes beyond its field or isn't in its list.
+use Rattle.std.specs.Prelude.{◌≡◌, ◌≢◌, ◌⊎◌, ◌<◌, ℕ, ◌-◌, ◌^◌, ℤ, List, [], ◌∷◌, ◌++◌, codes, true, IsTrue, FitsSigned}
 use Rattle.std.specs.Int.{w16}
 use Rattle.std.specs.Str.Parse.{digits_value}
 use Rattle.pb_base.specs.Reading.{is_numeral}
@@ -7,11 +7,15 @@ use Rattle.pb_isa.specs.declared.insn.AluOp.{AluOp}
 use Rattle.pb_isa.specs.declared.insn.Cmp.{Cmp}
 use Rattle.pb_isa.specs.declared.insn.Width.{Width}
 use Rattle.pb_isa.specs.declared.insn.Size.{Size}
+use Rattle.pb_isa.specs.declared.insn.Extension.{Extension}
 use Rattle.pb_isa.specs.declared.insn.Operand.{Operand}
 use Rattle.pb_isa.specs.declared.insn.Reg.{Reg}
+use Rattle.pb_isa.specs.declared.profile.Profile.{Profile}
+use Rattle.pb_isa.specs.Profiles.{is_narrower}
 use Rattle.pb_isa.specs.Bounds.{OperandFits}
+use Rattle.pb_asm.specs.declared.names.Word.{Word}
 use Rattle.pb_asm.specs.declared.names.Word.TheVariants as word
-use Rattle.pb_asm.specs.Names.{name, reg_name}
+use Rattle.pb_asm.specs.Names.{name, IsWordOf, reg_name, size_bits}
 use Rattle.pb_asm.specs.Listing.{operand_text, place_text}
 
 -- digits of any length, with no zero before another, whose value is above this
@@ -31,11 +35,17 @@ IsImmBeyond text = IsAbove (2 ^ 31 - 1) text ⊎ IsSignedAbove 45 (2 ^ 31) text
 abbrev pub IsOffsetBeyond : List ℕ → Type 0
 IsOffsetBeyond text = IsSignedAbove 43 (2 ^ 15 - 1) text ⊎ IsSignedAbove 45 (2 ^ 15) text
 
+-- digits of any length, with no zero before another, whose value is the bits of no size that is narrower than the width
+pub record IsUnlisted (w : Width) (digits : List ℕ) : Type 0 where
+  pub numeral : is_numeral digits ≡ true
+  pub unlisted : (z : Size) → IsTrue (is_narrower z w) → digits_value 10 digits ≢ size_bits z
+
 -- which number of which instruction, with all that stands before it
 pub data NumberPlace : Type 0 where
   AluImm : AluOp → Width → Reg → NumberPlace
+  MovSxBits : Width → Reg → Reg → NumberPlace
   LoadImmImm : Reg → NumberPlace
-  LoadOffset : Size → Reg → Reg → NumberPlace
+  LoadOffset : Size → Extension → Reg → Reg → NumberPlace
   StoreImmOffset : Size → Reg → NumberPlace
   StoreImmImm : Size → Reg → ℤ → NumberPlace
   StoreOffset : Size → Reg → NumberPlace
@@ -48,18 +58,36 @@ pub data NumberPlace : Type 0 where
 abbrev pub place_with : Reg → List ℕ → List ℕ
 place_with base number = 91 ∷ (reg_name base ++ (number ++ codes "]"))
 
--- the line up to the number and the sign that ends its word, as a listing has it; then the rest
+-- the instruction's word
+abbrev pub place_word : NumberPlace → Word
+place_word (AluImm op w dst) = word.Alu op w
+place_word (MovSxBits w dst src) = word.MovSx w
+place_word (LoadImmImm dst) = word.LoadImm
+place_word (LoadOffset z x dst src) = word.Load z x
+place_word (StoreImmOffset z dst) = word.StoreImm z
+place_word (StoreImmImm z dst offset) = word.StoreImm z
+place_word (StoreOffset z dst) = word.Store z
+place_word JumpOffset = word.Jump
+place_word (JumpIfImm c w dst) = word.JumpIf c w
+place_word (JumpIfOffset c w dst src) = word.JumpIf c w
+place_word CallImm = word.Call
+
+-- the operands up to the number and the sign that ends its word, as a listing has them; then the rest
+abbrev pub operands_with : NumberPlace → List ℕ → List ℕ → List ℕ
+operands_with (AluImm op w dst) number rest = reg_name dst ++ (codes ", " ++ (number ++ rest))
+operands_with (MovSxBits w dst src) number rest = reg_name dst ++ (codes ", " ++ (reg_name src ++ (codes ", " ++ (number ++ rest))))
+operands_with (LoadImmImm dst) number rest = reg_name dst ++ (codes ", " ++ (number ++ rest))
+operands_with (LoadOffset z x dst src) number rest = reg_name dst ++ (codes ", " ++ (place_with src number ++ rest))
+operands_with (StoreImmOffset z dst) number rest = (place_with dst number ++ codes ",") ++ rest
+operands_with (StoreImmImm z dst offset) number rest = place_text dst offset ++ (codes ", " ++ (number ++ rest))
+operands_with (StoreOffset z dst) number rest = (place_with dst number ++ codes ",") ++ rest
+operands_with JumpOffset number rest = number ++ rest
+operands_with (JumpIfImm c w dst) number rest = reg_name dst ++ (codes ", " ++ ((number ++ codes ",") ++ rest))
+operands_with (JumpIfOffset c w dst src) number rest = reg_name dst ++ (codes ", " ++ (operand_text src ++ (codes ", " ++ (number ++ rest))))
+operands_with CallImm number rest = number ++ rest
+
 abbrev pub line_with : NumberPlace → List ℕ → List ℕ → List ℕ
-line_with (AluImm op w dst) number rest = name (word.Alu op w) ++ (codes " " ++ (reg_name dst ++ (codes ", " ++ (number ++ rest))))
-line_with (LoadImmImm dst) number rest = name word.LoadImm ++ (codes " " ++ (reg_name dst ++ (codes ", " ++ (number ++ rest))))
-line_with (LoadOffset z dst src) number rest = name (word.Load z) ++ (codes " " ++ (reg_name dst ++ (codes ", " ++ (place_with src number ++ rest))))
-line_with (StoreImmOffset z dst) number rest = name (word.StoreImm z) ++ (codes " " ++ ((place_with dst number ++ codes ",") ++ rest))
-line_with (StoreImmImm z dst offset) number rest = name (word.StoreImm z) ++ (codes " " ++ (place_text dst offset ++ (codes ", " ++ (number ++ rest))))
-line_with (StoreOffset z dst) number rest = name (word.Store z) ++ (codes " " ++ ((place_with dst number ++ codes ",") ++ rest))
-line_with JumpOffset number rest = name word.Jump ++ (codes " " ++ (number ++ rest))
-line_with (JumpIfImm c w dst) number rest = name (word.JumpIf c w) ++ (codes " " ++ (reg_name dst ++ (codes ", " ++ ((number ++ codes ",") ++ rest))))
-line_with (JumpIfOffset c w dst src) number rest = name (word.JumpIf c w) ++ (codes " " ++ (reg_name dst ++ (codes ", " ++ (operand_text src ++ (codes ", " ++ (number ++ rest))))))
-line_with CallImm number rest = name word.Call ++ (codes " " ++ (number ++ rest))
+line_with place number rest = name (place_word place) ++ (codes " " ++ operands_with place number rest)
 
 -- the numbers before it fit their fields
 abbrev pub FitsBefore : NumberPlace → Type 0
@@ -67,11 +95,12 @@ FitsBefore (StoreImmImm z dst offset) = FitsSigned w16 offset
 FitsBefore (JumpIfOffset c w dst src) = OperandFits src
 FitsBefore _ = Unit {0}
 
--- a number of the form that is wanted there goes beyond the field
+-- a number of the form that is wanted there goes beyond the field, or isn't in the list
 abbrev pub IsBeyond : NumberPlace → List ℕ → Type 0
 IsBeyond (AluImm op w dst) number = IsImmBeyond number
+IsBeyond (MovSxBits w dst src) number = IsUnlisted w number
 IsBeyond (LoadImmImm dst) number = IsAbove (2 ^ 64 - 1) number
-IsBeyond (LoadOffset z dst src) number = IsOffsetBeyond number
+IsBeyond (LoadOffset z x dst src) number = IsOffsetBeyond number
 IsBeyond (StoreImmOffset z dst) number = IsOffsetBeyond number
 IsBeyond (StoreImmImm z dst offset) number = IsImmBeyond number
 IsBeyond (StoreOffset z dst) number = IsOffsetBeyond number
@@ -84,11 +113,13 @@ IsBeyond CallImm number = IsImmBeyond number
 abbrev pub EndsWord : List ℕ → Type 0
 EndsWord rest = (rest ≡ []) ⊎ ((more : List ℕ) × (rest ≡ 32 ∷ more))
 
--- an instruction's line up to a number that has its form and goes beyond its field, and after that number's word anything
-pub record IsOutOfRange (line : List ℕ) : Type 0 where
+-- a line of one of the profile's instructions, up to a number that has its form and goes beyond its field, and after that
+-- number's word anything
+pub record IsOutOfRange (p : Profile) (line : List ℕ) : Type 0 where
   pub place : NumberPlace
   pub number : List ℕ
   pub rest : List ℕ
+  pub of_profile : IsWordOf p (place_word place)
   pub fits : FitsBefore place
   pub beyond : IsBeyond place number
   pub ends : EndsWord rest

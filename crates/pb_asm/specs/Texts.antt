@@ -2,7 +2,8 @@
 use Rattle.std.specs.Prelude.{◌≡◌, ◌⊎◌, ℕ, ◌+◌, not, nat_lt, if◌then◌else◌, List, [], ◌∷◌, ◌++◌, length, Result, Ok, Err}
 use Rattle.std.specs.List.{filter}
 use Rattle.pb_isa.specs.declared.insn.Insn.{Insn}
-use Rattle.pb_isa.specs.declared.limits.TheConstants.{MAX_SLOTS}
+use Rattle.pb_isa.specs.declared.profile.Profile.{Profile}
+use Rattle.pb_isa.specs.Profiles.{max_slots}
 use Rattle.pb_isa.specs.Slots.{slots}
 use Rattle.pb_isa.specs.Programs.{ProgramOf}
 use Rattle.pb_asm.specs.declared.fault.Code.{Code}
@@ -17,24 +18,25 @@ use Rattle.pb_asm.specs.Operands.{line_of}
 abbrev pub instruction_lines : List ℕ → List (List ℕ)
 instruction_lines text = filter (λ line. not (is_skipped line)) (lines_of text)
 
--- The instructions so far, with the one of one more line. That it ends past the last slot is told last of its line's faults.
-unfoldable pub with_insn_line : List Insn → List ℕ → Result (List Insn) Code
-with_insn_line before line = if is_skipped line then Ok before else do
-  i ← line_of line
-  if nat_lt MAX_SLOTS (slots (before ++ i ∷ [])) then Err TooLong else Ok (before ++ i ∷ [])
+-- The instructions so far, with the one of one more line. That it ends past the profile's last slot is told
+-- last of its line's faults.
+unfoldable pub with_insn_line : Profile → List Insn → List ℕ → Result (List Insn) Code
+with_insn_line p before line = if is_skipped line then Ok before else do
+  i ← line_of p line
+  if nat_lt (max_slots p) (slots (before ++ i ∷ [])) then Err TooLong else Ok (before ++ i ∷ [])
 
 -- the lines one after the other, from what those before them made; the first fault ends it
-abbrev pub insns_of_lines : ℕ → List Insn → List (List ℕ) → Result (List Insn) (ℕ × ℕ)
-insns_of_lines n before lines = in_turn (λ m is line. numbered asm_code m (with_insn_line is line)) n before lines
+abbrev pub insns_of_lines : Profile → ℕ → List Insn → List (List ℕ) → Result (List Insn) (ℕ × ℕ)
+insns_of_lines p n before lines = in_turn (λ m is line. numbered asm_code m (with_insn_line p is line)) n before lines
 
 -- the program of these instructions, if there are some
-abbrev pub some_of : List Insn → Result ProgramOf (ℕ × ℕ)
-some_of [] = Err (0, asm_code Nothing)
-some_of (i ∷ is) = Ok (record { insns = i ∷ is })
+abbrev pub some_of : Profile → List Insn → Result ProgramOf (ℕ × ℕ)
+some_of p [] = Err (0, asm_code Nothing)
+some_of p (i ∷ is) = Ok (record { profile = p; insns = i ∷ is })
 
--- the program of a text, or the line (from 1) and the code of its fault
-abbrev pub program_of_text : List ℕ → Result ProgramOf (ℕ × ℕ)
-program_of_text text = insns_of_lines 0 [] (lines_of text) >>= some_of
+-- the program of a text in a profile, or the line (from 1) and the code of its fault
+abbrev pub program_of_text : Profile → List ℕ → Result ProgramOf (ℕ × ℕ)
+program_of_text p text = insns_of_lines p 0 [] (lines_of text) >>= some_of p
 
 abbrev pub no_memory_fault : AsmFault
 no_memory_fault = record { line = 0; code = 1 }
@@ -49,20 +51,20 @@ ReadsLines (Ok l) read = read ≡ Ok l.insns.items
 ReadsLines (Err f) read = (f ≡ no_memory_fault) ⊎ (read ≡ Err (f.line, f.code))
 
 -- the lines in front are read, and after them the line of this number is at fault
-pub record IsFirstFault (text : List ℕ) (line told : ℕ) : Type 0 where
+pub record IsFirstFault (p : Profile) (text : List ℕ) (line told : ℕ) : Type 0 where
   pub front : List (List ℕ)
   pub here : List ℕ
   pub after : List (List ℕ)
   pub before : List Insn
   pub cause : Code
   pub parts : lines_of text ≡ front ++ here ∷ after
-  pub read : insns_of_lines 0 [] front ≡ Ok before
-  pub fault : with_insn_line before here ≡ Err cause
+  pub read : insns_of_lines p 0 [] front ≡ Ok before
+  pub fault : with_insn_line p before here ≡ Err cause
   pub number : line ≡ length front + 1
   pub code : told ≡ asm_code cause
 
 -- all lines are read, and there is no instruction
-pub record HasNone (text : List ℕ) (line told : ℕ) : Type 0 where
-  pub read : insns_of_lines 0 [] (lines_of text) ≡ Ok []
+pub record HasNone (p : Profile) (text : List ℕ) (line told : ℕ) : Type 0 where
+  pub read : insns_of_lines p 0 [] (lines_of text) ≡ Ok []
   pub number : line ≡ 0
   pub code : told ≡ asm_code Nothing

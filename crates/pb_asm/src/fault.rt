@@ -11,13 +11,13 @@ use thiserror::Error;
 pub enum Code {
     /// No memory.
     Memory,
-    /// A first word that is none of the instructions'.
+    /// A first word that is none of the profile's instructions'.
     Word,
     /// Operands that are not of the form.
     Form,
-    /// A number out of range.
+    /// A number out of range, or none of those that may stand there.
     Range,
-    /// An instruction that ends past the last slot that a program may have.
+    /// An instruction that ends past the last slot that a program of the profile may have.
     TooLong,
     /// No instruction.
     Nothing,
@@ -55,9 +55,10 @@ impl<T: Drop> From<AllocFailed<T>> for Code {
     }
 }
 
-/// The line at which a text is at fault, from 1, and the code: 80 an unknown first word, 81 operands that are not of the
-/// form, 82 a number out of range, 83 an instruction that ends past the last slot that a program may have, 84 no instruction at all, which has line 0.
-/// Where memory ran out it is line 0 with code 1.
+/// The line at which a text is at fault, from 1, and the code: 80 a first word that is none of the profile's
+/// instructions', 81 operands that are not of the form, 82 a number out of range or none of those that may stand there,
+/// 83 an instruction that ends past the last slot that a program of the profile may have, 84 no instruction at all, which
+/// has line 0. Where memory ran out it is line 0 with code 1.
 #[derive(Clone, Copy, Debug, PartialEq, Eq, Drop, Error)]
 #[error("line {line} code {code}")]
 pub struct AsmFault {

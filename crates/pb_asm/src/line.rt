@@ -1,17 +1,18 @@
 //! The words of a line, read from left to right.
 ghost use Rattle.std.specs.Prelude.{◌≡◌, IfOk, ◌==◌, false};
+ghost use Rattle.pb_isa.specs.Profiles.{IsOf};
 ghost use Rattle.std.specs.List.{slice_split};
 ghost use Rattle.pb_isa.specs.declared.insn.Insn.TheVariants as insn;
 ghost use Rattle.pb_base.specs.Reading.{Gives, texts_of, next_word, no_word, words_of};
 ghost use Rattle.pb_asm.specs.declared.fault.Code.TheVariants as code;
 ghost use Rattle.pb_asm.specs.Codes.{is_memory};
-ghost use Rattle.pb_asm.specs.Operands.{comma, last, alu_operands, load_imm_operands, load_operands, store_imm_operands, store_operands, jump_if_operands, operands, insn_of_words, line_of, reg_of_text, operand_of_text, place_of_text, offset_of_text, imm_of_text};
+ghost use Rattle.pb_asm.specs.Operands.{comma, last, alu_operands, mov_sx_operands, load_imm_operands, load_operands, store_imm_operands, store_operands, jump_if_operands, operands, insn_of_words, line_of, reg_of_text, operand_of_text, place_of_text, offset_of_text, imm_of_text};
 
 use crate::cuts::strip_suffix;
 use crate::fault::Code;
 use crate::names::Word;
-use crate::operands::{imm_of, numeral_upto, offset_of, operand_of, place_of, reg_of};
-use pb_isa::{AluOp, Cmp, Insn, Reg, Size, Width};
+use crate::operands::{bits_of, imm_of, numeral_upto, offset_of, operand_of, place_of, reg_of};
+use pb_isa::{AluOp, Cmp, Extension, Insn, Profile, Reg, Size, Width};
 use std::alloc::{AllocError, Global};
 
 // What is left of a line's words.
@@ -73,6 +74,25 @@ impl<'a, 'b> Words<'a, 'b> {
         })
     }
 
+    #[tactic(auto, unfolding(crate::specs::Operands::mov_sx_operands, crate::specs::Operands::last))]
+    fn mov_sx(self, width: Width) -> Result<Insn, Code>
+        ensures { Gives (λ _. false) (λ i. i) result (mov_sx_operands width (texts_of self.entry.rest.now)) }
+    {
+        let (word, words) = self.comma()?;
+        let dst = reg_of(word)?;
+        let (word, words) = words.comma()?;
+        let src = reg_of(word)?;
+        let (word, words) = words.next_word()?;
+        let size = bits_of(width, word)?;
+        words.no_word()?;
+        Ok(Insn::MovSx {
+            width,
+            size,
+            dst,
+            src,
+        })
+    }
+
     #[tactic(auto, unfolding(crate::specs::Operands::load_imm_operands, crate::specs::Operands::last))]
     fn wide(self) -> Result<Insn, Code>
         ensures { Gives (λ _. false) (λ i. i) result (load_imm_operands (texts_of self.entry.rest.now)) }
@@ -86,8 +106,9 @@ impl<'a, 'b> Words<'a, 'b> {
     }
 
     #[tactic(auto, unfolding(crate::specs::Operands::load_operands, crate::specs::Operands::last))]
-    fn load(self, size: Size) -> Result<Insn, Code>
-        ensures { Gives (λ _. false) (λ i. i) result (load_operands (insn.Load size) (texts_of self.entry.rest.now)) }
+    fn load(self, size: Size, extension: Extension) -> Result<Insn, Code>
+        ensures { Gives (λ _. false) (λ i. i) result
+            (load_operands (insn.Load size extension) (texts_of self.entry.rest.now)) }
     {
         let (word, words) = self.comma()?;
         let dst = reg_of(word)?;
@@ -96,6 +117,7 @@ impl<'a, 'b> Words<'a, 'b> {
         words.no_word()?;
         Ok(Insn::Load {
             size,
+            extension,
             dst,
             src,
             offset,
@@ -194,12 +216,13 @@ impl<'a, 'b> Words<'a, 'b> {
     {
         match word {
             Word::Alu(op, width) => self.alu(op, width),
+            Word::MovSx(width) => self.mov_sx(width),
             Word::Neg(width) => Ok(Insn::Neg {
                 width,
                 dst: self.last_reg()?,
             }),
             Word::LoadImm => self.wide(),
-            Word::Load(size) => self.load(size),
+            Word::Load(size, extension) => self.load(size, extension),
             Word::StoreImm(size) => self.store_imm(size),
             Word::Store(size) => self.store(size),
             Word::Jump => Ok(Insn::Jump {
@@ -216,13 +239,13 @@ impl<'a, 'b> Words<'a, 'b> {
         }
     }
 
-    // One instruction.
+    // One instruction of a profile.
     #[tactic(auto, unfolding(crate::specs::Operands::insn_of_words))]
-    fn insn(self) -> Result<Insn, Code>
-        ensures { Gives (λ _. false) (λ i. i) result (insn_of_words (texts_of self.entry.rest.now)) }
+    fn insn(self, profile: Profile) -> Result<Insn, Code>
+        ensures { Gives (λ _. false) (λ i. i) result (insn_of_words profile (texts_of self.entry.rest.now)) }
     {
         let (first, words) = self.next_word()?;
-        match Word::named(first) {
+        match Word::named(profile, first) {
             Some(word) => words.operands(word),
             None => Err(Code::Word),
         }
@@ -237,9 +260,10 @@ fn words_of(alloc: Global, text: &str) -> Result<Vec<&str>, AllocError>
 }
 
 /// The instruction of a line.
-pub fn line_of(alloc: Global, text: &str) -> Result<Insn, Code>
-    ensures { Gives is_memory (λ i. i) result (line_of text.now) }
+pub fn line_of(alloc: Global, profile: Profile, text: &str) -> Result<Insn, Code>
+    ensures read { Gives is_memory (λ i. i) result (line_of profile text.now) }
+    ensures of_profile { IfOk result (IsOf profile) }
 {
     let words = words_of(alloc, text)?;
-    Words { rest: &words }.insn()
+    Words { rest: &words }.insn(profile)
 }

@@ -3,7 +3,7 @@ ghost use Rattle.std.specs.Prelude.{◌≡◌, ◌++◌, IfOk, string_bytes, cod
 ghost use Rattle.pb_asm.specs.Names.{name};
 ghost use Rattle.pb_asm.specs.Listing.{operand_text, offset_text, place_text, insn_text, listing};
 
-use crate::names::{Word, reg_name};
+use crate::names::{Word, reg_name, size_bits};
 use pb_base::NoMemory;
 use pb_isa::{Insn, Operand, Program, Reg};
 use std::alloc::{AllocError, Global};
@@ -44,6 +44,21 @@ fn one(alloc: Global, word: Word, operand: &str) -> Result<String, AllocError>
     format!(in alloc; "{name} {operand}")
 }
 
+// A first word and three operands.
+fn three(
+    alloc: Global,
+    word: Word,
+    first: &str,
+    second: &str,
+    third: &str,
+) -> Result<String, AllocError>
+    ensures { IfOk result (λ s. string_bytes s
+        ≡ name word ++ (codes " " ++ (first.now ++ (codes ", " ++ (second.now ++ (codes ", " ++ third.now)))))) }
+{
+    let name = word.name();
+    format!(in alloc; "{name} {first}, {second}, {third}")
+}
+
 // A first word and two operands.
 fn two(alloc: Global, word: Word, first: &str, second: &str) -> Result<String, AllocError>
     ensures { IfOk result
@@ -66,6 +81,22 @@ fn insn_text(alloc: Global, insn: Insn) -> Result<String, AllocError>
             let src = operand_text(alloc, src)?;
             two(alloc, Word::Alu(op, width), reg_name(dst), &src)
         }
+        Insn::MovSx {
+            width,
+            size,
+            dst,
+            src,
+        } => {
+            let bits = size_bits(size);
+            let bits = format!(in alloc; "{bits}")?;
+            three(
+                alloc,
+                Word::MovSx(width),
+                reg_name(dst),
+                reg_name(src),
+                &bits,
+            )
+        }
         Insn::Neg { width, dst } => one(alloc, Word::Neg(width), reg_name(dst)),
         Insn::LoadImm { dst, imm } => {
             let imm = format!(in alloc; "{imm}")?;
@@ -73,12 +104,13 @@ fn insn_text(alloc: Global, insn: Insn) -> Result<String, AllocError>
         }
         Insn::Load {
             size,
+            extension,
             dst,
             src,
             offset,
         } => {
             let place = place_text(alloc, src, offset)?;
-            two(alloc, Word::Load(size), reg_name(dst), &place)
+            two(alloc, Word::Load(size, extension), reg_name(dst), &place)
         }
         Insn::StoreImm {
             size,
@@ -107,11 +139,15 @@ fn insn_text(alloc: Global, insn: Insn) -> Result<String, AllocError>
             src,
             offset,
         } => {
-            let name = Word::JumpIf(cmp, width).name();
-            let dst = reg_name(dst);
             let src = operand_text(alloc, src)?;
             let offset = offset_text(alloc, offset)?;
-            format!(in alloc; "{name} {dst}, {src}, {offset}")
+            three(
+                alloc,
+                Word::JumpIf(cmp, width),
+                reg_name(dst),
+                &src,
+                &offset,
+            )
         }
         Insn::Call { imm } => one(alloc, Word::Call, &format!(in alloc; "{imm}")?),
         Insn::Exit => String::from_str(alloc, Word::Exit.name()),

@@ -1,16 +1,17 @@
 //! The words of the text.
 ghost use Rattle.std.specs.Prelude.{◌≡◌};
-ghost use Rattle.pb_asm.specs.Names.{name, word_in, word_named, reg_name, reg_spelled, reg_named};
+ghost use Rattle.pb_asm.specs.Names.{name, is_word_of, size_bits, word_in, word_named, reg_name, reg_spelled, reg_named};
 
-use pb_isa::{AluOp, Cmp, Reg, Size, Width};
+use pb_isa::{AluOp, Cmp, Extension, Profile, Reg, Size, Width};
 
 /// The first word of a line: which instruction it is.
 #[derive(Clone, Copy, Debug, PartialEq, Eq)]
 pub enum Word {
     Alu(AluOp, Width),
+    MovSx(Width),
     Neg(Width),
     LoadImm,
-    Load(Size),
+    Load(Size, Extension),
     StoreImm(Size),
     Store(Size),
     Jump,
@@ -71,10 +72,14 @@ impl Word {
             Word::JumpIf(Cmp::Slt, Width::Bits64) => "jslt64",
             Word::JumpIf(Cmp::Sle, Width::Bits32) => "jsle32",
             Word::JumpIf(Cmp::Sle, Width::Bits64) => "jsle64",
-            Word::Load(Size::B) => "ldxb",
-            Word::Load(Size::H) => "ldxh",
-            Word::Load(Size::W) => "ldxw",
-            Word::Load(Size::Dw) => "ldxdw",
+            Word::Load(Size::B, Extension::Zeros) => "ldxb",
+            Word::Load(Size::H, Extension::Zeros) => "ldxh",
+            Word::Load(Size::W, Extension::Zeros) => "ldxw",
+            Word::Load(Size::Dw, Extension::Zeros) => "ldxdw",
+            Word::Load(Size::B, Extension::Sign) => "ldxsb",
+            Word::Load(Size::H, Extension::Sign) => "ldxsh",
+            Word::Load(Size::W, Extension::Sign) => "ldxsw",
+            Word::Load(Size::Dw, Extension::Sign) => "ldxsdw",
             Word::StoreImm(Size::B) => "stb",
             Word::StoreImm(Size::H) => "sth",
             Word::StoreImm(Size::W) => "stw",
@@ -83,6 +88,8 @@ impl Word {
             Word::Store(Size::H) => "stxh",
             Word::Store(Size::W) => "stxw",
             Word::Store(Size::Dw) => "stxdw",
+            Word::MovSx(Width::Bits32) => "movsx32",
+            Word::MovSx(Width::Bits64) => "movsx64",
             Word::Neg(Width::Bits32) => "neg32",
             Word::Neg(Width::Bits64) => "neg64",
             Word::LoadImm => "lddw",
@@ -92,12 +99,28 @@ impl Word {
         }
     }
 
-    /// The word that is written so.
-    #[tactic(auto, unfolding(crate::specs::Names::words))]
-    pub fn named(text: &str) -> Option<Word>
-        ensures { result ≡ word_named text.now }
+    // Whether a profile has instructions with this word.
+    fn is_of(self, profile: Profile) -> bool
+        ensures { result ≡ is_word_of profile self }
     {
-        word_in(&WORDS, text)
+        match (self, profile) {
+            (Word::Load(Size::Dw, Extension::Sign), _) => false,
+            (Word::Load(_, Extension::Sign) | Word::MovSx(_), Profile::One) => false,
+            _ => true,
+        }
+    }
+
+    /// The profile's word that is written so.
+    #[tactic(auto, unfolding(crate::specs::Names::words))]
+    pub fn named(profile: Profile, text: &str) -> Option<Word>
+        ensures { result ≡ word_named profile text.now }
+    {
+        let word = word_in(&WORDS, text)?;
+        if word.is_of(profile) {
+            Some(word)
+        } else {
+            None
+        }
     }
 }
 
@@ -110,6 +133,18 @@ fn word_in(words: &[Word], text: &str) -> Option<Word>
         }
     }
     None
+}
+
+/// How many bits a size has.
+pub fn size_bits(size: Size) -> u64
+    ensures { result ≡ size_bits size }
+{
+    match size {
+        Size::B => 8,
+        Size::H => 16,
+        Size::W => 32,
+        Size::Dw => 64,
+    }
 }
 
 /// How a register is written.
@@ -164,7 +199,7 @@ const REGISTERS: [Reg; 11] = [
     Reg::R10,
 ];
 
-const WORDS: [Word; 64] = [
+const WORDS: [Word; 70] = [
     Word::Alu(AluOp::Add, Width::Bits32),
     Word::Alu(AluOp::Add, Width::Bits64),
     Word::Alu(AluOp::Sub, Width::Bits32),
@@ -211,10 +246,14 @@ const WORDS: [Word; 64] = [
     Word::JumpIf(Cmp::Slt, Width::Bits64),
     Word::JumpIf(Cmp::Sle, Width::Bits32),
     Word::JumpIf(Cmp::Sle, Width::Bits64),
-    Word::Load(Size::B),
-    Word::Load(Size::H),
-    Word::Load(Size::W),
-    Word::Load(Size::Dw),
+    Word::Load(Size::B, Extension::Zeros),
+    Word::Load(Size::H, Extension::Zeros),
+    Word::Load(Size::W, Extension::Zeros),
+    Word::Load(Size::Dw, Extension::Zeros),
+    Word::Load(Size::B, Extension::Sign),
+    Word::Load(Size::H, Extension::Sign),
+    Word::Load(Size::W, Extension::Sign),
+    Word::Load(Size::Dw, Extension::Sign),
     Word::StoreImm(Size::B),
     Word::StoreImm(Size::H),
     Word::StoreImm(Size::W),
@@ -223,6 +262,8 @@ const WORDS: [Word; 64] = [
     Word::Store(Size::H),
     Word::Store(Size::W),
     Word::Store(Size::Dw),
+    Word::MovSx(Width::Bits32),
+    Word::MovSx(Width::Bits64),
     Word::Neg(Width::Bits32),
     Word::Neg(Width::Bits64),
     Word::LoadImm,

@@ -4,12 +4,13 @@ ghost use Rattle.std.specs.Char.{is_ascii_digit};
 ghost use Rattle.std.specs.List.{list_all};
 ghost use Rattle.pb_base.specs.Reading.{Gives, is_numeral, numeral_upto};
 ghost use Rattle.pb_asm.specs.declared.fault.Code.TheVariants as code;
-ghost use Rattle.pb_asm.specs.Operands.{minus, plus, imm_of_text, offset_of_text, reg_of_text, operand_of_text, base_and_offset, place_of_text};
+ghost use Rattle.pb_asm.specs.Operands.{minus, plus, imm_of_text, offset_of_text, reg_of_text, operand_of_text, size_in, bits_of_text, base_and_offset, place_of_text};
+ghost use Rattle.pb_asm.specs.Names.{sizes};
 
 use crate::cuts::{split_once, strip_prefix, strip_suffix};
 use crate::fault::Code;
 use crate::names::reg_named;
-use pb_isa::{Operand, Reg};
+use pb_isa::{Operand, Reg, Size, Width};
 
 fn all_digits(digits: &[u8]) -> bool
     ensures { result ≡ list_all is_ascii_digit digits.now }
@@ -119,6 +120,30 @@ pub fn operand_of(text: &str) -> Result<Operand, Code>
         Ok(Operand::Reg(reg_of(text)?))
     } else {
         Ok(Operand::Imm(imm_of(text)?))
+    }
+}
+
+// The size of so many bits that is narrower than the width, if there is one.
+fn narrower_size(width: Width, bits: u64) -> Option<Size>
+    ensures { result ≡ size_in width bits sizes }
+{
+    match (bits, width) {
+        (8, _) => Some(Size::B),
+        (16, _) => Some(Size::H),
+        (32, Width::Bits64) => Some(Size::W),
+        _ => None,
+    }
+}
+
+/// How many bits a sign-extending move of this width takes from its source: 8 or 16, and to 64 bits also 32.
+#[tactic(auto, unfolding(crate::specs::Operands::bits_of_text))]
+pub fn bits_of(width: Width, text: &str) -> Result<Size, Code>
+    ensures { Gives (λ _. false) (λ z. z) result (bits_of_text width text.now) }
+{
+    let bits = numeral_upto(u64::MAX, text)?;
+    match narrower_size(width, bits) {
+        Some(size) => Ok(size),
+        None => Err(Code::Range),
     }
 }
 

@@ -1,5 +1,7 @@
 -- The fault of a known program's file is told.
 use Rattle.std.proofs.Common.{◌≡◌, refl, ap, sym, subst, ◌⊎◌, ℕ, Bool, List, Option, Some, Ok, Err, inl, inr}
+use Rattle.pb_isa.specs.declared.profile.Profile.{Profile}
+use Rattle.pb_helpers.specs.declared.change.Version.{Version}
 use Rattle.pb_asm.specs.Texts.{program_of_text}
 use Rattle.pb_command.specs.declared.fault.Fault.{Fault}
 use Rattle.pb_command.specs.declared.fault.Fault.TheVariants as faults
@@ -12,55 +14,55 @@ use Rattle.pb_command.proofs.KnownFiles.{only_memory, same_bytes, text_is_text}
 unread_is_none : (before : Held) (input text : Text) (line code : ℕ) (f : Fault) → before input ≡ Some (Ok text) → IsUnreadAt (before input) input f → TellsPlace line code f
 unread_is_none before input text line code f e u = subst (λ (g : Fault). TellsPlace line code g) (sym (only_memory (before input) text input f e u)) tt
 
-own_place : (before : Held) (input text : Text) (line code told_line told_code : ℕ) → before input ≡ Some (Ok text) → program_of_text text ≡ Err (line, code) → IsFaultyText (before input) told_line told_code → (told_line ≡ line) × (told_code ≡ code)
-own_place before input text line code told_line told_code e bad r =
-    let told : program_of_text text ≡ Err (told_line, told_code) = subst (λ t. program_of_text t ≡ Err (told_line, told_code)) (same_bytes (before input) text r.text e r.text_held) r.fault in
+own_place : (profile : Profile) (before : Held) (input text : Text) (line code told_line told_code : ℕ) → before input ≡ Some (Ok text) → program_of_text profile text ≡ Err (line, code) → IsFaultyText profile (before input) told_line told_code → (told_line ≡ line) × (told_code ≡ code)
+own_place profile before input text line code told_line told_code e bad r =
+    let told : program_of_text profile text ≡ Err (told_line, told_code) = subst (λ t. program_of_text profile t ≡ Err (told_line, told_code)) (same_bytes (before input) text r.text e r.text_held) r.fault in
     let same : (told_line, told_code) ≡ (line, code) = cc in
     (ap (λ (x : ℕ × ℕ). x.0) same, ap (λ (x : ℕ × ℕ). x.1) same)
 
-not_assembled : (before after : Held) (input output text : Text) (line code : ℕ) → before input ≡ Some (Ok text) → program_of_text text ≡ Err (line, code) → Unwritten before after input output → ⊥
-not_assembled before after input output text line code e bad w =
+not_assembled : (profile : Profile) (before after : Held) (input output text : Text) (line code : ℕ) → before input ≡ Some (Ok text) → program_of_text profile text ≡ Err (line, code) → Unwritten profile before after input output → ⊥
+not_assembled profile before after input output text line code e bad w =
     let a = w.assembles in
-    let read : program_of_text text ≡ Ok a.program = subst (λ t. program_of_text t ≡ Ok a.program) (same_bytes (before input) text a.text e a.text_held) a.read in
+    let read : program_of_text profile text ≡ Ok a.program = subst (λ t. program_of_text profile t ≡ Ok a.program) (same_bytes (before input) text a.text e a.text_held) a.read in
     cc
 
 pub faulty_text_is_told : FaultyTextIsTold
-faulty_text_is_told before after was failed input output text line code (faults.Text f) e utf8 bad fails = own_place before input text line code f.line f.code e bad fails.2
-faulty_text_is_told before after was failed input output text line code (faults.Unreadable p) e utf8 bad fails = unread_is_none before input text line code (faults.Unreadable p) e fails.2
-faulty_text_is_told before after was failed input output text line code (faults.TooLarge p) e utf8 bad fails = unread_is_none before input text line code (faults.TooLarge p) e fails.2
-faulty_text_is_told before after was failed input output text line code (faults.NotText p) e utf8 bad fails = text_is_text (before input) text input (faults.NotText p) e utf8 fails.2
-faulty_text_is_told before after was failed input output text line code (faults.Unwritable p) e utf8 bad fails = not_assembled before after input output text line code e bad fails.1
-faulty_text_is_told before after was failed input output text line code (faults.Run r) e utf8 bad fails = fails.2
-faulty_text_is_told before after was failed input output text line code (faults.Undone r) e utf8 bad fails = fails.2
-faulty_text_is_told before after was failed input output text line code faults.Output e utf8 bad fails = fails.2
-faulty_text_is_told before after was failed input output text line code faults.NoMemory e utf8 bad fails = tt
+faulty_text_is_told profile before after was failed input output text line code (faults.Text f) e utf8 bad fails = own_place profile before input text line code f.line f.code e bad fails.2
+faulty_text_is_told profile before after was failed input output text line code (faults.Unreadable p) e utf8 bad fails = unread_is_none before input text line code (faults.Unreadable p) e fails.2
+faulty_text_is_told profile before after was failed input output text line code (faults.TooLarge p) e utf8 bad fails = unread_is_none before input text line code (faults.TooLarge p) e fails.2
+faulty_text_is_told profile before after was failed input output text line code (faults.NotText p) e utf8 bad fails = text_is_text (before input) text input (faults.NotText p) e utf8 fails.2
+faulty_text_is_told profile before after was failed input output text line code (faults.Unwritable p) e utf8 bad fails = not_assembled profile before after input output text line code e bad fails.1
+faulty_text_is_told profile before after was failed input output text line code (faults.Run r) e utf8 bad fails = fails.2
+faulty_text_is_told profile before after was failed input output text line code (faults.Undone r) e utf8 bad fails = fails.2
+faulty_text_is_told profile before after was failed input output text line code faults.Output e utf8 bad fails = fails.2
+faulty_text_is_told profile before after was failed input output text line code faults.NoMemory e utf8 bad fails = tt
 
 only_output : (bytes path : Text) (old now : Option (List ℕ)) (failed : Bool) (f : Fault) → (f ≡ faults.Output) ⊎ IsUnreadAt (Some (Ok bytes)) path f → (f ≡ faults.Output) ⊎ (f ≡ faults.NoMemory)
 only_output bytes path old now failed f (inl output) = inl output
 only_output bytes path old now failed f (inr unread) = inr (only_memory (Some (Ok bytes)) bytes path f refl unread)
 
-listed : (bytes path : Text) (old now : Option (List ℕ)) (failed : Bool) (f : Fault) → AnswerFails Lists (Some (Ok bytes)) path old now failed f → (f ≡ faults.Output) ⊎ IsUnreadAt (Some (Ok bytes)) path f
-listed bytes path old now failed faults.Output fails = inl refl
-listed bytes path old now failed (faults.Unreadable p) fails = inr fails.2
-listed bytes path old now failed (faults.TooLarge p) fails = inr fails.2
-listed bytes path old now failed (faults.NotText p) fails = inr fails.2
-listed bytes path old now failed (faults.Unwritable p) fails = inr fails.2
-listed bytes path old now failed (faults.Text t) fails = inr fails.2
-listed bytes path old now failed (faults.Run r) fails = inr fails.2
-listed bytes path old now failed (faults.Undone r) fails = inr fails.2
-listed bytes path old now failed faults.NoMemory fails = inr fails.2
+listed : (profile : Profile) (bytes path : Text) (old now : Option (List ℕ)) (failed : Bool) (f : Fault) → AnswerFails (Lists profile) (Some (Ok bytes)) path old now failed f → (f ≡ faults.Output) ⊎ IsUnreadAt (Some (Ok bytes)) path f
+listed profile bytes path old now failed faults.Output fails = inl refl
+listed profile bytes path old now failed (faults.Unreadable p) fails = inr fails.2
+listed profile bytes path old now failed (faults.TooLarge p) fails = inr fails.2
+listed profile bytes path old now failed (faults.NotText p) fails = inr fails.2
+listed profile bytes path old now failed (faults.Unwritable p) fails = inr fails.2
+listed profile bytes path old now failed (faults.Text t) fails = inr fails.2
+listed profile bytes path old now failed (faults.Run r) fails = inr fails.2
+listed profile bytes path old now failed (faults.Undone r) fails = inr fails.2
+listed profile bytes path old now failed faults.NoMemory fails = inr fails.2
 
-checked : (bytes path : Text) (old now : Option (List ℕ)) (failed : Bool) (f : Fault) → AnswerFails Checks (Some (Ok bytes)) path old now failed f → (f ≡ faults.Output) ⊎ IsUnreadAt (Some (Ok bytes)) path f
-checked bytes path old now failed faults.Output fails = inl refl
-checked bytes path old now failed (faults.Unreadable p) fails = inr fails.2
-checked bytes path old now failed (faults.TooLarge p) fails = inr fails.2
-checked bytes path old now failed (faults.NotText p) fails = inr fails.2
-checked bytes path old now failed (faults.Unwritable p) fails = inr fails.2
-checked bytes path old now failed (faults.Text t) fails = inr fails.2
-checked bytes path old now failed (faults.Run r) fails = inr fails.2
-checked bytes path old now failed (faults.Undone r) fails = inr fails.2
-checked bytes path old now failed faults.NoMemory fails = inr fails.2
+checked : (profile : Profile) (version : Version) (bytes path : Text) (old now : Option (List ℕ)) (failed : Bool) (f : Fault) → AnswerFails (Checks profile version) (Some (Ok bytes)) path old now failed f → (f ≡ faults.Output) ⊎ IsUnreadAt (Some (Ok bytes)) path f
+checked profile version bytes path old now failed faults.Output fails = inl refl
+checked profile version bytes path old now failed (faults.Unreadable p) fails = inr fails.2
+checked profile version bytes path old now failed (faults.TooLarge p) fails = inr fails.2
+checked profile version bytes path old now failed (faults.NotText p) fails = inr fails.2
+checked profile version bytes path old now failed (faults.Unwritable p) fails = inr fails.2
+checked profile version bytes path old now failed (faults.Text t) fails = inr fails.2
+checked profile version bytes path old now failed (faults.Run r) fails = inr fails.2
+checked profile version bytes path old now failed (faults.Undone r) fails = inr fails.2
+checked profile version bytes path old now failed faults.NoMemory fails = inr fails.2
 
 pub known_bytes_are_answered : KnownBytesAreAnswered
-known_bytes_are_answered bytes path old now failed f (inl fails) = only_output bytes path old now failed f (listed bytes path old now failed f fails)
-known_bytes_are_answered bytes path old now failed f (inr fails) = only_output bytes path old now failed f (checked bytes path old now failed f fails)
+known_bytes_are_answered profile version bytes path old now failed f (inl fails) = only_output bytes path old now failed f (listed profile bytes path old now failed f fails)
+known_bytes_are_answered profile version bytes path old now failed f (inr fails) = only_output bytes path old now failed f (checked profile version bytes path old now failed f fails)

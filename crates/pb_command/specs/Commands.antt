@@ -83,12 +83,12 @@ LeavesBehind (options.Run manifest script workers swaps) spares before after was
     (after ≡ before) × (unwritten ≡ was) × RunLeaves before manifest.now script.now workers spares old now failed outcome
 LeavesBehind (options.Replay manifest script schedule clock) spares before after was unwritten old now failed outcome =
     (after ≡ before) × (unwritten ≡ was) × ReplayLeaves before manifest.now script.now schedule.now clock.0 old now failed outcome
-LeavesBehind (options.Asm input output) spares before after was unwritten old now failed outcome =
-    (now ≡ old) × (failed ≡ false) × AsmLeaves before after was unwritten input.now output.now outcome
-LeavesBehind (options.Dis file) spares before after was unwritten old now failed outcome =
-    (after ≡ before) × (unwritten ≡ was) × AnswerLeaves Lists (before file.now) file.now old now failed outcome
-LeavesBehind (options.Check file) spares before after was unwritten old now failed outcome =
-    (after ≡ before) × (unwritten ≡ was) × AnswerLeaves Checks (before file.now) file.now old now failed outcome
+LeavesBehind (options.Asm input output profile) spares before after was unwritten old now failed outcome =
+    (now ≡ old) × (failed ≡ false) × AsmLeaves profile before after was unwritten input.now output.now outcome
+LeavesBehind (options.Dis file profile) spares before after was unwritten old now failed outcome =
+    (after ≡ before) × (unwritten ≡ was) × AnswerLeaves (Lists profile) (before file.now) file.now old now failed outcome
+LeavesBehind (options.Check file profile version) spares before after was unwritten old now failed outcome =
+    (after ≡ before) × (unwritten ≡ was) × AnswerLeaves (Checks profile version) (before file.now) file.now old now failed outcome
 
 -- an outcome as a status, with what was told
 abbrev pub IsToldAs : Result Verdict Fault → Option (List ℕ) → Option (List ℕ) → Bool → ℕ → Type 0

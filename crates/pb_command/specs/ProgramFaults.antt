@@ -1,5 +1,7 @@
 -- Where it is known what reading a program's file answers, its own fault is told.
 use Rattle.std.specs.Prelude.{◌≡◌, ◌⊎◌, ℕ, Bool, List, Option, Some, Ok, Err, IsUtf8}
+use Rattle.pb_isa.specs.declared.profile.Profile.{Profile}
+use Rattle.pb_helpers.specs.declared.change.Version.{Version}
 use Rattle.pb_asm.specs.Texts.{program_of_text}
 use Rattle.pb_command.specs.declared.fault.Fault.{Fault}
 use Rattle.pb_command.specs.declared.fault.Fault.TheVariants as faults
@@ -14,13 +16,13 @@ TellsPlace line code _ = ⊥
 
 -- of text that is known and is no program's, it is told where it is at fault
 abbrev pub FaultyTextIsTold : Type 0
-FaultyTextIsTold = (before after : Held) (was failed : Bool) (input output text : Text) (line code : ℕ) (f : Fault) →
-    before input ≡ Some (Ok text) → IsUtf8 text → program_of_text text ≡ Err (line, code) →
-    AsmFails before after was failed input output f → TellsPlace line code f
+FaultyTextIsTold = (profile : Profile) (before after : Held) (was failed : Bool) (input output text : Text) (line code : ℕ) (f : Fault) →
+    before input ≡ Some (Ok text) → IsUtf8 text → program_of_text profile text ≡ Err (line, code) →
+    AsmFails profile before after was failed input output f → TellsPlace line code f
 
 -- of bytes that are known, nothing but the output or memory fails where they are listed or checked
 abbrev pub KnownBytesAreAnswered : Type 0
-KnownBytesAreAnswered = (bytes path : Text) (old now : Option (List ℕ)) (failed : Bool) (f : Fault) →
-    AnswerFails Lists (Some (Ok bytes)) path old now failed f ⊎
-    AnswerFails Checks (Some (Ok bytes)) path old now failed f →
+KnownBytesAreAnswered = (profile : Profile) (version : Version) (bytes path : Text) (old now : Option (List ℕ)) (failed : Bool) (f : Fault) →
+    AnswerFails (Lists profile) (Some (Ok bytes)) path old now failed f ⊎
+    AnswerFails (Checks profile version) (Some (Ok bytes)) path old now failed f →
     (f ≡ faults.Output) ⊎ (f ≡ faults.NoMemory)

@@ -3,7 +3,9 @@ use Rattle.std.specs.Prelude.{◌≡◌, ◌≢◌, ℕ, ◌⊎◌, Bool, true, 
 use Rattle.std.specs.Fmt.{decimal}
 use Rattle.std.specs.Io.KnownBytes.{Appends}
 use Rattle.pb_isa.specs.Slots.{slots}
+use Rattle.pb_isa.specs.declared.profile.Profile.{Profile}
 use Rattle.pb_isa.specs.Programs.{ProgramOf, JudgedOf}
+use Rattle.pb_helpers.specs.declared.change.Version.{Version}
 use Rattle.pb_helpers.specs.Table.{all_helpers}
 use Rattle.pb_registry.specs.Accepting.{IsAcceptedCode, IsRefusedCode}
 use Rattle.pb_decode.specs.Encoding.{Encodes}
@@ -21,50 +23,50 @@ use Rattle.pb_command.specs.PathFaults.{IsUnreadAt, IsNoText}
 
 -- ---- assembling
 
--- the bytes are those of the program whose text the path holds
-pub record Assembles (input : Option ReadAnswer) (bytes : List ℕ) : Type 0 where
+-- the bytes are those of the program of the profile whose text the path holds
+pub record Assembles (profile : Profile) (input : Option ReadAnswer) (bytes : List ℕ) : Type 0 where
   pub text : List ℕ
   pub program : ProgramOf
   pub text_held : IsKnownAs input (Ok text)
-  pub read : program_of_text text ≡ Ok program
+  pub read : program_of_text profile text ≡ Ok program
   pub encoded : Encodes bytes program
 
 -- the program's bytes stand at the path for the output
-pub record Assembled (before after : Held) (input output : Text) : Type 0 where
+pub record Assembled (profile : Profile) (before after : Held) (input output : Text) : Type 0 where
   pub bytes : List ℕ
-  pub assembles : Assembles (before input) bytes
+  pub assembles : Assembles profile (before input) bytes
   pub written : IsKnownAs (after output) (Ok bytes)
   pub others : KeepsOthers before after output
 
 -- the text is a program's, whose bytes could not be written
-pub record Unwritten (before after : Held) (input output : Text) : Type 0 where
+pub record Unwritten (profile : Profile) (before after : Held) (input output : Text) : Type 0 where
   pub bytes : List ℕ
-  pub assembles : Assembles (before input) bytes
+  pub assembles : Assembles profile (before input) bytes
   pub others : KeepsOthers before after output
 
 -- the text that the path holds is no program's, and this is its first fault
-pub record IsFaultyText (held : Option ReadAnswer) (line code : ℕ) : Type 0 where
+pub record IsFaultyText (profile : Profile) (held : Option ReadAnswer) (line code : ℕ) : Type 0 where
   pub text : List ℕ
   pub text_held : IsKnownAs held (Ok text)
-  pub fault : program_of_text text ≡ Err (line, code)
+  pub fault : program_of_text profile text ≡ Err (line, code)
 
 -- the file at the path isn't read, or is no program's text, and this tells it
-abbrev pub IsNoProgramText : Option ReadAnswer → Text → Fault → Type 0
-IsNoProgramText held path (faults.Text f) = IsFaultyText held f.line f.code
-IsNoProgramText held path (faults.NotText p) = IsNoText held path (faults.NotText p)
-IsNoProgramText held path f = IsUnreadAt held path f
+abbrev pub IsNoProgramText : Profile → Option ReadAnswer → Text → Fault → Type 0
+IsNoProgramText profile held path (faults.Text f) = IsFaultyText profile held f.line f.code
+IsNoProgramText profile held path (faults.NotText p) = IsNoText held path (faults.NotText p)
+IsNoProgramText profile held path f = IsUnreadAt held path f
 
 -- Why nothing was assembled, and whether a write to a path has failed: only where one did is it told of the output.
-abbrev pub AsmFails : Held → Held → Bool → Bool → Text → Text → Fault → Type 0
-AsmFails before after was failed input output (faults.Unwritable p) = (p.now ≡ output) × Unwritten before after input output × (failed ≡ true)
-AsmFails before after was failed input output faults.NoMemory =
-    ((after ≡ before) × (failed ≡ was)) ⊎ (Unwritten before after input output × (failed ≡ true))
-AsmFails before after was failed input output f = (after ≡ before) × (failed ≡ was) × IsNoProgramText (before input) input f
+abbrev pub AsmFails : Profile → Held → Held → Bool → Bool → Text → Text → Fault → Type 0
+AsmFails profile before after was failed input output (faults.Unwritable p) = (p.now ≡ output) × Unwritten profile before after input output × (failed ≡ true)
+AsmFails profile before after was failed input output faults.NoMemory =
+    ((after ≡ before) × (failed ≡ was)) ⊎ (Unwritten profile before after input output × (failed ≡ true))
+AsmFails profile before after was failed input output f = (after ≡ before) × (failed ≡ was) × IsNoProgramText profile (before input) input f
 
-abbrev pub AsmLeaves : Held → Held → Bool → Bool → Text → Text → Result Verdict Fault → Type 0
-AsmLeaves before after was failed input output (Ok Accepted) = Assembled before after input output × (failed ≡ was)
-AsmLeaves before after was failed input output (Ok Refused) = ⊥
-AsmLeaves before after was failed input output (Err f) = AsmFails before after was failed input output f
+abbrev pub AsmLeaves : Profile → Held → Held → Bool → Bool → Text → Text → Result Verdict Fault → Type 0
+AsmLeaves profile before after was failed input output (Ok Accepted) = Assembled profile before after input output × (failed ≡ was)
+AsmLeaves profile before after was failed input output (Ok Refused) = ⊥
+AsmLeaves profile before after was failed input output (Err f) = AsmFails profile before after was failed input output f
 
 -- ---- answers on bytes
 
@@ -76,19 +78,19 @@ refusal_line slot code = codes "refused slot " ++ (decimal slot ++ (codes " code
 abbrev pub Judges : Type 1
 Judges = List ℕ → Verdict → List ℕ → Type 0
 
--- the listing of the program that the bytes encode; or the first slot at fault, with its lowest code
-abbrev pub Lists : Judges
-Lists bytes Accepted text = (p : ProgramOf) × Encodes bytes p × (text ≡ listing p.insns)
-Lists bytes Refused text = (slot code : ℕ) × AreRefusedAs bytes slot code × (text ≡ refusal_line slot code)
+-- the listing of the program of the profile that the bytes encode; or the first slot at fault, with its lowest code
+abbrev pub Lists : Profile → Judges
+Lists profile bytes Accepted text = (p : ProgramOf) × (p.profile ≡ profile) × Encodes bytes p × (text ≡ listing p.insns)
+Lists profile bytes Refused text = (slot code : ℕ) × AreRefusedAs profile bytes slot code × (text ≡ refusal_line slot code)
 
 -- the line that tells that a program is accepted
 abbrev pub acceptance_line : ℕ → List ℕ
 acceptance_line n = codes "accepted " ++ (decimal n ++ codes " slots\n")
 
--- whether the rules accept the program that the bytes encode, where it may call all helpers; else the first slot at fault
-abbrev pub Checks : Judges
-Checks bytes Accepted text = (j : JudgedOf) × IsAcceptedCode bytes all_helpers j × (text ≡ acceptance_line (slots j.program.insns))
-Checks bytes Refused text = (slot code : ℕ) × IsRefusedCode bytes all_helpers slot code × (text ≡ refusal_line slot code)
+-- whether the rules accept the program of the profile that the bytes encode, for records of this version, where it may call all helpers; else the first slot at fault
+abbrev pub Checks : Profile → Version → Judges
+Checks profile version bytes Accepted text = (j : JudgedOf) × IsAcceptedCode profile version bytes all_helpers j × (text ≡ acceptance_line (slots j.program.insns))
+Checks profile version bytes Refused text = (slot code : ℕ) × IsRefusedCode profile version bytes all_helpers slot code × (text ≡ refusal_line slot code)
 
 -- the bytes at a path were judged so, and the whole text was written
 pub record Answered (judges : Judges) (held : Option ReadAnswer) (old now : Option (List ℕ)) (failed : Bool) (verdict : Verdict) : Type 0 where

@@ -167,17 +167,25 @@ pub fn sequential_command<T: Tablet, P: Paths, O: Sink, E: Sink>(
             schedule,
             clock,
         } => replay_files(alloc, manifest, script, schedule, *clock, paths, table, out),
-        Options::Asm { input, output } => {
+        Options::Asm {
+            input,
+            output,
+            profile,
+        } => {
             table.close();
-            assemble_file(alloc, input, output, paths)
+            assemble_file(alloc, *profile, input, output, paths)
         }
-        Options::Dis { file } => {
+        Options::Dis { file, profile } => {
             table.close();
-            list_file(alloc, file, paths, out)
+            list_file(alloc, *profile, file, paths, out)
         }
-        Options::Check { file } => {
+        Options::Check {
+            file,
+            profile,
+            version,
+        } => {
             table.close();
-            check_file(alloc, file, paths, out)
+            check_file(alloc, *profile, *version, file, paths, out)
         }
     };
     status_of(alloc, &outcome, err)

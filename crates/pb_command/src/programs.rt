@@ -12,11 +12,12 @@ use crate::answer::{Answer, Verdict};
 use crate::fault::Fault;
 use crate::paths::{PathFault, Paths};
 use crate::reading::{bytes_at, text_of};
-use pb_asm::{AsmFault, assemble, disassemble};
+use pb_asm::{AsmFault, assemble_in, disassemble};
 use pb_base::{Reason, Refused, Sink};
-use pb_decode::{DecodeFault, decode, encode};
-use pb_helpers::HelperTable;
-use pb_registry::accept;
+use pb_decode::{DecodeFault, decode_in, encode};
+use pb_helpers::{HelperTable, Version};
+use pb_isa::Profile;
+use pb_registry::accept_in;
 use pb_texts::write_all;
 use pb_verify::VerifyFault;
 use std::alloc::{AllocError, Global};
@@ -32,36 +33,38 @@ fn text_fault<'a>(fault: AsmFault) -> Fault<'a>
     }
 }
 
-// The bytes of the program whose text a file is.
+// The bytes of the program of this profile whose text a file is.
 fn bytes_of_text<'a, P: Paths>(
     alloc: Global,
+    profile: Profile,
     input: &'a str,
     paths: &mut P,
 ) -> Result<Vec<u8>, Fault<'a>>
-    ensures bytes { IfOk result (λ v. Assembles (P.held paths.old input.now) v.items) }
-    ensures fault { IfErr result (IsNoProgramText (P.held paths.old input.now) input.now) }
+    ensures bytes { IfOk result (λ v. Assembles profile (P.held paths.old input.now) v.items) }
+    ensures fault { IfErr result (IsNoProgramText profile (P.held paths.old input.now) input.now) }
     ensures same { P.held paths.new ≡ P.held paths.old }
     ensures quiet { P.failed paths.new ≡ P.failed paths.old }
 {
     let bytes = bytes_at(paths, input)?;
     let text = text_of(bytes, input)?;
-    match assemble(alloc, text.as_str()) {
+    match assemble_in(alloc, profile, text.as_str()) {
         Ok(program) => Ok(encode(alloc, &program)?),
         Err(fault) => Err(text_fault(fault)),
     }
 }
 
-/// Writes the bytes of the program whose text a file is.
+/// Writes the bytes of the program of this profile whose text a file is.
 pub fn assemble_file<'a, P: Paths>(
     alloc: Global,
+    profile: Profile,
     input: &'a str,
     output: &'a str,
     paths: &mut P,
 ) -> Result<Verdict, Fault<'a>>
-    ensures { AsmLeaves (P.held paths.old) (P.held paths.new) (P.failed paths.old) (P.failed paths.new) input.now
-        output.now result }
+    ensures { AsmLeaves profile (P.held paths.old) (P.held paths.new) (P.failed paths.old) (P.failed paths.new)
+        input.now output.now result }
 {
-    let bytes = bytes_of_text(alloc, input, paths)?;
+    let bytes = bytes_of_text(alloc, profile, input, paths)?;
     match paths.write(output, &bytes) {
         Ok(()) => Ok(Verdict::Accepted),
         Err(PathFault::NoMemory) => Err(Fault::NoMemory),
@@ -90,12 +93,12 @@ fn refusal_of<'a>(alloc: Global, refused: Refused) -> Result<Answer, Fault<'a>>
     })
 }
 
-// The listing of bytes, or where they are refused.
-fn listing_of<'a>(alloc: Global, bytes: &[u8]) -> Result<Answer, Fault<'a>>
-    ensures told { IfOk result (λ a. Lists bytes.now a.verdict (string_bytes a.text)) }
+// The listing of bytes, read in this profile, or where they are refused.
+fn listing_of<'a>(alloc: Global, profile: Profile, bytes: &[u8]) -> Result<Answer, Fault<'a>>
+    ensures told { IfOk result (λ a. Lists profile bytes.now a.verdict (string_bytes a.text)) }
     ensures fault { IfErr result IsMemoryFault }
 {
-    match decode(alloc, bytes) {
+    match decode_in(alloc, profile, bytes) {
         Ok(program) => {
             let text = disassemble(alloc, &program)?;
             Ok(Answer {
@@ -120,12 +123,18 @@ fn acceptance_of<'a>(alloc: Global, slots: usize) -> Result<Answer, Fault<'a>>
     })
 }
 
-// Whether the program of these bytes is accepted with all helpers, or where bytes or program are refused.
-fn verdict_of<'a>(alloc: Global, bytes: &[u8]) -> Result<Answer, Fault<'a>>
-    ensures told { IfOk result (λ a. Checks bytes.now a.verdict (string_bytes a.text)) }
+// Whether the program of these bytes, read in this profile, is accepted with all helpers for change records of this version,
+// or where bytes or program are refused.
+fn verdict_of<'a>(
+    alloc: Global,
+    profile: Profile,
+    version: Version,
+    bytes: &[u8],
+) -> Result<Answer, Fault<'a>>
+    ensures told { IfOk result (λ a. Checks profile version bytes.now a.verdict (string_bytes a.text)) }
     ensures fault { IfErr result IsMemoryFault }
 {
-    match accept(alloc, bytes, HelperTable::all()) {
+    match accept_in(alloc, profile, version, bytes, HelperTable::all()) {
         Ok(accepted) => acceptance_of(alloc, accepted.slots()),
         Err(VerifyFault::Refused(refused)) => refusal_of(alloc, refused),
         Err(VerifyFault::NoMemory) => Err(Fault::NoMemory),
@@ -146,38 +155,42 @@ fn write_answer<'a, O: Sink>(answer: &Answer, out: &mut O) -> Result<Verdict, Fa
     }
 }
 
-/// Writes the listing of the program whose bytes a file is, or where they are refused.
+/// Writes the listing of the program of this profile whose bytes a file is, or where they are refused.
 pub fn list_file<'a, P: Paths, O: Sink>(
     alloc: Global,
+    profile: Profile,
     file: &'a str,
     paths: &mut P,
     out: &mut O,
 ) -> Result<Verdict, Fault<'a>>
     requires unfailed { O.failed out.old ≡ false }
-    ensures told { AnswerLeaves Lists (P.held paths.old file.now) file.now (O.taken out.old) (O.taken out.new)
+    ensures told { AnswerLeaves (Lists profile) (P.held paths.old file.now) file.now (O.taken out.old) (O.taken out.new)
         (O.failed out.new) result }
     ensures same { P.held paths.new ≡ P.held paths.old }
     ensures quiet { P.failed paths.new ≡ P.failed paths.old }
 {
     let bytes = bytes_at(paths, file)?;
-    let answer = listing_of(alloc, &bytes)?;
+    let answer = listing_of(alloc, profile, &bytes)?;
     write_answer(&answer, out)
 }
 
-/// Writes whether the program whose bytes a file is is accepted with all helpers, or where they are refused.
+/// Writes whether the program of this profile whose bytes a file is is accepted with all helpers for change records of this
+/// version, or where they are refused.
 pub fn check_file<'a, P: Paths, O: Sink>(
     alloc: Global,
+    profile: Profile,
+    version: Version,
     file: &'a str,
     paths: &mut P,
     out: &mut O,
 ) -> Result<Verdict, Fault<'a>>
     requires unfailed { O.failed out.old ≡ false }
-    ensures told { AnswerLeaves Checks (P.held paths.old file.now) file.now (O.taken out.old) (O.taken out.new)
-        (O.failed out.new) result }
+    ensures told { AnswerLeaves (Checks profile version) (P.held paths.old file.now) file.now (O.taken out.old)
+        (O.taken out.new) (O.failed out.new) result }
     ensures same { P.held paths.new ≡ P.held paths.old }
     ensures quiet { P.failed paths.new ≡ P.failed paths.old }
 {
     let bytes = bytes_at(paths, file)?;
-    let answer = verdict_of(alloc, &bytes)?;
+    let answer = verdict_of(alloc, profile, version, &bytes)?;
     write_answer(&answer, out)
 }

@@ -1,5 +1,5 @@
 -- What is read at the front is spelt so, and what is spelt so is read.
-use Rattle.std.proofs.Common.{◌≡◌, ℕ, ◌+◌, ◌*◌, ◌/◌, ◌%◌, ◌^◌, ◌<◌, ◌≤◌, ℤ, Bool, true, false, cond, List, [], ◌++◌, length, drop, Option, Some, None, Result, Ok, Err, refl, sym, ap, subst, ◌∙◌, append_assoc, arith}
+use Rattle.std.proofs.Common.{◌≡◌, ℕ, ◌⊎◌, inl, inr, ◌+◌, ◌*◌, ◌/◌, ◌%◌, ◌^◌, ◌<◌, ◌≤◌, ℤ, Bool, true, false, cond, List, [], ◌++◌, length, drop, Option, Some, None, Result, Ok, Err, refl, sym, ap, subst, ◌∙◌, append_assoc, arith}
 use Rattle.std.specs.Prelude.{ok_or, ◌==◌, nat_lt, FitsSigned}
 use Rattle.std.specs.Int.{w16, w32, cast_signed, cast_unsigned}
 use Rattle.std.proofs.lemmas.Bool.{eqb-true, and_parts, ltb-false, le-ltb}
@@ -7,9 +7,17 @@ use Rattle.std.proofs.lemmas.List.{append-nil, length-append}
 use Rattle.std.proofs.lemmas.Int.{to_z-of_z, of_z-to_z}
 use Rattle.std.proofs.Math.Facts.{sfits_to_z, Fits-of_z}
 use Rattle.pb_isa.specs.declared.insn.Insn.{Insn}
-use Rattle.pb_isa.specs.declared.insn.Insn.TheVariants.{Alu, Neg, LoadImm, Load, StoreImm, Store, Jump, JumpIf, Call, Exit}
+use Rattle.pb_isa.specs.declared.insn.Insn.TheVariants.{Alu, MovSx, Neg, LoadImm, Load, StoreImm, Store, Jump, JumpIf, Call, Exit}
+use Rattle.pb_isa.specs.declared.insn.Operand.{Operand}
 use Rattle.pb_isa.specs.declared.insn.Operand.TheVariants as operand
+use Rattle.pb_isa.specs.declared.insn.AluOp.{AluOp}
+use Rattle.pb_isa.specs.declared.insn.AluOp.TheVariants.{Mov}
+use Rattle.pb_isa.specs.declared.insn.Width.{Width}
+use Rattle.pb_isa.specs.declared.insn.Size.{Size}
+use Rattle.pb_isa.specs.declared.insn.Size.TheVariants.{B, H, W, Dw}
 use Rattle.pb_isa.specs.declared.insn.Reg.{Reg}
+use Rattle.pb_isa.specs.declared.profile.Profile.{Profile}
+use Rattle.pb_isa.specs.Profiles.{IsOf}
 use Rattle.pb_isa.specs.Registers.{number, reg_of}
 use Rattle.pb_isa.specs.Bounds.{Fits}
 use Rattle.pb_decode.specs.declared.forms.Form.{Form}
@@ -18,14 +26,15 @@ use Rattle.pb_decode.specs.declared.forms.Source.TheVariants.{K, X}
 use Rattle.pb_decode.specs.declared.fields.Slot.{Slot}
 use Rattle.pb_decode.specs.declared.fault.Code.{Code}
 use Rattle.pb_decode.specs.declared.fault.Code.TheVariants.{Opcode, Register, Unused, CutOff, SecondSlot}
-use Rattle.pb_decode.specs.Opcodes.{opcode, form_of}
+use Rattle.pb_decode.specs.Opcodes.{opcode, IsFormOf, form_of}
 use Rattle.pb_decode.specs.Fields.{slot_bytes, slot_of_bytes}
-use Rattle.pb_decode.specs.Encoding.{first_slot, second_slot, second_bytes, insn_bytes}
+use Rattle.pb_decode.specs.Encoding.{bits_of, first_slot, second_slot, second_bytes, insn_bytes}
 use Rattle.pb_base.specs.Reading.{◌>>=◌}
-use Rattle.pb_decode.specs.Reading.{is_clean, is_second, pair_of, insn_of_form, clean_or_code, first_with, first_of}
+use Rattle.pb_decode.specs.Reading.{is_alu_offset, is_clean, is_second, pair_of, size_of_bits, insn_of_form, clean_or_code, first_with, first_of}
 use Rattle.pb_decode.specs.Faults.{AreBytes}
 use Rattle.pb_decode.proofs.SlotBytes.{IsSlot, front_slot, is_slot, rest_bytes, same_slot, slot_back}
 use Rattle.pb_decode.proofs.OpcodeTable.{form_front, form_back, reg_back, reg_front, number_below}
+use Rattle.pb_decode.proofs.Extending.{IsExtending, alu_offset, zero_offset, extending_offset, size_back, some_bits, is_plain, plain_form, load_form, load_insn}
 
 abbrev Read : Type 0
 Read = Insn × List ℕ
@@ -44,21 +53,21 @@ ok_or_ok : {A : Type 0} (c : Code) (o : Option A) (x : A) → ok_or o c ≡ Ok x
 ok_or_ok c (Some y) x e = ap Some (ok_is y x e)
 ok_or_ok c None x e = absurd cc
 
-clean_ok : (f g : Form) (s : Slot) (b : Bool) → is_clean f s ≡ b → cond b (Ok f) (Err Unused) ≡ done g → (b ≡ true) × (f ≡ g)
-clean_ok f g s true is e = (refl, ok_is f g e)
-clean_ok f g s false is e = absurd cc
+clean_ok : (p : Profile) (f g : Form) (s : Slot) (b : Bool) → is_clean p f s ≡ b → cond b (Ok f) (Err Unused) ≡ done g → (b ≡ true) × (f ≡ g)
+clean_ok p f g s true is e = (refl, ok_is f g e)
+clean_ok p f g s false is e = absurd cc
 
 is_zero : (n : ℕ) → (n == 0) ≡ true → 0 ≡ n
 is_zero n h = sym (eqb-true n 0 h)
 
 -- what was read from a slot and the bytes behind it
-abbrev Takes : Slot → List ℕ → Read → Type 0
-Takes s rest x = (slot_bytes s ++ rest ≡ insn_bytes x.0 ++ x.1) × Fits x.0
+abbrev Takes : Profile → Slot → List ℕ → Read → Type 0
+Takes p s rest x = (slot_bytes s ++ rest ≡ insn_bytes x.0 ++ x.1) × Fits x.0 × IsOf p x.0
 
-single : (i : Insn) (s : Slot) (rest : List ℕ) (x : Read) → first_slot i ≡ s → second_bytes i ≡ [] → Fits i → done (i, rest) ≡ Ok x → Takes s rest x
-single i s rest x is alone fits e =
-    let p : slot_bytes s ++ rest ≡ insn_bytes i ++ rest = ap (λ (t : Slot). slot_bytes t ++ rest) (sym is) ∙ ap (λ (b : List ℕ). b ++ rest) (sym (append-nil (slot_bytes (first_slot i)))) ∙ ap (λ (b : List ℕ). (slot_bytes (first_slot i) ++ b) ++ rest) (sym alone) in
-    subst (Takes s rest) (ok_is (i, rest) x e) (p, fits)
+single : (p : Profile) (i : Insn) (s : Slot) (rest : List ℕ) (x : Read) → first_slot i ≡ s → second_bytes i ≡ [] → Fits i → IsOf p i → done (i, rest) ≡ Ok x → Takes p s rest x
+single p i s rest x is alone fits of e =
+    let parts : slot_bytes s ++ rest ≡ insn_bytes i ++ rest = ap (λ (t : Slot). slot_bytes t ++ rest) (sym is) ∙ ap (λ (b : List ℕ). b ++ rest) (sym (append-nil (slot_bytes (first_slot i)))) ∙ ap (λ (b : List ℕ). (slot_bytes (first_slot i) ++ b) ++ rest) (sym alone) in
+    subst (Takes p s rest) (ok_is (i, rest) x e) (parts, fits, of)
 
 imm_fits : (n : ℕ) → n < 2 ^ 32 → FitsSigned w32 (cast_signed w32 n)
 imm_fits n lt = sfits_to_z {w = w32} {n = n} (record { fits = lt })
@@ -73,8 +82,8 @@ pair_cases d s rest x true clean p q e = absurd cc
 pair_cases d s rest x false false p q e = absurd cc
 pair_cases d s rest x false true p q e = (ltb-false _ _ p, q, ok_is (LoadImm d (s.imm + 2 ^ 32 * (slot_of_bytes rest).imm), drop 8 rest) x e)
 
-pair_takes : (d : Reg) (s : Slot) (rest : List ℕ) (x : Read) → opcode form.LoadImm ≡ s.opcode → number d ≡ s.dst → 0 ≡ s.src → 0 ≡ s.offset → IsSlot s → AreBytes rest → pair_of d s.imm rest ≡ Ok x → Takes s rest x
-pair_takes d s rest x o p z f is fits e =
+pair_takes : (profile : Profile) (d : Reg) (s : Slot) (rest : List ℕ) (x : Read) → opcode form.LoadImm ≡ s.opcode → number d ≡ s.dst → 0 ≡ s.src → 0 ≡ s.offset → IsSlot s → AreBytes rest → pair_of d s.imm rest ≡ Ok x → Takes profile s rest x
+pair_takes profile d s rest x o p z f is fits e =
     let c = pair_cases d s rest x (nat_lt (length rest) 8) (is_second (slot_of_bytes rest)) refl refl e in
     let t = slot_of_bytes rest in
     let low = s.imm in
@@ -90,63 +99,81 @@ pair_takes d s rest x o p z f is fits e =
     let behind : rest ≡ second_bytes (LoadImm d v) ++ drop 8 rest = front_slot rest fits c.0 ∙ ap (λ (u : Slot). slot_bytes u ++ drop 8 rest) (sym second) in
     let parts : slot_bytes s ++ rest ≡ insn_bytes (LoadImm d v) ++ drop 8 rest =
     ap (λ (u : Slot). slot_bytes u ++ rest) (sym first) ∙ ap (λ (bs : List ℕ). slot_bytes (first_slot (LoadImm d v)) ++ bs) behind ∙ sym (append_assoc (slot_bytes (first_slot (LoadImm d v))) (second_bytes (LoadImm d v)) (drop 8 rest)) in
-    subst (Takes s rest) c.2 (parts, omega (arith, below, over))
+    let v-fits : v < 2 ^ 64 = omega (arith, below, over) in
+    subst (Takes profile s rest) c.2 (parts, v-fits, is_plain profile (LoadImm d v) tt)
 
-form_takes : (f : Form) (d r : Reg) (s : Slot) (rest : List ℕ) (x : Read) → opcode f ≡ s.opcode → number d ≡ s.dst → number r ≡ s.src → IsSlot s → AreBytes rest → is_clean f s ≡ true → insn_of_form f d r s rest ≡ Ok x → Takes s rest x
-form_takes (form.Alu op w K) d r s rest x o p q is fits clean e =
+-- arithmetic that was read with this offset
+abbrev IsAluRead : AluOp → Width → Reg → Reg → Operand → List ℕ → Read → ℕ → Type 0
+IsAluRead op w d r a rest x n = done (cond (n == 0) (Alu op w d a) (MovSx w (size_of_bits n) d r), rest) ≡ Ok x
+
+register_takes : (profile : Profile) (op : AluOp) (w : Width) (d r : Reg) (s : Slot) (rest : List ℕ) (x : Read) → opcode (form.Alu op w X) ≡ s.opcode → number d ≡ s.dst → number r ≡ s.src → 0 ≡ s.imm
+    → (0 ≡ s.offset) ⊎ IsExtending profile op w s.offset → IsAluRead op w d r (operand.Reg r) rest x s.offset → Takes profile s rest x
+register_takes profile op w d r s rest x o p q z (inl f) e =
+    single profile (Alu op w d (operand.Reg r)) s rest x (same_slot s _ _ _ _ _ o p q f z) refl tt (is_plain profile _ tt) (subst (IsAluRead op w d r (operand.Reg r) rest x) (sym f) e)
+register_takes profile op w d r s rest x o p q z (inr h) e =
+    let read = subst (IsAluRead op w d r (operand.Reg r) rest x) h.bits e in
+    let extends : done (MovSx w h.size d r, rest) ≡ Ok x = rw (some_bits h.size, size_back w h.size h.narrower) at read in
+    let move : opcode (form.Alu Mov w X) ≡ s.opcode = subst (λ (a : AluOp). opcode (form.Alu a w X) ≡ s.opcode) h.move o in
+    single profile (MovSx w h.size d r) s rest x (same_slot s _ _ _ _ _ move p q (sym h.bits) z) refl tt (h.of_profile d r) extends
+
+form_takes : (profile : Profile) (f : Form) (d r : Reg) (s : Slot) (rest : List ℕ) (x : Read) → opcode f ≡ s.opcode → IsFormOf profile f → number d ≡ s.dst → number r ≡ s.src → IsSlot s → AreBytes rest → is_clean profile f s ≡ true → insn_of_form f d r s rest ≡ Ok x → Takes profile s rest x
+form_takes profile (form.Alu op w K) d r s rest x o of p q is fits clean e =
     let a = and_parts (s.src == 0) (s.offset == 0) clean in
-    single _ s rest x (same_slot s _ _ _ _ _ o p (is_zero s.src a.0) (is_zero s.offset a.1) (of_z-to_z w32 s.imm is.imm)) refl (imm_fits s.imm is.imm) e
-form_takes (form.Alu op w X) d r s rest x o p q is fits clean e =
-    let a = and_parts (s.offset == 0) (s.imm == 0) clean in
-    single _ s rest x (same_slot s _ _ _ _ _ o p q (is_zero s.offset a.0) (is_zero s.imm a.1)) refl tt e
-form_takes (form.Neg w) d r s rest x o p q is fits clean e =
+    let i = Alu op w d (operand.Imm (cast_signed w32 s.imm)) in
+    let zero = is_zero s.offset a.1 in
+    single profile i s rest x (same_slot s _ _ _ _ _ o p (is_zero s.src a.0) zero (of_z-to_z w32 s.imm is.imm)) refl (imm_fits s.imm is.imm) (is_plain profile i tt) (subst (IsAluRead op w d r (operand.Imm (cast_signed w32 s.imm)) rest x) (sym zero) e)
+form_takes profile (form.Alu op w X) d r s rest x o of p q is fits clean e =
+    let a = and_parts (is_alu_offset profile op w s.offset) (s.imm == 0) clean in
+    register_takes profile op w d r s rest x o p q (is_zero s.imm a.1) (alu_offset profile op w s.offset a.0) e
+form_takes profile (form.Neg w) d r s rest x o of p q is fits clean e =
     let a = and_parts (s.src == 0) _ clean in
     let b = and_parts (s.offset == 0) (s.imm == 0) a.1 in
-    single _ s rest x (same_slot s _ _ _ _ _ o p (is_zero s.src a.0) (is_zero s.offset b.0) (is_zero s.imm b.1)) refl tt e
-form_takes form.LoadImm d r s rest x o p q is fits clean e =
+    single profile _ s rest x (same_slot s _ _ _ _ _ o p (is_zero s.src a.0) (is_zero s.offset b.0) (is_zero s.imm b.1)) refl tt (is_plain profile _ tt) e
+form_takes profile form.LoadImm d r s rest x o of p q is fits clean e =
     let a = and_parts (s.src == 0) (s.offset == 0) clean in
-    pair_takes d s rest x o p (is_zero s.src a.0) (is_zero s.offset a.1) is fits e
-form_takes (form.Load z) d r s rest x o p q is fits clean e =
-    single _ s rest x (same_slot s _ _ _ _ _ o p q (of_z-to_z w16 s.offset is.offset) (is_zero s.imm clean)) refl (off_fits s.offset is.offset) e
-form_takes (form.StoreImm z) d r s rest x o p q is fits clean e =
-    single _ s rest x (same_slot s _ _ _ _ _ o p (is_zero s.src clean) (of_z-to_z w16 s.offset is.offset) (of_z-to_z w32 s.imm is.imm)) refl (off_fits s.offset is.offset, imm_fits s.imm is.imm) e
-form_takes (form.Store z) d r s rest x o p q is fits clean e =
-    single _ s rest x (same_slot s _ _ _ _ _ o p q (of_z-to_z w16 s.offset is.offset) (is_zero s.imm clean)) refl (off_fits s.offset is.offset) e
-form_takes form.Jump d r s rest x o p q is fits clean e =
+    pair_takes profile d s rest x o p (is_zero s.src a.0) (is_zero s.offset a.1) is fits e
+form_takes profile (form.Load z x) d r s rest y o of p q is fits clean e =
+    single profile _ s rest y (same_slot s _ _ _ _ _ o p q (of_z-to_z w16 s.offset is.offset) (is_zero s.imm clean)) refl (off_fits s.offset is.offset) (load_insn profile z x d r _ of) e
+form_takes profile (form.StoreImm z) d r s rest x o of p q is fits clean e =
+    single profile _ s rest x (same_slot s _ _ _ _ _ o p (is_zero s.src clean) (of_z-to_z w16 s.offset is.offset) (of_z-to_z w32 s.imm is.imm)) refl (off_fits s.offset is.offset, imm_fits s.imm is.imm) (is_plain profile _ tt) e
+form_takes profile (form.Store z) d r s rest x o of p q is fits clean e =
+    single profile _ s rest x (same_slot s _ _ _ _ _ o p q (of_z-to_z w16 s.offset is.offset) (is_zero s.imm clean)) refl (off_fits s.offset is.offset) (is_plain profile _ tt) e
+form_takes profile form.Jump d r s rest x o of p q is fits clean e =
     let a = and_parts (s.dst == 0) _ clean in
     let b = and_parts (s.src == 0) (s.imm == 0) a.1 in
-    single _ s rest x (same_slot s _ _ _ _ _ o (is_zero s.dst a.0) (is_zero s.src b.0) (of_z-to_z w16 s.offset is.offset) (is_zero s.imm b.1)) refl (off_fits s.offset is.offset) e
-form_takes (form.JumpIf c w K) d r s rest x o p q is fits clean e =
-    single _ s rest x (same_slot s _ _ _ _ _ o p (is_zero s.src clean) (of_z-to_z w16 s.offset is.offset) (of_z-to_z w32 s.imm is.imm)) refl (imm_fits s.imm is.imm, off_fits s.offset is.offset) e
-form_takes (form.JumpIf c w X) d r s rest x o p q is fits clean e =
-    single _ s rest x (same_slot s _ _ _ _ _ o p q (of_z-to_z w16 s.offset is.offset) (is_zero s.imm clean)) refl (tt, off_fits s.offset is.offset) e
-form_takes form.Call d r s rest x o p q is fits clean e =
+    single profile _ s rest x (same_slot s _ _ _ _ _ o (is_zero s.dst a.0) (is_zero s.src b.0) (of_z-to_z w16 s.offset is.offset) (is_zero s.imm b.1)) refl (off_fits s.offset is.offset) (is_plain profile _ tt) e
+form_takes profile (form.JumpIf c w K) d r s rest x o of p q is fits clean e =
+    single profile _ s rest x (same_slot s _ _ _ _ _ o p (is_zero s.src clean) (of_z-to_z w16 s.offset is.offset) (of_z-to_z w32 s.imm is.imm)) refl (imm_fits s.imm is.imm, off_fits s.offset is.offset) (is_plain profile _ tt) e
+form_takes profile (form.JumpIf c w X) d r s rest x o of p q is fits clean e =
+    single profile _ s rest x (same_slot s _ _ _ _ _ o p q (of_z-to_z w16 s.offset is.offset) (is_zero s.imm clean)) refl (tt, off_fits s.offset is.offset) (is_plain profile _ tt) e
+form_takes profile form.Call d r s rest x o of p q is fits clean e =
     let a = and_parts (s.dst == 0) _ clean in
     let b = and_parts (s.src == 0) (s.offset == 0) a.1 in
-    single _ s rest x (same_slot s _ _ _ _ _ o (is_zero s.dst a.0) (is_zero s.src b.0) (is_zero s.offset b.1) (of_z-to_z w32 s.imm is.imm)) refl (imm_fits s.imm is.imm) e
-form_takes form.Exit d r s rest x o p q is fits clean e =
+    single profile _ s rest x (same_slot s _ _ _ _ _ o (is_zero s.dst a.0) (is_zero s.src b.0) (is_zero s.offset b.1) (of_z-to_z w32 s.imm is.imm)) refl (imm_fits s.imm is.imm) (is_plain profile _ tt) e
+form_takes profile form.Exit d r s rest x o of p q is fits clean e =
     let a = and_parts (s.dst == 0) _ clean in
     let b = and_parts (s.src == 0) _ a.1 in
     let g = and_parts (s.offset == 0) (s.imm == 0) b.1 in
-    single _ s rest x (same_slot s _ _ _ _ _ o (is_zero s.dst a.0) (is_zero s.src b.0) (is_zero s.offset g.0) (is_zero s.imm g.1)) refl tt e
+    single profile _ s rest x (same_slot s _ _ _ _ _ o (is_zero s.dst a.0) (is_zero s.src b.0) (is_zero s.offset g.0) (is_zero s.imm g.1)) refl tt (is_plain profile _ tt) e
 
-with_takes : (s : Slot) (rest : List ℕ) (x : Read) → IsSlot s → AreBytes rest → first_with s rest ≡ Ok x → Takes s rest x
+with_takes : (p : Profile) (s : Slot) (rest : List ℕ) (x : Read) → IsSlot s → AreBytes rest → first_with p s rest ≡ Ok x → Takes p s rest x
 unfolding first_with
-with_takes s rest x is fits e =
-    let a = bind_ok (ok_or (form_of s.opcode) Opcode) _ x e in
+with_takes p s rest x is fits e =
+    let a = bind_ok (ok_or (form_of p s.opcode) Opcode) _ x e in
     let b = bind_ok (ok_or (reg_of s.dst) Register) _ x a.2 in
     let c = bind_ok (ok_or (reg_of s.src) Register) _ x b.2 in
-    let d = bind_ok (clean_or_code a.0 s) _ x c.2 in
-    let clean = clean_ok a.0 d.0 s (is_clean a.0 s) refl d.1 in
+    let d = bind_ok (clean_or_code p a.0 s) _ x c.2 in
+    let clean = clean_ok p a.0 d.0 s (is_clean p a.0 s) refl d.1 in
     let g : insn_of_form a.0 b.0 c.0 s rest ≡ Ok x = subst (λ (f : Form). insn_of_form f b.0 c.0 s rest ≡ Ok x) (sym clean.1) d.2 in
-    form_takes a.0 b.0 c.0 s rest x (form_front s.opcode a.0 (ok_or_ok Opcode (form_of s.opcode) a.0 a.1)) (reg_front s.dst b.0 (ok_or_ok Register (reg_of s.dst) b.0 b.1)) (reg_front s.src c.0 (ok_or_ok Register (reg_of s.src) c.0 c.1)) is fits clean.0 g
+    let f = form_front p s.opcode a.0 (ok_or_ok Opcode (form_of p s.opcode) a.0 a.1) in
+    form_takes p a.0 b.0 c.0 s rest x f.0 f.1 (reg_front s.dst b.0 (ok_or_ok Register (reg_of s.dst) b.0 b.1)) (reg_front s.src c.0 (ok_or_ok Register (reg_of s.src) c.0 c.1)) is fits clean.0 g
 
 -- what is read at the front is spelt so
-pub first_takes : (bytes : List ℕ) (x : Read) → AreBytes bytes → 8 ≤ length bytes → first_of bytes ≡ Ok x → (bytes ≡ insn_bytes x.0 ++ x.1) × Fits x.0
-first_takes bytes x fits long e =
+pub first_takes : (p : Profile) (bytes : List ℕ) (x : Read) → AreBytes bytes → 8 ≤ length bytes → first_of p bytes ≡ Ok x → (bytes ≡ insn_bytes x.0 ++ x.1) × Fits x.0 × IsOf p x.0
+first_takes p bytes x fits long e =
     let f = front_slot bytes fits long in
-    let t = with_takes (slot_of_bytes bytes) (drop 8 bytes) x (is_slot bytes fits) (rest_bytes (slot_bytes (slot_of_bytes bytes)) (drop 8 bytes) (subst AreBytes f fits)) e in
-    (f ∙ t.0, t.1)
+    let t = with_takes p (slot_of_bytes bytes) (drop 8 bytes) x (is_slot bytes fits) (rest_bytes (slot_bytes (slot_of_bytes bytes)) (drop 8 bytes) (subst AreBytes f fits)) e in
+    (f ∙ t.0, t.1, t.2)
 
 -- ---- back again
 
@@ -171,12 +198,19 @@ zero_off = omega arith
 zero_imm : 0 < 2 ^ 32
 zero_imm = omega arith
 
+bits_low : (z : Size) → bits_of z < 2 ^ 16
+bits_low B = omega arith
+bits_low H = omega arith
+bits_low W = omega arith
+bits_low Dw = omega arith
+
 slot_is_low : (i : Insn) → Fits i → low_slot i
 slot_is_low (Alu op w d (operand.Imm k)) fits = (reg_low d, zero_low, record { offset = zero_off; imm = imm_below k fits })
 slot_is_low (Alu op w d (operand.Reg s)) fits = (reg_low d, reg_low s, record { offset = zero_off; imm = zero_imm })
+slot_is_low (MovSx w z d s) fits = (reg_low d, reg_low s, record { offset = bits_low z; imm = zero_imm })
 slot_is_low (Neg w d) fits = (reg_low d, zero_low, record { offset = zero_off; imm = zero_imm })
 slot_is_low (LoadImm d v) fits = (reg_low d, zero_low, record { offset = zero_off; imm = omega arith })
-slot_is_low (Load z d b o) fits = (reg_low d, reg_low b, record { offset = off_below o fits; imm = zero_imm })
+slot_is_low (Load z x d b o) fits = (reg_low d, reg_low b, record { offset = off_below o fits; imm = zero_imm })
 slot_is_low (StoreImm z b o k) fits = (reg_low b, zero_low, record { offset = off_below o fits.0; imm = imm_below k fits.1 })
 slot_is_low (Store z b s o) fits = (reg_low b, reg_low s, record { offset = off_below o fits; imm = zero_imm })
 slot_is_low (Jump o) fits = (zero_low, zero_low, record { offset = off_below o fits; imm = zero_imm })
@@ -211,31 +245,34 @@ pair_again d v rest lt =
     pair_made d (v % 2 ^ 32) (v / 2 ^ 32) (slot_bytes second ++ rest) (long_enough second rest) (slot_back second rest zero_low zero_low (record { offset = zero_off; imm = high_fits v lt }))
     ∙ ap (λ (n : ℕ). Ok (LoadImm d n, rest)) (halves v)
 
-with_again : (i : Insn) (rest : List ℕ) → Fits i → first_with (first_slot i) (second_bytes i ++ rest) ≡ Ok (i, rest)
+with_again : (p : Profile) (i : Insn) (rest : List ℕ) → Fits i → IsOf p i → first_with p (first_slot i) (second_bytes i ++ rest) ≡ Ok (i, rest)
 unfolding first_with
-with_again (Alu op w d (operand.Imm k)) rest fits = rw (form_back (form.Alu op w K), reg_back d, imm_again k fits) refl
-with_again (Alu op w d (operand.Reg s)) rest fits = rw (form_back (form.Alu op w X), reg_back d, reg_back s) refl
-with_again (Neg w d) rest fits = rw (form_back (form.Neg w), reg_back d) refl
-with_again (LoadImm d v) rest fits = rw (form_back form.LoadImm, reg_back d) (pair_again d v rest fits)
-with_again (Load z d b o) rest fits = rw (form_back (form.Load z), reg_back d, reg_back b, off_again o fits) refl
-with_again (StoreImm z b o k) rest fits = rw (form_back (form.StoreImm z), reg_back b, off_again o fits.0, imm_again k fits.1) refl
-with_again (Store z b s o) rest fits = rw (form_back (form.Store z), reg_back b, reg_back s, off_again o fits) refl
-with_again (Jump o) rest fits = rw (form_back form.Jump, off_again o fits) refl
-with_again (JumpIf c w d (operand.Imm k) o) rest fits = rw (form_back (form.JumpIf c w K), reg_back d, off_again o fits.1, imm_again k fits.0) refl
-with_again (JumpIf c w d (operand.Reg s) o) rest fits = rw (form_back (form.JumpIf c w X), reg_back d, reg_back s, off_again o fits.1) refl
-with_again (Call k) rest fits = rw (form_back form.Call, imm_again k fits) refl
-with_again Exit rest fits = rw (form_back form.Exit) refl
+with_again p (Alu op w d (operand.Imm k)) rest fits of = rw (form_back p (form.Alu op w K) (plain_form p (form.Alu op w K) tt), reg_back d, imm_again k fits) refl
+with_again p (Alu op w d (operand.Reg s)) rest fits of = rw (form_back p (form.Alu op w X) (plain_form p (form.Alu op w X) tt), reg_back d, reg_back s, zero_offset p op w) refl
+with_again p (MovSx w z d s) rest fits of =
+    let h = extending_offset p w z d s of in
+    rw (form_back p (form.Alu Mov w X) (plain_form p (form.Alu Mov w X) tt), reg_back d, reg_back s, h.0, some_bits z, size_back w z h.1) refl
+with_again p (Neg w d) rest fits of = rw (form_back p (form.Neg w) (plain_form p (form.Neg w) tt), reg_back d) refl
+with_again p (LoadImm d v) rest fits of = rw (form_back p form.LoadImm (plain_form p form.LoadImm tt), reg_back d) (pair_again d v rest fits)
+with_again p (Load z x d b o) rest fits of = rw (form_back p (form.Load z x) (load_form p z x d b o of), reg_back d, reg_back b, off_again o fits) refl
+with_again p (StoreImm z b o k) rest fits of = rw (form_back p (form.StoreImm z) (plain_form p (form.StoreImm z) tt), reg_back b, off_again o fits.0, imm_again k fits.1) refl
+with_again p (Store z b s o) rest fits of = rw (form_back p (form.Store z) (plain_form p (form.Store z) tt), reg_back b, reg_back s, off_again o fits) refl
+with_again p (Jump o) rest fits of = rw (form_back p form.Jump (plain_form p form.Jump tt), off_again o fits) refl
+with_again p (JumpIf c w d (operand.Imm k) o) rest fits of = rw (form_back p (form.JumpIf c w K) (plain_form p (form.JumpIf c w K) tt), reg_back d, off_again o fits.1, imm_again k fits.0) refl
+with_again p (JumpIf c w d (operand.Reg s) o) rest fits of = rw (form_back p (form.JumpIf c w X) (plain_form p (form.JumpIf c w X) tt), reg_back d, reg_back s, off_again o fits.1) refl
+with_again p (Call k) rest fits of = rw (form_back p form.Call (plain_form p form.Call tt), imm_again k fits) refl
+with_again p Exit rest fits of = rw (form_back p form.Exit (plain_form p form.Exit tt)) refl
 
 -- what is spelt so is read, whatever stands behind it
-pub first_again : (i : Insn) (rest : List ℕ) → Fits i → first_of (insn_bytes i ++ rest) ≡ Ok (i, rest)
-first_again i rest fits =
+pub first_again : (p : Profile) (i : Insn) (rest : List ℕ) → Fits i → IsOf p i → first_of p (insn_bytes i ++ rest) ≡ Ok (i, rest)
+first_again p i rest fits of =
     let low = slot_is_low i fits in
     let grouped : insn_bytes i ++ rest ≡ slot_bytes (first_slot i) ++ (second_bytes i ++ rest) = append_assoc (slot_bytes (first_slot i)) (second_bytes i) rest in
     let s : slot_of_bytes (slot_bytes (first_slot i) ++ (second_bytes i ++ rest)) ≡ first_slot i = slot_back (first_slot i) (second_bytes i ++ rest) low.0 low.1 low.2 in
-    ap first_of grouped ∙ ap (λ (t : Slot). first_with t (second_bytes i ++ rest)) s ∙ with_again i rest fits
+    ap (first_of p) grouped ∙ ap (λ (t : Slot). first_with p t (second_bytes i ++ rest)) s ∙ with_again p i rest fits of
 
 -- no instruction's bytes begin another's
-pub one_insn : (i j : Insn) (x y : List ℕ) → Fits i → Fits j → insn_bytes i ++ x ≡ insn_bytes j ++ y → (i ≡ j) × (x ≡ y)
-one_insn i j x y f g e =
-    let p : (i, x) ≡ (j, y) = ok_is (i, x) (j, y) (sym (first_again i x f) ∙ ap first_of e ∙ first_again j y g) in
-    (ap (λ (q : Read). q.0) p, ap (λ (q : Read). q.1) p)
+pub one_insn : (p : Profile) (i j : Insn) (x y : List ℕ) → Fits i × IsOf p i → Fits j × IsOf p j → insn_bytes i ++ x ≡ insn_bytes j ++ y → (i ≡ j) × (x ≡ y)
+one_insn p i j x y f g e =
+    let same : (i, x) ≡ (j, y) = ok_is (i, x) (j, y) (sym (first_again p i x f.0 f.1) ∙ ap (first_of p) e ∙ first_again p j y g.0 g.1) in
+    (ap (λ (q : Read). q.0) same, ap (λ (q : Read). q.1) same)

@@ -1,4 +1,5 @@
 mod SlotBytes
+mod Extending
 mod OpcodeTable
 pub mod Places
 mod FrontRead

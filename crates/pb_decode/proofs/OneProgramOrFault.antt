@@ -6,20 +6,23 @@ use Rattle.std.proofs.lemmas.Bool.{eqb-true, ltb-false, le-ltb}
 use Rattle.std.proofs.lemmas.List.{append-nil, length-append}
 use Rattle.std.proofs.lemmas.Grind.{flat_map-append}
 use Rattle.pb_isa.specs.declared.insn.Insn.{Insn}
-use Rattle.pb_isa.specs.declared.insn.Insn.TheVariants.{Alu, Neg, LoadImm, Load, StoreImm, Store, Jump, JumpIf, Call, Exit}
+use Rattle.pb_isa.specs.declared.insn.Insn.TheVariants.{Alu, MovSx, Neg, LoadImm, Load, StoreImm, Store, Jump, JumpIf, Call, Exit}
 use Rattle.pb_isa.specs.declared.insn.Operand.TheVariants as operand
 use Rattle.pb_isa.specs.Bounds.{Fits}
 use Rattle.pb_isa.specs.Slots.{places_of, layout, slots}
+use Rattle.pb_isa.specs.declared.profile.Profile.{Profile}
+use Rattle.pb_isa.specs.declared.profile.Profile.TheVariants as profiles
+use Rattle.pb_isa.specs.Profiles.{IsOf, max_slots}
 use Rattle.pb_isa.specs.Programs.{ProgramOf, IsProgram}
-use Rattle.pb_isa.specs.declared.limits.TheConstants.{MAX_SLOTS}
 use Rattle.pb_decode.specs.declared.fault.Code.{Code}
 use Rattle.pb_decode.specs.declared.fault.Code.TheVariants.{Length, TooLong}
 use Rattle.pb_decode.specs.declared.fault.DecodeFault.{DecodeFault}
 use Rattle.pb_decode.specs.declared.fault.DecodeFault.TheVariants as faults
-use Rattle.pb_decode.specs.Encoding.{insn_bytes, encoding, Encodes}
+use Rattle.pb_decode.specs.Encoding.{insn_bytes, encoding, in_profile, Encodes}
 use Rattle.pb_decode.specs.Reading.{first_of}
 use Rattle.pb_decode.specs.Faults.{decode_code, whole_fault, IsFaultAt, IsDecodeFault, AreRefusedAs, AreBytes, HasProgram, HasFault, AreSpelt, IsRefusal, IsNoMemory, IsNoMemoryOr}
 use Rattle.pb_decode.proofs.SlotBytes.{rest_bytes}
+use Rattle.pb_decode.proofs.Extending.{of_next}
 use Rattle.pb_decode.proofs.FrontRead.{first_takes, first_again, one_insn}
 use Rattle.pb_decode.proofs.LowestCode.{lowest, lowest_read}
 
@@ -28,9 +31,10 @@ use Rattle.pb_decode.proofs.LowestCode.{lowest, lowest_read}
 insn_len : (i : Insn) → length (insn_bytes i) ≡ 8 * length (places_of i)
 insn_len (Alu op w d (operand.Imm k)) = refl
 insn_len (Alu op w d (operand.Reg s)) = refl
+insn_len (MovSx w z d s) = refl
 insn_len (Neg w d) = refl
 insn_len (LoadImm d v) = refl
-insn_len (Load z d b o) = refl
+insn_len (Load z x d b o) = refl
 insn_len (StoreImm z b o k) = refl
 insn_len (Store z b s o) = refl
 insn_len (Jump o) = refl
@@ -41,9 +45,10 @@ insn_len Exit = refl
 
 some_place : (i : Insn) → 0 < length (places_of i)
 some_place (Alu op w d a) = omega arith
+some_place (MovSx w z d s) = omega arith
 some_place (Neg w d) = omega arith
 some_place (LoadImm d v) = omega arith
-some_place (Load z d b o) = omega arith
+some_place (Load z x d b o) = omega arith
 some_place (StoreImm z b o k) = omega arith
 some_place (Store z b s o) = omega arith
 some_place (Jump o) = omega arith
@@ -59,8 +64,18 @@ bytes_len (i ∷ p) =
 
 -- ---- one way to read
 
-abbrev All : List Insn → Type 0
-All p = AllByRecursion Fits p
+-- instructions of the profile, with numbers that fit
+abbrev All : Profile → List Insn → Type 0
+All profile p = AllByRecursion Fits p × AllByRecursion (IsOf profile) p
+
+abbrev Each : Profile → Insn → Type 0
+Each profile i = Fits i × IsOf profile i
+
+front_one : (profile : Profile) (i : Insn) (p : List Insn) → All profile (i ∷ p) → Each profile i
+front_one profile i p all = (all.0.0, all.1.0)
+
+others : (profile : Profile) (i : Insn) (p : List Insn) → All profile (i ∷ p) → All profile p
+others profile i p all = (all.0.1, all.1.1)
 
 no_error : {A B : Type 0} (r : Result A B) (x : A) (c : B) → r ≡ Ok x → r ≡ Err c → ⊥
 no_error r x c p q = absurd cc
@@ -68,26 +83,32 @@ no_error r x c p q = absurd cc
 err_is : {A B : Type 0} (r : Result A B) (c d : B) → r ≡ Err c → r ≡ Err d → c ≡ d
 err_is r c d p q = cc
 
+again : (profile : Profile) (i : Insn) (rest : List ℕ) → Each profile i → first_of profile (insn_bytes i ++ rest) ≡ Ok (i, rest)
+again profile i rest of = first_again profile i rest of.0 of.1
+
 -- the same instructions in front of a fault
-pub same_front : (f g : List Insn) (x y : List ℕ) (c d : Code) → All f → All g → encoding f ++ x ≡ encoding g ++ y → first_of x ≡ Err c → first_of y ≡ Err d → (slots f ≡ slots g) × (c ≡ d)
-same_front [] [] x y c d f-fits g-fits e p q = (refl, err_is (first_of y) c d (sym (ap first_of e) ∙ p) q)
-same_front [] (j ∷ g) x y c d f-fits g-fits e p q =
-    let r : first_of x ≡ Ok (j, encoding g ++ y) = ap first_of (e ∙ append_assoc (insn_bytes j) (encoding g) y) ∙ first_again j (encoding g ++ y) g-fits.0 in
-    absurd (no_error (first_of x) (j, encoding g ++ y) c r p)
-same_front (i ∷ f) [] x y c d f-fits g-fits e p q =
-    let r : first_of y ≡ Ok (i, encoding f ++ x) = ap first_of (sym e ∙ append_assoc (insn_bytes i) (encoding f) x) ∙ first_again i (encoding f ++ x) f-fits.0 in
-    absurd (no_error (first_of y) (i, encoding f ++ x) d r q)
-same_front (i ∷ f) (j ∷ g) x y c d f-fits g-fits e p q =
-    let o = one_insn i j (encoding f ++ x) (encoding g ++ y) f-fits.0 g-fits.0 (sym (append_assoc (insn_bytes i) (encoding f) x) ∙ e ∙ append_assoc (insn_bytes j) (encoding g) y) in
-    let s = same_front f g x y c d f-fits.1 g-fits.1 o.1 p q in
+pub same_front : (profile : Profile) (f g : List Insn) (x y : List ℕ) (c d : Code) → All profile f → All profile g → encoding f ++ x ≡ encoding g ++ y → first_of profile x ≡ Err c → first_of profile y ≡ Err d → (slots f ≡ slots g) × (c ≡ d)
+same_front profile [] [] x y c d f-all g-all e p q = (refl, err_is (first_of profile y) c d (sym (ap (first_of profile) e) ∙ p) q)
+same_front profile [] (j ∷ g) x y c d f-all g-all e p q =
+    let r : first_of profile x ≡ Ok (j, encoding g ++ y) = ap (first_of profile) (e ∙ append_assoc (insn_bytes j) (encoding g) y) ∙ again profile j (encoding g ++ y) (front_one profile j g g-all) in
+    absurd (no_error (first_of profile x) (j, encoding g ++ y) c r p)
+same_front profile (i ∷ f) [] x y c d f-all g-all e p q =
+    let r : first_of profile y ≡ Ok (i, encoding f ++ x) = ap (first_of profile) (sym e ∙ append_assoc (insn_bytes i) (encoding f) x) ∙ again profile i (encoding f ++ x) (front_one profile i f f-all) in
+    absurd (no_error (first_of profile y) (i, encoding f ++ x) d r q)
+same_front profile (i ∷ f) (j ∷ g) x y c d f-all g-all e p q =
+    let o = one_insn profile i j (encoding f ++ x) (encoding g ++ y) (front_one profile i f f-all) (front_one profile j g g-all) (sym (append_assoc (insn_bytes i) (encoding f) x) ∙ e ∙ append_assoc (insn_bytes j) (encoding g) y) in
+    let s = same_front profile f g x y c d (others profile i f f-all) (others profile j g g-all) o.1 p q in
     let a = length-append (places_of i) (layout f) in let b = length-append (places_of j) (layout g) in
     let k : length (places_of i) ≡ length (places_of j) = ap (λ (z : Insn). length (places_of z)) o.0 in
     let t = s.0 in
     (omega (arith, a, b, k, t), s.1)
 
-all_push : (p : List Insn) (i : Insn) → All p → Fits i → All (p ++ i ∷ [])
-all_push [] i all fits = (fits, tt)
-all_push (j ∷ p) i all fits = (all.0, all_push p i all.1 fits)
+list_push : (P : Insn → Type 0) (p : List Insn) (i : Insn) → AllByRecursion P p → P i → AllByRecursion P (p ++ i ∷ [])
+list_push P [] i all one = (one, tt)
+list_push P (j ∷ p) i all one = (all.0, list_push P p i all.1 one)
+
+all_push : (profile : Profile) (p : List Insn) (i : Insn) → All profile p → Each profile i → All profile (p ++ i ∷ [])
+all_push profile p i all one = (list_push Fits p i all.0 one.0, list_push (IsOf profile) p i all.1 one.1)
 
 not_nil : (i : Insn) (x : List ℕ) → [] ≡ insn_bytes i ++ x → ⊥
 not_nil i x e =
@@ -96,59 +117,67 @@ not_nil i x e =
     omega (arith, h, k, l, z)
 
 -- no fault behind the beginning of a program
-pub none_inside : (p g : List Insn) (y : List ℕ) (d : Code) → All p → All g → encoding p ≡ encoding g ++ y → 0 < length y → first_of y ≡ Err d → ⊥
-none_inside [] [] y d p-fits g-fits e some q = let z : 0 ≡ length y = ap length e in omega (arith, z, some)
-none_inside [] (j ∷ g) y d p-fits g-fits e some q = not_nil j (encoding g ++ y) (e ∙ append_assoc (insn_bytes j) (encoding g) y)
-none_inside (i ∷ p) [] y d p-fits g-fits e some q = no_error (first_of y) (i, encoding p) d (ap first_of (sym e) ∙ first_again i (encoding p) p-fits.0) q
-none_inside (i ∷ p) (j ∷ g) y d p-fits g-fits e some q =
-    let o = one_insn i j (encoding p) (encoding g ++ y) p-fits.0 g-fits.0 (e ∙ append_assoc (insn_bytes j) (encoding g) y) in
-    none_inside p g y d p-fits.1 g-fits.1 o.1 some q
+pub none_inside : (profile : Profile) (p g : List Insn) (y : List ℕ) (d : Code) → All profile p → All profile g → encoding p ≡ encoding g ++ y → 0 < length y → first_of profile y ≡ Err d → ⊥
+none_inside profile [] [] y d p-all g-all e some q = let z : 0 ≡ length y = ap length e in omega (arith, z, some)
+none_inside profile [] (j ∷ g) y d p-all g-all e some q = not_nil j (encoding g ++ y) (e ∙ append_assoc (insn_bytes j) (encoding g) y)
+none_inside profile (i ∷ p) [] y d p-all g-all e some q = no_error (first_of profile y) (i, encoding p) d (ap (first_of profile) (sym e) ∙ again profile i (encoding p) (front_one profile i p p-all)) q
+none_inside profile (i ∷ p) (j ∷ g) y d p-all g-all e some q =
+    let o = one_insn profile i j (encoding p) (encoding g ++ y) (front_one profile i p p-all) (front_one profile j g g-all) (e ∙ append_assoc (insn_bytes j) (encoding g) y) in
+    none_inside profile p g y d (others profile i p p-all) (others profile j g g-all) o.1 some q
 
-same_list : (p q : List Insn) → All p → All q → encoding p ≡ encoding q → p ≡ q
-same_list [] [] f g e = refl
-same_list [] (j ∷ q) f g e = absurd (not_nil j (encoding q) e)
-same_list (i ∷ p) [] f g e = absurd (not_nil i (encoding p) (sym e))
-same_list (i ∷ p) (j ∷ q) f g e =
-    let o = one_insn i j (encoding p) (encoding q) f.0 g.0 e in
-    let s = same_list p q f.1 g.1 o.1 in
+same_list : (profile : Profile) (p q : List Insn) → All profile p → All profile q → encoding p ≡ encoding q → p ≡ q
+same_list profile [] [] f g e = refl
+same_list profile [] (j ∷ q) f g e = absurd (not_nil j (encoding q) e)
+same_list profile (i ∷ p) [] f g e = absurd (not_nil i (encoding p) (sym e))
+same_list profile (i ∷ p) (j ∷ q) f g e =
+    let o = one_insn profile i j (encoding p) (encoding q) (front_one profile i p f) (front_one profile j q g) e in
+    let s = same_list profile p q (others profile i p f) (others profile j q g) o.1 in
     rw (o.0, s) refl
 
-abbrev program : List Insn → ProgramOf
-program is = record { insns = is }
+all_of : (bytes : List ℕ) (p : ProgramOf) → Encodes bytes p → All p.profile p.insns
+all_of bytes p h = (h.fits, h.program.of_profile)
 
-pub one_program : (bytes : List ℕ) (p q : ProgramOf) → Encodes bytes p → Encodes bytes q → p ≡ q
-one_program bytes p q a b = ap program (same_list p.insns q.insns a.fits b.fits (sym a.spelt ∙ b.spelt))
+abbrev program : Profile → List Insn → ProgramOf
+program profile is = record { profile = profile; insns = is }
+
+same_program : (v w : Profile) (p q : List Insn) → v ≡ w → p ≡ q → program v p ≡ program w q
+same_program v w p q a b = rw (a, b) refl
+
+pub one_program : (bytes : List ℕ) (p q : ProgramOf) → p.profile ≡ q.profile → Encodes bytes p → Encodes bytes q → p ≡ q
+one_program bytes p q same a b =
+    let of : All p.profile q.insns = subst (λ (v : Profile). All v q.insns) (sym same) (all_of bytes q b) in
+    same_program p.profile q.profile p.insns q.insns same (same_list p.profile p.insns q.insns (all_of bytes p a) of (sym a.spelt ∙ b.spelt))
 
 -- ---- the fault of the whole
 
 -- what the length is where the whole has no fault
-pub record IsWhole (n : ℕ) : Type 0 where
+pub record IsWhole (profile : Profile) (n : ℕ) : Type 0 where
   pub some : 0 < n
   pub even : n % 8 ≡ 0
-  pub most : n ≤ 8 * MAX_SLOTS
+  pub most : n ≤ 8 * max_slots profile
 
 not_zero : (n : ℕ) → (n == 0) ≡ false → 0 < n
 not_zero n h = grind arith
 
-tests : (n : ℕ) (a b c : Bool) → (n == 0) ≡ a → (n % 8 == 0) ≡ b → nat_lt (8 * MAX_SLOTS) n ≡ c → cond (a || not b) (Some Length) (cond c (Some TooLong) None) ≡ None → IsWhole n
-tests n true b c p q r e = absurd cc
-tests n false false c p q r e = absurd cc
-tests n false true true p q r e = absurd cc
-tests n false true false p q r e =
-    let e0 = eqb-true (n % 8) 0 q in let most = ltb-false (8 * MAX_SLOTS) n r in
+tests : (profile : Profile) (n : ℕ) (a b c : Bool) → (n == 0) ≡ a → (n % 8 == 0) ≡ b → nat_lt (8 * max_slots profile) n ≡ c → cond (a || not b) (Some Length) (cond c (Some TooLong) None) ≡ None → IsWhole profile n
+tests profile n true b c p q r e = absurd cc
+tests profile n false false c p q r e = absurd cc
+tests profile n false true true p q r e = absurd cc
+tests profile n false true false p q r e =
+    let e0 = eqb-true (n % 8) 0 q in let most = ltb-false (8 * max_slots profile) n r in
     record { some = not_zero n p; even = e0; most = omega (arith, most) }
 
-pub whole_none : (bytes : List ℕ) → whole_fault bytes ≡ None → IsWhole (length bytes)
-whole_none bytes h = tests (length bytes) (length bytes == 0) (length bytes % 8 == 0) (nat_lt (8 * MAX_SLOTS) (length bytes)) refl refl refl h
+pub whole_none : (profile : Profile) (bytes : List ℕ) → whole_fault profile bytes ≡ None → IsWhole profile (length bytes)
+whole_none profile bytes h = tests profile (length bytes) (length bytes == 0) (length bytes % 8 == 0) (nat_lt (8 * max_slots profile) (length bytes)) refl refl refl h
 
-pub none_whole : (bytes : List ℕ) → IsWhole (length bytes) → whole_fault bytes ≡ None
-none_whole bytes w =
+pub none_whole : (profile : Profile) (bytes : List ℕ) → IsWhole profile (length bytes) → whole_fault profile bytes ≡ None
+none_whole profile bytes w =
     let some = w.some in let even = w.even in let most = w.most in
     let a : (length bytes == 0) ≡ false = grind arith in
-    let c : nat_lt (8 * MAX_SLOTS) (length bytes) ≡ false = le-ltb (8 * MAX_SLOTS) (length bytes) most in
+    let c : nat_lt (8 * max_slots profile) (length bytes) ≡ false = le-ltb (8 * max_slots profile) (length bytes) most in
     rw (a, even, c) refl
 
-program_whole : (bytes : List ℕ) (p : ProgramOf) → Encodes bytes p → IsWhole (length bytes)
+program_whole : (bytes : List ℕ) (p : ProgramOf) → Encodes bytes p → IsWhole p.profile (length bytes)
 program_whole bytes p h =
     let l : length bytes ≡ 8 * slots p.insns = ap length h.spelt ∙ bytes_len p.insns in
     let s = h.program.some in let m = h.program.most in
@@ -160,35 +189,41 @@ no_some o x p q = absurd cc
 some_same : {A : Type 0} (o : Option A) (x y : A) → o ≡ Some x → o ≡ Some y → x ≡ y
 some_same o x y p q = cc
 
-pub not_both : (bytes : List ℕ) (p : ProgramOf) (slot : ℕ) (code : Code) → Encodes bytes p → IsDecodeFault bytes slot code → ⊥
-not_both bytes p slot code h (inl w) = no_some (whole_fault bytes) code (none_whole bytes (program_whole bytes p h)) w.0
-not_both bytes p slot code h (inr a) = none_inside p.insns a.1.front a.1.rest code h.fits a.1.fits (sym h.spelt ∙ a.1.parts) a.1.some (lowest_read a.1.rest code a.1.fault)
+fault_all : (profile : Profile) (bytes : List ℕ) (slot : ℕ) (code : Code) (a : IsFaultAt profile bytes slot code) → All profile a.front
+fault_all profile bytes slot code a = (a.fits, a.of_profile)
 
-pub one_fault : (bytes : List ℕ) (s t : ℕ) (c d : Code) → IsDecodeFault bytes s c → IsDecodeFault bytes t d → (s ≡ t) × (c ≡ d)
-one_fault bytes s t c d (inl a) (inl b) = (a.1 ∙ sym b.1, some_same (whole_fault bytes) c d a.0 b.0)
-one_fault bytes s t c d (inl a) (inr b) = absurd (no_some (whole_fault bytes) c b.0 a.0)
-one_fault bytes s t c d (inr a) (inl b) = absurd (no_some (whole_fault bytes) d a.0 b.0)
-one_fault bytes s t c d (inr a) (inr b) =
-    let e = same_front a.1.front b.1.front a.1.rest b.1.rest c d a.1.fits b.1.fits (sym a.1.parts ∙ b.1.parts) (lowest_read a.1.rest c a.1.fault) (lowest_read b.1.rest d b.1.fault) in
+pub not_both : (bytes : List ℕ) (p : ProgramOf) (slot : ℕ) (code : Code) → Encodes bytes p → IsDecodeFault p.profile bytes slot code → ⊥
+not_both bytes p slot code h (inl w) = no_some (whole_fault p.profile bytes) code (none_whole p.profile bytes (program_whole bytes p h)) w.0
+not_both bytes p slot code h (inr a) =
+    none_inside p.profile p.insns a.1.front a.1.rest code (all_of bytes p h) (fault_all p.profile bytes slot code a.1) (sym h.spelt ∙ a.1.parts) a.1.some (lowest_read p.profile a.1.rest code a.1.fault)
+
+pub one_fault : (profile : Profile) (bytes : List ℕ) (s t : ℕ) (c d : Code) → IsDecodeFault profile bytes s c → IsDecodeFault profile bytes t d → (s ≡ t) × (c ≡ d)
+one_fault profile bytes s t c d (inl a) (inl b) = (a.1 ∙ sym b.1, some_same (whole_fault profile bytes) c d a.0 b.0)
+one_fault profile bytes s t c d (inl a) (inr b) = absurd (no_some (whole_fault profile bytes) c b.0 a.0)
+one_fault profile bytes s t c d (inr a) (inl b) = absurd (no_some (whole_fault profile bytes) d a.0 b.0)
+one_fault profile bytes s t c d (inr a) (inr b) =
+    let f = fault_all profile bytes s c a.1 in let g = fault_all profile bytes t d b.1 in
+    let e = same_front profile a.1.front b.1.front a.1.rest b.1.rest c d f g (sym a.1.parts ∙ b.1.parts) (lowest_read profile a.1.rest c a.1.fault) (lowest_read profile b.1.rest d b.1.fault) in
     (a.1.place ∙ e.0 ∙ sym b.1.place, e.1)
 
 -- ---- one of the two
 
-pub is_program : (bytes : List ℕ) (p : List Insn) → IsWhole (length bytes) → AreSpelt bytes p → Encodes bytes (program p)
-is_program bytes p w h =
+pub is_program : (profile : Profile) (bytes : List ℕ) (p : List Insn) → IsWhole profile (length bytes) → AreSpelt profile bytes p → Encodes bytes (program profile p)
+is_program profile bytes p w h =
     let l : length bytes ≡ 8 * slots p = ap length h.spelt ∙ bytes_len p in
     let some = w.some in let most = w.most in
-    record { program = record { some = omega (arith, l, some); most = omega (arith, l, most) }; fits = h.fits; spelt = h.spelt }
+    record { program = record { some = omega (arith, l, some); most = omega (arith, l, most); of_profile = h.of_profile }; fits = h.fits; spelt = h.spelt }
 
 -- what the bytes from here on are
-abbrev Rest : List ℕ → Type 0
-Rest bytes = ((p : List Insn) × AreSpelt bytes p) ⊎ ((slot : ℕ) × (code : Code) × IsFaultAt bytes slot code)
+abbrev Rest : Profile → List ℕ → Type 0
+Rest profile bytes = ((p : List Insn) × AreSpelt profile bytes p) ⊎ ((slot : ℕ) × (code : Code) × IsFaultAt profile bytes slot code)
 
-behind : (i : Insn) (bytes after : List ℕ) → Fits i → bytes ≡ insn_bytes i ++ after → Rest after → Rest bytes
-behind i bytes after fits e (inl h) = inl (i ∷ h.0, record { fits = (fits, h.1.fits); spelt = e ∙ ap (λ (x : List ℕ). insn_bytes i ++ x) h.1.spelt })
-behind i bytes after fits e (inr h) =
+behind : (profile : Profile) (i : Insn) (bytes after : List ℕ) → Each profile i → bytes ≡ insn_bytes i ++ after → Rest profile after → Rest profile bytes
+behind profile i bytes after of e (inl h) =
+    inl (i ∷ h.0, record { fits = (of.0, h.1.fits); of_profile = (of.1, h.1.of_profile); spelt = e ∙ ap (λ (x : List ℕ). insn_bytes i ++ x) h.1.spelt })
+behind profile i bytes after of e (inr h) =
     let f = h.2 in
-    inr (slots (i ∷ f.front), h.1, record { front = i ∷ f.front; rest = f.rest; some = f.some; fits = (fits, f.fits); parts = e ∙ ap (λ (x : List ℕ). insn_bytes i ++ x) f.parts ∙ sym (append_assoc (insn_bytes i) (encoding f.front) f.rest); place = refl; fault = f.fault })
+    inr (slots (i ∷ f.front), h.1, record { front = i ∷ f.front; rest = f.rest; some = f.some; fits = (of.0, f.fits); of_profile = (of.1, f.of_profile); parts = e ∙ ap (λ (x : List ℕ). insn_bytes i ++ x) f.parts ∙ sym (append_assoc (insn_bytes i) (encoding f.front) f.rest); place = refl; fault = f.fault })
 
 pub even_rest : (i : Insn) (bytes after : List ℕ) → bytes ≡ insn_bytes i ++ after → length bytes % 8 ≡ 0 → (length after % 8 ≡ 0) × (length after < length bytes)
 even_rest i bytes after e even =
@@ -196,63 +231,85 @@ even_rest i bytes after e even =
     let h = insn_len i in let k = some_place i in
     (omega (arith, l, h, even), omega (arith, l, h, k))
 
-from : (n : ℕ) (bytes : List ℕ) → length bytes ≤ suc n → 0 < length bytes → length bytes % 8 ≡ 0 → AreBytes bytes → (r : Result (Insn × List ℕ) Code) → first_of bytes ≡ r
-    → ((after : List ℕ) → length after ≤ n → length after % 8 ≡ 0 → AreBytes after → Rest after) → Rest bytes
-from n bytes le some even fits (Err code) is others = inr (0, code, record { front = []; rest = bytes; some = some; fits = tt; parts = refl; place = refl; fault = lowest bytes code is })
-from n bytes le some even fits (Ok x) is others =
-    let t = first_takes bytes x fits (omega (arith, some, even)) is in
+from : (profile : Profile) (n : ℕ) (bytes : List ℕ) → length bytes ≤ suc n → 0 < length bytes → length bytes % 8 ≡ 0 → AreBytes bytes → (r : Result (Insn × List ℕ) Code) → first_of profile bytes ≡ r
+    → ((after : List ℕ) → length after ≤ n → length after % 8 ≡ 0 → AreBytes after → Rest profile after) → Rest profile bytes
+from profile n bytes le some even fits (Err code) is next = inr (0, code, record { front = []; rest = bytes; some = some; fits = tt; of_profile = tt; parts = refl; place = refl; fault = lowest profile bytes code is })
+from profile n bytes le some even fits (Ok x) is next =
+    let t = first_takes profile bytes x fits (omega (arith, some, even)) is in
     let e = even_rest x.0 bytes x.1 t.0 even in
     let lt = e.1 in
-    behind x.0 bytes x.1 t.1 t.0 (others x.1 (omega (arith, lt, le)) e.0 (rest_bytes (insn_bytes x.0) x.1 (subst AreBytes t.0 fits)))
+    behind profile x.0 bytes x.1 (t.1, t.2) t.0 (next x.1 (omega (arith, lt, le)) e.0 (rest_bytes (insn_bytes x.0) x.1 (subst AreBytes t.0 fits)))
 
-walk : (n : ℕ) (bytes : List ℕ) → length bytes ≤ n → length bytes % 8 ≡ 0 → AreBytes bytes → Rest bytes
-walk n [] le even fits = inl ([], record { fits = tt; spelt = refl })
-walk zero (b ∷ bytes) le even fits = let no : ⊥ = omega (arith, le) in absurd no
-walk (suc n) (b ∷ bytes) le even fits = from n (b ∷ bytes) le (omega arith) even fits (first_of (b ∷ bytes)) refl (λ m. walk n m)
+walk : (profile : Profile) (n : ℕ) (bytes : List ℕ) → length bytes ≤ n → length bytes % 8 ≡ 0 → AreBytes bytes → Rest profile bytes
+walk profile n [] le even fits = inl ([], record { fits = tt; of_profile = tt; spelt = refl })
+walk profile zero (b ∷ bytes) le even fits = let no : ⊥ = omega (arith, le) in absurd no
+walk profile (suc n) (b ∷ bytes) le even fits = from profile n (b ∷ bytes) le (omega arith) even fits (first_of profile (b ∷ bytes)) refl (λ m. walk profile n m)
 
-chosen : (bytes : List ℕ) (o : Option Code) → whole_fault bytes ≡ o → AreBytes bytes → HasProgram bytes ⊎ HasFault bytes
-chosen bytes (Some code) is fits = inr (0, code, inl (is, refl))
-chosen bytes None is fits =
-    let w = whole_none bytes is in
-    elim (walk (length bytes) bytes (omega arith) w.even fits) [
-      | inl h ↦ inl (program h.0, is_program bytes h.0 w h.1)
+chosen : (profile : Profile) (bytes : List ℕ) (o : Option Code) → whole_fault profile bytes ≡ o → AreBytes bytes → HasProgram profile bytes ⊎ HasFault profile bytes
+chosen profile bytes (Some code) is fits = inr (0, code, inl (is, refl))
+chosen profile bytes None is fits =
+    let w = whole_none profile bytes is in
+    elim (walk profile (length bytes) bytes (omega arith) w.even fits) [
+      | inl h ↦ inl (program profile h.0, refl, is_program profile bytes h.0 w h.1)
       | inr h ↦ inr (h.0, h.1, inr (is, h.2))
     ]
 
-pub either : (bytes : List ℕ) → AreBytes bytes → HasProgram bytes ⊎ HasFault bytes
-either bytes fits = chosen bytes (whole_fault bytes) refl fits
+pub either : (profile : Profile) (bytes : List ℕ) → AreBytes bytes → HasProgram profile bytes ⊎ HasFault profile bytes
+either profile bytes fits = chosen profile bytes (whole_fault profile bytes) refl fits
 
 -- ---- both ways
 
-pub only_program : (r : Result ProgramOf DecodeFault) (bytes : List ℕ) → IfOk r (λ q. Encodes bytes q) → IfErr r (IsRefusal bytes) → (p : ProgramOf) → Encodes bytes p → IfOk r (λ q. q ≡ p) × IfErr r IsNoMemory
-only_program (Ok q) bytes ok err p h = (one_program bytes q p ok h, tt)
-only_program (Err faults.NoMemory) bytes ok err p h = (tt, tt)
-only_program (Err (faults.Refused f)) bytes ok err p h = absurd (not_both bytes p f.slot err.0 h err.2)
+-- a program of the profile has no fault in it
+no_fault : (profile : Profile) (bytes : List ℕ) (p : ProgramOf) (slot : ℕ) (code : Code) → p.profile ≡ profile → Encodes bytes p → IsDecodeFault profile bytes slot code → ⊥
+no_fault profile bytes p slot code is h f = not_both bytes p slot code h (subst (λ (v : Profile). IsDecodeFault v bytes slot code) (sym is) f)
 
-pub only_fault : (r : Result ProgramOf DecodeFault) (bytes : List ℕ) → IfOk r (λ q. Encodes bytes q) → IfErr r (IsRefusal bytes) → (slot told : ℕ) → AreRefusedAs bytes slot told → IfOk r (λ _. ⊥) × IfErr r (IsNoMemoryOr slot told)
-only_fault (Ok q) bytes ok err slot told h = absurd (not_both bytes q slot h.0 ok h.2)
-only_fault (Err faults.NoMemory) bytes ok err slot told h = (tt, tt)
-only_fault (Err (faults.Refused f)) bytes ok err slot told h =
-    let o = one_fault bytes f.slot slot err.0 h.0 err.2 h.2 in
-    (tt, (o.0, err.1 ∙ ap decode_code o.1 ∙ sym h.1))
+-- what came back: the program, or the fault
+abbrev IsAnswer : Profile → List ℕ → Result ProgramOf DecodeFault → Type 0
+IsAnswer profile bytes r = IfOk r (λ q. Encodes bytes q) × IfOk r (λ q. q.profile ≡ profile) × IfErr r (IsRefusal profile bytes)
 
-pub never_refused : (p : ProgramOf) → IsProgram p → (slots p.insns ≡ 0) ⊎ (MAX_SLOTS < slots p.insns) → ⊥
+pub only_program : (profile : Profile) (r : Result ProgramOf DecodeFault) (bytes : List ℕ) → IsAnswer profile bytes r → (p : ProgramOf) → p.profile ≡ profile → Encodes bytes p → IfOk r (λ q. q ≡ p) × IfErr r IsNoMemory
+only_program profile (Ok q) bytes a p is h = (one_program bytes q p (a.1 ∙ sym is) a.0 h, tt)
+only_program profile (Err faults.NoMemory) bytes a p is h = (tt, tt)
+only_program profile (Err (faults.Refused f)) bytes a p is h = absurd (no_fault profile bytes p f.slot a.2.0 is h a.2.2)
+
+pub only_fault : (profile : Profile) (r : Result ProgramOf DecodeFault) (bytes : List ℕ) → IsAnswer profile bytes r → (slot told : ℕ) → AreRefusedAs profile bytes slot told → IfOk r (λ _. ⊥) × IfErr r (IsNoMemoryOr slot told)
+only_fault profile (Ok q) bytes a slot told h = absurd (no_fault profile bytes q slot h.0 a.1 a.0 h.2)
+only_fault profile (Err faults.NoMemory) bytes a slot told h = (tt, tt)
+only_fault profile (Err (faults.Refused f)) bytes a slot told h =
+    let o = one_fault profile bytes f.slot slot a.2.0 h.0 a.2.2 h.2 in
+    (tt, (o.0, a.2.1 ∙ ap decode_code o.1 ∙ sym h.1))
+
+pub never_refused : (p : ProgramOf) → IsProgram p → (slots p.insns ≡ 0) ⊎ (max_slots p.profile < slots p.insns) → ⊥
 never_refused p is (inl none) = let some = is.some in omega (arith, some, none)
 never_refused p is (inr many) = let most = is.most in omega (arith, most, many)
 
 -- ---- the loop
 
-pub one_more : (bytes rest after : List ℕ) (p : List Insn) (i : Insn) → AreBytes bytes → bytes ≡ encoding p ++ rest → All p → length rest % 8 ≡ 0 → 0 < length rest → first_of rest ≡ Ok (i, after)
-    → (bytes ≡ encoding (p ++ i ∷ []) ++ after) × All (p ++ i ∷ []) × (length after % 8 ≡ 0) × (length after < length rest)
-one_more bytes rest after p i fits parts all even some is =
+pub one_more : (profile : Profile) (bytes rest after : List ℕ) (p : List Insn) (i : Insn) → AreBytes bytes → bytes ≡ encoding p ++ rest → All profile p → length rest % 8 ≡ 0 → 0 < length rest → first_of profile rest ≡ Ok (i, after)
+    → (bytes ≡ encoding (p ++ i ∷ []) ++ after) × All profile (p ++ i ∷ []) × (length after % 8 ≡ 0) × (length after < length rest)
+one_more profile bytes rest after p i fits parts all even some is =
     let inside = rest_bytes (encoding p) rest (subst AreBytes parts fits) in
-    let t = first_takes rest (i, after) inside (omega (arith, some, even)) is in
+    let t = first_takes profile rest (i, after) inside (omega (arith, some, even)) is in
     let e = even_rest i rest after t.0 even in
     let spelt : encoding (p ++ i ∷ []) ≡ encoding p ++ insn_bytes i = flat_map-append insn_bytes p (i ∷ []) ∙ ap (λ (b : List ℕ). encoding p ++ b) (append-nil (insn_bytes i)) in
-    (parts ∙ ap (λ (b : List ℕ). encoding p ++ b) t.0 ∙ sym (append_assoc (encoding p) (insn_bytes i) after) ∙ ap (λ (b : List ℕ). b ++ after) (sym spelt), all_push p i all t.1, e.0, e.1)
+    (parts ∙ ap (λ (b : List ℕ). encoding p ++ b) t.0 ∙ sym (append_assoc (encoding p) (insn_bytes i) after) ∙ ap (λ (b : List ℕ). b ++ after) (sym spelt), all_push profile p i all (t.1, t.2), e.0, e.1)
 
-pub fault_at : (bytes rest : List ℕ) (p : List Insn) (code : Code) (slot : ℕ) → bytes ≡ encoding p ++ rest → All p → 0 < length rest → first_of rest ≡ Err code → slot ≡ (length bytes - length rest) / 8 → IsFaultAt bytes slot code
-fault_at bytes rest p code slot parts all some is at =
+pub fault_at : (profile : Profile) (bytes rest : List ℕ) (p : List Insn) (code : Code) (slot : ℕ) → bytes ≡ encoding p ++ rest → All profile p → 0 < length rest → first_of profile rest ≡ Err code → slot ≡ (length bytes - length rest) / 8 → IsFaultAt profile bytes slot code
+fault_at profile bytes rest p code slot parts all some is at =
     let l : length bytes ≡ length (encoding p) + length rest = ap length parts ∙ length-append (encoding p) rest in
     let k = bytes_len p in
-    record { front = p; rest = rest; some = some; fits = all; parts = parts; place = omega (arith, l, k, at); fault = lowest rest code is }
+    record { front = p; rest = rest; some = some; fits = all.0; of_profile = all.1; parts = parts; place = omega (arith, l, k, at); fault = lowest profile rest code is }
+
+-- ---- profile 1 in profile 2
+
+all_next : (p : List Insn) → AllByRecursion (IsOf profiles.One) p → AllByRecursion (IsOf profiles.Two) p
+all_next [] all = tt
+all_next (i ∷ p) all = (of_next i all.0, all_next p all.1)
+
+next : (p : ProgramOf) → IsProgram (in_profile profiles.One p) → IsProgram (in_profile profiles.Two p)
+next p is = let most = is.most in record { some = is.some; most = omega (arith, most); of_profile = all_next p.insns is.of_profile }
+
+pub read_alike : (bytes : List ℕ) (p : ProgramOf) → p.profile ≡ profiles.One → Encodes bytes p → Encodes bytes (in_profile profiles.Two p)
+read_alike bytes p one h =
+    let is : IsProgram (in_profile profiles.One p) = subst (λ (v : Profile). IsProgram (in_profile v p)) one h.program in
+    record { program = next p is; fits = h.fits; spelt = h.spelt }

@@ -1,5 +1,5 @@
 -- The table of opcodes read backwards, and the registers' numbers.
-use Rattle.std.proofs.Common.{◌≡◌, ℕ, zero, suc, ◌<◌, Bool, true, false, cond, List, [], ◌∷◌, Some, None, refl, sym, ap, subst, arith}
+use Rattle.std.proofs.Common.{◌≡◌, ℕ, zero, suc, ◌<◌, Bool, true, false, cond, List, [], ◌∷◌, Option, Some, None, refl, sym, ap, subst, ◌∙◌, arith}
 use Rattle.std.specs.Prelude.{◌==◌}
 use Rattle.std.proofs.lemmas.Bool.{eqb-true}
 use Rattle.pb_isa.specs.declared.insn.Reg.{Reg}
@@ -10,11 +10,14 @@ use Rattle.pb_isa.specs.declared.insn.Cmp.TheVariants.{Eq, Gt, Ge, Set, Ne, Sgt,
 use Rattle.pb_isa.specs.declared.insn.Width.{Width}
 use Rattle.pb_isa.specs.declared.insn.Width.TheVariants.{Bits32, Bits64}
 use Rattle.pb_isa.specs.declared.insn.Size.TheVariants.{B, H, W, Dw}
+use Rattle.pb_isa.specs.declared.insn.Extension.TheVariants.{Zeros, Sign}
+use Rattle.pb_isa.specs.declared.profile.Profile.{Profile}
+use Rattle.pb_isa.specs.declared.profile.Profile.TheVariants.{One, Two}
 use Rattle.pb_decode.specs.declared.forms.Form.{Form}
 use Rattle.pb_decode.specs.declared.forms.Form.TheVariants.{Alu, Neg, LoadImm, Load, StoreImm, Store, Jump, JumpIf, Call, Exit}
 use Rattle.pb_decode.specs.declared.forms.Source.{Source}
 use Rattle.pb_decode.specs.declared.forms.Source.TheVariants.{K, X}
-use Rattle.pb_decode.specs.Opcodes.{opcode, forms, with_opcode, form_of}
+use Rattle.pb_decode.specs.Opcodes.{opcode, forms, with_opcode, is_form_of, IsFormOf, only_of, form_of}
 
 some_is : {A : Type 0} (x y : A) → Some x ≡ Some y → x ≡ y
 some_is x y e = cc
@@ -27,9 +30,17 @@ in_list : (n : ℕ) (g : Form) (fs : List Form) → with_opcode n fs ≡ Some g 
 in_list n g [] h = absurd cc
 in_list n g (f ∷ fs) h = found n f g fs (in_list n g fs) (opcode f == n) refl h
 
--- a form that is found has the opcode
-pub form_front : (n : ℕ) (f : Form) → form_of n ≡ Some f → opcode f ≡ n
-form_front n f h = in_list n f forms h
+only_if : (p : Profile) (g f : Form) (b : Bool) → is_form_of p g ≡ b → cond b (Some g) None ≡ Some f → (Some g ≡ Some f) × IsFormOf p f
+only_if p g f true is h = (h, subst (IsFormOf p) (some_is g f h) is)
+only_if p g f false is h = absurd cc
+
+only_some : (p : Profile) (o : Option Form) (f : Form) → only_of p o ≡ Some f → (o ≡ Some f) × IsFormOf p f
+only_some p None f h = absurd cc
+only_some p (Some g) f h = only_if p g f (is_form_of p g) refl h
+
+-- a form that is found has the opcode, and is one of the profile
+pub form_front : (p : Profile) (n : ℕ) (f : Form) → form_of p n ≡ Some f → (opcode f ≡ n) × IsFormOf p f
+form_front p n f h = let o = only_some p (with_opcode n forms) f h in (in_list n f forms o.0, o.1)
 
 each_form : (P : Width → Source → Type 0) → P Bits32 K → P Bits32 X → P Bits64 K → P Bits64 X → (w : Width) (s : Source) → P w s
 each_form P a b c d Bits32 K = a
@@ -37,50 +48,61 @@ each_form P a b c d Bits32 X = b
 each_form P a b c d Bits64 K = c
 each_form P a b c d Bits64 X = d
 
--- every form is found by its opcode
-pub form_back : (f : Form) → form_of (opcode f) ≡ Some f
+-- every form of a profile is found by its opcode
+listed : (p : Profile) (f : Form) → IsFormOf p f → with_opcode (opcode f) forms ≡ Some f
 unfolding forms
-form_back (Alu Add w s) = each_form (λ w s. form_of (opcode (Alu Add w s)) ≡ Some (Alu Add w s)) refl refl refl refl w s
-form_back (Alu Sub w s) = each_form (λ w s. form_of (opcode (Alu Sub w s)) ≡ Some (Alu Sub w s)) refl refl refl refl w s
-form_back (Alu Mul w s) = each_form (λ w s. form_of (opcode (Alu Mul w s)) ≡ Some (Alu Mul w s)) refl refl refl refl w s
-form_back (Alu Div w s) = each_form (λ w s. form_of (opcode (Alu Div w s)) ≡ Some (Alu Div w s)) refl refl refl refl w s
-form_back (Alu Or w s) = each_form (λ w s. form_of (opcode (Alu Or w s)) ≡ Some (Alu Or w s)) refl refl refl refl w s
-form_back (Alu And w s) = each_form (λ w s. form_of (opcode (Alu And w s)) ≡ Some (Alu And w s)) refl refl refl refl w s
-form_back (Alu Lsh w s) = each_form (λ w s. form_of (opcode (Alu Lsh w s)) ≡ Some (Alu Lsh w s)) refl refl refl refl w s
-form_back (Alu Rsh w s) = each_form (λ w s. form_of (opcode (Alu Rsh w s)) ≡ Some (Alu Rsh w s)) refl refl refl refl w s
-form_back (Alu Mod w s) = each_form (λ w s. form_of (opcode (Alu Mod w s)) ≡ Some (Alu Mod w s)) refl refl refl refl w s
-form_back (Alu Xor w s) = each_form (λ w s. form_of (opcode (Alu Xor w s)) ≡ Some (Alu Xor w s)) refl refl refl refl w s
-form_back (Alu Mov w s) = each_form (λ w s. form_of (opcode (Alu Mov w s)) ≡ Some (Alu Mov w s)) refl refl refl refl w s
-form_back (Alu Arsh w s) = each_form (λ w s. form_of (opcode (Alu Arsh w s)) ≡ Some (Alu Arsh w s)) refl refl refl refl w s
-form_back (JumpIf Eq w s) = each_form (λ w s. form_of (opcode (JumpIf Eq w s)) ≡ Some (JumpIf Eq w s)) refl refl refl refl w s
-form_back (JumpIf Gt w s) = each_form (λ w s. form_of (opcode (JumpIf Gt w s)) ≡ Some (JumpIf Gt w s)) refl refl refl refl w s
-form_back (JumpIf Ge w s) = each_form (λ w s. form_of (opcode (JumpIf Ge w s)) ≡ Some (JumpIf Ge w s)) refl refl refl refl w s
-form_back (JumpIf Set w s) = each_form (λ w s. form_of (opcode (JumpIf Set w s)) ≡ Some (JumpIf Set w s)) refl refl refl refl w s
-form_back (JumpIf Ne w s) = each_form (λ w s. form_of (opcode (JumpIf Ne w s)) ≡ Some (JumpIf Ne w s)) refl refl refl refl w s
-form_back (JumpIf Sgt w s) = each_form (λ w s. form_of (opcode (JumpIf Sgt w s)) ≡ Some (JumpIf Sgt w s)) refl refl refl refl w s
-form_back (JumpIf Sge w s) = each_form (λ w s. form_of (opcode (JumpIf Sge w s)) ≡ Some (JumpIf Sge w s)) refl refl refl refl w s
-form_back (JumpIf Lt w s) = each_form (λ w s. form_of (opcode (JumpIf Lt w s)) ≡ Some (JumpIf Lt w s)) refl refl refl refl w s
-form_back (JumpIf Le w s) = each_form (λ w s. form_of (opcode (JumpIf Le w s)) ≡ Some (JumpIf Le w s)) refl refl refl refl w s
-form_back (JumpIf Slt w s) = each_form (λ w s. form_of (opcode (JumpIf Slt w s)) ≡ Some (JumpIf Slt w s)) refl refl refl refl w s
-form_back (JumpIf Sle w s) = each_form (λ w s. form_of (opcode (JumpIf Sle w s)) ≡ Some (JumpIf Sle w s)) refl refl refl refl w s
-form_back (Load B) = refl
-form_back (Load H) = refl
-form_back (Load W) = refl
-form_back (Load Dw) = refl
-form_back (StoreImm B) = refl
-form_back (StoreImm H) = refl
-form_back (StoreImm W) = refl
-form_back (StoreImm Dw) = refl
-form_back (Store B) = refl
-form_back (Store H) = refl
-form_back (Store W) = refl
-form_back (Store Dw) = refl
-form_back (Neg Bits32) = refl
-form_back (Neg Bits64) = refl
-form_back LoadImm = refl
-form_back Jump = refl
-form_back Call = refl
-form_back Exit = refl
+listed p (Alu Add w s) of = each_form (λ w s. with_opcode (opcode (Alu Add w s)) forms ≡ Some (Alu Add w s)) refl refl refl refl w s
+listed p (Alu Sub w s) of = each_form (λ w s. with_opcode (opcode (Alu Sub w s)) forms ≡ Some (Alu Sub w s)) refl refl refl refl w s
+listed p (Alu Mul w s) of = each_form (λ w s. with_opcode (opcode (Alu Mul w s)) forms ≡ Some (Alu Mul w s)) refl refl refl refl w s
+listed p (Alu Div w s) of = each_form (λ w s. with_opcode (opcode (Alu Div w s)) forms ≡ Some (Alu Div w s)) refl refl refl refl w s
+listed p (Alu Or w s) of = each_form (λ w s. with_opcode (opcode (Alu Or w s)) forms ≡ Some (Alu Or w s)) refl refl refl refl w s
+listed p (Alu And w s) of = each_form (λ w s. with_opcode (opcode (Alu And w s)) forms ≡ Some (Alu And w s)) refl refl refl refl w s
+listed p (Alu Lsh w s) of = each_form (λ w s. with_opcode (opcode (Alu Lsh w s)) forms ≡ Some (Alu Lsh w s)) refl refl refl refl w s
+listed p (Alu Rsh w s) of = each_form (λ w s. with_opcode (opcode (Alu Rsh w s)) forms ≡ Some (Alu Rsh w s)) refl refl refl refl w s
+listed p (Alu Mod w s) of = each_form (λ w s. with_opcode (opcode (Alu Mod w s)) forms ≡ Some (Alu Mod w s)) refl refl refl refl w s
+listed p (Alu Xor w s) of = each_form (λ w s. with_opcode (opcode (Alu Xor w s)) forms ≡ Some (Alu Xor w s)) refl refl refl refl w s
+listed p (Alu Mov w s) of = each_form (λ w s. with_opcode (opcode (Alu Mov w s)) forms ≡ Some (Alu Mov w s)) refl refl refl refl w s
+listed p (Alu Arsh w s) of = each_form (λ w s. with_opcode (opcode (Alu Arsh w s)) forms ≡ Some (Alu Arsh w s)) refl refl refl refl w s
+listed p (JumpIf Eq w s) of = each_form (λ w s. with_opcode (opcode (JumpIf Eq w s)) forms ≡ Some (JumpIf Eq w s)) refl refl refl refl w s
+listed p (JumpIf Gt w s) of = each_form (λ w s. with_opcode (opcode (JumpIf Gt w s)) forms ≡ Some (JumpIf Gt w s)) refl refl refl refl w s
+listed p (JumpIf Ge w s) of = each_form (λ w s. with_opcode (opcode (JumpIf Ge w s)) forms ≡ Some (JumpIf Ge w s)) refl refl refl refl w s
+listed p (JumpIf Set w s) of = each_form (λ w s. with_opcode (opcode (JumpIf Set w s)) forms ≡ Some (JumpIf Set w s)) refl refl refl refl w s
+listed p (JumpIf Ne w s) of = each_form (λ w s. with_opcode (opcode (JumpIf Ne w s)) forms ≡ Some (JumpIf Ne w s)) refl refl refl refl w s
+listed p (JumpIf Sgt w s) of = each_form (λ w s. with_opcode (opcode (JumpIf Sgt w s)) forms ≡ Some (JumpIf Sgt w s)) refl refl refl refl w s
+listed p (JumpIf Sge w s) of = each_form (λ w s. with_opcode (opcode (JumpIf Sge w s)) forms ≡ Some (JumpIf Sge w s)) refl refl refl refl w s
+listed p (JumpIf Lt w s) of = each_form (λ w s. with_opcode (opcode (JumpIf Lt w s)) forms ≡ Some (JumpIf Lt w s)) refl refl refl refl w s
+listed p (JumpIf Le w s) of = each_form (λ w s. with_opcode (opcode (JumpIf Le w s)) forms ≡ Some (JumpIf Le w s)) refl refl refl refl w s
+listed p (JumpIf Slt w s) of = each_form (λ w s. with_opcode (opcode (JumpIf Slt w s)) forms ≡ Some (JumpIf Slt w s)) refl refl refl refl w s
+listed p (JumpIf Sle w s) of = each_form (λ w s. with_opcode (opcode (JumpIf Sle w s)) forms ≡ Some (JumpIf Sle w s)) refl refl refl refl w s
+listed p (Load B Zeros) of = refl
+listed p (Load B Sign) of = refl
+listed p (Load H Zeros) of = refl
+listed p (Load H Sign) of = refl
+listed p (Load W Zeros) of = refl
+listed p (Load W Sign) of = refl
+listed p (Load Dw Zeros) of = refl
+listed One (Load Dw Sign) of = absurd cc
+listed Two (Load Dw Sign) of = absurd cc
+listed p (StoreImm B) of = refl
+listed p (StoreImm H) of = refl
+listed p (StoreImm W) of = refl
+listed p (StoreImm Dw) of = refl
+listed p (Store B) of = refl
+listed p (Store H) of = refl
+listed p (Store W) of = refl
+listed p (Store Dw) of = refl
+listed p (Neg Bits32) of = refl
+listed p (Neg Bits64) of = refl
+listed p LoadImm of = refl
+listed p Jump of = refl
+listed p Call of = refl
+listed p Exit of = refl
+
+only_back : (p : Profile) (f : Form) (b : Bool) → b ≡ true → cond b (Some f) None ≡ Some f
+only_back p f b is = rw is refl
+
+pub form_back : (p : Profile) (f : Form) → IsFormOf p f → form_of p (opcode f) ≡ Some f
+form_back p f of = ap (only_of p) (listed p f of) ∙ only_back p f (is_form_of p f) of
 
 -- each register is that of its number
 pub reg_back : (r : Reg) → reg_of (number r) ≡ Some r

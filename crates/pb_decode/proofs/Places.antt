@@ -2,7 +2,7 @@
 use Rattle.std.proofs.Common.{◌≡◌, ℕ, zero, suc, ◌+◌, ◌<◌, List, [], ◌∷◌, Option, None, length, get_or, refl, sym, ap, ◌∙◌, arith}
 use Rattle.std.specs.List.{slice_get}
 use Rattle.pb_decode.specs.declared.forms.Form.{Form}
-use Rattle.pb_decode.specs.Opcodes.{forms, form_of}
+use Rattle.pb_decode.specs.Opcodes.{forms, with_opcode}
 
 -- where the form of each opcode stands among the forms
 abbrev pub places : List ℕ
@@ -15,8 +15,8 @@ places =
     255 ∷ 255 ∷ 255 ∷ 255 ∷ 20 ∷ 66 ∷ 64 ∷ 22 ∷ 255 ∷ 255 ∷ 255 ∷ 255 ∷ 21 ∷ 67 ∷ 65 ∷ 23 ∷
     255 ∷ 92 ∷ 96 ∷ 100 ∷ 24 ∷ 70 ∷ 68 ∷ 26 ∷ 255 ∷ 93 ∷ 97 ∷ 101 ∷ 25 ∷ 71 ∷ 69 ∷ 27 ∷
     255 ∷ 94 ∷ 98 ∷ 102 ∷ 28 ∷ 74 ∷ 72 ∷ 30 ∷ 255 ∷ 95 ∷ 99 ∷ 103 ∷ 29 ∷ 75 ∷ 73 ∷ 31 ∷
-    255 ∷ 255 ∷ 255 ∷ 255 ∷ 104 ∷ 108 ∷ 255 ∷ 105 ∷ 255 ∷ 255 ∷ 255 ∷ 255 ∷ 255 ∷ 255 ∷ 255 ∷ 255 ∷
-    255 ∷ 255 ∷ 255 ∷ 255 ∷ 32 ∷ 109 ∷ 255 ∷ 34 ∷ 255 ∷ 255 ∷ 255 ∷ 255 ∷ 33 ∷ 255 ∷ 255 ∷ 35 ∷
+    255 ∷ 110 ∷ 255 ∷ 255 ∷ 104 ∷ 108 ∷ 255 ∷ 105 ∷ 255 ∷ 111 ∷ 255 ∷ 255 ∷ 255 ∷ 255 ∷ 255 ∷ 255 ∷
+    255 ∷ 112 ∷ 255 ∷ 255 ∷ 32 ∷ 109 ∷ 255 ∷ 34 ∷ 255 ∷ 255 ∷ 255 ∷ 255 ∷ 33 ∷ 255 ∷ 255 ∷ 35 ∷
     255 ∷ 255 ∷ 255 ∷ 255 ∷ 36 ∷ 78 ∷ 76 ∷ 38 ∷ 255 ∷ 255 ∷ 255 ∷ 255 ∷ 37 ∷ 79 ∷ 77 ∷ 39 ∷
     255 ∷ 255 ∷ 255 ∷ 255 ∷ 40 ∷ 82 ∷ 80 ∷ 42 ∷ 255 ∷ 255 ∷ 255 ∷ 255 ∷ 41 ∷ 83 ∷ 81 ∷ 43 ∷
     255 ∷ 255 ∷ 255 ∷ 255 ∷ 44 ∷ 86 ∷ 84 ∷ 46 ∷ 255 ∷ 255 ∷ 255 ∷ 255 ∷ 45 ∷ 87 ∷ 85 ∷ 47 ∷
@@ -37,9 +37,9 @@ found_at (k ∷ ks) (suc i) d h = found_at ks i d (omega (arith, h))
 
 wanted : ℕ → ℕ → List (Option Form)
 wanted n zero = []
-wanted n (suc k) = form_of n ∷ wanted (n + 1) k
+wanted n (suc k) = with_opcode n forms ∷ wanted (n + 1) k
 
-wanted_at : (n k i : ℕ) → i < k → get_or (wanted n k) i None ≡ form_of (n + i)
+wanted_at : (n k i : ℕ) → i < k → get_or (wanted n k) i None ≡ with_opcode (n + i) forms
 unfolding wanted
 wanted_at n zero i h = absurd (omega (arith, h))
 wanted_at n (suc k) zero h = let e : n + 0 ≡ n = omega arith in rw e refl
@@ -49,7 +49,7 @@ all : found places ≡ wanted 0 256
 unfolding forms wanted found
 all = refl
 
-pub place_of : (n d : ℕ) → n < 256 → slice_get forms (get_or places n d) ≡ form_of n
+pub place_of : (n d : ℕ) → n < 256 → slice_get forms (get_or places n d) ≡ with_opcode n forms
 place_of n d h =
     let e : 0 + n ≡ n = omega arith in
     let w = rw e at (wanted_at 0 256 n h) in

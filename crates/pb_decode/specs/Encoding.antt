@@ -1,13 +1,17 @@
 -- The encoding of programs (RFC 9669, section 3): the slots of the instructions in order. A field that an instruction
--- doesn't use is zero.
+-- doesn't use is zero. It is the same in every profile.
 use Rattle.std.specs.Prelude.{◌≡◌, ℕ, ◌/◌, ◌%◌, ◌^◌, ◌++◌, List, []}
 use Rattle.std.specs.Int.{w16, w32, cast_unsigned}
 use Rattle.std.specs.List.{flat_map, AllByRecursion}
 use Rattle.pb_isa.specs.declared.insn.Insn.{Insn}
-use Rattle.pb_isa.specs.declared.insn.Insn.TheVariants.{Alu, Neg, LoadImm, Load, StoreImm, Store, Jump, JumpIf, Call, Exit}
+use Rattle.pb_isa.specs.declared.insn.Insn.TheVariants.{Alu, MovSx, Neg, LoadImm, Load, StoreImm, Store, Jump, JumpIf, Call, Exit}
+use Rattle.pb_isa.specs.declared.insn.AluOp.TheVariants.{Mov}
+use Rattle.pb_isa.specs.declared.insn.Size.{Size}
+use Rattle.pb_isa.specs.declared.insn.Size.TheVariants.{B, H, W, Dw}
 use Rattle.pb_isa.specs.declared.insn.Operand.TheVariants.{Imm, Reg}
 use Rattle.pb_isa.specs.Registers.{number}
 use Rattle.pb_isa.specs.Bounds.{Fits}
+use Rattle.pb_isa.specs.declared.profile.Profile.{Profile}
 use Rattle.pb_isa.specs.Programs.{ProgramOf, IsProgram}
 use Rattle.pb_decode.specs.declared.forms.Form.{Form}
 use Rattle.pb_decode.specs.declared.forms.Form.TheVariants as form
@@ -20,13 +24,21 @@ use Rattle.pb_decode.specs.Fields.{slot_bytes}
 abbrev pub slot : Form → ℕ → ℕ → ℕ → ℕ → Slot
 slot f dst src offset imm = record { opcode = opcode f; dst = dst; src = src; offset = offset; imm = imm }
 
--- the first slot of an instruction, signed numbers in two's complement
+-- how many bits a sign-extending move takes of its source, which its offset says (section 4.1)
+abbrev pub bits_of : Size → ℕ
+bits_of B = 8
+bits_of H = 16
+bits_of W = 32
+bits_of Dw = 64
+
+-- The first slot of an instruction, signed numbers in two's complement. A sign-extending move has the opcode of a move.
 abbrev pub first_slot : Insn → Slot
 first_slot (Alu op w dst (Imm imm)) = slot (form.Alu op w K) (number dst) 0 0 (cast_unsigned w32 imm)
 first_slot (Alu op w dst (Reg src)) = slot (form.Alu op w X) (number dst) (number src) 0 0
+first_slot (MovSx w z dst src) = slot (form.Alu Mov w X) (number dst) (number src) (bits_of z) 0
 first_slot (Neg w dst) = slot (form.Neg w) (number dst) 0 0 0
 first_slot (LoadImm dst imm) = slot form.LoadImm (number dst) 0 0 (imm % 2 ^ 32)
-first_slot (Load z dst src offset) = slot (form.Load z) (number dst) (number src) (cast_unsigned w16 offset) 0
+first_slot (Load z x dst src offset) = slot (form.Load z x) (number dst) (number src) (cast_unsigned w16 offset) 0
 first_slot (StoreImm z dst offset imm) = slot (form.StoreImm z) (number dst) 0 (cast_unsigned w16 offset) (cast_unsigned w32 imm)
 first_slot (Store z dst src offset) = slot (form.Store z) (number dst) (number src) (cast_unsigned w16 offset) 0
 first_slot (Jump offset) = slot form.Jump 0 0 (cast_unsigned w16 offset) 0
@@ -50,6 +62,10 @@ insn_bytes i = slot_bytes (first_slot i) ++ second_bytes i
 -- the one byte list of these instructions
 abbrev pub encoding : List Insn → List ℕ
 encoding is = flat_map insn_bytes is
+
+-- the program of the same instructions
+abbrev pub in_profile : Profile → ProgramOf → ProgramOf
+in_profile profile p = record { profile = profile; insns = p.insns }
 
 -- the bytes are those of a program
 pub record Encodes (bytes : List ℕ) (p : ProgramOf) : Type 0 where

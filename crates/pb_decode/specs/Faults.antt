@@ -3,7 +3,8 @@ use Rattle.std.specs.Prelude.{◌≡◌, ◌≢◌, ◌<◌, ◌≤◌, ◌⊎�
 use Rattle.std.specs.List.{AllByRecursion}
 use Rattle.pb_isa.specs.declared.insn.Insn.{Insn}
 use Rattle.pb_isa.specs.Bounds.{Fits}
-use Rattle.pb_isa.specs.declared.limits.TheConstants.{MAX_SLOTS}
+use Rattle.pb_isa.specs.declared.profile.Profile.{Profile}
+use Rattle.pb_isa.specs.Profiles.{IsOf, max_slots}
 use Rattle.pb_isa.specs.Slots.{slots}
 use Rattle.pb_isa.specs.Programs.{ProgramOf}
 use Rattle.pb_decode.specs.declared.fault.Code.{Code}
@@ -12,7 +13,7 @@ use Rattle.pb_decode.specs.declared.fault.DecodeFault.{DecodeFault}
 use Rattle.pb_decode.specs.declared.fault.DecodeFault.TheVariants.{NoMemory, Refused}
 use Rattle.pb_decode.specs.declared.forms.Form.{Form}
 use Rattle.pb_decode.specs.declared.forms.Form.TheVariants.{LoadImm}
-use Rattle.pb_decode.specs.Opcodes.{opcode}
+use Rattle.pb_decode.specs.Opcodes.{opcode, IsFormOf}
 use Rattle.pb_decode.specs.Fields.{slot_of_bytes}
 use Rattle.pb_decode.specs.Encoding.{encoding, Encodes}
 use Rattle.pb_decode.specs.Reading.{is_clean, is_second}
@@ -27,57 +28,58 @@ decode_code Unused = 14
 decode_code CutOff = 15
 decode_code SecondSlot = 16
 
--- When a code applies to the bytes at the front, told by their first slot and the bytes behind it: no form has the opcode;
--- a register is over 10, in either half; the form doesn't use a field that is not zero; the opcode is the pair's, and no
--- slot stands behind, or one with more than an immediate. The codes of the whole apply to no slot.
-abbrev pub Applies : List ℕ → Code → Type 0
-Applies bytes Length = ⊥
-Applies bytes TooLong = ⊥
-Applies bytes Opcode = (f : Form) → opcode f ≢ (slot_of_bytes bytes).opcode
-Applies bytes Register = (10 < (slot_of_bytes bytes).dst) ⊎ (10 < (slot_of_bytes bytes).src)
-Applies bytes Unused = (f : Form) × (opcode f ≡ (slot_of_bytes bytes).opcode) × (is_clean f (slot_of_bytes bytes) ≡ false)
-Applies bytes CutOff = (opcode LoadImm ≡ (slot_of_bytes bytes).opcode) × (length (drop 8 bytes) < 8)
-Applies bytes SecondSlot = (opcode LoadImm ≡ (slot_of_bytes bytes).opcode) × (8 ≤ length (drop 8 bytes)) × (is_second (slot_of_bytes (drop 8 bytes)) ≡ false)
+-- When a code applies to the bytes at the front, told by their first slot and the bytes behind it: no form of the profile
+-- has the opcode; a register is over 10, in either half; the form doesn't use a field that is not zero; the opcode is the
+-- pair's, and no slot stands behind, or one with more than an immediate. The codes of the whole apply to no slot.
+abbrev pub Applies : Profile → List ℕ → Code → Type 0
+Applies p bytes Length = ⊥
+Applies p bytes TooLong = ⊥
+Applies p bytes Opcode = (f : Form) → IsFormOf p f → opcode f ≢ (slot_of_bytes bytes).opcode
+Applies p bytes Register = (10 < (slot_of_bytes bytes).dst) ⊎ (10 < (slot_of_bytes bytes).src)
+Applies p bytes Unused = (f : Form) × IsFormOf p f × (opcode f ≡ (slot_of_bytes bytes).opcode) × (is_clean p f (slot_of_bytes bytes) ≡ false)
+Applies p bytes CutOff = (opcode LoadImm ≡ (slot_of_bytes bytes).opcode) × (length (drop 8 bytes) < 8)
+Applies p bytes SecondSlot = (opcode LoadImm ≡ (slot_of_bytes bytes).opcode) × (8 ≤ length (drop 8 bytes)) × (is_second (slot_of_bytes (drop 8 bytes)) ≡ false)
 
 -- the lowest code that applies
-pub record IsLowest (bytes : List ℕ) (code : Code) : Type 0 where
-  pub applies : Applies bytes code
-  pub least : (other : Code) → Applies bytes other → decode_code code ≤ decode_code other
+pub record IsLowest (p : Profile) (bytes : List ℕ) (code : Code) : Type 0 where
+  pub applies : Applies p bytes code
+  pub least : (other : Code) → Applies p bytes other → decode_code code ≤ decode_code other
 
 -- a fault, told
 abbrev pub told_as : ℕ → Code → DecodeFault
 told_as slot code = Refused (record { slot = slot; code = decode_code code })
 
--- the fault of the whole, which is told before all others: no slots at all, or too many
-abbrev pub whole_fault : List ℕ → Option Code
-whole_fault bytes =
+-- the fault of the whole, which is told before all others: no slots at all, or more than the profile has
+abbrev pub whole_fault : Profile → List ℕ → Option Code
+whole_fault p bytes =
     if (length bytes == 0) || not (length bytes % 8 == 0) then Some Length
-    else if nat_lt (8 * MAX_SLOTS) (length bytes) then Some TooLong
+    else if nat_lt (8 * max_slots p) (length bytes) then Some TooLong
     else None
 
--- The instructions in front are spelt as they have to be, and a code applies to what stands behind them. Where it is a
--- pair, its first slot is told.
-pub record IsFaultAt (bytes : List ℕ) (slot : ℕ) (code : Code) : Type 0 where
+-- The instructions in front are of the profile and spelt as they have to be, and a code applies to what stands behind
+-- them. Where it is a pair, its first slot is told.
+pub record IsFaultAt (p : Profile) (bytes : List ℕ) (slot : ℕ) (code : Code) : Type 0 where
   pub front : List Insn
   pub rest : List ℕ
   pub some : 0 < length rest
   pub fits : AllByRecursion Fits front
+  pub of_profile : AllByRecursion (IsOf p) front
   pub parts : bytes ≡ encoding front ++ rest
   pub place : slot ≡ slots front
-  pub fault : IsLowest rest code
+  pub fault : IsLowest p rest code
 
 -- the first slot at fault, with its lowest code
-abbrev pub IsDecodeFault : List ℕ → ℕ → Code → Type 0
-IsDecodeFault bytes slot code = (whole_fault bytes ≡ Some code × (slot ≡ 0)) ⊎ ((whole_fault bytes ≡ None) × IsFaultAt bytes slot code)
+abbrev pub IsDecodeFault : Profile → List ℕ → ℕ → Code → Type 0
+IsDecodeFault p bytes slot code = (whole_fault p bytes ≡ Some code × (slot ≡ 0)) ⊎ ((whole_fault p bytes ≡ None) × IsFaultAt p bytes slot code)
 
 -- the same with the code's number
-abbrev pub AreRefusedAs : List ℕ → ℕ → ℕ → Type 0
-AreRefusedAs bytes slot told = (code : Code) × (told ≡ decode_code code) × IsDecodeFault bytes slot code
+abbrev pub AreRefusedAs : Profile → List ℕ → ℕ → ℕ → Type 0
+AreRefusedAs p bytes slot told = (code : Code) × (told ≡ decode_code code) × IsDecodeFault p bytes slot code
 
 -- why no program came back: memory was refused, or that is the fault
-abbrev pub IsRefusal : List ℕ → DecodeFault → Type 0
-IsRefusal bytes NoMemory = Unit {0}
-IsRefusal bytes (Refused r) = AreRefusedAs bytes r.slot r.code
+abbrev pub IsRefusal : Profile → List ℕ → DecodeFault → Type 0
+IsRefusal p bytes NoMemory = Unit {0}
+IsRefusal p bytes (Refused r) = AreRefusedAs p bytes r.slot r.code
 
 abbrev pub IsNoMemory : DecodeFault → Type 0
 IsNoMemory NoMemory = Unit {0}
@@ -86,23 +88,24 @@ IsNoMemory (Refused r) = ⊥
 abbrev pub AreBytes : List ℕ → Type 0
 AreBytes bytes = (i : ℕ) → get_or bytes i 0 < 256
 
-abbrev pub HasProgram : List ℕ → Type 0
-HasProgram bytes = (p : ProgramOf) × Encodes bytes p
+abbrev pub HasProgram : Profile → List ℕ → Type 0
+HasProgram profile bytes = (p : ProgramOf) × (p.profile ≡ profile) × Encodes bytes p
 
-abbrev pub HasFault : List ℕ → Type 0
-HasFault bytes = (slot : ℕ) × (code : Code) × IsDecodeFault bytes slot code
+abbrev pub HasFault : Profile → List ℕ → Type 0
+HasFault p bytes = (slot : ℕ) × (code : Code) × IsDecodeFault p bytes slot code
 
 -- the same where memory was refused, or that fault was met
 abbrev pub IsNoMemoryOr : ℕ → ℕ → DecodeFault → Type 0
 IsNoMemoryOr slot told NoMemory = Unit {0}
 IsNoMemoryOr slot told (Refused r) = (r.slot ≡ slot) × (r.code ≡ told)
 
--- the bytes are those of these instructions, however many there are
-pub record AreSpelt (bytes : List ℕ) (is : List Insn) : Type 0 where
+-- the bytes are those of these instructions of the profile, however many there are
+pub record AreSpelt (p : Profile) (bytes : List ℕ) (is : List Insn) : Type 0 where
   pub fits : AllByRecursion Fits is
+  pub of_profile : AllByRecursion (IsOf p) is
   pub spelt : bytes ≡ encoding is
 
 -- memory was refused, or a slot is at fault
-abbrev pub IsRefusalInside : List ℕ → DecodeFault → Type 0
-IsRefusalInside bytes NoMemory = Unit {0}
-IsRefusalInside bytes (Refused r) = (code : Code) × (r.code ≡ decode_code code) × IsFaultAt bytes r.slot code
+abbrev pub IsRefusalInside : Profile → List ℕ → DecodeFault → Type 0
+IsRefusalInside p bytes NoMemory = Unit {0}
+IsRefusalInside p bytes (Refused r) = (code : Code) × (r.code ≡ decode_code code) × IsFaultAt p bytes r.slot code

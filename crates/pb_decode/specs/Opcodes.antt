@@ -1,5 +1,5 @@
--- The opcodes of the profile (RFC 9669, sections 3.1, 3.3, 4.1, 4.3 and 5).
-use Rattle.std.specs.Prelude.{ℕ, ◌+◌, ◌*◌, ◌==◌, if◌then◌else◌, List, [], ◌∷◌, ◌++◌, map, Option, Some, None}
+-- The opcodes of the profiles (RFC 9669, sections 3.1, 3.3, 4.1, 4.3 and 5).
+use Rattle.std.specs.Prelude.{ℕ, ◌+◌, ◌*◌, Bool, true, false, IsTrue, ◌==◌, if◌then◌else◌, List, [], ◌∷◌, ◌++◌, map, Option, Some, None}
 use Rattle.std.specs.List.{flat_map}
 use Rattle.pb_isa.specs.declared.insn.AluOp.{AluOp}
 use Rattle.pb_isa.specs.declared.insn.AluOp.TheVariants.{Add, Sub, Mul, Div, Or, And, Lsh, Rsh, Mod, Xor, Mov, Arsh}
@@ -9,6 +9,11 @@ use Rattle.pb_isa.specs.declared.insn.Width.{Width}
 use Rattle.pb_isa.specs.declared.insn.Width.TheVariants.{Bits32, Bits64}
 use Rattle.pb_isa.specs.declared.insn.Size.{Size}
 use Rattle.pb_isa.specs.declared.insn.Size.TheVariants.{B, H, W, Dw}
+use Rattle.pb_isa.specs.declared.insn.Extension.{Extension}
+use Rattle.pb_isa.specs.declared.insn.Extension.TheVariants.{Zeros, Sign}
+use Rattle.pb_isa.specs.declared.profile.Profile.{Profile}
+use Rattle.pb_isa.specs.declared.profile.Profile.TheVariants.{One, Two}
+use Rattle.pb_isa.specs.Profiles.{is_narrower}
 use Rattle.pb_decode.specs.declared.forms.Form.{Form}
 use Rattle.pb_decode.specs.declared.forms.Form.TheVariants.{Alu, Neg, LoadImm, Load, StoreImm, Store, Jump, JumpIf, Call, Exit}
 use Rattle.pb_decode.specs.declared.forms.Source.{Source}
@@ -55,6 +60,11 @@ abbrev pub source_bit : Source → ℕ
 source_bit K = 0
 source_bit X = 8
 
+-- the high three bits of a load from an address in a register, the mode: MEM (section 5.1) and MEMSX (section 5.2)
+abbrev pub mode_code : Extension → ℕ
+mode_code Zeros = 3
+mode_code Sign = 4
+
 -- the low three bits, the class: ALU and ALU64
 abbrev pub alu_class : Width → ℕ
 alu_class Bits32 = 4
@@ -66,14 +76,14 @@ jump_class Bits32 = 6
 jump_class Bits64 = 5
 
 -- The opcode. Negation is code 8, a call 8 and an exit 9; the 64-bit immediate has class LD, mode IMM and size DW, and
--- the other loads and stores have mode MEM, which is 3.
+-- the stores have mode MEM.
 abbrev pub opcode : Form → ℕ
 opcode (Alu op w s) = alu_class w + source_bit s + 16 * alu_code op
 opcode (Neg w) = alu_class w + 16 * 8
 opcode LoadImm = 8 * 3
-opcode (Load z) = 1 + 8 * size_code z + 32 * 3
-opcode (StoreImm z) = 2 + 8 * size_code z + 32 * 3
-opcode (Store z) = 3 + 8 * size_code z + 32 * 3
+opcode (Load z x) = 1 + 8 * size_code z + 32 * mode_code x
+opcode (StoreImm z) = 2 + 8 * size_code z + 32 * mode_code Zeros
+opcode (Store z) = 3 + 8 * size_code z + 32 * mode_code Zeros
 opcode Jump = 5
 opcode (JumpIf c w s) = jump_class w + source_bit s + 16 * jump_code c
 opcode Call = 5 + 16 * 8
@@ -87,18 +97,33 @@ each f = f Bits32 K ∷ f Bits32 X ∷ f Bits64 K ∷ f Bits64 X ∷ []
 abbrev pub sizes_by_code : List Size
 sizes_by_code = W ∷ H ∷ B ∷ Dw ∷ []
 
--- the profile: every form that there is
+-- every form that a profile has
 unfoldable pub forms : List Form
 forms =
     flat_map (λ op. each (Alu op)) (Add ∷ Sub ∷ Mul ∷ Div ∷ Or ∷ And ∷ Lsh ∷ Rsh ∷ Mod ∷ Xor ∷ Mov ∷ Arsh ∷ [])
     ++ flat_map (λ c. each (JumpIf c)) (Eq ∷ Gt ∷ Ge ∷ Set ∷ Ne ∷ Sgt ∷ Sge ∷ Lt ∷ Le ∷ Slt ∷ Sle ∷ [])
-    ++ map Load sizes_by_code ++ map StoreImm sizes_by_code ++ map Store sizes_by_code
+    ++ map (λ z. Load z Zeros) sizes_by_code ++ map StoreImm sizes_by_code ++ map Store sizes_by_code
     ++ Neg Bits32 ∷ Neg Bits64 ∷ LoadImm ∷ Jump ∷ Call ∷ Exit ∷ []
+    ++ map (λ z. Load z Sign) (W ∷ H ∷ B ∷ [])
 
 abbrev pub with_opcode : ℕ → List Form → Option Form
 with_opcode n [] = None
 with_opcode n (f ∷ fs) = if opcode f == n then Some f else with_opcode n fs
 
+-- profile 1 has no load that extends the sign; profile 2 has those of fewer bits than a register has
+abbrev pub is_form_of : Profile → Form → Bool
+is_form_of One (Load z Sign) = false
+is_form_of Two (Load z Sign) = is_narrower z Bits64
+is_form_of p f = true
+
+abbrev pub IsFormOf : Profile → Form → Type 0
+IsFormOf p f = IsTrue (is_form_of p f)
+
+-- the form that was found, if it is one of the profile
+abbrev pub only_of : Profile → Option Form → Option Form
+only_of p None = None
+only_of p (Some f) = if is_form_of p f then Some f else None
+
 -- the form that has this opcode, if it is one of the profile
-abbrev pub form_of : ℕ → Option Form
-form_of n = with_opcode n forms
+abbrev pub form_of : Profile → ℕ → Option Form
+form_of p n = only_of p (with_opcode n forms)

@@ -1,12 +1,20 @@
 -- What stands at the front of a list of bytes: an instruction, or the lowest code of a fault.
-use Rattle.std.specs.Prelude.{ℕ, ℤ, ◌+◌, ◌*◌, ◌^◌, Bool, ◌&&◌, ◌==◌, nat_lt, if◌then◌else◌, List, length, drop, ok_or, Result, Ok, Err}
+use Rattle.std.specs.Prelude.{ℕ, ℤ, ◌+◌, ◌*◌, ◌^◌, Bool, ◌&&◌, ◌||◌, ◌==◌, nat_lt, if◌then◌else◌, List, length, drop, ok_or, Result, Ok, Err}
 use Rattle.std.specs.Int.{w16, w32, cast_signed}
 use Rattle.pb_base.specs.Reading.{◌>>=◌}
 use Rattle.pb_isa.specs.declared.insn.Insn.{Insn}
-use Rattle.pb_isa.specs.declared.insn.Insn.TheVariants.{Alu, Neg, LoadImm, Load, StoreImm, Store, Jump, JumpIf, Call, Exit}
+use Rattle.pb_isa.specs.declared.insn.Insn.TheVariants.{Alu, MovSx, Neg, LoadImm, Load, StoreImm, Store, Jump, JumpIf, Call, Exit}
+use Rattle.pb_isa.specs.declared.insn.AluOp.{AluOp}
+use Rattle.pb_isa.specs.declared.insn.AluOp.TheVariants.{Mov}
 use Rattle.pb_isa.specs.declared.insn.Operand.{Operand}
 use Rattle.pb_isa.specs.declared.insn.Operand.TheVariants as operand
 use Rattle.pb_isa.specs.declared.insn.Reg.{Reg}
+use Rattle.pb_isa.specs.declared.insn.Size.{Size}
+use Rattle.pb_isa.specs.declared.insn.Size.TheVariants.{B, H, W}
+use Rattle.pb_isa.specs.declared.insn.Width.{Width}
+use Rattle.pb_isa.specs.declared.insn.Width.TheVariants.{Bits32, Bits64}
+use Rattle.pb_isa.specs.declared.profile.Profile.{Profile}
+use Rattle.pb_isa.specs.declared.profile.Profile.TheVariants.{Two}
 use Rattle.pb_isa.specs.Registers.{reg_of}
 use Rattle.pb_decode.specs.declared.forms.Form.{Form}
 use Rattle.pb_decode.specs.declared.forms.Form.TheVariants as form
@@ -18,20 +26,26 @@ use Rattle.pb_decode.specs.declared.fault.Code.TheVariants.{Opcode, Register, Un
 use Rattle.pb_decode.specs.Opcodes.{form_of}
 use Rattle.pb_decode.specs.Fields.{slot_of_bytes}
 
+-- the offset of arithmetic with a register is zero; in profile 2 that of a move may be the bits whose sign it extends
+abbrev pub is_alu_offset : Profile → AluOp → Width → ℕ → Bool
+is_alu_offset Two Mov Bits64 n = (n == 0) || ((n == 8) || ((n == 16) || (n == 32)))
+is_alu_offset Two Mov Bits32 n = (n == 0) || ((n == 8) || (n == 16))
+is_alu_offset p op w n = n == 0
+
 -- the fields that a form doesn't use are zero
-abbrev pub is_clean : Form → Slot → Bool
-is_clean (form.Alu op w K) s = (s.src == 0) && (s.offset == 0)
-is_clean (form.Alu op w X) s = (s.offset == 0) && (s.imm == 0)
-is_clean (form.Neg w) s = (s.src == 0) && ((s.offset == 0) && (s.imm == 0))
-is_clean form.LoadImm s = (s.src == 0) && (s.offset == 0)
-is_clean (form.Load z) s = s.imm == 0
-is_clean (form.StoreImm z) s = s.src == 0
-is_clean (form.Store z) s = s.imm == 0
-is_clean form.Jump s = (s.dst == 0) && ((s.src == 0) && (s.imm == 0))
-is_clean (form.JumpIf c w K) s = s.src == 0
-is_clean (form.JumpIf c w X) s = s.imm == 0
-is_clean form.Call s = (s.dst == 0) && ((s.src == 0) && (s.offset == 0))
-is_clean form.Exit s = (s.dst == 0) && ((s.src == 0) && ((s.offset == 0) && (s.imm == 0)))
+abbrev pub is_clean : Profile → Form → Slot → Bool
+is_clean p (form.Alu op w K) s = (s.src == 0) && (s.offset == 0)
+is_clean p (form.Alu op w X) s = is_alu_offset p op w s.offset && (s.imm == 0)
+is_clean p (form.Neg w) s = (s.src == 0) && ((s.offset == 0) && (s.imm == 0))
+is_clean p form.LoadImm s = (s.src == 0) && (s.offset == 0)
+is_clean p (form.Load z x) s = s.imm == 0
+is_clean p (form.StoreImm z) s = s.src == 0
+is_clean p (form.Store z) s = s.imm == 0
+is_clean p form.Jump s = (s.dst == 0) && ((s.src == 0) && (s.imm == 0))
+is_clean p (form.JumpIf c w K) s = s.src == 0
+is_clean p (form.JumpIf c w X) s = s.imm == 0
+is_clean p form.Call s = (s.dst == 0) && ((s.src == 0) && (s.offset == 0))
+is_clean p form.Exit s = (s.dst == 0) && ((s.src == 0) && ((s.offset == 0) && (s.imm == 0)))
 
 -- a second slot has nothing but an immediate
 abbrev pub is_second : Slot → Bool
@@ -49,12 +63,22 @@ abbrev pub operand_of_source : Source → Reg → ℤ → Operand
 operand_of_source K src imm = operand.Imm imm
 operand_of_source X src imm = operand.Reg src
 
+-- the size of 8, 16 or 32 bits
+abbrev pub size_of_bits : ℕ → Size
+size_of_bits n = if n == 8 then B else if n == 16 then H else W
+
+-- arithmetic; with an offset, which a move of a register alone has, it extends the sign of so many bits
+abbrev pub alu_of : AluOp → Width → Source → Reg → Reg → Slot → Insn
+alu_of op w x dst src s =
+    if s.offset == 0 then Alu op w dst (operand_of_source x src (cast_signed w32 s.imm))
+    else MovSx w (size_of_bits s.offset) dst src
+
 -- the instruction of a form with these fields, and the bytes behind it
 abbrev pub insn_of_form : Form → Reg → Reg → Slot → List ℕ → Result (Insn × List ℕ) Code
-insn_of_form (form.Alu op w x) dst src s rest = Ok (Alu op w dst (operand_of_source x src (cast_signed w32 s.imm)), rest)
+insn_of_form (form.Alu op w x) dst src s rest = Ok (alu_of op w x dst src s, rest)
 insn_of_form (form.Neg w) dst src s rest = Ok (Neg w dst, rest)
 insn_of_form form.LoadImm dst src s rest = pair_of dst s.imm rest
-insn_of_form (form.Load z) dst src s rest = Ok (Load z dst src (cast_signed w16 s.offset), rest)
+insn_of_form (form.Load z x) dst src s rest = Ok (Load z x dst src (cast_signed w16 s.offset), rest)
 insn_of_form (form.StoreImm z) dst src s rest = Ok (StoreImm z dst (cast_signed w16 s.offset) (cast_signed w32 s.imm), rest)
 insn_of_form (form.Store z) dst src s rest = Ok (Store z dst src (cast_signed w16 s.offset), rest)
 insn_of_form form.Jump dst src s rest = Ok (Jump (cast_signed w16 s.offset), rest)
@@ -62,17 +86,17 @@ insn_of_form (form.JumpIf c w x) dst src s rest = Ok (JumpIf c w dst (operand_of
 insn_of_form form.Call dst src s rest = Ok (Call (cast_signed w32 s.imm), rest)
 insn_of_form form.Exit dst src s rest = Ok (Exit, rest)
 
-abbrev pub clean_or_code : Form → Slot → Result Form Code
-clean_or_code f s = if is_clean f s then Ok f else Err Unused
+abbrev pub clean_or_code : Profile → Form → Slot → Result Form Code
+clean_or_code p f s = if is_clean p f s then Ok f else Err Unused
 
 -- The opcode first, then both registers, then the unused fields, and last a pair's second slot.
-unfoldable pub first_with : Slot → List ℕ → Result (Insn × List ℕ) Code
-first_with s rest = do
-  known ← ok_or (form_of s.opcode) Opcode
+unfoldable pub first_with : Profile → Slot → List ℕ → Result (Insn × List ℕ) Code
+first_with p s rest = do
+  known ← ok_or (form_of p s.opcode) Opcode
   dst ← ok_or (reg_of s.dst) Register
   src ← ok_or (reg_of s.src) Register
-  clean ← clean_or_code known s
+  clean ← clean_or_code p known s
   insn_of_form clean dst src s rest
 
-abbrev pub first_of : List ℕ → Result (Insn × List ℕ) Code
-first_of bytes = first_with (slot_of_bytes bytes) (drop 8 bytes)
+abbrev pub first_of : Profile → List ℕ → Result (Insn × List ℕ) Code
+first_of p bytes = first_with p (slot_of_bytes bytes) (drop 8 bytes)

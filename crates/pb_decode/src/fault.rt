@@ -12,7 +12,7 @@ use thiserror::Error;
 pub enum Code {
     /// Their length is zero, or no multiple of 8.
     Length,
-    /// Over [`MAX_SLOTS`](pb_isa::MAX_SLOTS) slots.
+    /// More slots than the profile has.
     TooLong,
     /// An opcode outside the profile.
     Opcode,
@@ -44,9 +44,9 @@ impl Code {
 }
 
 /// Why bytes were not decoded: memory was refused, or they are at fault, at a slot (from 0) and with a code: 10 no bytes,
-/// or no multiple of 8, 11 over 512 slots, 12 an opcode outside the profile, 13 a register number over 10, 14 an unused
-/// field that is not zero, 15 a pair cut off by the end, 16 a pair's second slot that has more than an immediate. For 10
-/// and 11 the slot is 0, and for 15 and 16 it is the pair's first.
+/// or no multiple of 8, 11 more slots than the profile has, 12 an opcode outside the profile, 13 a register number over 10,
+/// 14 an unused field that is not zero, 15 a pair cut off by the end, 16 a pair's second slot that has more than an
+/// immediate. For 10 and 11 the slot is 0, and for 15 and 16 it is the pair's first.
 #[derive(Clone, Copy, Debug, PartialEq, Eq, Drop, Error)]
 pub enum DecodeFault {
     #[error("no memory")]

@@ -8,5 +8,5 @@ mod reading;
 mod writing;
 
 pub use fault::DecodeFault;
-pub use reading::{decode, either_program_or_fault};
+pub use reading::{decode, decode_in, either_program_or_fault, profiles_read_alike};
 pub use writing::encode;

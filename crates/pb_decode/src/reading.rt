@@ -4,19 +4,22 @@ ghost use Rattle.pb_base.specs.Reading.{Gives};
 ghost use Rattle.pb_isa.specs.declared.insn.Insn.{Insn};
 ghost use Rattle.pb_isa.specs.Programs.{ProgramOf};
 ghost use Rattle.pb_isa.specs.Bounds.{Fits};
+ghost use Rattle.pb_isa.specs.Profiles.{IsOf, max_slots};
+ghost use Rattle.pb_isa.specs.declared.profile.Profile.{Profile};
+ghost use Rattle.pb_isa.specs.declared.profile.Profile.TheVariants.{One, Two};
 ghost use Rattle.pb_isa.specs.Registers.{reg_of};
 ghost use Rattle.pb_decode.specs.declared.fault.Code.{Code};
 ghost use Rattle.pb_decode.specs.declared.fault.Code.TheVariants.{Register};
 ghost use Rattle.pb_decode.specs.Fields.{slot_of_bytes};
-ghost use Rattle.pb_decode.specs.Encoding.{insn_bytes, encoding, Encodes};
-ghost use Rattle.pb_decode.specs.Reading.{is_second, pair_of, operand_of_source, insn_of_form, first_of};
+ghost use Rattle.pb_decode.specs.Encoding.{insn_bytes, encoding, Encodes, in_profile};
+ghost use Rattle.pb_decode.specs.Reading.{is_second, pair_of, operand_of_source, size_of_bits, alu_of, insn_of_form, first_of};
 ghost use Rattle.pb_decode.specs.Faults.{Applies, whole_fault, told_as, IsDecodeFault, AreRefusedAs, IsRefusal, IsRefusalInside, IsNoMemory, IsNoMemoryOr, AreSpelt, AreBytes, HasProgram, HasFault};
 
 use crate::fault::{Code, DecodeFault};
 use crate::fields::Slot;
 use crate::forms::{Form, Source};
 use pb_base::Refused;
-use pb_isa::{Insn, MAX_SLOTS, NoProgram, Operand, Program, Reg};
+use pb_isa::{AluOp, Insn, NoProgram, Operand, Profile, Program, Reg, Size, Width};
 use std::alloc::Global;
 
 // The register of a number.
@@ -61,6 +64,40 @@ fn operand(source: Source, src: Reg, imm: i32) -> Operand
     }
 }
 
+// The size of 8, 16 or 32 bits.
+fn size_of_bits(bits: u16) -> Size
+    ensures { result ≡ size_of_bits bits }
+{
+    match bits {
+        8 => Size::B,
+        16 => Size::H,
+        _ => Size::W,
+    }
+}
+
+// Arithmetic. With an offset, which a move of a register alone has, it extends the sign of so many bits.
+fn alu_of(op: AluOp, width: Width, source: Source, dst: Reg, src: Reg, slot: Slot) -> Insn
+    ensures { result ≡ alu_of op width source dst src slot }
+{
+    if slot.offset == 0 {
+        let src = operand(source, src, slot.imm.cast_signed());
+        Insn::Alu {
+            op,
+            width,
+            dst,
+            src,
+        }
+    } else {
+        let size = size_of_bits(slot.offset);
+        Insn::MovSx {
+            width,
+            size,
+            dst,
+            src,
+        }
+    }
+}
+
 // The instruction of a form with these fields, and the bytes behind it.
 fn insn_of(form: Form, dst: Reg, src: Reg, slot: Slot, bytes: &[u8]) -> Result<(Insn, &[u8]), Code>
     ensures { Gives (λ _. false) (λ x. (x.0, x.1.now)) result (insn_of_form form dst src slot bytes.now) }
@@ -68,16 +105,12 @@ fn insn_of(form: Form, dst: Reg, src: Reg, slot: Slot, bytes: &[u8]) -> Result<(
     let imm = slot.imm.cast_signed();
     let offset = slot.offset.cast_signed();
     let insn = match form {
-        Form::Alu(op, width, source) => Insn::Alu {
-            op,
-            width,
-            dst,
-            src: operand(source, src, imm),
-        },
+        Form::Alu(op, width, source) => alu_of(op, width, source, dst, src, slot),
         Form::Neg(width) => Insn::Neg { width, dst },
         Form::LoadImm => return pair_of(dst, slot.imm, bytes),
-        Form::Load(size) => Insn::Load {
+        Form::Load(size, extension) => Insn::Load {
             size,
+            extension,
             dst,
             src,
             offset,
@@ -110,29 +143,29 @@ fn insn_of(form: Form, dst: Reg, src: Reg, slot: Slot, bytes: &[u8]) -> Result<(
 
 // The instruction at the front, and the bytes behind it; or the lowest code that applies.
 #[tactic(auto, unfolding(crate::specs::Reading::first_with))]
-fn first_of(bytes: &[u8]) -> Result<(Insn, &[u8]), Code>
+fn first_of(profile: Profile, bytes: &[u8]) -> Result<(Insn, &[u8]), Code>
     requires { 8 ≤ length bytes.now }
-    ensures { Gives (λ _. false) (λ x. (x.0, x.1.now)) result (first_of bytes.now) }
+    ensures { Gives (λ _. false) (λ x. (x.0, x.1.now)) result (first_of profile bytes.now) }
 {
     let slot = Slot::at(bytes);
-    let Some(form) = Form::of(slot.opcode) else {
+    let Some(form) = Form::of(profile, slot.opcode) else {
         return Err(Code::Opcode);
     };
     let dst = register(slot.dst)?;
     let src = register(slot.src)?;
-    if !form.is_clean(slot) {
+    if !form.is_clean(profile, slot) {
         return Err(Code::Unused);
     }
     insn_of(form, dst, src, slot, &bytes[8..])
 }
 
 // The fault of the whole.
-fn whole_fault(bytes: &[u8]) -> Option<Code>
-    ensures { result ≡ whole_fault bytes.now }
+fn whole_fault(profile: Profile, bytes: &[u8]) -> Option<Code>
+    ensures { result ≡ whole_fault profile bytes.now }
 {
     if bytes.is_empty() || bytes.len() % 8 != 0 {
         Some(Code::Length)
-    } else if bytes.len() > 8 * MAX_SLOTS {
+    } else if bytes.len() > 8 * profile.max_slots() {
         Some(Code::TooLong)
     } else {
         None
@@ -148,16 +181,16 @@ fn refused(slot: u16, code: Code) -> DecodeFault
 }
 
 // The instructions that the bytes spell, one after the other.
-fn insns_of(alloc: Global, bytes: &[u8]) -> Result<Vec<Insn>, DecodeFault>
+fn insns_of(alloc: Global, profile: Profile, bytes: &[u8]) -> Result<Vec<Insn>, DecodeFault>
     requires whole { length bytes.now % 8 ≡ 0 }
-    requires most { length bytes.now ≤ 8 * MAX_SLOTS }
-    ensures ok { IfOk result (λ v. AreSpelt bytes.now v.items) }
-    ensures err { IfErr result (IsRefusalInside bytes.now) }
+    requires most { length bytes.now ≤ 8 * max_slots profile }
+    ensures ok { IfOk result (λ v. AreSpelt profile bytes.now v.items) }
+    ensures err { IfErr result (IsRefusalInside profile bytes.now) }
 {
     let mut insns = Vec::new(alloc);
     let mut rest = bytes;
     while !rest.is_empty() {
-        let (insn, after) = match first_of(rest) {
+        let (insn, after) = match first_of(profile, rest) {
             Ok(found) => found,
             Err(code) => {
                 let slot = (bytes.len() - rest.len()) / 8;
@@ -170,39 +203,67 @@ fn insns_of(alloc: Global, bytes: &[u8]) -> Result<Vec<Insn>, DecodeFault>
     Ok(insns)
 }
 
-// The program that the bytes are, or why they are none.
-fn program_of(alloc: Global, bytes: &[u8]) -> Result<Program, DecodeFault>
+// The program of the profile that the bytes are, or why they are none.
+fn program_of(alloc: Global, profile: Profile, bytes: &[u8]) -> Result<Program, DecodeFault>
     ensures ok { IfOk result (λ p. Encodes bytes.now p) }
-    ensures err { IfErr result (IsRefusal bytes.now) }
+    ensures profile { IfOk result (λ p. p.profile ≡ profile) }
+    ensures err { IfErr result (IsRefusal profile bytes.now) }
 {
-    if let Some(code) = whole_fault(bytes) {
+    if let Some(code) = whole_fault(profile, bytes) {
         return Err(refused(0, code));
     }
-    match Program::new(alloc, insns_of(alloc, bytes)?) {
+    match Program::new(alloc, profile, insns_of(alloc, profile, bytes)?) {
         Ok(program) => Ok(program),
         Err(NoProgram::NoMemory) => Err(DecodeFault::NoMemory),
         Err(NoProgram::NotInRange(_)) => unreachable!(),
     }
 }
 
-/// The program whose encoding the bytes are. Where they are none's, the first slot at fault and its lowest code.
+/// The program of profile 1 whose encoding the bytes are. Where they are none's, the first slot at fault and its lowest
+/// code.
 pub fn decode(alloc: Global, bytes: &[u8]) -> Result<Program, DecodeFault>
     ensures ok { IfOk result (λ p. Encodes bytes.now p) }
-    ensures err { IfErr result (IsRefusal bytes.now) }
-    ensures program { (p : ProgramOf) → Encodes bytes.now p → IfOk result (λ q. q ≡ p) × IfErr result IsNoMemory }
-    ensures fault { (slot told : ℕ) → AreRefusedAs bytes.now slot told → IfOk result (λ _. ⊥)
+    ensures profile { IfOk result (λ p. p.profile ≡ One) }
+    ensures err { IfErr result (IsRefusal One bytes.now) }
+    ensures program { (p : ProgramOf) → p.profile ≡ One → Encodes bytes.now p → IfOk result (λ q. q ≡ p)
+        × IfErr result IsNoMemory }
+    ensures fault { (slot told : ℕ) → AreRefusedAs One bytes.now slot told → IfOk result (λ _. ⊥)
         × IfErr result (IsNoMemoryOr slot told) }
 {
-    program_of(alloc, bytes)
+    decode_in(alloc, Profile::One, bytes)
 }
 
-/// A list of bytes is one program's, or has one fault, and not both. No code applies where an instruction stands.
+/// The program of the profile whose encoding the bytes are. Where they are none's, the first slot at fault and its lowest
+/// code.
+pub fn decode_in(alloc: Global, profile: Profile, bytes: &[u8]) -> Result<Program, DecodeFault>
+    ensures ok { IfOk result (λ p. Encodes bytes.now p) }
+    ensures profile { IfOk result (λ p. p.profile ≡ profile) }
+    ensures err { IfErr result (IsRefusal profile bytes.now) }
+    ensures program { (p : ProgramOf) → p.profile ≡ profile → Encodes bytes.now p → IfOk result (λ q. q ≡ p)
+        × IfErr result IsNoMemory }
+    ensures fault { (slot told : ℕ) → AreRefusedAs profile bytes.now slot told → IfOk result (λ _. ⊥)
+        × IfErr result (IsNoMemoryOr slot told) }
+{
+    program_of(alloc, profile, bytes)
+}
+
+/// In each profile a list of bytes is one program's, or has one fault, and not both. No code applies where an instruction
+/// of the profile stands.
 pub fn either_program_or_fault()
-    ensures either { (bytes : List ℕ) → AreBytes bytes → HasProgram bytes ⊎ HasFault bytes }
+    ensures either { (profile : Profile) (bytes : List ℕ) → AreBytes bytes
+        → HasProgram profile bytes ⊎ HasFault profile bytes }
     ensures not_both { (bytes : List ℕ) (p : ProgramOf) (slot : ℕ) (code : Code) → Encodes bytes p
-        → IsDecodeFault bytes slot code → ⊥ }
-    ensures one_program { (bytes : List ℕ) (p q : ProgramOf) → Encodes bytes p → Encodes bytes q → p ≡ q }
-    ensures one_fault { (bytes : List ℕ) (s t : ℕ) (c d : Code) → IsDecodeFault bytes s c → IsDecodeFault bytes t d
-        → (s ≡ t) × (c ≡ d) }
-    ensures no_code { (i : Insn) (rest : List ℕ) (code : Code) → Fits i → Applies (insn_bytes i ++ rest) code → ⊥ }
+        → IsDecodeFault p.profile bytes slot code → ⊥ }
+    ensures one_program { (bytes : List ℕ) (p q : ProgramOf) → p.profile ≡ q.profile → Encodes bytes p
+        → Encodes bytes q → p ≡ q }
+    ensures one_fault { (profile : Profile) (bytes : List ℕ) (s t : ℕ) (c d : Code) → IsDecodeFault profile bytes s c
+        → IsDecodeFault profile bytes t d → (s ≡ t) × (c ≡ d) }
+    ensures no_code { (profile : Profile) (i : Insn) (rest : List ℕ) (code : Code) → Fits i → IsOf profile i
+        → Applies profile (insn_bytes i ++ rest) code → ⊥ }
+{}
+
+/// Bytes that are a program's in profile 1 are, in profile 2, the program's of the same instructions.
+pub fn profiles_read_alike()
+    ensures { (bytes : List ℕ) (p : ProgramOf) → p.profile ≡ One → Encodes bytes p
+        → Encodes bytes (in_profile Two p) }
 {}

@@ -2,12 +2,12 @@
 ghost use Rattle.std.specs.Prelude.{◌≡◌, ◌++◌, IfOk, OnOk, ◌<◌};
 ghost use Rattle.pb_isa.specs.declared.insn.Insn.TheVariants as insn;
 ghost use Rattle.pb_isa.specs.Registers.{number};
-ghost use Rattle.pb_decode.specs.Encoding.{slot, first_slot, second_bytes, insn_bytes, encoding, Encodes};
+ghost use Rattle.pb_decode.specs.Encoding.{slot, bits_of, first_slot, second_bytes, insn_bytes, encoding, Encodes};
 
 use crate::fields::Slot;
 use crate::forms::{Form, Source};
 use pb_base::NoMemory;
-use pb_isa::{AluOp, Cmp, Insn, Operand, Program, Reg, Width};
+use pb_isa::{AluOp, Cmp, Insn, Operand, Program, Reg, Size, Width};
 use std::alloc::{AllocError, Global};
 
 // A register's number.
@@ -32,19 +32,39 @@ fn slot(form: Form, dst: u8, src: u8, offset: u16, imm: u32) -> Slot
     }
 }
 
+// The slot of a form that takes both registers and no immediate.
+fn register_slot(form: Form, dst: Reg, src: Reg, offset: u16) -> Slot
+    ensures slot { result ≡ slot form (number dst) (number src) offset 0 }
+    ensures dst { result.dst < 16 }
+    ensures src { result.src < 16 }
+{
+    slot(form, number(dst), number(src), offset, 0)
+}
+
+// How many bits of its source a sign-extending move takes.
+fn bits_of(size: Size) -> u16
+    ensures { result ≡ bits_of size }
+{
+    match size {
+        Size::B => 8,
+        Size::H => 16,
+        Size::W => 32,
+        Size::Dw => 64,
+    }
+}
+
 // The slot of an arithmetic operation.
 fn alu_slot(op: AluOp, width: Width, dst: Reg, src: Operand) -> Slot
     ensures slot { result ≡ first_slot (insn.Alu op width dst src) }
     ensures dst { result.dst < 16 }
     ensures src { result.src < 16 }
 {
-    let dst = number(dst);
     match src {
         Operand::Imm(imm) => {
             let form = Form::Alu(op, width, Source::K);
-            slot(form, dst, 0, 0, imm.cast_unsigned())
+            slot(form, number(dst), 0, 0, imm.cast_unsigned())
         }
-        Operand::Reg(src) => slot(Form::Alu(op, width, Source::X), dst, number(src), 0, 0),
+        Operand::Reg(src) => register_slot(Form::Alu(op, width, Source::X), dst, src, 0),
     }
 }
 
@@ -54,17 +74,13 @@ fn jump_slot(cmp: Cmp, width: Width, dst: Reg, src: Operand, offset: i16) -> Slo
     ensures dst { result.dst < 16 }
     ensures src { result.src < 16 }
 {
-    let dst = number(dst);
     let offset = offset.cast_unsigned();
     match src {
         Operand::Imm(imm) => {
             let form = Form::JumpIf(cmp, width, Source::K);
-            slot(form, dst, 0, offset, imm.cast_unsigned())
+            slot(form, number(dst), 0, offset, imm.cast_unsigned())
         }
-        Operand::Reg(src) => {
-            let form = Form::JumpIf(cmp, width, Source::X);
-            slot(form, dst, number(src), offset, 0)
-        }
+        Operand::Reg(src) => register_slot(Form::JumpIf(cmp, width, Source::X), dst, src, offset),
     }
 }
 
@@ -81,6 +97,15 @@ fn first_slot(insn: Insn) -> Slot
             dst,
             src,
         } => alu_slot(op, width, dst, src),
+        Insn::MovSx {
+            width,
+            size,
+            dst,
+            src,
+        } => {
+            let form = Form::Alu(AluOp::Mov, width, Source::X);
+            register_slot(form, dst, src, bits_of(size))
+        }
         Insn::Neg { width, dst } => slot(Form::Neg(width), number(dst), 0, 0, 0),
         Insn::LoadImm { dst, imm } => {
             let low = (imm % 0x1_0000_0000) as u32;
@@ -88,12 +113,13 @@ fn first_slot(insn: Insn) -> Slot
         }
         Insn::Load {
             size,
+            extension,
             dst,
             src,
             offset,
         } => {
-            let offset = offset.cast_unsigned();
-            slot(Form::Load(size), number(dst), number(src), offset, 0)
+            let form = Form::Load(size, extension);
+            register_slot(form, dst, src, offset.cast_unsigned())
         }
         Insn::StoreImm {
             size,
@@ -109,10 +135,7 @@ fn first_slot(insn: Insn) -> Slot
             dst,
             src,
             offset,
-        } => {
-            let offset = offset.cast_unsigned();
-            slot(Form::Store(size), number(dst), number(src), offset, 0)
-        }
+        } => register_slot(Form::Store(size), dst, src, offset.cast_unsigned()),
         Insn::Jump { offset } => slot(Form::Jump, 0, 0, offset.cast_unsigned(), 0),
         Insn::JumpIf {
             cmp,
@@ -144,7 +167,7 @@ fn put(out: &mut Vec<u8>, insn: Insn) -> Result<(), AllocError>
     Ok(())
 }
 
-/// The one byte list that decodes to this program.
+/// The one byte list that decodes to this program in its profile.
 pub fn encode(alloc: Global, program: &Program) -> Result<Vec<u8>, NoMemory>
     ensures bytes { IfOk result (λ v. v.items ≡ encoding program.now.insns) }
     ensures one { IfOk result (λ v. Encodes v.items program.now) }

@@ -3,7 +3,7 @@
 use Rattle.std.specs.Prelude.{◌<◌, ◌^◌, FitsSigned}
 use Rattle.std.specs.Int.{w16, w32}
 use Rattle.pb_isa.specs.declared.insn.Insn.{Insn}
-use Rattle.pb_isa.specs.declared.insn.Insn.TheVariants.{Alu, Neg, LoadImm, Load, StoreImm, Store, Jump, JumpIf, Call, Exit}
+use Rattle.pb_isa.specs.declared.insn.Insn.TheVariants.{Alu, MovSx, Neg, LoadImm, Load, StoreImm, Store, Jump, JumpIf, Call, Exit}
 use Rattle.pb_isa.specs.declared.insn.Operand.{Operand}
 use Rattle.pb_isa.specs.declared.insn.Operand.TheVariants.{Imm, Reg}
 
@@ -13,9 +13,10 @@ OperandFits (Reg src) = Unit {0}
 
 abbrev pub Fits : Insn → Type 0
 Fits (Alu op w dst src) = OperandFits src
+Fits (MovSx w z dst src) = Unit {0}
 Fits (Neg w dst) = Unit {0}
 Fits (LoadImm dst imm) = imm < 2 ^ 64
-Fits (Load z dst src offset) = FitsSigned w16 offset
+Fits (Load z x dst src offset) = FitsSigned w16 offset
 Fits (StoreImm z dst offset imm) = FitsSigned w16 offset × FitsSigned w32 imm
 Fits (Store z dst src offset) = FitsSigned w16 offset
 Fits (Jump offset) = FitsSigned w16 offset

@@ -1,6 +1,7 @@
 pub mod Registers
 pub mod Slots
 pub mod NextSlots
+pub mod Profiles
 pub mod Programs
 pub mod Alu
 pub mod Helpers

@@ -1,29 +1,36 @@
 -- Programs, and programs with what they are judged for, as contracts see them.
 use Rattle.std.specs.Prelude.{◌≡◌, ℕ, ◌<◌, ◌≤◌, ◌⊎◌, List, refl}
 use Rattle.std.specs.Coded.{Coded, code_by, coded×, coded_ℕ, coded_list}
+use Rattle.std.specs.List.{AllByRecursion}
 use Rattle.pb_isa.specs.declared.insn.Insn.{Insn}
-use Rattle.pb_isa.specs.declared.limits.TheConstants.{MAX_SLOTS, RECORD_BYTES}
+use Rattle.pb_isa.specs.declared.profile.Profile.{Profile}
 use Rattle.pb_isa.specs.declared.program.NoProgram.{NoProgram}
 use Rattle.pb_isa.specs.declared.program.NoProgram.TheVariants.{NoMemory, NotInRange}
 use Rattle.pb_isa.specs.contracts.insn.Insn as insn
+use Rattle.pb_isa.specs.contracts.profile.Profile as profile
+use Rattle.pb_isa.specs.Profiles.{IsOf, max_slots}
 use Rattle.pb_isa.specs.Helpers.{HelperSet, helper_code}
 use Rattle.pb_isa.specs.Slots.{slots}
 
 pub record ProgramOf : Type 0 where
+  pub profile : Profile
   pub insns : List Insn
 
 abbrev pub program_code : Coded ProgramOf
-program_code = code_by (List Insn) (coded_list insn.the_row.coded) (λ p. p.insns) (λ is. record { insns = is }) (λ _. refl)
+program_code =
+    code_by (Profile × List Insn) (coded× profile.the_row.coded (coded_list insn.the_row.coded))
+    (λ p. (p.profile, p.insns)) (λ p. record { profile = p.0; insns = p.1 }) (λ _. refl)
 
--- some slots, and not too many
+-- some slots, no more than its profile has, and instructions of its profile alone
 pub record IsProgram (p : ProgramOf) : Type 0 where
   pub some : 0 < slots p.insns
-  pub most : slots p.insns ≤ MAX_SLOTS
+  pub most : slots p.insns ≤ max_slots p.profile
+  pub of_profile : AllByRecursion (IsOf p.profile) p.insns
 
--- the list takes no slot or too many, and is handed back; or memory was refused
-abbrev pub IsRefused : List Insn → NoProgram → Type 0
-IsRefused is NoMemory = Unit {0}
-IsRefused is (NotInRange back) = (back.items ≡ is) × ((slots is ≡ 0) ⊎ (MAX_SLOTS < slots is))
+-- the list takes no slot or more than the profile has, and is handed back; or memory was refused
+abbrev pub IsRefused : Profile → List Insn → NoProgram → Type 0
+IsRefused p is NoMemory = Unit {0}
+IsRefused p is (NotInRange back) = (back.items ≡ is) × ((slots is ≡ 0) ⊎ (max_slots p < slots is))
 
 -- a program with what it is judged for: the helpers that it may call, and how many bytes its record has
 pub record JudgedOf : Type 0 where
@@ -37,7 +44,3 @@ judged_code =
     (λ j. (j.program, (j.helpers, j.record_size)))
     (λ p. record { program = p.0; helpers = p.1.0; record_size = p.1.1 })
     (λ _. refl)
-
--- judged for the change record
-abbrev pub judged_of : ProgramOf → HelperSet → JudgedOf
-judged_of p h = record { program = p; helpers = h; record_size = RECORD_BYTES }

@@ -104,8 +104,17 @@ pub enum Operand {
     Reg(Reg),
 }
 
+/// How a load of fewer bytes than a register has fills the rest of it (RFC 9669, sections 5.1 and 5.2).
+#[derive(Clone, Copy, Debug, PartialEq, Eq)]
+pub enum Extension {
+    /// MEM
+    Zeros,
+    /// MEMSX: with the sign.
+    Sign,
+}
+
 /// An instruction, with the fields of RFC 9669, section 3.1, that it uses. Each takes one slot, and the 64-bit immediate
-/// takes two.
+/// takes two. Which of them a program may have, its [`Profile`](crate::Profile) says.
 #[derive(Clone, Copy, Debug, PartialEq, Eq)]
 pub enum Insn {
     /// An operation on destination and source, whose result is the destination's.
@@ -114,6 +123,13 @@ pub enum Insn {
         width: Width,
         dst: Reg,
         src: Operand,
+    },
+    /// MOVSX: the low bytes of the source, extended by their sign to so many bits.
+    MovSx {
+        width: Width,
+        size: Size,
+        dst: Reg,
+        src: Reg,
     },
     /// The destination's negative.
     Neg {
@@ -128,6 +144,7 @@ pub enum Insn {
     /// LDX: from the address in the source, with the offset.
     Load {
         size: Size,
+        extension: Extension,
         dst: Reg,
         src: Reg,
         offset: i16,

@@ -1,8 +1,11 @@
 //! How much a program may take, and how much memory it is given. These are the project's own profile.
 ghost use Rattle.std.specs.Prelude.{◌≡◌};
 
-/// The most slots that a program takes.
-pub const MAX_SLOTS: usize = 512;
+/// The most slots that a program of any profile takes: those of profile 2.
+pub const MAX_SLOTS: usize = 4_096;
+
+/// The most slots that a program of profile 1 takes.
+pub const PROFILE_1_SLOTS: usize = 512;
 
 /// The bytes of the stack.
 pub const STACK_BYTES: usize = 512;
@@ -15,7 +18,8 @@ pub const MAX_RECORD_BYTES: usize = 120;
 
 /// A program's limits have these values.
 pub fn program_limits_are_these()
-    ensures slots { MAX_SLOTS ≡ 512 }
+    ensures slots { MAX_SLOTS ≡ 4_096 }
+    ensures slots_of_profile_1 { PROFILE_1_SLOTS ≡ 512 }
     ensures stack { STACK_BYTES ≡ 512 }
     ensures record { RECORD_BYTES ≡ 80 }
     ensures largest_record { MAX_RECORD_BYTES ≡ 120 }

@@ -3,25 +3,28 @@ ghost use Rattle.std.specs.Prelude.{◌≡◌, ◌≢◌, ◌<◌, ◌≤◌, �
 ghost use Rattle.pb_isa.specs.Bounds.{Fits};
 ghost use Rattle.pb_isa.specs.Slots.{layout, places_of, insn_at, slots};
 ghost use Rattle.pb_isa.specs.NextSlots.{NextSlotsAreFirst};
+ghost use Rattle.pb_isa.specs.Profiles.{IsOf};
 ghost use Rattle.pb_isa.specs.Programs.{IsProgram, IsRefused};
 
 use crate::insn::Insn;
 use crate::limits::MAX_SLOTS;
-use crate::same::are_same;
+use crate::profile::Profile;
+use crate::same::{are_same, is_same_profile};
 use pb_base::NoMemory;
 use std::alloc::Global;
 use std::marker::Model;
 
-/// A program: some instructions, of at most [`MAX_SLOTS`] slots together.
+/// A program: some instructions of its profile, of at most so many slots together as the profile has.
 #[derive(Drop)]
 pub struct Program {
+    profile: Profile,
     insns: Vec<Insn>,
     places: Vec<Option<Insn>>,
 }
 
 impl Model for Program {
     ghost use Rattle.std.specs.Prelude.{◌≡◌, ◌<◌, ◌≤◌, length};
-    ghost use Rattle.pb_isa.specs.declared.limits.TheConstants.{MAX_SLOTS};
+    ghost use Rattle.pb_isa.specs.Profiles.{IsOf, max_slots};
     ghost use Rattle.pb_isa.specs.Programs.{ProgramOf};
 
     ghost Value = { ProgramOf };
@@ -30,16 +33,16 @@ impl Model for Program {
     ghost use Rattle.pb_isa.specs.Bounds.{Fits};
     ghost use Rattle.pb_isa.specs.Slots.{layout};
 
-    ghost view = { λ p. record { insns = p.insns.items } };
+    ghost view = { λ p. record { profile = p.profile; insns = p.insns.items } };
 
-    ghost invariant = { λ p. (p.places.items ≡ layout p.insns.items) × (0 < length p.places.items) × (length p.places.items ≤ MAX_SLOTS) × AllByRecursion Fits p.insns.items };
+    ghost invariant = { λ p. (p.places.items ≡ layout p.insns.items) × (0 < length p.places.items) × (length p.places.items ≤ max_slots p.profile) × AllByRecursion Fits p.insns.items × AllByRecursion (IsOf p.profile) p.insns.items };
 }
 
 /// Why a list of instructions is no program.
 #[derive(Drop)]
 pub enum NoProgram {
     NoMemory,
-    /// They take no slot, or more than [`MAX_SLOTS`].
+    /// They take no slot, or more than the profile has.
     NotInRange(Vec<Insn>),
 }
 
@@ -57,11 +60,13 @@ fn is_pair(insn: Insn) -> bool
 impl Program {
     ghost use Rattle.std.specs.List.{AllByRecursion};
 
-    /// The program of these instructions, where they take 1 to [`MAX_SLOTS`] slots; else they are handed back.
-    pub fn new(alloc: Global, insns: Vec<Insn>) -> Result<Program, NoProgram>
-        ensures ok { IfOk result (λ p. (p.insns ≡ insns.items) × IsProgram p) }
+    /// The program of these instructions, where they take at least one slot and at most so many as the profile has; else
+    /// they are handed back.
+    pub fn new(alloc: Global, profile: Profile, insns: Vec<Insn>) -> Result<Program, NoProgram>
+        requires { AllByRecursion (IsOf profile) insns.items }
+        ensures ok { IfOk result (λ p. (p.profile ≡ profile) × (p.insns ≡ insns.items) × IsProgram p) }
         ensures fits { IfOk result (λ p. AllByRecursion Fits p.insns) }
-        ensures err { IfErr result (IsRefused insns.items) }
+        ensures err { IfErr result (IsRefused profile insns.items) }
     {
         let mut places: Vec<Option<Insn>> = Vec::new(alloc);
         for insn in &insns {
@@ -74,16 +79,28 @@ impl Program {
                 }
             }
         }
-        if places.is_empty() || places.len() > MAX_SLOTS {
+        if places.is_empty() || places.len() > profile.max_slots() {
             return Err(NoProgram::NotInRange(insns));
         }
-        Ok(Program { insns, places })
+        Ok(Program {
+            profile,
+            insns,
+            places,
+        })
+    }
+
+    /// The profile that its instructions are of.
+    pub fn profile(&self) -> Profile
+        ensures { result ≡ self.now.profile }
+    {
+        self.profile
     }
 
     /// How many slots it takes.
     pub fn slots(&self) -> usize
         ensures slots { result ≡ slots self.now.insns }
         ensures program { IsProgram self.now }
+        ensures most { result ≤ MAX_SLOTS }
     {
         self.places.len()
     }
@@ -96,11 +113,11 @@ impl Program {
         self.places[slot]
     }
 
-    /// Whether both have the same instructions.
+    /// Whether both are of one profile and have the same instructions.
     pub fn is_same(&self, other: &Program) -> bool
         ensures { IsTrue result ↔ (self.now ≡ other.now) }
     {
-        are_same(&self.insns, &other.insns)
+        is_same_profile(self.profile, other.profile) && are_same(&self.insns, &other.insns)
     }
 
     /// Its instructions, in order.

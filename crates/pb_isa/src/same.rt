@@ -1,8 +1,16 @@
 //! Whether two lists of instructions are the same.
 ghost use Rattle.std.specs.Prelude.{◌≡◌, ◌↔◌, IsTrue};
-ghost use Rattle.pb_isa.specs.declared.insn.Insn.TheVariants.{Alu, Load, StoreImm, Store, JumpIf};
+ghost use Rattle.pb_isa.specs.declared.insn.Insn.TheVariants.{Alu, MovSx, Load, StoreImm, Store, JumpIf};
 
-use crate::insn::{AluOp, Cmp, Insn, Operand, Reg, Size, Width};
+use crate::insn::{AluOp, Cmp, Extension, Insn, Operand, Reg, Size, Width};
+use crate::profile::Profile;
+
+/// Whether both are one profile.
+pub fn is_same_profile(a: Profile, b: Profile) -> bool
+    ensures { IsTrue result ↔ (a ≡ b) }
+{
+    a == b
+}
 
 fn is_same_op(a: AluOp, b: AluOp) -> bool
     ensures { IsTrue result ↔ (a ≡ b) }
@@ -23,6 +31,12 @@ fn is_same_width(a: Width, b: Width) -> bool
 }
 
 fn is_same_size(a: Size, b: Size) -> bool
+    ensures { IsTrue result ↔ (a ≡ b) }
+{
+    a == b
+}
+
+fn is_same_extension(a: Extension, b: Extension) -> bool
     ensures { IsTrue result ↔ (a ≡ b) }
 {
     a == b
@@ -61,16 +75,35 @@ fn is_alu(insn: Insn, op: AluOp, width: Width, dst: Reg, src: Operand) -> bool
     }
 }
 
-fn is_load(insn: Insn, size: Size, dst: Reg, src: Reg, offset: i16) -> bool
-    ensures { IsTrue result ↔ (insn ≡ Load size dst src offset) }
+fn is_mov_sx(insn: Insn, width: Width, size: Size, dst: Reg, src: Reg) -> bool
+    ensures { IsTrue result ↔ (insn ≡ MovSx width size dst src) }
+{
+    match insn {
+        Insn::MovSx {
+            width: its_width,
+            size: its_size,
+            dst: its_dst,
+            src: its_src,
+        } => is_same_width(its_width, width)
+            && is_same_size(its_size, size)
+            && is_same_reg(its_dst, dst)
+            && is_same_reg(its_src, src),
+        _ => false,
+    }
+}
+
+fn is_load(insn: Insn, size: Size, extension: Extension, dst: Reg, src: Reg, offset: i16) -> bool
+    ensures { IsTrue result ↔ (insn ≡ Load size extension dst src offset) }
 {
     match insn {
         Insn::Load {
             size: its_size,
+            extension: its_extension,
             dst: its_dst,
             src: its_src,
             offset: its_offset,
         } => is_same_size(its_size, size)
+            && is_same_extension(its_extension, extension)
             && is_same_reg(its_dst, dst)
             && is_same_reg(its_src, src)
             && its_offset == offset,
@@ -141,16 +174,23 @@ fn is_same(a: Insn, b: Insn) -> bool
             dst,
             src,
         } => is_alu(b, op, width, dst, src),
+        Insn::MovSx {
+            width,
+            size,
+            dst,
+            src,
+        } => is_mov_sx(b, width, size, dst, src),
         Insn::Neg { width, dst } =>
             matches!(b, Insn::Neg { width: w, dst: d } if is_same_width(width, w) && is_same_reg(dst, d)),
         Insn::LoadImm { dst, imm } =>
             matches!(b, Insn::LoadImm { dst: d, imm: i } if is_same_reg(dst, d) && imm == i),
         Insn::Load {
             size,
+            extension,
             dst,
             src,
             offset,
-        } => is_load(b, size, dst, src, offset),
+        } => is_load(b, size, extension, dst, src, offset),
         Insn::StoreImm {
             size,
             dst,

@@ -9,6 +9,7 @@ use Rattle.std.proofs.lemmas.List as lists
 use Rattle.std.proofs.lemmas.Option.{slice_get-get_or}
 use Rattle.serde_json.specs.View.{view}
 use Rattle.serde_json.specs.declared.value.Value.{Value}
+use Rattle.pb_isa.specs.declared.profile.Profile.{Profile}
 use Rattle.pb_steps.specs.Observers.{ObserverOf}
 use Rattle.pb_registry.specs.declared.code.Code.{Code}
 use Rattle.pb_registry.specs.declared.code.Code.TheVariants.{Memory}
@@ -16,32 +17,32 @@ use Rattle.pb_registry.specs.declared.fault.RegistryFault.{RegistryFault}
 use Rattle.pb_registry.specs.Codes.{is_memory}
 use Rattle.pb_registry.specs.Judging.{IsObserver, AreObservers, HasOneMore, IsLowestAfter, IsFirstElementFault, TellsFault, names_of, fault_with, fault_at}
 
-pub no_observers : (os : List ObserverOf) → os ≡ [] → AreObservers [] os
+pub no_observers : (p : Profile) (os : List ObserverOf) → os ≡ [] → AreObservers p [] os
 unfolding IsDistinct
-no_observers os none = subst (AreObservers []) (sym none) (record { each = tt; apart = tt })
+no_observers p os none = subst (AreObservers p []) (sym none) (record { each = tt; apart = tt })
 
 -- the element at i
-module _ (vs : List Value) (i : ℕ) (v : Value) (lt : i < length vs) (at : get_or vs i v ≡ v) (old : List ObserverOf) (good : AreObservers (map view (take i vs)) old) where
-  pub grown : (new : List ObserverOf) → HasOneMore (view v) old new → IsDistinct bytes_eq (names_of new) → AreObservers (map view (take (i + 1) vs)) new
+module _ (p : Profile) (vs : List Value) (i : ℕ) (v : Value) (lt : i < length vs) (at : get_or vs i v ≡ v) (old : List ObserverOf) (good : AreObservers p (map view (take i vs)) old) where
+  pub grown : (new : List ObserverOf) → HasOneMore p (view v) old new → IsDistinct bytes_eq (names_of new) → AreObservers p (map view (take (i + 1) vs)) new
   grown new (o, is, pushed) apart =
       let front : map view (take (i + 1) vs) ≡ map view (take i vs) ++ view v ∷ [] = ap (map view) (take_more vs i v lt) ∙ map-append view (take i vs) (get_or vs i v ∷ []) ∙ ap (λ w. map view (take i vs) ++ view w ∷ []) at in
       record {
-        each = subst (λ ds. AllZip IsObserver ds new) (sym front) (subst (AllZip IsObserver (map view (take i vs) ++ view v ∷ [])) (sym pushed) (AllZip-push IsObserver (map view (take i vs)) old (view v) o good.each is));
+        each = subst (λ ds. AllZip (IsObserver p) ds new) (sym front) (subst (AllZip (IsObserver p) (map view (take i vs) ++ view v ∷ [])) (sym pushed) (AllZip-push (IsObserver p) (map view (take i vs)) old (view v) o good.each is));
         apart = apart;
       }
 
-  first_fault : (code : Code) → IsLowestAfter (names_of old) (view v) code → IsFirstElementFault (map view vs) i code
+  first_fault : (code : Code) → IsLowestAfter (names_of old) p (view v) code → IsFirstElementFault p (map view vs) i code
   first_fault code fault = record {
     before = old;
-    good = subst (λ ds. AreObservers ds old) (sym (take-map view i vs)) good;
+    good = subst (λ ds. AreObservers p ds old) (sym (take-map view i vs)) good;
     element = view v;
     there = slice_get-get_or (map view vs) i (view v) (subst (λ n. i < n) (sym (length-map vs view)) lt) ∙ ap Some (lists.get_or-map view vs i v (view v) lt ∙ ap view at);
     fault = fault;
   }
 
-  pub told_fault : (code : Code) (f : RegistryFault) → f ≡ fault_at i code → (code ≢ Memory → IsLowestAfter (names_of old) (view v) code) → (f ≡ fault_with None Memory) ⊎ TellsFault (Ok (map view vs)) f
+  pub told_fault : (code : Code) (f : RegistryFault) → f ≡ fault_at i code → (code ≢ Memory → IsLowestAfter (names_of old) p (view v) code) → (f ≡ fault_with None Memory) ⊎ TellsFault (Ok (record { profile = p; elements = map view vs })) f
   told_fault code f is fault = by (is_memory code) refl
     where
-      by : (b : Bool) → is_memory code ≡ b → (f ≡ fault_with None Memory) ⊎ TellsFault (Ok (map view vs)) f
+      by : (b : Bool) → is_memory code ≡ b → (f ≡ fault_with None Memory) ⊎ TellsFault (Ok (record { profile = p; elements = map view vs })) f
       by true m = inl (is ∙ ap (λ b. if b then fault_with None Memory else fault_with (Some i) code) m)
       by false m = inr (i, code, first_fault code (fault (λ e. true≢false (sym (ap is_memory e) ∙ m))), is ∙ ap (λ b. if b then fault_with None Memory else fault_with (Some i) code) m)

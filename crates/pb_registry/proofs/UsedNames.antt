@@ -7,11 +7,13 @@ use Rattle.std.specs.Str.{bytes_eq}
 use Rattle.serde_json.specs.Data.{Data}
 use Rattle.pb_base.specs.Reading.{◌>>=◌}
 use Rattle.pb_isa.specs.Helpers.{HelperSet}
+use Rattle.pb_isa.specs.declared.profile.Profile.{Profile}
+use Rattle.pb_helpers.specs.declared.change.Version.{Version}
 use Rattle.pb_steps.specs.Observers.{ObserverOf}
 use Rattle.pb_registry.specs.declared.code.Code.{Code}
 use Rattle.pb_registry.specs.declared.code.Code.TheVariants.{Name}
 use Rattle.pb_registry.specs.declared.observer.Held.{Held}
-use Rattle.pb_registry.specs.Manifests.{WrittenOf, is_name, name_in, text_at, column_in, number_at, helpers_in, elements_at, bytes_in, members_of}
+use Rattle.pb_registry.specs.Manifests.{WrittenOf, is_name, name_in, text_at, column_in, number_at, helpers_in, elements_at, version_in, bytes_in, members_of}
 use Rattle.pb_registry.specs.Observers.{observers_of}
 use Rattle.pb_registry.specs.Judging.{IsObserver, is_among, is_used, names_of}
 
@@ -27,37 +29,39 @@ abbrev name_read : Result WrittenOf Code → Option (List ℕ)
 name_read (Ok w) = Some w.name
 name_read (Err c) = None
 
-abbrev written : Result (List ℕ) Code → Result ℕ Code → Result HelperSet Code → Result (List ℕ) Code → Result WrittenOf Code
-written n a h b = do
+abbrev written : Result (List ℕ) Code → Result ℕ Code → Result HelperSet Code → Result Version Code → Result (List ℕ) Code → Result WrittenOf Code
+written n a h v b = do
   name ← n
   column ← a
   helpers ← h
+  version ← v
   bytes ← b
-  Ok (record { name = name; column = column; helpers = helpers; bytes = bytes })
+  Ok (record { name = name; column = column; helpers = helpers; version = version; bytes = bytes })
 
 -- what is written has the name that is read
-name_kept : (s : List ℕ) (n : Bool) (a : Result ℕ Code) (h : Result HelperSet Code) (b : Result (List ℕ) Code) (w : WrittenOf) → written (if n then Ok s else Err Name) a h b ≡ Ok w → Some s ≡ Some w.name
-name_kept s false a h b w e = absurd (true≢false (sym (ap is_ok e)))
-name_kept s true (Err c) h b w e = absurd (true≢false (sym (ap is_ok e)))
-name_kept s true (Ok column) (Err c) b w e = absurd (true≢false (sym (ap is_ok e)))
-name_kept s true (Ok column) (Ok helpers) (Err c) w e = absurd (true≢false (sym (ap is_ok e)))
-name_kept s true (Ok column) (Ok helpers) (Ok bytes) w e = ap name_read e
+name_kept : (s : List ℕ) (n : Bool) (a : Result ℕ Code) (h : Result HelperSet Code) (v : Result Version Code) (b : Result (List ℕ) Code) (w : WrittenOf) → written (if n then Ok s else Err Name) a h v b ≡ Ok w → Some s ≡ Some w.name
+name_kept s false a h v b w e = absurd (true≢false (sym (ap is_ok e)))
+name_kept s true (Err c) h v b w e = absurd (true≢false (sym (ap is_ok e)))
+name_kept s true (Ok column) (Err c) v b w e = absurd (true≢false (sym (ap is_ok e)))
+name_kept s true (Ok column) (Ok helpers) (Err c) b w e = absurd (true≢false (sym (ap is_ok e)))
+name_kept s true (Ok column) (Ok helpers) (Ok version) (Err c) w e = absurd (true≢false (sym (ap is_ok e)))
+name_kept s true (Ok column) (Ok helpers) (Ok version) (Ok bytes) w e = ap name_read e
 
-name_of : (t : Option (List ℕ)) (a : Result ℕ Code) (h : Result HelperSet Code) (b : Result (List ℕ) Code) (w : WrittenOf) → written (name_in t) a h b ≡ Ok w → t ≡ Some w.name
-name_of None a h b w e = absurd (true≢false (sym (ap is_ok e)))
-name_of (Some s) a h b w e = name_kept s (is_name s) a h b w e
+name_of : (t : Option (List ℕ)) (a : Result ℕ Code) (h : Result HelperSet Code) (v : Result Version Code) (b : Result (List ℕ) Code) (w : WrittenOf) → written (name_in t) a h v b ≡ Ok w → t ≡ Some w.name
+name_of None a h v b w e = absurd (true≢false (sym (ap is_ok e)))
+name_of (Some s) a h v b w e = name_kept s (is_name s) a h v b w e
 
 named : (d : Data) (w : WrittenOf) → members_of d ≡ Ok w → text_at (codes "name") d ≡ Some w.name
 unfolding members_of
-named d w e = name_of (text_at (codes "name") d) (column_in (number_at (codes "column") d)) (helpers_in (elements_at (codes "helpers") d)) (bytes_in (text_at (codes "code") d)) w e
+named d w e = name_of (text_at (codes "name") d) (column_in (number_at (codes "column") d)) (helpers_in (elements_at (codes "helpers") d)) (version_in (number_at (codes "record") d)) (bytes_in (text_at (codes "code") d)) w e
 
 nothing_found : {A : Type 0} (r : Option A) → is_some r ≡ false → r ≡ None
 nothing_found None h = refl
 nothing_found (Some x) h = absurd (true≢false h)
 
 -- a key that is a new name isn't in the map
-pub new_name : (es : List (String Global × Held)) (d : Data) (o : ObserverOf) (k : String Global) → IsObserver d o → o.name ≡ string_bytes k → is_used (names_of (observers_of es)) d ≡ false → lookup (λ y. bytes_eq (string_bytes k) (string_bytes y)) es ≡ None
-new_name es d o k (w, written, is) same new =
+pub new_name : (p : Profile) (es : List (String Global × Held)) (d : Data) (o : ObserverOf) (k : String Global) → IsObserver p d o → o.name ≡ string_bytes k → is_used (names_of (observers_of es)) d ≡ false → lookup (λ y. bytes_eq (string_bytes k) (string_bytes y)) es ≡ None
+new_name p es d o k (w, written, is) same new =
     let name : text_at (codes "name") d ≡ Some (string_bytes k) = named d w written ∙ ap Some (sym is.name ∙ same) in
     let unlike : list_any (bytes_eq (string_bytes k)) (names_of (observers_of es)) ≡ false = sym (ap (is_among (names_of (observers_of es))) name) ∙ new in
     nothing_found (lookup (λ y. bytes_eq (string_bytes k) (string_bytes y)) es) (found_name (string_bytes k) es ∙ unlike)

@@ -2,7 +2,7 @@
 use Rattle.std.specs.Prelude.{ℕ, Bool, true, false, Option, Some, None}
 use Rattle.pb_base.specs.declared.refusal.Refused.{Refused}
 use Rattle.pb_registry.specs.declared.code.Code.{Code}
-use Rattle.pb_registry.specs.declared.code.Code.TheVariants.{Memory, Text, Form, TooMany, Name, Column, Helpers, Digits, Program}
+use Rattle.pb_registry.specs.declared.code.Code.TheVariants.{Memory, Text, Form, TooMany, Name, Column, Helpers, Record, Digits, Program}
 
 abbrev pub number_of : Code → ℕ
 number_of Memory = 1
@@ -12,6 +12,7 @@ number_of TooMany = 52
 number_of Name = 53
 number_of Column = 54
 number_of Helpers = 54
+number_of Record = 54
 number_of Digits = 55
 number_of (Program r) = 56
 

@@ -3,33 +3,35 @@ use Rattle.std.specs.Prelude.{◌≡◌, ◌⊎◌, ℕ, Bool, true, false, if�
 use Rattle.std.specs.List.{AllZip, IsDistinct, list_any}
 use Rattle.std.specs.Str.{bytes_eq}
 use Rattle.serde_json.specs.Data.{Data}
+use Rattle.pb_isa.specs.declared.profile.Profile.{Profile}
 use Rattle.pb_isa.specs.Helpers.{HelperSet}
+use Rattle.pb_helpers.specs.declared.change.Version.{Version}
 use Rattle.pb_steps.specs.Observers.{ObserverOf}
 use Rattle.pb_registry.specs.declared.code.Code.{Code}
 use Rattle.pb_registry.specs.declared.code.Code.TheVariants.{Memory, Name, Program}
 use Rattle.pb_registry.specs.declared.fault.RegistryFault.{RegistryFault}
 use Rattle.pb_registry.specs.Accepting.{IsAcceptedCode, IsRefusedCode}
 use Rattle.pb_registry.specs.Codes.{number_of, refusal_of, is_memory}
-use Rattle.pb_registry.specs.Manifests.{WrittenOf, text_at, members_of, elements_of_text}
+use Rattle.pb_registry.specs.Manifests.{WrittenOf, ManifestOf, text_at, members_of, manifest_of_text}
 
--- an observer as it is written, with the program that its code is
-pub record IsUpload (w : WrittenOf) (o : ObserverOf) : Type 0 where
+-- an observer as it is written, with the program that its code is in this profile
+pub record IsUpload (p : Profile) (w : WrittenOf) (o : ObserverOf) : Type 0 where
   pub name : o.name ≡ w.name
   pub column : o.column ≡ w.column
-  pub program : IsAcceptedCode w.bytes w.helpers o.program
+  pub program : IsAcceptedCode p w.version w.bytes w.helpers o.program
 
--- this observer is written in this element
-abbrev pub IsObserver : Data → ObserverOf → Type 0
-IsObserver d o = (w : WrittenOf) × (members_of d ≡ Ok w) × IsUpload w o
+-- this observer is written in this element, its program in this profile
+abbrev pub IsObserver : Profile → Data → ObserverOf → Type 0
+IsObserver p d o = (w : WrittenOf) × (members_of d ≡ Ok w) × IsUpload p w o
 
--- the program that this code is isn't accepted with these helpers
-abbrev pub IsProgramFault : List ℕ → HelperSet → Code → Type 0
-IsProgramFault bytes helpers (Program r) = IsRefusedCode bytes helpers r.slot r.code
-IsProgramFault bytes helpers c = ⊥
+-- the program that this code is isn't accepted with these helpers, for records of this version
+abbrev pub IsProgramFault : Profile → Version → List ℕ → HelperSet → Code → Type 0
+IsProgramFault p version bytes helpers (Program r) = IsRefusedCode p version bytes helpers r.slot r.code
+IsProgramFault p version bytes helpers c = ⊥
 
 -- the lowest code of an element by itself, that of its program last
-abbrev pub IsOwnFault : Data → Code → Type 0
-IsOwnFault d c = (members_of d ≡ Err c) ⊎ ((w : WrittenOf) × (members_of d ≡ Ok w) × IsProgramFault w.bytes w.helpers c)
+abbrev pub IsOwnFault : Profile → Data → Code → Type 0
+IsOwnFault p d c = (members_of d ≡ Err c) ⊎ ((w : WrittenOf) × (members_of d ≡ Ok w) × IsProgramFault p w.version w.bytes w.helpers c)
 
 abbrev pub names_of : List ObserverOf → List (List ℕ)
 names_of os = map (λ o. o.name) os
@@ -42,30 +44,30 @@ is_among names (Some s) = list_any (bytes_eq s) names
 abbrev pub is_used : List (List ℕ) → Data → Bool
 is_used names d = is_among names (text_at (codes "name") d)
 
-abbrev pub FaultAfter : Bool → Data → Code → Type 0
-FaultAfter true d c = c ≡ Name
-FaultAfter false d c = IsOwnFault d c
+abbrev pub FaultAfter : Bool → Profile → Data → Code → Type 0
+FaultAfter true p d c = c ≡ Name
+FaultAfter false p d c = IsOwnFault p d c
 
 -- the lowest code of an element after others with these names
-abbrev pub IsLowestAfter : List (List ℕ) → Data → Code → Type 0
-IsLowestAfter names d c = FaultAfter (is_used names d) d c
+abbrev pub IsLowestAfter : List (List ℕ) → Profile → Data → Code → Type 0
+IsLowestAfter names p d c = FaultAfter (is_used names d) p d c
 
 -- the observer of this element stands behind those before
-abbrev pub HasOneMore : Data → List ObserverOf → List ObserverOf → Type 0
-HasOneMore d old new = (o : ObserverOf) × IsObserver d o × (new ≡ old ++ o ∷ [])
+abbrev pub HasOneMore : Profile → Data → List ObserverOf → List ObserverOf → Type 0
+HasOneMore p d old new = (o : ObserverOf) × IsObserver p d o × (new ≡ old ++ o ∷ [])
 
 -- an observer in each element, and no two with one name
-pub record AreObservers (ds : List Data) (os : List ObserverOf) : Type 0 where
-  pub each : AllZip IsObserver ds os
+pub record AreObservers (p : Profile) (ds : List Data) (os : List ObserverOf) : Type 0 where
+  pub each : AllZip (IsObserver p) ds os
   pub apart : IsDistinct bytes_eq (names_of os)
 
 -- the first element at fault is at this place, with this code: those before it are observers
-pub record IsFirstElementFault (ds : List Data) (place : ℕ) (code : Code) : Type 0 where
+pub record IsFirstElementFault (p : Profile) (ds : List Data) (place : ℕ) (code : Code) : Type 0 where
   pub before : List ObserverOf
-  pub good : AreObservers (take place ds) before
+  pub good : AreObservers p (take place ds) before
   pub element : Data
   pub there : slice_get ds place ≡ Some element
-  pub fault : IsLowestAfter (names_of before) element code
+  pub fault : IsLowestAfter (names_of before) p element code
 
 -- how a code is told, of the whole or of the observer at a place
 abbrev pub fault_with : Option ℕ → Code → RegistryFault
@@ -75,19 +77,19 @@ fault_with place c = record { observer = place; code = number_of c; program = re
 abbrev pub fault_at : ℕ → Code → RegistryFault
 fault_at place c = if is_memory c then fault_with None Memory else fault_with (Some place) c
 
-abbrev pub AreTaken : Result (List Data) Code → List ObserverOf → Type 0
-AreTaken (Ok ds) os = AreObservers ds os
+abbrev pub AreTaken : Result ManifestOf Code → List ObserverOf → Type 0
+AreTaken (Ok m) os = AreObservers m.profile m.elements os
 AreTaken (Err c) os = ⊥
 
 -- the fault of the whole, or that of the first observer at fault
-abbrev pub TellsFault : Result (List Data) Code → RegistryFault → Type 0
+abbrev pub TellsFault : Result ManifestOf Code → RegistryFault → Type 0
 TellsFault (Err c) f = f ≡ fault_with None c
-TellsFault (Ok ds) f = (place : ℕ) × (c : Code) × IsFirstElementFault ds place c × (f ≡ fault_with (Some place) c)
+TellsFault (Ok m) f = (place : ℕ) × (c : Code) × IsFirstElementFault m.profile m.elements place c × (f ≡ fault_with (Some place) c)
 
 -- what reading a manifest tells: its observers, or its fault
 abbrev pub ReadsManifest : List ℕ → Result (List ObserverOf) RegistryFault → Type 0
-ReadsManifest text (Ok os) = AreTaken (elements_of_text text) os
-ReadsManifest text (Err f) = TellsFault (elements_of_text text) f
+ReadsManifest text (Ok os) = AreTaken (manifest_of_text text) os
+ReadsManifest text (Err f) = TellsFault (manifest_of_text text) f
 
 -- a manifest is taken with the observers that it says, and refused with its fault, unless memory ran out
 abbrev pub IsJudged : Result (List ObserverOf) RegistryFault → List ℕ → Type 0

@@ -8,9 +8,13 @@ use Rattle.serde_json.specs.Find.{get, as_number, as_str, as_array, as_object, a
 use Rattle.serde_json.specs.Read.{read}
 use Rattle.pb_base.specs.declared.limits.TheConstants.{COLUMNS, MAX_OBSERVERS}
 use Rattle.pb_base.specs.Reading.{◌>>=◌}
+use Rattle.pb_isa.specs.declared.profile.Profile.{Profile}
+use Rattle.pb_isa.specs.declared.profile.Profile.TheVariants.{One, Two}
 use Rattle.pb_isa.specs.Helpers.{HelperSet}
+use Rattle.pb_helpers.specs.declared.change.Version.{Version}
+use Rattle.pb_helpers.specs.declared.change.Version.TheVariants.{First, Second}
 use Rattle.pb_registry.specs.declared.code.Code.{Code}
-use Rattle.pb_registry.specs.declared.code.Code.TheVariants.{Text, Form, TooMany, Name, Column, Helpers, Digits}
+use Rattle.pb_registry.specs.declared.code.Code.TheVariants.{Text, Form, TooMany, Name, Column, Helpers, Record, Digits}
 use Rattle.pb_registry.specs.Helpers.{helpers_of}
 
 abbrev pub members_count : Members → ℕ
@@ -56,22 +60,41 @@ all_in p (Some ds) = list_all p ds
 abbrev pub has_numbers : List ℕ → Data → Bool
 has_numbers name d = all_in is_json_number (elements_at name d)
 
--- exactly the members `name`, `column`, `helpers` and `code`, of their types
-abbrev pub is_observer : Data → Bool
-is_observer d = (member_count d == 4) && (has_text (codes "name") d && (is_some (number_at (codes "column") d) && (has_numbers (codes "helpers") d && has_text (codes "code") d)))
+-- the members `name`, `column`, `helpers` and `code`, of their types
+abbrev pub has_members : Data → Bool
+has_members d = has_text (codes "name") d && (is_some (number_at (codes "column") d) && (has_numbers (codes "helpers") d && has_text (codes "code") d))
 
-abbrev pub is_one : Option ℕ → Bool
-is_one None = false
-is_one (Some n) = n == 1
+-- in profile 2 a member `record` may stand beside them, a number
+abbrev pub has_record : Profile → Data → Bool
+has_record One d = false
+has_record Two d = is_some (number_at (codes "record") d)
 
--- the observers of an object with exactly the members `profile`, which is 1, and `observers`, which is an array
-abbrev pub observers_in : Data → Option (List Data)
-observers_in d = if (member_count d == 2) && is_one (number_at (codes "profile") d) then elements_at (codes "observers") d else None
+-- exactly these members
+abbrev pub is_observer : Profile → Data → Bool
+is_observer p d = (member_count d == (if has_record p d then 5 else 4)) && has_members d
+
+-- the profile of a number, 1 or 2
+abbrev pub profile_of : ℕ → Option Profile
+profile_of n = if n == 1 then Some One else if n == 2 then Some Two else None
+
+-- the profile in which a manifest's programs are read, and what stands in its `observers`
+pub record ManifestOf : Type 0 where
+  pub profile : Profile
+  pub elements : List Data
+
+abbrev pub manifest_of : Option Profile → Option (List Data) → Option ManifestOf
+manifest_of None ds = None
+manifest_of (Some p) None = None
+manifest_of (Some p) (Some ds) = Some (record { profile = p; elements = ds })
+
+-- an object with exactly the members `profile`, which is 1 or 2, and `observers`, which is an array
+abbrev pub manifest_in : Data → Option ManifestOf
+manifest_in d = if member_count d == 2 then manifest_of (option_and_then profile_of (number_at (codes "profile") d)) (elements_at (codes "observers") d) else None
 
 -- the form comes first, then the number of observers
-abbrev pub whole_in : Option (List Data) → Result (List Data) Code
+abbrev pub whole_in : Option ManifestOf → Result ManifestOf Code
 whole_in None = Err Form
-whole_in (Some ds) = if not (list_all is_observer ds) then Err Form else if nat_lt MAX_OBSERVERS (length ds) then Err TooMany else Ok ds
+whole_in (Some m) = if not (list_all (is_observer m.profile) m.elements) then Err Form else if nat_lt MAX_OBSERVERS (length m.elements) then Err TooMany else Ok m
 
 -- ---- one observer
 
@@ -113,26 +136,33 @@ abbrev pub bytes_in : Option (List ℕ) → Result (List ℕ) Code
 bytes_in None = Err Form
 bytes_in (Some s) = if list_any is_ascii_uppercase s then Err Digits else decoded (decode_of s)
 
--- an observer as it is written: its name's bytes, its column, its helpers, and its code's bytes
+-- the version of the change record: 1 where none is named
+abbrev pub version_in : Option ℕ → Result Version Code
+version_in None = Ok First
+version_in (Some n) = if n == 1 then Ok First else if n == 2 then Ok Second else Err Record
+
+-- an observer as it is written: its name's bytes, its column, its helpers, the version of its record, and its code's bytes
 pub record WrittenOf : Type 0 where
   pub name : List ℕ
   pub column : ℕ
   pub helpers : HelperSet
+  pub version : Version
   pub bytes : List ℕ
 
--- name, column, helpers and digits are read in this order, so the fault that is told has the lowest code
+-- name, column, helpers, record and digits are read in this order, so the fault that is told has the lowest code
 unfoldable pub members_of : Data → Result WrittenOf Code
 members_of d = do
   name ← name_in (text_at (codes "name") d)
   column ← column_in (number_at (codes "column") d)
   helpers ← helpers_in (elements_at (codes "helpers") d)
+  version ← version_in (number_at (codes "record") d)
   bytes ← bytes_in (text_at (codes "code") d)
-  Ok (record { name = name; column = column; helpers = helpers; bytes = bytes })
+  Ok (record { name = name; column = column; helpers = helpers; version = version; bytes = bytes })
 
-abbrev pub elements_in : Option Data → Result (List Data) Code
-elements_in None = Err Text
-elements_in (Some d) = whole_in (observers_in d)
+abbrev pub manifest_read : Option Data → Result ManifestOf Code
+manifest_read None = Err Text
+manifest_read (Some d) = whole_in (manifest_in d)
 
--- what stands in `observers` of a manifest's text, or the fault of its whole
-abbrev pub elements_of_text : List ℕ → Result (List Data) Code
-elements_of_text text = elements_in (read text)
+-- the manifest that a text is, or the fault of its whole
+abbrev pub manifest_of_text : List ℕ → Result ManifestOf Code
+manifest_of_text text = manifest_read (read text)

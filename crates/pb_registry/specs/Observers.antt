@@ -17,4 +17,4 @@ abbrev pub observers_code : Coded (List ObserverOf)
 observers_code = coded_list observer_code
 
 abbrev pub written_of : Written → WrittenOf
-written_of w = record { name = string_bytes w.name; column = w.column; helpers = w.helpers; bytes = w.bytes.items }
+written_of w = record { name = string_bytes w.name; column = w.column; helpers = w.helpers; version = w.version; bytes = w.bytes.items }

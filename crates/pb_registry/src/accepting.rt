@@ -1,21 +1,38 @@
 //! Code that is accepted: its bytes are read, and the rules accept the program.
 ghost use Rattle.std.specs.Prelude.{IfOk, IfErr};
+ghost use Rattle.pb_isa.specs.declared.profile.Profile.TheVariants as profiles;
+ghost use Rattle.pb_helpers.specs.declared.change.Version.TheVariants as versions;
 ghost use Rattle.pb_registry.specs.Accepting.{IsAcceptedCode, IsAcceptFault};
 
-use pb_decode::{DecodeFault, decode};
-use pb_helpers::HelperTable;
-use pb_verify::{Accepted, VerifyFault, verify};
+use pb_decode::{DecodeFault, decode_in};
+use pb_helpers::{HelperTable, Version};
+use pb_isa::Profile;
+use pb_verify::{Accepted, VerifyFault, verify_for};
 use std::alloc::Global;
 
-/// Reads the bytes of a program, and accepts it with these helpers. Else it tells the first slot at fault, with the lowest
-/// code there: 10 to 16 of the bytes, or 21 to 38 of the program.
-pub fn accept(alloc: Global, bytes: &[u8], helpers: HelperTable) -> Result<Accepted, VerifyFault>
-    ensures accepted { IfOk result (IsAcceptedCode bytes.now helpers) }
-    ensures fault { IfErr result (IsAcceptFault bytes.now helpers) }
+/// Reads the bytes of a program of this profile, and accepts it with these helpers, for change records of this version. Else
+/// it tells the first slot at fault, with the lowest code there: 10 to 16 of the bytes, or 21 to 38 of the program.
+pub fn accept_in(
+    alloc: Global,
+    profile: Profile,
+    version: Version,
+    bytes: &[u8],
+    helpers: HelperTable,
+) -> Result<Accepted, VerifyFault>
+    ensures accepted { IfOk result (IsAcceptedCode profile version bytes.now helpers) }
+    ensures fault { IfErr result (IsAcceptFault profile version bytes.now helpers) }
 {
-    match decode(alloc, bytes) {
-        Ok(program) => verify(alloc, program, helpers),
+    match decode_in(alloc, profile, bytes) {
+        Ok(program) => verify_for(alloc, program, helpers, version),
         Err(DecodeFault::Refused(refused)) => Err(VerifyFault::Refused(refused)),
         Err(DecodeFault::NoMemory) => Err(VerifyFault::NoMemory),
     }
+}
+
+/// The same of profile 1, for change records of version 1.
+pub fn accept(alloc: Global, bytes: &[u8], helpers: HelperTable) -> Result<Accepted, VerifyFault>
+    ensures accepted { IfOk result (IsAcceptedCode profiles.One versions.First bytes.now helpers) }
+    ensures fault { IfErr result (IsAcceptFault profiles.One versions.First bytes.now helpers) }
+{
+    accept_in(alloc, Profile::One, Version::First, bytes, helpers)
 }

@@ -21,6 +21,8 @@ pub enum Code {
     Column,
     /// Its helpers.
     Helpers,
+    /// The version of its change record.
+    Record,
     /// The digits of its code.
     Digits,
     /// Its program.
@@ -38,7 +40,7 @@ impl Code {
             Code::Form => 51,
             Code::TooMany => 52,
             Code::Name => 53,
-            Code::Column | Code::Helpers => 54,
+            Code::Column | Code::Helpers | Code::Record => 54,
             Code::Digits => 55,
             Code::Program(_) => 56,
         }

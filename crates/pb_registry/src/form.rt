@@ -3,16 +3,25 @@ ghost use Rattle.std.specs.Prelude.{◌≡◌, ◌≢◌, ◌≤◌, map, length
 ghost use Rattle.std.specs.List.{list_all};
 ghost use Rattle.serde_json.specs.Read.{read};
 ghost use Rattle.serde_json.specs.View.{view};
-ghost use Rattle.pb_registry.specs.Manifests.{member_count, number_at, elements_at, text_at, has_text, has_numbers, is_json_number, is_observer, observers_in, whole_in};
+ghost use Rattle.pb_registry.specs.Manifests.{member_count, number_at, elements_at, text_at, has_text, has_numbers, is_json_number, has_members, has_record, is_observer, profile_of, ManifestOf, manifest_in, whole_in};
+ghost use Rattle.pb_registry.specs.Views.{manifest_view};
 ghost use Rattle.pb_base.specs.Reading.{Gives};
 ghost use Rattle.pb_registry.specs.Codes.{is_memory};
 ghost use Rattle.pb_registry.specs.declared.code.Code.TheVariants.{Memory, Text};
 
 use crate::code::Code;
 use pb_base::MAX_OBSERVERS;
+use pb_isa::Profile;
 use serde_json::Value;
 use serde_json::error::Category;
 use std::alloc::Global;
+
+/// A manifest's profile, and what stands in its `observers`.
+#[derive(Clone, Copy)]
+pub struct Manifest<'a> {
+    pub profile: Profile,
+    pub elements: &'a [Value],
+}
 
 /// The value that the text is read as.
 pub fn value_of(alloc: Global, text: &str) -> Result<Value, Code>
@@ -84,51 +93,79 @@ fn has_numbers(value: &Value, name: &str) -> bool
     }
 }
 
-fn is_observer(value: &Value) -> bool
-    ensures { result ≡ is_observer (view value.now) }
+fn has_members(value: &Value) -> bool
+    ensures { result ≡ has_members (view value.now) }
 {
-    member_count(value) == 4
-        && has_text(value, "name")
+    has_text(value, "name")
         && number_at(value, "column").is_some()
         && has_numbers(value, "helpers")
         && has_text(value, "code")
 }
 
-fn are_observers(items: &[Value]) -> bool
-    ensures { result ≡ list_all is_observer (map view items.now) }
+// Whether the version of the change record is named, which profile 1 has no member for.
+fn has_record(profile: Profile, value: &Value) -> bool
+    ensures { result ≡ has_record profile (view value.now) }
+{
+    match profile {
+        Profile::One => false,
+        Profile::Two => number_at(value, "record").is_some(),
+    }
+}
+
+fn is_observer(profile: Profile, value: &Value) -> bool
+    ensures { result ≡ is_observer profile (view value.now) }
+{
+    let members = if has_record(profile, value) { 5 } else { 4 };
+    member_count(value) == members && has_members(value)
+}
+
+fn are_observers(profile: Profile, items: &[Value]) -> bool
+    ensures { result ≡ list_all (is_observer profile) (map view items.now) }
 {
     for item in items {
-        if !is_observer(item) {
+        if !is_observer(profile, item) {
             return false;
         }
     }
     true
 }
 
-// The observers, where the whole has the form.
-fn observers_in(value: &Value) -> Option<&Vec<Value>>
-    ensures { option_map (λ v. map view v.now.items) result ≡ observers_in (view value.now) }
+// The profile of a number.
+fn profile_of(number: u64) -> Option<Profile>
+    ensures { result ≡ profile_of number }
 {
-    if member_count(value) == 2 && number_at(value, "profile") == Some(1) {
-        elements_at(value, "observers")
-    } else {
-        None
+    match number {
+        1 => Some(Profile::One),
+        2 => Some(Profile::Two),
+        _ => None,
     }
 }
 
-/// What stands in a manifest's `observers`, each with the form of one.
-pub fn whole_in(value: &Value) -> Result<&[Value], Code>
-    ensures whole { Gives is_memory (λ vs. map view vs.now) result (whole_in (observers_in (view value.now))) }
-    ensures few { IfOk result (λ vs. length vs.now ≤ MAX_OBSERVERS) }
+// The manifest, where the whole has the form of one.
+fn manifest_in(value: &Value) -> Option<Manifest<'_>>
+    ensures { option_map manifest_view result ≡ manifest_in (view value.now) }
 {
-    let Some(observers) = observers_in(value) else {
+    if member_count(value) != 2 {
+        return None;
+    }
+    let profile = profile_of(number_at(value, "profile")?)?;
+    let elements = elements_at(value, "observers")?;
+    Some(Manifest { profile, elements })
+}
+
+/// The manifest that a value is, each of its elements with the form of an observer.
+pub fn whole_in(value: &Value) -> Result<Manifest<'_>, Code>
+    ensures whole { Gives is_memory manifest_view result (whole_in (manifest_in (view value.now))) }
+    ensures few { IfOk result (λ m. length m.elements.now ≤ MAX_OBSERVERS) }
+{
+    let Some(manifest) = manifest_in(value) else {
         return Err(Code::Form);
     };
-    if !are_observers(observers) {
+    if !are_observers(manifest.profile, manifest.elements) {
         Err(Code::Form)
-    } else if observers.len() > MAX_OBSERVERS {
+    } else if manifest.elements.len() > MAX_OBSERVERS {
         Err(Code::TooMany)
     } else {
-        Ok(observers)
+        Ok(manifest)
     }
 }

@@ -9,6 +9,6 @@ mod listing;
 mod manifest;
 mod observer;
 
-pub use accepting::accept;
+pub use accepting::{accept, accept_in};
 pub use fault::RegistryFault;
 pub use manifest::Registry;

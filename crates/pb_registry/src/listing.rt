@@ -13,6 +13,7 @@ use crate::form::text_at;
 use crate::observer::{Held, observer_in};
 use indexmap::IndexMap;
 use pb_base::MAX_OBSERVERS;
+use pb_isa::Profile;
 use pb_steps::Observer;
 use serde_json::Value;
 use std::alloc::Global;
@@ -29,14 +30,16 @@ fn is_used(observers: &IndexMap<String, Held>, element: &Value) -> bool
 // Reads one observer more. A name that was used before is told first, as its code is the lowest.
 fn add_observer(
     alloc: Global,
+    profile: Profile,
     observers: &mut IndexMap<String, Held>,
     element: &Value,
 ) -> Result<(), Code>
     ensures more { OnOk result
-        (HasOneMore (view element.now) (observers_of observers.old.entries) (observers_of observers.new.entries)) }
+        (HasOneMore profile (view element.now) (observers_of observers.old.entries)
+        (observers_of observers.new.entries)) }
     ensures apart { OnOk result (IsDistinct bytes_eq (names_of (observers_of observers.new.entries))) }
     ensures err { IfErr result
-        (λ c. c ≢ Memory → IsLowestAfter (names_of (observers_of observers.old.entries)) (view element.now) c) }
+        (λ c. c ≢ Memory → IsLowestAfter (names_of (observers_of observers.old.entries)) profile (view element.now) c) }
 {
     if is_used(observers, element) {
         return Err(Code::Name);
@@ -45,25 +48,27 @@ fn add_observer(
         name,
         column,
         program,
-    } = observer_in(alloc, element)?;
+    } = observer_in(alloc, profile, element)?;
     match observers.insert(name, Held { column, program }) {
         Ok(_) => Ok(()),
         Err(_) => Err(Code::Memory),
     }
 }
 
-/// Reads the observers of a manifest, in its order. The first at fault is told, with its lowest code.
+/// Reads the observers of a manifest, in its order, their programs in this profile. The first at fault is told, with its lowest code.
 pub fn observers_in(
     alloc: Global,
+    profile: Profile,
     elements: &[Value],
 ) -> Result<IndexMap<String, Held>, RegistryFault>
     requires { length elements.now ≤ MAX_OBSERVERS }
-    ensures ok { IfOk result (λ m. AreObservers (map view elements.now) (observers_of m.entries)) }
-    ensures err { IfErr result (λ f. (f ≡ fault_with None Memory) ⊎ TellsFault (Ok (map view elements.now)) f) }
+    ensures ok { IfOk result (λ m. AreObservers profile (map view elements.now) (observers_of m.entries)) }
+    ensures err { IfErr result (λ f. (f ≡ fault_with None Memory) ⊎ TellsFault
+        (Ok (record { profile = profile; elements = map view elements.now })) f) }
 {
     let mut observers = IndexMap::new(alloc);
     for (place, element) in elements.iter().enumerate() {
-        if let Err(code) = add_observer(alloc, &mut observers, element) {
+        if let Err(code) = add_observer(alloc, profile, &mut observers, element) {
             return Err(fault_at(place as u8, code));
         }
     }

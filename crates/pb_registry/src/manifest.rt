@@ -3,7 +3,7 @@ ghost use Rattle.std.specs.Prelude.{◌≡◌, ◌≤◌, length, IfOk, IfErr};
 ghost use Rattle.pb_registry.specs.Judging.{IsJudged};
 
 use crate::fault::{RegistryFault, fault_with};
-use crate::form::{value_of, whole_in};
+use crate::form::{Manifest, value_of, whole_in};
 use crate::listing::observers_in;
 use crate::observer::Held;
 use indexmap::IndexMap;
@@ -31,7 +31,7 @@ impl Model for Registry {
 }
 
 impl Registry {
-    /// Reads a manifest: an object with exactly `profile`, which is 1, and `observers`, an array. Each of these is an
+    /// Reads a manifest: an object with exactly `profile`, which is 1 or 2, and `observers`, an array. Each of these is an
     /// object with exactly `name`, `column`, `helpers`, an array of numbers, and `code`, a text. A number is written with
     /// digits alone, and is below 2^64.
     pub fn from_json(alloc: Global, text: &str) -> Result<Registry, RegistryFault>
@@ -42,11 +42,11 @@ impl Registry {
             Ok(value) => value,
             Err(code) => return Err(fault_with(None, code)),
         };
-        let elements = match whole_in(&value) {
-            Ok(elements) => elements,
+        let Manifest { profile, elements } = match whole_in(&value) {
+            Ok(manifest) => manifest,
             Err(code) => return Err(fault_with(None, code)),
         };
-        let observers = observers_in(alloc, elements)?;
+        let observers = observers_in(alloc, profile, elements)?;
         Ok(Registry { observers })
     }
 

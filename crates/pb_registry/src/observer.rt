@@ -3,7 +3,7 @@ ghost use Rattle.std.specs.Prelude.{◌≡◌, ◌≢◌, Ok, map, IfOk, IfErr, 
 ghost use Rattle.std.specs.List.{list_all, list_any};
 ghost use Rattle.std.specs.Char.{is_ascii_uppercase};
 ghost use Rattle.serde_json.specs.View.{view};
-ghost use Rattle.pb_registry.specs.Manifests.{is_name_letter, is_name, name_in, column_in, numbers_of, helpers_in, bytes_in, members_of, text_at, number_at, elements_at};
+ghost use Rattle.pb_registry.specs.Manifests.{is_name_letter, is_name, name_in, column_in, numbers_of, helpers_in, version_in, bytes_in, members_of, text_at, number_at, elements_at};
 ghost use Rattle.pb_registry.specs.declared.code.Code.TheVariants.{Memory};
 ghost use Rattle.pb_registry.specs.Helpers.{helpers_of};
 ghost use Rattle.pb_registry.specs.Accepting.{IsAcceptedCode};
@@ -12,12 +12,13 @@ ghost use Rattle.pb_registry.specs.Observers.{written_of};
 ghost use Rattle.pb_base.specs.Reading.{Gives};
 ghost use Rattle.pb_registry.specs.Codes.{is_memory};
 
-use crate::accepting::accept;
+use crate::accepting::accept_in;
 use crate::code::Code;
 use crate::form::{elements_at, number_at, text_at};
 use hex::FromHexError;
 use pb_base::{COLUMNS, Column};
-use pb_helpers::HelperTable;
+use pb_helpers::{HelperTable, Version};
+use pb_isa::Profile;
 use pb_steps::Observer;
 use pb_verify::{Accepted, VerifyFault};
 use serde_json::Value;
@@ -37,6 +38,7 @@ struct Written {
     name: String,
     column: Column,
     helpers: HelperTable,
+    version: Version,
     bytes: Vec<u8>,
 }
 
@@ -113,6 +115,16 @@ fn helpers_in(value: &Value) -> Result<HelperTable, Code>
     }
 }
 
+fn version_in(value: &Value) -> Result<Version, Code>
+    ensures { Gives is_memory (λ v. v) result (version_in (number_at (codes "record") (view value.now))) }
+{
+    match number_at(value, "record") {
+        None | Some(1) => Ok(Version::First),
+        Some(2) => Ok(Version::Second),
+        Some(_) => Err(Code::Record),
+    }
+}
+
 fn has_upper(digits: &[u8]) -> bool
     ensures { result ≡ list_any is_ascii_uppercase digits.now }
 {
@@ -135,11 +147,17 @@ fn bytes_in(alloc: Global, value: &Value) -> Result<Vec<u8>, Code>
     }
 }
 
-fn program_in(alloc: Global, bytes: &[u8], helpers: HelperTable) -> Result<Arc<Accepted>, Code>
-    ensures ok { IfOk result (λ p. IsAcceptedCode bytes.now helpers p.value) }
-    ensures err { IfErr result (λ c. c ≢ Memory → IsProgramFault bytes.now helpers c) }
+fn program_in(
+    alloc: Global,
+    profile: Profile,
+    version: Version,
+    bytes: &[u8],
+    helpers: HelperTable,
+) -> Result<Arc<Accepted>, Code>
+    ensures ok { IfOk result (λ p. IsAcceptedCode profile version bytes.now helpers p.value) }
+    ensures err { IfErr result (λ c. c ≢ Memory → IsProgramFault profile version bytes.now helpers c) }
 {
-    match accept(alloc, bytes, helpers) {
+    match accept_in(alloc, profile, version, bytes, helpers) {
         Ok(program) => match Arc::new(alloc, program) {
             Ok(program) => Ok(program),
             Err(_) => Err(Code::Memory),
@@ -166,28 +184,31 @@ fn members_of(alloc: Global, value: &Value) -> Result<Written, Code>
     let name = name_in(value)?;
     let column = column_in(value)?;
     let helpers = helpers_in(value)?;
+    let version = version_in(value)?;
     let bytes = bytes_in(alloc, value)?;
     let name = copy_of(alloc, name)?;
     Ok(Written {
         name,
         column,
         helpers,
+        version,
         bytes,
     })
 }
 
-/// Reads an observer. The fault that is told has the lowest code.
-pub fn observer_in(alloc: Global, value: &Value) -> Result<Observer, Code>
-    ensures ok { IfOk result (IsObserver (view value.now)) }
-    ensures err { IfErr result (λ c. c ≢ Memory → IsOwnFault (view value.now) c) }
+/// Reads an observer, its program in this profile. The fault that is told has the lowest code.
+pub fn observer_in(alloc: Global, profile: Profile, value: &Value) -> Result<Observer, Code>
+    ensures ok { IfOk result (IsObserver profile (view value.now)) }
+    ensures err { IfErr result (λ c. c ≢ Memory → IsOwnFault profile (view value.now) c) }
 {
     let Written {
         name,
         column,
         helpers,
+        version,
         bytes,
     } = members_of(alloc, value)?;
-    let program = program_in(alloc, &bytes, helpers)?;
+    let program = program_in(alloc, profile, version, &bytes, helpers)?;
     Ok(Observer {
         name,
         column,

@@ -8,13 +8,14 @@ use Rattle.pb_isa.specs.declared.insn.Insn.TheVariants.{Load, StoreImm, Store, J
 use Rattle.pb_isa.specs.declared.insn.Width.{Width}
 use Rattle.pb_isa.specs.declared.insn.Cmp.{Cmp}
 use Rattle.pb_isa.specs.declared.insn.Size.{Size}
+use Rattle.pb_isa.specs.declared.insn.Extension.{Extension}
 use Rattle.pb_isa.specs.declared.insn.Operand.{Operand}
 use Rattle.pb_isa.specs.declared.insn.Reg as registers
 use Rattle.pb_isa.specs.Registers.{number}
 use Rattle.pb_isa.specs.Alu.{holds, word}
 use Rattle.pb_isa.specs.Slots.{insn_at}
 use Rattle.pb_isa.specs.Machine as m
-use Rattle.pb_isa.specs.Machine.{IsPlaced, Map, Placement, Environment, State, Outcome, Goes, Asks, Reply, does, act, address, width, fetch, entries, push_front, with_entry, with_list, called_regs}
+use Rattle.pb_isa.specs.Machine.{IsPlaced, Map, Placement, Environment, State, Outcome, Goes, Asks, Reply, does, act, address, width, extended, fetch, entries, push_front, with_entry, with_list, called_regs}
 use Rattle.pb_kinds.specs.declared.frame.Kind.{Kind}
 use Rattle.pb_kinds.specs.declared.frame.Kind.TheVariants.{Unset, Number, Stack, Record}
 use Rattle.pb_kinds.specs.declared.frame.Frame.{Frame}
@@ -82,8 +83,8 @@ fetched_same x a b f s t (Record k) o v w n some u h ha hb two =
     let same = entries_same (m.record_map (run x a)) (m.record_map (run x b)) (a.record_at + j) (b.record_at + j) n (λ i q. record_byte (run x a) j i ∙ sym (record_byte (run x b) j i)) in
     rw (at_a, at_b, moved_word a.record_at k o, moved_word b.record_at k o) (pa.are ∙ same ∙ sym pb.are)
 
-pub load_agrees : (x : Setting) (z : Size) (d r : registers.Reg) (o : ℤ) → Agrees x (Load z d r o)
-load_agrees x z d r o a b f s t here h two =
+pub load_agrees : (x : Setting) (z : Size) (y : Extension) (d r : registers.Reg) (o : ℤ) → Agrees x (Load z y d r o)
+load_agrees x z y d r o a b f s t here h two =
     let parts = empty_parts (rules.load_rules x.judged.record_size f z d r o) (falls x.judged.program.insns (t.slot + 1)) h in
     let more = empty_parts (reads f r ++ sets d) (loads x.judged.record_size f (at f r) o (bytes_of z)) parts.0 in
     let first = empty_parts (reads f r) (sets d) more.0 in
@@ -92,9 +93,9 @@ load_agrees x z d r o a b f s t here h two =
     let set_is = when_not _ _ first.0 in
     let got = found (run x a) f s (at f r) va.value o (bytes_of z) (some_bytes z) two.place_a two.fits_a set_is more.1 va.holds in
     let same = fetched_same x a b f s t (at f r) o va.value vb.value (bytes_of z) (some_bytes z) set_is more.1 va.holds vb.holds two in
-    let v = from_le_bytes (width z) got.bytes in
+    let v = extended y z (from_le_bytes (width z) got.bytes) in
     let are_b = sym same ∙ got.are in
-    rw (va.is, vb.is, got.are, are_b) (agree_set x a b f s t (Load z d r o) d Number v v refl here parts.1 first.1 two.alike refl)
+    rw (va.is, vb.is, got.are, are_b) (agree_set x a b f s t (Load z y d r o) d Number v v refl here parts.1 first.1 two.alike refl)
 
 -- ---- stores
 

@@ -5,7 +5,7 @@ use Rattle.pb_base.specs.declared.content.Content.{Content}
 use Rattle.pb_base.specs.declared.content.Content.TheVariants.{Value as Bytes32, Deleted}
 use Rattle.pb_isa.specs.declared.limits.TheConstants.{STACK_BYTES}
 use Rattle.pb_isa.specs.declared.insn.Insn.{Insn}
-use Rattle.pb_isa.specs.declared.insn.Insn.TheVariants.{Alu, Neg, LoadImm, Load, StoreImm, Store, Jump, JumpIf, Call, Exit}
+use Rattle.pb_isa.specs.declared.insn.Insn.TheVariants.{Alu, MovSx, Neg, LoadImm, Load, StoreImm, Store, Jump, JumpIf, Call, Exit}
 use Rattle.pb_isa.specs.Helpers.{Helper, Read, Write, Delete, Start, helper_of, declared_helper}
 use Rattle.pb_isa.specs.Slots.{insn_at}
 use Rattle.pb_isa.specs.Machine as m
@@ -28,7 +28,7 @@ use Rattle.pb_sound.proofs.Registers.{follows, IsFollowed}
 use Rattle.pb_sound.proofs.Loads.{stretch}
 use Rattle.pb_sound.proofs.Stores.{stack_room}
 use Rattle.pb_sound.proofs.Calls.{cell_is, called_is, reply_long}
-use Rattle.pb_sound.proofs.AgreeingValues.{Setting, run, Two, is_number_same, Agrees, alu_agrees, neg_agrees, load_imm_agrees}
+use Rattle.pb_sound.proofs.AgreeingValues.{Setting, run, Two, is_number_same, Agrees, alu_agrees, mov_sx_agrees, neg_agrees, load_imm_agrees}
 use Rattle.pb_sound.proofs.AgreeingMemory.{stack_same, load_agrees, alike_put, store_imm_agrees, store_agrees, jump_agrees, jump_if_agrees, exit_agrees}
 
 -- ---- calls
@@ -203,9 +203,10 @@ call_agrees x k a b f s t here h two =
 
 does_agree : (x : Setting) (i : Insn) → Agrees x i
 does_agree x (Alu op w d y) = alu_agrees x op w d y
+does_agree x (MovSx w z d r) = mov_sx_agrees x w z d r
 does_agree x (Neg w d) = neg_agrees x w d
 does_agree x (LoadImm d v) = load_imm_agrees x d v
-does_agree x (Load z d r o) = load_agrees x z d r o
+does_agree x (Load z y d r o) = load_agrees x z y d r o
 does_agree x (StoreImm z d o k) = store_imm_agrees x z d o k
 does_agree x (Store z d r o) = store_agrees x z d o r
 does_agree x (Jump o) = jump_agrees x o

@@ -1,17 +1,18 @@
--- Operations with two operands, the negative, and the 64-bit immediate.
+-- Operations with two operands, the sign-extending move, the negative, and the 64-bit immediate.
 use Rattle.std.proofs.Common.{◌≡◌, ℕ, ◌+◌, ℤ, pos, neg_ℤ, [], ◌++◌, Some, refl, ap}
 use Rattle.pb_isa.specs.declared.limits.TheConstants.{STACK_BYTES}
-use Rattle.pb_isa.specs.declared.insn.Insn.TheVariants.{Alu, Neg, LoadImm}
+use Rattle.pb_isa.specs.declared.insn.Insn.TheVariants.{Alu, MovSx, Neg, LoadImm}
 use Rattle.pb_isa.specs.declared.insn.AluOp.{AluOp}
 use Rattle.pb_isa.specs.declared.insn.AluOp.TheVariants.{Add, Sub, Mov}
 use Rattle.pb_isa.specs.declared.insn.Width.{Width}
 use Rattle.pb_isa.specs.declared.insn.Width.TheVariants.{Bits32, Bits64}
+use Rattle.pb_isa.specs.declared.insn.Size.{Size}
 use Rattle.pb_isa.specs.declared.insn.Operand.{Operand}
 use Rattle.pb_isa.specs.declared.insn.Operand.TheVariants.{Imm, Reg}
 use Rattle.pb_isa.specs.declared.insn.Reg as registers
 use Rattle.pb_isa.specs.Alu.{alu, word}
 use Rattle.pb_isa.specs.Machine as m
-use Rattle.pb_isa.specs.Machine.{Environment, State, does, address}
+use Rattle.pb_isa.specs.Machine.{Environment, State, does, address, mov_sx}
 use Rattle.pb_kinds.specs.declared.frame.Kind.{Kind}
 use Rattle.pb_kinds.specs.declared.frame.Kind.TheVariants.{Unset, Number, Stack, Record}
 use Rattle.pb_kinds.specs.declared.frame.Frame.{Frame}
@@ -85,7 +86,7 @@ mov_reg e f s d r h t =
     let a = read_value e f s r p.0 t in
     record { left = 0; right = a.value; left_is = refl; right_is = a.is; sets = p.1; holds = a.holds }
 
-mov_low : (e : Environment) (f : Frame) (s : State) (d r : registers.Reg) → reads f r ++ sets d ++ when (is_pointer (at f r)) PointerArithmetic ≡ [] → FitsFrame e f s → Operands e f s Mov Bits32 d (Reg r)
+pub mov_low : (e : Environment) (f : Frame) (s : State) (d r : registers.Reg) → reads f r ++ sets d ++ when (is_pointer (at f r)) PointerArithmetic ≡ [] → FitsFrame e f s → Operands e f s Mov Bits32 d (Reg r)
 mov_low e f s d r h t =
     let q = empty_parts (reads f r ++ sets d) (when (is_pointer (at f r)) PointerArithmetic) h in
     let p = empty_parts (reads f r) (sets d) q.0 in
@@ -108,6 +109,12 @@ alu_on e f s op w d x a b t =
     let parts = empty_parts (rules.alu_rules f op w d x) (rules.falls e.judged.program.insns (s.slot + 1)) b in
     let o = operands_are e f s op w d x parts.0 t in
     rw (o.left_is, o.right_is) (sets_on e f s (Alu op w d x) d (kind_after f op w d x) (alu op w o.left o.right) refl refl a parts.1 o.sets t o.holds)
+
+pub mov_sx_on : (e : Environment) (f : Frame) (s : State) (w : Width) (z : Size) (d r : registers.Reg) → IsFollowed e.judged.program.insns s.slot (MovSx w z d r) → insn_rules e.judged s.slot f (MovSx w z d r) ≡ [] → FitsFrame e f s → GoesOn e f s.slot (MovSx w z d r) (does e s (MovSx w z d r))
+mov_sx_on e f s w z d r a b t =
+    let parts = empty_parts (rules.mov_rules f Bits32 d (Reg r)) (rules.falls e.judged.program.insns (s.slot + 1)) b in
+    let o = mov_low e f s d r parts.0 t in
+    rw o.right_is (sets_on e f s (MovSx w z d r) d Number (mov_sx w z o.right) refl refl a parts.1 o.sets t (_, refl))
 
 pub neg_on : (e : Environment) (f : Frame) (s : State) (w : Width) (d : registers.Reg) → IsFollowed e.judged.program.insns s.slot (Neg w d) → insn_rules e.judged s.slot f (Neg w d) ≡ [] → FitsFrame e f s → GoesOn e f s.slot (Neg w d) (does e s (Neg w d))
 neg_on e f s w d a b t =

@@ -8,7 +8,7 @@ use Rattle.pb_base.specs.Batch.{Writes}
 use Rattle.pb_base.specs.declared.content.Content.{Content}
 use Rattle.pb_base.specs.declared.content.Content.TheVariants.{Value, Deleted}
 use Rattle.pb_isa.specs.declared.limits.TheConstants.{MAX_RECORD_BYTES, STACK_BYTES}
-use Rattle.pb_isa.specs.declared.insn.Insn.TheVariants.{Alu, Neg, LoadImm, Load, StoreImm, Store, Jump, JumpIf, Call, Exit}
+use Rattle.pb_isa.specs.declared.insn.Insn.TheVariants.{Alu, MovSx, Neg, LoadImm, Load, StoreImm, Store, Jump, JumpIf, Call, Exit}
 use Rattle.pb_isa.specs.declared.insn.AluOp.{AluOp}
 use Rattle.pb_isa.specs.declared.insn.AluOp.TheVariants.{Sub, Mov}
 use Rattle.pb_isa.specs.declared.insn.Width.{Width}
@@ -17,6 +17,7 @@ use Rattle.pb_isa.specs.declared.insn.Operand.{Operand}
 use Rattle.pb_isa.specs.declared.insn.Operand.TheVariants as operands
 use Rattle.pb_isa.specs.declared.insn.Size.{Size}
 use Rattle.pb_isa.specs.declared.insn.Size.TheVariants.{B, H, W, Dw}
+use Rattle.pb_isa.specs.declared.insn.Extension.{Extension}
 use Rattle.pb_isa.specs.declared.insn.Reg.{Reg}
 use Rattle.pb_isa.specs.declared.insn.Cmp.{Cmp}
 use Rattle.pb_isa.specs.declared.insn.Reg.TheVariants as registers
@@ -25,7 +26,7 @@ use Rattle.pb_isa.specs.Alu.{alu, holds, word}
 use Rattle.pb_isa.specs.Helpers.{Helper, Read, Write, Delete, Start, helper_of, declared_helper}
 use Rattle.pb_isa.specs.Slots.{insn_at}
 use Rattle.pb_isa.specs.Machine as m
-use Rattle.pb_isa.specs.Machine.{Placement, Map, Environment, State, Outcome, Goes, Asks, Ends, Stuck, Reply, address, width, fetch, does, entries, push_front, with_entry, with_list, lies_in}
+use Rattle.pb_isa.specs.Machine.{Placement, Map, Environment, State, Outcome, Goes, Asks, Ends, Stuck, Reply, address, width, extended, mov_sx, fetch, does, entries, push_front, with_entry, with_list, lies_in}
 use Rattle.pb_sound.specs.Cells as cell
 use Rattle.pb_sound.specs.Cells.{Cells, IsLong, CellsOutcome, CellsGo, IsSafe, cells_act}
 use Rattle.pb_sound.specs.Mirrors.{Mirrors, IsHere}
@@ -107,6 +108,9 @@ alu_copy e c s op w d x t =
     given_copy e _ (m.left s op d) _ _ (λ a ha. given_copy e _ (m.operand s x) _ _ (λ b hb.
     set_copy e _ c s d (alu op w a b) _ 1 t tt (ap (λ y. alu op w (cell.cell_reg c d) y) (second_is e c s x b t hb) ∙ left_is op w s d a (cell.cell_reg c d) b (λ v. mirrored e c s d v t) ha)))
 
+mov_sx_copy : (e : Environment) (c : Cells) (s : State) (w : Width) (z : Size) (d r : Reg) → Mirrors e c s → Copies e (Unit {0}) (does e s (MovSx w z d r)) (cells_act e.began c (MovSx w z d r))
+mov_sx_copy e c s w z d r t = given_copy e _ (m.value s r) _ _ (λ v hv. set_copy e _ c s d (mov_sx w z v) _ 1 t tt (ap (λ y. mov_sx w z y) (mirrored e c s r v t hv)))
+
 neg_copy : (e : Environment) (c : Cells) (s : State) (w : Width) (d : Reg) → Mirrors e c s → Copies e (Unit {0}) (does e s (Neg w d)) (cells_act e.began c (Neg w d))
 neg_copy e c s w d t = given_copy e _ (m.value s d) _ _ (λ a ha. set_copy e _ c s d (alu Sub w 0 a) _ 1 t tt (ap (λ y. alu Sub w 0 y) (mirrored e c s d a t ha)))
 
@@ -175,12 +179,12 @@ got e c s x n bs pl t q =
     ] in
     go (m.stack_has e x n) (m.record_has e x n) refl refl q
 
-load_copy : (e : Environment) (c : Cells) (s : State) (z : Size) (d r : Reg) (o : ℤ) → IsHere e → Mirrors e c s → Copies e (IsSafe c (Load z d r o)) (does e s (Load z d r o)) (cells_act e.began c (Load z d r o))
-load_copy e c s z d r o pl t =
+load_copy : (e : Environment) (c : Cells) (s : State) (z : Size) (y : Extension) (d r : Reg) (o : ℤ) → IsHere e → Mirrors e c s → Copies e (IsSafe c (Load z y d r o)) (does e s (Load z y d r o)) (cells_act e.began c (Load z y d r o))
+load_copy e c s z y d r o pl t =
     given_copy e _ (m.value s r) _ _ (λ x hx. given_list_copy e _ (fetch e s (address x o) (byte_len (width z))) _ _ (λ bs hb.
     let base = mirrored e c s r x t hx in
     let g = got e c s (address x o) (byte_len (width z)) bs pl t hb in
-    set_copy e _ c s d (from_le_bytes (width z) bs) _ 1 t (rw base g.room) (rw (base, g.are) refl)))
+    set_copy e _ c s d (extended y z (from_le_bytes (width z) bs)) _ 1 t (rw base g.room) (rw (base, g.are) refl)))
 
 -- ---- stores
 
@@ -383,9 +387,10 @@ calls_copy e c s k (Some x) pl t q = if_copy e _ (is_some (insn_at e.judged.prog
 
 pub cells_copy : CellsCopy
 cells_copy e c s (Alu op w d x) pl t = alu_copy e c s op w d x t
+cells_copy e c s (MovSx w z d r) pl t = mov_sx_copy e c s w z d r t
 cells_copy e c s (Neg w d) pl t = neg_copy e c s w d t
 cells_copy e c s (LoadImm d v) pl t = set_copy e _ c s d v v 2 t tt refl
-cells_copy e c s (Load z d r o) pl t = load_copy e c s z d r o pl t
+cells_copy e c s (Load z y d r o) pl t = load_copy e c s z y d r o pl t
 cells_copy e c s (StoreImm z d o k) pl t = store_imm_copy e c s z d o k pl t
 cells_copy e c s (Store z d r o) pl t = store_reg_copy e c s z d o r pl t
 cells_copy e c s (Jump o) pl t = jump_copy e c s o t

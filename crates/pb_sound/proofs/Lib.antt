@@ -23,3 +23,4 @@ pub mod Silent
 pub mod RunWrites
 pub mod Placements
 pub mod Accesses
+pub mod ProfilesAgree

@@ -6,9 +6,10 @@ use Rattle.pb_isa.specs.declared.limits.TheConstants.{STACK_BYTES}
 use Rattle.pb_isa.specs.declared.insn.Insn.TheVariants.{Load}
 use Rattle.pb_isa.specs.declared.insn.Reg.{Reg}
 use Rattle.pb_isa.specs.declared.insn.Size.{Size}
+use Rattle.pb_isa.specs.declared.insn.Extension.{Extension}
 use Rattle.pb_isa.specs.declared.insn.Size.TheVariants.{B, H, W, Dw}
 use Rattle.pb_isa.specs.Machine as m
-use Rattle.pb_isa.specs.Machine.{IsPlaced, Environment, State, address, width, fetch, entries, does, with_value, with_values, lies_in}
+use Rattle.pb_isa.specs.Machine.{IsPlaced, Environment, State, address, width, extended, fetch, entries, does, with_value, with_values, lies_in}
 use Rattle.pb_kinds.specs.declared.frame.Kind.{Kind}
 use Rattle.pb_kinds.specs.declared.frame.Kind.TheVariants.{Unset, Number, Stack, Record}
 use Rattle.pb_kinds.specs.declared.frame.Frame.{Frame}
@@ -114,12 +115,12 @@ some_bytes H = omega arith
 some_bytes W = omega arith
 some_bytes Dw = omega arith
 
-pub load_on : (e : Environment) (f : Frame) (s : State) (z : Size) (d r : Reg) (o : ℤ) → IsPlaced e → IsFollowed e.judged.program.insns s.slot (Load z d r o) → insn_rules e.judged s.slot f (Load z d r o) ≡ [] → FitsFrame e f s → GoesOn e f s.slot (Load z d r o) (does e s (Load z d r o))
-load_on e f s z d r o pl a b t =
+pub load_on : (e : Environment) (f : Frame) (s : State) (z : Size) (y : Extension) (d r : Reg) (o : ℤ) → IsPlaced e → IsFollowed e.judged.program.insns s.slot (Load z y d r o) → insn_rules e.judged s.slot f (Load z y d r o) ≡ [] → FitsFrame e f s → GoesOn e f s.slot (Load z y d r o) (does e s (Load z y d r o))
+load_on e f s z y d r o pl a b t =
     let parts = empty_parts _ _ b in
     let more = empty_parts (reads f r ++ sets d) (loads e.judged.record_size f (at f r) o (bytes_of z)) parts.0 in
     let first = empty_parts (reads f r) (sets d) more.0 in
     let base = read_value e f s r first.0 t in
     let got = found e f s (at f r) base.value o (bytes_of z) (some_bytes z) pl t (when_not _ _ first.0) more.1 base.holds in
-    let v = from_le_bytes (width z) got.bytes in
-    rw (base.is, got.are) (sets_on e f s (Load z d r o) d Number v refl refl a parts.1 first.1 t (v, refl))
+    let v = extended y z (from_le_bytes (width z) got.bytes) in
+    rw (base.is, got.are) (sets_on e f s (Load z y d r o) d Number v refl refl a parts.1 first.1 t (v, refl))

@@ -4,7 +4,6 @@ use Rattle.pb_kinds.specs.declared.frame.Kind.{Kind}
 use Rattle.pb_kinds.specs.declared.frame.Kind.TheVariants.{Unset, Number, Stack, Record}
 use Rattle.pb_kinds.specs.declared.frame.Frame.{Frame}
 use Rattle.pb_kinds.specs.Frames.{kind_of}
-use Rattle.pb_kinds.specs.Meet.{IsMeet}
 use Rattle.pb_isa.specs.Machine.{Environment, State}
 use Rattle.pb_verify.specs.Ways.{Fact, HasKind, HasByte, Says}
 use Rattle.pb_sound.specs.Fits.{Holds, FitsFrame}

@@ -3,7 +3,7 @@ use Rattle.std.proofs.Common.{◌≡◌, ℕ, ◌+◌, zero, suc, Bool, true, fa
 use Rattle.std.specs.Prelude.{is_some}
 use Rattle.pb_base.specs.Batch.{Writes}
 use Rattle.pb_isa.specs.declared.insn.Insn.{Insn}
-use Rattle.pb_isa.specs.declared.insn.Insn.TheVariants.{Alu, Neg, LoadImm, Load, StoreImm, Store, Jump, JumpIf, Call, Exit}
+use Rattle.pb_isa.specs.declared.insn.Insn.TheVariants.{Alu, MovSx, Neg, LoadImm, Load, StoreImm, Store, Jump, JumpIf, Call, Exit}
 use Rattle.pb_isa.specs.declared.insn.Reg.{Reg}
 use Rattle.pb_isa.specs.Registers.{number}
 use Rattle.std.specs.Int.{from_le_bytes, to_le_bytes, byte_len}
@@ -11,7 +11,7 @@ use Rattle.pb_isa.specs.declared.insn.AluOp.TheVariants.{Sub}
 use Rattle.pb_isa.specs.Alu.{alu, holds, word}
 use Rattle.pb_isa.specs.Slots.{insn_at}
 use Rattle.pb_isa.specs.Helpers.{Helper, Read, Write, Delete, Start, HelperSet, no_helpers, if_declared, helper_of}
-use Rattle.pb_isa.specs.Machine.{Map, Environment, State, Outcome, Goes, Asks, Ends, Stuck, with_value, with_values, goes, sets_register, stores_bytes, stack_has, with_entry, with_list, left, operand, value, fetch, address, width, target, calls, does, does_at, act, start}
+use Rattle.pb_isa.specs.Machine.{Map, Environment, State, Outcome, Goes, Asks, Ends, Stuck, with_value, with_values, goes, sets_register, stores_bytes, stack_has, with_entry, with_list, left, operand, value, fetch, address, width, extended, mov_sx, target, calls, does, does_at, act, start}
 use Rattle.pb_isa.specs.Meaning.{Talk, Point, point, on, onward, point_after, kept_writes}
 use Rattle.pb_sound.specs.Silent.{WithoutHelpersSilent}
 
@@ -53,11 +53,12 @@ pub plain_is_silent : (e : Environment) (s : State) (i : Insn) → IsPlain i →
 plain_is_silent e s (Alu op w dst src) plain =
     on_value s.writes (left s op dst) (λ a. with_value (operand s src) (λ b. sets_register e s dst (alu op w a b) 1))
     (λ a. on_value s.writes (operand s src) (λ b. sets_register e s dst (alu op w a b) 1) (λ b. sets e s dst (alu op w a b) 1))
+plain_is_silent e s (MovSx w z dst src) plain = on_value s.writes (value s src) (λ v. sets_register e s dst (mov_sx w z v) 1) (λ v. sets e s dst (mov_sx w z v) 1)
 plain_is_silent e s (Neg w dst) plain = on_value s.writes (value s dst) (λ v. sets_register e s dst (alu Sub w 0 v) 1) (λ v. sets e s dst (alu Sub w 0 v) 1)
 plain_is_silent e s (LoadImm dst imm) plain = sets e s dst imm 2
-plain_is_silent e s (Load z dst src offset) plain =
-    on_value s.writes (value s src) (λ x. with_values (fetch e s (address x offset) (byte_len (width z))) (λ bs. sets_register e s dst (from_le_bytes (width z) bs) 1))
-    (λ x. on_values s.writes (fetch e s (address x offset) (byte_len (width z))) (λ bs. sets_register e s dst (from_le_bytes (width z) bs) 1) (λ bs. sets e s dst (from_le_bytes (width z) bs) 1))
+plain_is_silent e s (Load z x dst src offset) plain =
+    on_value s.writes (value s src) (λ a. with_values (fetch e s (address a offset) (byte_len (width z))) (λ bs. sets_register e s dst (extended x z (from_le_bytes (width z) bs)) 1))
+    (λ a. on_values s.writes (fetch e s (address a offset) (byte_len (width z))) (λ bs. sets_register e s dst (extended x z (from_le_bytes (width z) bs)) 1) (λ bs. sets e s dst (extended x z (from_le_bytes (width z) bs)) 1))
 plain_is_silent e s (StoreImm z dst offset imm) plain =
     on_value s.writes (value s dst) (λ x. stores_bytes e s (address x offset) (to_le_bytes (width z) (word imm))) (λ x. stores e s (address x offset) (to_le_bytes (width z) (word imm)))
 plain_is_silent e s (Store z dst src offset) plain =

@@ -11,3 +11,4 @@ pub mod Placements
 pub mod Silent
 pub mod RunWrites
 pub mod Accesses
+pub mod ProfilesAgree

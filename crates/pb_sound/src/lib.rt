@@ -11,6 +11,7 @@ ghost use Rattle.pb_sound.specs.OneMeaning.{EachHasOneMeaning};
 ghost use Rattle.pb_sound.specs.Positions.{AcceptedCellsRun, EveryRunEnds};
 ghost use Rattle.pb_sound.specs.Steps.{AcceptedStepTogether};
 ghost use Rattle.pb_sound.specs.Accesses.{AcceptedAccessesFit};
+ghost use Rattle.pb_sound.specs.ProfilesAgree.{ProgramsOfOneAreOfTwo, SameAreAccepted, SameAreRefused, SameIsMeant};
 
 use pb_isa::next_slots_are_first;
 use pb_verify::{frames_are_meets, jumps_lead_on};
@@ -92,4 +93,13 @@ pub fn without_helpers_silent()
 /// A program writes nothing, or 1 to 16 distinct data cells without stamps.
 pub fn runs_write_batches()
     ensures { RunsWriteBatches }
+{}
+
+/// The profile decides which programs there are, and nothing else: a program of profile 1 and the program of profile 2 with
+/// the same instructions are accepted alike, refused at the same slot with the same code, and mean the same.
+pub fn profiles_agree()
+    ensures programs { ProgramsOfOneAreOfTwo }
+    ensures accepted { SameAreAccepted }
+    ensures refused { SameAreRefused }
+    ensures meant { SameIsMeant }
 {}

@@ -9,7 +9,9 @@ use Rattle.clap.specs.Simple.{Shape, subcommand_of, built, built_leaf, inherited
 use Rattle.clap.specs.Kinds.{check_kinds}
 use Rattle.clap.specs.Takes.{is_given}
 use Rattle.clap.specs.Faults.{fault_of, entered_fault, check_fault, walk_fault, turn_fault, word_fault, other_fault}
-use Rattle.pb_texts.specs.CommandLines.{most_workers, most_swaps, run_app, last_clock, replay_app, asm_app, dis_app, check_app, program_app, Request, Run, Replay, Asm, Dis, Check, both, all_three, workers_of, swaps_of, clock_of, command_in, command_of, has_plus, has_plus_at}
+use Rattle.pb_isa.specs.declared.profile.Profile.{Profile}
+use Rattle.pb_helpers.specs.declared.change.Version.{Version}
+use Rattle.pb_texts.specs.CommandLines.{most_workers, most_swaps, run_app, last_clock, replay_app, last_profile, asm_app, dis_app, check_app, program_app, Request, Run, Replay, Asm, Dis, Check, both, all_three, workers_of, swaps_of, clock_of, profile_numbered, profile_of, with_profile, last_version, version_numbered, version_of, with_version, command_in, command_of, has_plus, has_plus_at}
 use Rattle.pb_texts.proofs.Kept.{Each, HasNoDefault, or_else_none, level_none, unless_stopped, rows_kept}
 use Rattle.pb_texts.proofs.Filled.{HasValue, ReadsNumber, help_keeps, operand_has_value, operand_keeps_number, number_has_value, number_keeps_number, number_reads, given_first, first_number, one_number}
 use Rattle.pb_texts.proofs.Clocks.{has_clock}
@@ -170,9 +172,9 @@ all_ask make first second third rows f e =
 abbrev Asks : Text → List Text → Type 0
 Asks name words = has_plus (entered (built program_app) (Some (name, words))) ≡ false → (r : Request) × (command_in (entered (built program_app) (Some (name, words))) ≡ Some r)
 
--- the same where an option's number is asked for, too
-with_number : (number : Option ℕ) (ask : ℕ → Option Request) (n : ℕ) → number ≡ Some n → (r : Request) × (ask n ≡ Some r) → (r : Request) × (option_and_then ask number ≡ Some r)
-with_number number ask n e asked = (asked.0, ap (option_and_then ask) e ∙ asked.1)
+-- the same where an option's value is asked for, too
+with_value : {A : Type 0} (o : Option A) (ask : A → Option Request) (x : A) → o ≡ Some x → (r : Request) × (ask x ≡ Some r) → (r : Request) × (option_and_then ask o ≡ Some r)
+with_value o ask x e asked = (asked.0, ap (option_and_then ask) e ∙ asked.1)
 
 -- the request of a run, by so many workers beside so many swaps
 abbrev pub run_with : List Row → ℕ → ℕ → Option Request
@@ -212,8 +214,8 @@ module _ (words : List Text) (f : entered_fault (built program_app) (Some (codes
       let plain = or_false (has_plus_at (codes "workers") rows) (has_plus_at (codes "swaps") rows) no_plus in
       let workers = has_count 1 most_workers (omega arith) (first_of (codes "workers") rows) (first_number (codes "workers") 1 most_workers rows worker_numbers) plain.0 in
       let swaps = has_count 0 most_swaps (omega arith) (first_of (codes "swaps") rows) (first_number (codes "swaps") 0 most_swaps rows swap_numbers) plain.1 in
-      with_number (workers_of (first_of (codes "workers") rows)) (run_by rows) workers.0 workers.1
-      (with_number (swaps_of (first_of (codes "swaps") rows)) (run_with rows workers.0) swaps.0 swaps.1
+      with_value (workers_of (first_of (codes "workers") rows)) (run_by rows) workers.0 workers.1
+      (with_value (swaps_of (first_of (codes "swaps") rows)) (run_with rows workers.0) swaps.0 swaps.1
       (both_ask (λ manifest script. Run manifest script workers.0 swaps.0) (codes "MANIFEST") (codes "SCRIPT") rows run_values (level_none (leaf run_app.top) [] nothing_held words false [] f).3))
 
 -- the request of a replay, from a clock on
@@ -233,26 +235,78 @@ replay_asks words f no_plus =
     (operand_keeps_number 1 (codes "MANIFEST") name 0 last_clock (λ e. absurd cc), (operand_keeps_number 2 (codes "SCRIPT") name 0 last_clock (λ e. absurd cc), (operand_keeps_number 3 (codes "SCHEDULE") name 0 last_clock (λ e. absurd cc), (number_reads name 0 last_clock, (help_keeps (ReadsNumber name 0 last_clock), tt)))))
     words bare f in
     let clock = has_clock (one_of name rows) (one_number name 0 last_clock rows numbers) in
-    with_number (clock_of (one_of name rows)) (replay_from rows) clock.0 clock.1
+    with_value (clock_of (one_of name rows)) (replay_from rows) clock.0 clock.1
     (all_ask (λ manifest script schedule. Replay manifest script schedule clock.0) (codes "MANIFEST") (codes "SCRIPT") (codes "SCHEDULE") rows values (level_none s [] nothing_held words false [] f).3)
+
+-- what is asked for with a profile
+profile_asks : (rows : List Row) (ask : Profile → Option Request) → Each (ReadsNumber (codes "profile") 1 last_profile) rows → has_plus_at (codes "profile") rows ≡ false
+    → ((profile : Profile) → (r : Request) × (ask profile ≡ Some r)) → (r : Request) × (with_profile ask rows ≡ Some r)
+profile_asks rows ask numbers no_plus asked =
+    let count = has_count 1 last_profile (omega arith) (first_of (codes "profile") rows) (first_number (codes "profile") 1 last_profile rows numbers) no_plus in
+    with_value (profile_of (first_of (codes "profile") rows)) ask (profile_numbered count.0) (ap (option_map profile_numbered) count.1) (asked (profile_numbered count.0))
 
 asm_asks : (words : List Text) → entered_fault (built program_app) (Some (codes "asm", words)) ≡ [] → Asks (codes "asm") words
 asm_asks words f no_plus =
     let s = leaf asm_app.top in
-    let values = rows_kept s HasValue (operand_has_value 1 (codes "IN"), (operand_has_value 2 (codes "OUT"), (help_keeps HasValue, tt))) words (refl, (refl, (refl, tt))) f in
-    both_ask Asm (codes "IN") (codes "OUT") (rows_after s.rules [] words) values (level_none s [] nothing_held words false [] f).3
+    let name = codes "profile" in
+    let rows = rows_after s.rules [] words in
+    let bare : Each HasNoDefault s.rules = (refl, (refl, (refl, (refl, tt)))) in
+    let values = rows_kept s HasValue (operand_has_value 1 (codes "IN"), (operand_has_value 2 (codes "OUT"), (number_has_value name 1 last_profile, (help_keeps HasValue, tt)))) words bare f in
+    let numbers = rows_kept s (ReadsNumber name 1 last_profile)
+    (operand_keeps_number 1 (codes "IN") name 1 last_profile (λ e. absurd cc), (operand_keeps_number 2 (codes "OUT") name 1 last_profile (λ e. absurd cc), (number_reads name 1 last_profile, (help_keeps (ReadsNumber name 1 last_profile), tt))))
+    words bare f in
+    profile_asks rows (λ profile. both (λ input output. Asm input output profile) (first_of (codes "IN") rows) (first_of (codes "OUT") rows)) numbers no_plus
+    (λ profile. both_ask (λ input output. Asm input output profile) (codes "IN") (codes "OUT") rows values (level_none s [] nothing_held words false [] f).3)
 
 dis_asks : (words : List Text) → entered_fault (built program_app) (Some (codes "dis", words)) ≡ [] → Asks (codes "dis") words
 dis_asks words f no_plus =
     let s = leaf dis_app.top in
-    let values = rows_kept s HasValue (operand_has_value 1 (codes "FILE"), (help_keeps HasValue, tt)) words (refl, (refl, tt)) f in
-    one_asks Dis (codes "FILE") (rows_after s.rules [] words) values (level_none s [] nothing_held words false [] f).3
+    let name = codes "profile" in
+    let rows = rows_after s.rules [] words in
+    let bare : Each HasNoDefault s.rules = (refl, (refl, (refl, tt))) in
+    let values = rows_kept s HasValue (operand_has_value 1 (codes "FILE"), (number_has_value name 1 last_profile, (help_keeps HasValue, tt))) words bare f in
+    let numbers = rows_kept s (ReadsNumber name 1 last_profile) (operand_keeps_number 1 (codes "FILE") name 1 last_profile (λ e. absurd cc), (number_reads name 1 last_profile, (help_keeps (ReadsNumber name 1 last_profile), tt))) words bare f in
+    profile_asks rows (λ profile. option_map (λ file. Dis file profile) (first_of (codes "FILE") rows)) numbers no_plus
+    (λ profile. one_asks (λ file. Dis file profile) (codes "FILE") rows values (level_none s [] nothing_held words false [] f).3)
 
-check_asks : (words : List Text) → entered_fault (built program_app) (Some (codes "check", words)) ≡ [] → Asks (codes "check") words
-check_asks words f no_plus =
-    let s = leaf check_app.top in
-    let values = rows_kept s HasValue (operand_has_value 1 (codes "FILE"), (help_keeps HasValue, tt)) words (refl, (refl, tt)) f in
-    one_asks Check (codes "FILE") (rows_after s.rules [] words) values (level_none s [] nothing_held words false [] f).3
+-- what is asked for with a version
+version_asks : (rows : List Row) (ask : Version → Option Request) → Each (ReadsNumber (codes "record") 1 last_version) rows → has_plus_at (codes "record") rows ≡ false
+    → ((version : Version) → (r : Request) × (ask version ≡ Some r)) → (r : Request) × (with_version ask rows ≡ Some r)
+version_asks rows ask numbers no_plus asked =
+    let count = has_count 1 last_version (omega arith) (first_of (codes "record") rows) (first_number (codes "record") 1 last_version rows numbers) no_plus in
+    with_value (version_of (first_of (codes "record") rows)) ask (version_numbered count.0) (ap (option_map version_numbered) count.1) (asked (version_numbered count.0))
+
+-- a check whose words have no fault
+module _ (words : List Text) (f : entered_fault (built program_app) (Some (codes "check", words)) ≡ []) where
+  check_bare : Each HasNoDefault (leaf check_app.top).rules
+  check_bare = (refl, (refl, (refl, (refl, tt))))
+
+  check_values : Each HasValue (rows_after (leaf check_app.top).rules [] words)
+  check_values = rows_kept (leaf check_app.top) HasValue
+      (operand_has_value 1 (codes "FILE"), (number_has_value (codes "profile") 1 last_profile, (number_has_value (codes "record") 1 last_version, (help_keeps HasValue, tt))))
+      words check_bare f
+
+  check_profiles : Each (ReadsNumber (codes "profile") 1 last_profile) (rows_after (leaf check_app.top).rules [] words)
+  check_profiles =
+      let name = codes "profile" in
+      rows_kept (leaf check_app.top) (ReadsNumber name 1 last_profile)
+      (operand_keeps_number 1 (codes "FILE") name 1 last_profile (λ e. absurd cc), (number_reads name 1 last_profile, (number_keeps_number (codes "record") 1 last_version name 1 last_profile (λ e. absurd cc), (help_keeps (ReadsNumber name 1 last_profile), tt))))
+      words check_bare f
+
+  check_versions : Each (ReadsNumber (codes "record") 1 last_version) (rows_after (leaf check_app.top).rules [] words)
+  check_versions =
+      let name = codes "record" in
+      rows_kept (leaf check_app.top) (ReadsNumber name 1 last_version)
+      (operand_keeps_number 1 (codes "FILE") name 1 last_version (λ e. absurd cc), (number_keeps_number (codes "profile") 1 last_profile name 1 last_version (λ e. absurd cc), (number_reads name 1 last_version, (help_keeps (ReadsNumber name 1 last_version), tt))))
+      words check_bare f
+
+  check_asks : Asks (codes "check") words
+  check_asks no_plus =
+      let rows = rows_after (leaf check_app.top).rules [] words in
+      let plain = or_false (has_plus_at (codes "profile") rows) (has_plus_at (codes "record") rows) no_plus in
+      profile_asks rows (λ profile. with_version (λ version. option_map (λ file. Check file profile version) (first_of (codes "FILE") rows)) rows) check_profiles plain.0
+      (λ profile. version_asks rows (λ version. option_map (λ file. Check file profile version) (first_of (codes "FILE") rows)) check_versions plain.1
+      (λ version. one_asks (λ file. Check file profile version) (codes "FILE") rows check_values (level_none (leaf check_app.top) [] nothing_held words false [] f).3))
 
 -- the same for a name that is one of these
 renamed : (name known : Text) (words : List Text) → name ≡ known → (entered_fault (built program_app) (Some (known, words)) ≡ [] → Asks known words)

@@ -1,4 +1,4 @@
--- The numbers of workers and of swaps are read as `parse` reads a number of `u32`, but for a plus, which `clap` takes too.
+-- The numbers of workers, of swaps and of a profile are read as `parse` reads a number of `u32`, but for a plus, which `clap` takes too.
 use Rattle.std.proofs.Common.{◌≡◌, ℕ, ◌<◌, ◌≤◌, ◌^◌, Bool, true, false, cond, [], ◌∷◌, Option, Some, None, Ok, Err, refl, sym, ap, ◌∙◌, subst, arith}
 use Rattle.std.specs.Prelude.{◌&&◌, ◌||◌, ◌==◌, nat_le, nat_lt, slice_index}
 use Rattle.std.specs.Option.{option_map_or}
@@ -102,12 +102,6 @@ module _ (low high : ℕ) where
 
       pub count_read : (x : ℕ) → ParsesUnsigned {E = ParseIntError} 32 10 t (Ok x) → is_within low high x ≡ true → Some x ≡ count_of low high (Some t)
       count_read x p h = some_if (is_count low high t) x (count_number t) (within_is_count x p.0 p.1 (within x h)) (p.1 ∙ same_number)
-
-      outside_is_none : (x : ℕ) → x ≡ count_number t → is_within low high x ≡ false → is_count low high t ≡ true → ⊥
-      outside_is_none x is out h = true_not_false (is_within low high (count_number t)) (counted_within t h) (subst (λ (n : ℕ). is_within low high n ≡ false) is out)
-
-      pub count_outside : (x : ℕ) → ParsesUnsigned {E = ParseIntError} 32 10 t (Ok x) → is_within low high x ≡ false → None ≡ count_of low high (Some t)
-      count_outside x p out = none_unless (is_count low high t) (count_number t) (outside_is_none x (p.1 ∙ same_number) out)
 
       pub count_unread : (e : ParseIntError) → ParsesUnsigned 32 10 t (Err e) → None ≡ count_of low high (Some t)
       count_unread e p = none_unless (is_count low high t) (count_number t) (λ is. let a = accepts-Accepts false (Unsigned low high) t (plain_count t plain ∙ is) in p (a.0, omega (arith, fits, a.3)))

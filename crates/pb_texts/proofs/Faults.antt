@@ -1,4 +1,4 @@
--- A plus before the number of workers or that of swaps is a fault, and without one a run's numbers are in range.
+-- A plus before the number of workers, of swaps, of a profile or of a version is a fault, and without one a run's numbers are in range.
 use Rattle.std.proofs.Common.{◌≡◌, ℕ, ◌≤◌, Bool, true, false, cond, List, [], ◌∷◌, Option, Some, None, refl, sym, ap, ◌∙◌, subst, arith, inl, inr, codes}
 use Rattle.std.specs.Prelude.{◌⊎◌, ◌||◌, option_and_then, option_map}
 use Rattle.std.specs.Option.{option_map_or}
@@ -13,8 +13,10 @@ use Rattle.clap.specs.declared.error.kind.ErrorKind.{ErrorKind}
 use Rattle.clap.specs.declared.error.kind.ErrorKind.TheVariants.{ValueValidation}
 use Rattle.pb_texts.specs.declared.words.choice.Options.{Options}
 use Rattle.pb_texts.specs.declared.words.choice.Options.TheVariants as options
-use Rattle.pb_texts.specs.CommandLines.{most_workers, most_swaps, program_app, Request, Run, Replay, Asm, Dis, Check, both, all_three, is_count, count_number, count_of, workers_of, swaps_of, clock_of, command_in, command_of, begins_with_plus, has_plus, has_plus_at, request_of, IsInRange}
-use Rattle.pb_texts.proofs.Counts.{both_true, false_unless, plus_unread, count_within}
+use Rattle.pb_isa.specs.declared.profile.Profile.{Profile}
+use Rattle.pb_helpers.specs.declared.change.Version.{Version}
+use Rattle.pb_texts.specs.CommandLines.{most_workers, most_swaps, last_profile, program_app, Request, Run, Replay, Asm, Dis, Check, both, all_three, is_count, count_number, count_of, workers_of, clock_of, profile_numbered, profile_of, with_profile, last_version, version_numbered, version_of, with_version, asm_in, dis_in, check_in, command_in, command_of, begins_with_plus, has_plus, has_plus_at, request_of, IsInRange}
+use Rattle.pb_texts.proofs.Counts.{false_unless, plus_unread, count_within}
 use Rattle.pb_texts.proofs.Asked.{run_with, run_by, replay_from, asks}
 
 -- ---- the fault of a plus
@@ -39,11 +41,33 @@ run_names_none : (rows : List Row) → (has_plus_at (codes "workers") rows ≡ t
 run_names_none rows (inl workers) = ap (option_and_then (run_by rows)) (plus_names_none 1 most_workers (codes "workers") rows workers)
 run_names_none rows (inr swaps) = none_then (workers_of (first_of (codes "workers") rows)) (run_by rows) (λ workers. ap (option_and_then (run_with rows workers)) (plus_names_none 0 most_swaps (codes "swaps") rows swaps))
 
+-- nor does a subcommand with one before the number of a profile
+profile_names_none : (rows : List Row) (ask : Profile → Option Request) → has_plus_at (codes "profile") rows ≡ true → with_profile ask rows ≡ None
+profile_names_none rows ask plus = ap (λ n. option_and_then ask (option_map profile_numbered n)) (plus_names_none 1 last_profile (codes "profile") rows plus)
+
+version_names_none : (rows : List Row) (ask : Version → Option Request) → has_plus_at (codes "record") rows ≡ true → with_version ask rows ≡ None
+version_names_none rows ask plus = ap (λ n. option_and_then ask (option_map version_numbered n)) (plus_names_none 1 last_version (codes "record") rows plus)
+
+check_names_none : (rows : List Row) → (has_plus_at (codes "profile") rows ≡ true) ⊎ (has_plus_at (codes "record") rows ≡ true) → check_in rows ≡ None
+check_names_none rows (inl profile) = profile_names_none rows _ profile
+check_names_none rows (inr version) = none_then (profile_of (first_of (codes "profile") rows)) _ (λ profile. version_names_none rows _ version)
+
+none_if : (b : Bool) (x y : Option Request) → x ≡ None → y ≡ None → cond b x y ≡ None
+none_if true x y e f = e
+none_if false x y e f = f
+
+none_by : (b plus other : Bool) (x y : Option Request) → (plus ≡ true → x ≡ None) → (other ≡ true → y ≡ None) → cond b plus other ≡ true → cond b x y ≡ None
+none_by true plus other x y f g h = f h
+none_by false plus other x y f g h = g h
+
 plus_asks_none : (q : Option (Text × List Row)) → has_plus q ≡ true → command_in q ≡ None
 plus_asks_none None h = absurd cc
 plus_asks_none (Some p) h =
-    let a = both_true (bytes_eq p.0 (codes "run")) (has_plus_at (codes "workers") p.1 || has_plus_at (codes "swaps") p.1) h in
-    rw a.0 (run_names_none p.1 (either (has_plus_at (codes "workers") p.1) (has_plus_at (codes "swaps") p.1) a.1))
+    none_by (bytes_eq p.0 (codes "run")) _ _ _ _ (λ plus. run_names_none p.1 (either (has_plus_at (codes "workers") p.1) (has_plus_at (codes "swaps") p.1) plus))
+    (none_by (bytes_eq p.0 (codes "replay")) false _ _ _ (λ plus. absurd cc)
+    (none_by (bytes_eq p.0 (codes "asm")) (has_plus_at (codes "profile") p.1) _ (asm_in p.1) _ (profile_names_none p.1 _)
+    (none_by (bytes_eq p.0 (codes "dis")) (has_plus_at (codes "profile") p.1) (has_plus_at (codes "profile") p.1 || has_plus_at (codes "record") p.1) (dis_in p.1) _ (profile_names_none p.1 _)
+    (λ plus. none_if (bytes_eq p.0 (codes "check")) (check_in p.1) None (check_names_none p.1 (either (has_plus_at (codes "profile") p.1) (has_plus_at (codes "record") p.1) plus)) refl)))) h
 
 true_unless : (b : Bool) → (b ≡ false → ⊥) → b ≡ true
 true_unless true f = refl
@@ -88,9 +112,9 @@ unasked_fault words f n = refused_by_plus _ _ f (none_has_plus words f n)
 abbrev InRange : Request → Type 0
 InRange (Run m s workers swaps) = (1 ≤ workers) × (workers ≤ most_workers) × (swaps ≤ most_swaps)
 InRange (Replay m s e clock) = Unit {0}
-InRange (Asm i o) = Unit {0}
-InRange (Dis f) = Unit {0}
-InRange (Check f) = Unit {0}
+InRange (Asm i o profile) = Unit {0}
+InRange (Dis f profile) = Unit {0}
+InRange (Check f profile version) = Unit {0}
 
 abbrev IfAsked : Option Request → Type 0
 IfAsked None = Unit {0}
@@ -124,29 +148,40 @@ run_in_range rows =
     (λ workers few. counted 0 most_swaps (run_with rows workers) (first_of (codes "swaps") rows) (omega arith)
     (λ swaps some. both_in_range (λ m s. Run m s workers swaps) (first_of (codes "MANIFEST") rows) (first_of (codes "SCRIPT") rows) (λ m s. (few.0, few.1, some.1))))
 
-replay_in_range : (rows : List Row) (o : Option ℕ) → IfAsked (option_and_then (replay_from rows) o)
-replay_in_range rows None = tt
-replay_in_range rows (Some n) = all_in_range (λ m s e. Replay m s e n) (first_of (codes "MANIFEST") rows) (first_of (codes "SCRIPT") rows) (first_of (codes "SCHEDULE") rows) (λ m s e. tt)
+then_in_range : {A : Type 0} (ask : A → Option Request) (o : Option A) → ((x : A) → IfAsked (ask x)) → IfAsked (option_and_then ask o)
+then_in_range ask None f = tt
+then_in_range ask (Some x) f = f x
+
+replay_in_range : (rows : List Row) → IfAsked (option_and_then (replay_from rows) (clock_of (one_of (codes "clock") rows)))
+replay_in_range rows =
+    then_in_range (replay_from rows) (clock_of (one_of (codes "clock") rows))
+    (λ n. all_in_range (λ m s e. Replay m s e n) (first_of (codes "MANIFEST") rows) (first_of (codes "SCRIPT") rows) (first_of (codes "SCHEDULE") rows) (λ m s e. tt))
 
 one_in_range : (make : Text → Request) (o : Option Text) → ((f : Text) → InRange (make f)) → IfAsked (option_map make o)
 one_in_range make None h = tt
 one_in_range make (Some f) h = h f
 
+profile_in_range : (rows : List Row) (ask : Profile → Option Request) → ((p : Profile) → IfAsked (ask p)) → IfAsked (with_profile ask rows)
+profile_in_range rows ask f = then_in_range ask (profile_of (first_of (codes "profile") rows)) f
+
+version_in_range : (rows : List Row) (ask : Version → Option Request) → ((v : Version) → IfAsked (ask v)) → IfAsked (with_version ask rows)
+version_in_range rows ask f = then_in_range ask (version_of (first_of (codes "record") rows)) f
+
 command_in_range : (q : Option (Text × List Row)) → IfAsked (command_in q)
 command_in_range None = tt
 command_in_range (Some p) =
     asked_if (bytes_eq p.0 (codes "run")) _ _ (run_in_range p.1)
-    (asked_if (bytes_eq p.0 (codes "replay")) _ _ (replay_in_range p.1 (clock_of (one_of (codes "clock") p.1)))
-    (asked_if (bytes_eq p.0 (codes "asm")) _ _ (both_in_range Asm (first_of (codes "IN") p.1) (first_of (codes "OUT") p.1) (λ i o. tt))
-    (asked_if (bytes_eq p.0 (codes "dis")) _ _ (one_in_range Dis (first_of (codes "FILE") p.1) (λ f. tt))
-    (asked_if (bytes_eq p.0 (codes "check")) _ _ (one_in_range Check (first_of (codes "FILE") p.1) (λ f. tt)) tt))))
+    (asked_if (bytes_eq p.0 (codes "replay")) _ _ (replay_in_range p.1)
+    (asked_if (bytes_eq p.0 (codes "asm")) _ _ (profile_in_range p.1 _ (λ v. both_in_range (λ i o. Asm i o v) (first_of (codes "IN") p.1) (first_of (codes "OUT") p.1) (λ i o. tt)))
+    (asked_if (bytes_eq p.0 (codes "dis")) _ _ (profile_in_range p.1 _ (λ v. one_in_range (λ f. Dis f v) (first_of (codes "FILE") p.1) (λ f. tt)))
+    (asked_if (bytes_eq p.0 (codes "check")) _ _ (profile_in_range p.1 _ (λ v. version_in_range p.1 _ (λ w. one_in_range (λ f. Check f v w) (first_of (codes "FILE") p.1) (λ f. tt)))) tt))))
 
 options_in_range : (o : Options) → InRange (request_of o) → IsInRange o
 options_in_range (options.Run m s workers swaps) h = h
 options_in_range (options.Replay m s e clock) h = tt
-options_in_range (options.Asm i o) h = tt
-options_in_range (options.Dis f) h = tt
-options_in_range (options.Check f) h = tt
+options_in_range (options.Asm i o profile) h = tt
+options_in_range (options.Dis f profile) h = tt
+options_in_range (options.Check f profile version) h = tt
 
 pub asked_in_range : (words : List Text) (o : Options) → command_of words ≡ Some (request_of o) → IsInRange o
 asked_in_range words o e = options_in_range o (subst IfAsked e (command_in_range (subcommand_of program_app words)))

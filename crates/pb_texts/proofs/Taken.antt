@@ -1,6 +1,6 @@
 -- The plain forms of the subcommands are taken.
 use Rattle.std.proofs.Common.{◌≡◌, ℕ, ◌<◌, ◌^◌, Bool, true, false, cond, [], ◌∷◌, Some, None, refl, sym, ◌∙◌, subst, arith}
-use Rattle.std.specs.Prelude.{◌==◌, ◌||◌, not, option_and_then}
+use Rattle.std.specs.Prelude.{◌==◌, ◌||◌, not, option_map, option_and_then}
 use Rattle.std.proofs.lemmas.Bool.{eqb-true}
 use Rattle.std.specs.Str.{bytes_eq}
 use Rattle.clap.specs.Lexer.{strip_byte}
@@ -9,7 +9,10 @@ use Rattle.clap.specs.Kinds.{Kinds, or_else}
 use Rattle.clap.specs.ValueTests.{is_unsigned_in}
 use Rattle.clap.specs.declared.error.kind.ErrorKind.TheVariants.{ValueValidation}
 use Rattle.clap.proofs.OnLiterals.{clap_on_literals}
-use Rattle.pb_texts.specs.CommandLines.{most_workers, most_swaps, is_plain_word, is_count, is_workers, is_swaps, count_number, begins_with_plus, is_clock, clock_number, run_words, workers_words, swaps_words, replay_words, clock_words, asm_words, dis_words, check_words, Run, Replay, Asm, Dis, Check, Request, AskFor, HaveBadValue}
+use Rattle.pb_isa.specs.declared.profile.Profile.{Profile}
+use Rattle.pb_isa.specs.declared.profile.Profile.TheVariants.{One}
+use Rattle.pb_helpers.specs.declared.change.Version.TheVariants.{First}
+use Rattle.pb_texts.specs.CommandLines.{most_workers, most_swaps, last_profile, is_plain_word, is_count, is_workers, is_swaps, is_profile, profile_numbered, count_number, begins_with_plus, is_clock, clock_number, run_words, workers_words, swaps_words, replay_words, clock_words, asm_words, dis_words, check_words, profile_words, Run, Replay, Asm, Dis, Check, Request, AskFor, HaveBadValue, TakeProfiles, RefuseOtherProfiles, last_version, is_version, version_numbered, record_words, TakeVersions, RefuseOtherVersions}
 use Rattle.pb_texts.proofs.Counts.{true_not_false, and_false, false_and, false_unless, plus_no_count, plain_count}
 
 not_true : (b : Bool) → not b ≡ true → b ≡ false
@@ -131,17 +134,108 @@ other_clock_by : (program m s e t : Text) → NoHyphen m → NoHyphen s → NoHy
 unfolding clap_on_literals
 other_clock_by program m s e t a b c d is = rw (a.1, a.0, a.0, b.1, b.0, b.0, c.1, c.0, c.0, d.1, d.0, d.0) (bad_value (is_clock t) false (λ _. is))
 
-asm_by : (program i o : Text) → NoHyphen i → NoHyphen o → AskFor (asm_words program i o) (Asm i o)
+asm_by : (program i o : Text) → NoHyphen i → NoHyphen o → AskFor (asm_words program i o) (Asm i o One)
 unfolding clap_on_literals
-asm_by program i o a b = (simp (a.0, a.1, b.0, b.1), simp (a.0, a.1, b.0, b.1))
+asm_by program i o a b = (rw (a.1, a.0, a.0, b.1, b.0, b.0) refl, rw (a.1, a.0, a.0, b.1, b.0, b.0) refl)
 
-dis_by : (program f : Text) → NoHyphen f → AskFor (dis_words program f) (Dis f)
+dis_by : (program f : Text) → NoHyphen f → AskFor (dis_words program f) (Dis f One)
 unfolding clap_on_literals
-dis_by program f a = (simp (a.0, a.1), simp (a.0, a.1))
+dis_by program f a = (rw (a.1, a.0, a.0) refl, rw (a.1, a.0, a.0) refl)
 
-check_by : (program f : Text) → NoHyphen f → AskFor (check_words program f) (Check f)
+check_by : (program f : Text) → NoHyphen f → AskFor (check_words program f) (Check f One First)
 unfolding clap_on_literals
-check_by program f a = (simp (a.0, a.1), simp (a.0, a.1))
+check_by program f a = (rw (a.1, a.0, a.0) refl, rw (a.1, a.0, a.0) refl)
+
+-- ---- `--profile`
+
+module _ (t : Text) where
+  -- the fault of a profile
+  abbrev profile_fault : Kinds
+  profile_fault = plus_or_value_fault (is_unsigned_in 1 last_profile t) (begins_with_plus t)
+
+  -- the same where a version may be named, too
+  abbrev checked_fault : Kinds
+  checked_fault = plus_or_value_fault (is_unsigned_in 1 last_profile t) (begins_with_plus t || false)
+
+  checked_faultless : is_profile t ≡ true → checked_fault ≡ []
+  checked_faultless is =
+      let plain = no_plus 1 last_profile t is in
+      no_fault (is_unsigned_in 1 last_profile t) (begins_with_plus t || false) (plain_count 1 last_profile (omega arith) t plain ∙ is) (or_nothing _ plain)
+
+  checked_refused : is_profile t ≡ false → checked_fault ≡ ValueValidation ∷ []
+  checked_refused is = bad_value (is_unsigned_in 1 last_profile t) (begins_with_plus t || false) (λ plain. plain_count 1 last_profile (omega arith) t (nothing_or _ plain) ∙ is)
+
+  -- the fault of a version
+  abbrev version_fault : Kinds
+  version_fault = plus_or_value_fault (is_unsigned_in 1 last_version t) (begins_with_plus t)
+
+  version_faultless : is_version t ≡ true → version_fault ≡ []
+  version_faultless is =
+      let plain = no_plus 1 last_version t is in
+      no_fault (is_unsigned_in 1 last_version t) (begins_with_plus t) (plain_count 1 last_version (omega arith) t plain ∙ is) plain
+
+  version_refused : is_version t ≡ false → version_fault ≡ ValueValidation ∷ []
+  version_refused is = bad_value (is_unsigned_in 1 last_version t) (begins_with_plus t) (λ plain. plain_count 1 last_version (omega arith) t plain ∙ is)
+
+  profile_faultless : is_profile t ≡ true → profile_fault ≡ []
+  profile_faultless is =
+      let plain = no_plus 1 last_profile t is in
+      no_fault (is_unsigned_in 1 last_profile t) (begins_with_plus t) (plain_count 1 last_profile (omega arith) t plain ∙ is) plain
+
+  profile_refused : is_profile t ≡ false → profile_fault ≡ ValueValidation ∷ []
+  profile_refused is = bad_value (is_unsigned_in 1 last_profile t) (begins_with_plus t) (λ plain. plain_count 1 last_profile (omega arith) t plain ∙ is)
+
+with_numbered : {A : Type 0} (numbered : ℕ → A) (b : Bool) (make : A → Request) (n : ℕ) → b ≡ true → option_and_then (λ x. Some (make x)) (option_map numbered (cond b (Some n) None)) ≡ Some (make (numbered n))
+with_numbered numbered true make n is = refl
+with_numbered numbered false make n is = absurd cc
+
+asm_profile_by : (program i o t : Text) → NoHyphen i → NoHyphen o → NoHyphen t → is_profile t ≡ true → AskFor (profile_words (asm_words program i o) t) (Asm i o (profile_numbered (count_number t)))
+unfolding clap_on_literals
+asm_profile_by program i o t a b c is = (
+  rw (a.1, a.0, a.0, b.1, b.0, b.0, c.1, c.0, c.0) (profile_faultless t is),
+  rw (a.1, a.0, a.0, b.1, b.0, b.0, c.1, c.0, c.0) (with_numbered profile_numbered (is_profile t) (Asm i o) (count_number t) is),
+)
+
+other_asm_profile_by : (program i o t : Text) → NoHyphen i → NoHyphen o → NoHyphen t → is_profile t ≡ false → HaveBadValue (profile_words (asm_words program i o) t)
+unfolding clap_on_literals
+other_asm_profile_by program i o t a b c is = rw (a.1, a.0, a.0, b.1, b.0, b.0, c.1, c.0, c.0) (profile_refused t is)
+
+dis_profile_by : (program f t : Text) → NoHyphen f → NoHyphen t → is_profile t ≡ true → AskFor (profile_words (dis_words program f) t) (Dis f (profile_numbered (count_number t)))
+unfolding clap_on_literals
+dis_profile_by program f t a c is = (
+  rw (a.1, a.0, a.0, c.1, c.0, c.0) (profile_faultless t is),
+  rw (a.1, a.0, a.0, c.1, c.0, c.0) (with_numbered profile_numbered (is_profile t) (Dis f) (count_number t) is),
+)
+
+other_dis_profile_by : (program f t : Text) → NoHyphen f → NoHyphen t → is_profile t ≡ false → HaveBadValue (profile_words (dis_words program f) t)
+unfolding clap_on_literals
+other_dis_profile_by program f t a c is = rw (a.1, a.0, a.0, c.1, c.0, c.0) (profile_refused t is)
+
+check_profile_by : (program f t : Text) → NoHyphen f → NoHyphen t → is_profile t ≡ true → AskFor (profile_words (check_words program f) t) (Check f (profile_numbered (count_number t)) First)
+unfolding clap_on_literals
+check_profile_by program f t a c is = (
+  rw (a.1, a.0, a.0, c.1, c.0, c.0) (checked_faultless t is),
+  rw (a.1, a.0, a.0, c.1, c.0, c.0) (with_numbered profile_numbered (is_profile t) (λ p. Check f p First) (count_number t) is),
+)
+
+other_check_profile_by : (program f t : Text) → NoHyphen f → NoHyphen t → is_profile t ≡ false → HaveBadValue (profile_words (check_words program f) t)
+unfolding clap_on_literals
+other_check_profile_by program f t a c is = rw (a.1, a.0, a.0, c.1, c.0, c.0) (checked_refused t is)
+
+-- ---- `--record`
+
+check_record_by : (program f t : Text) → NoHyphen f → NoHyphen t → is_version t ≡ true → AskFor (record_words (check_words program f) t) (Check f One (version_numbered (count_number t)))
+unfolding clap_on_literals
+check_record_by program f t a c is = (
+  rw (a.1, a.0, a.0, c.1, c.0, c.0) (version_faultless t is),
+  rw (a.1, a.0, a.0, c.1, c.0, c.0) (with_numbered version_numbered (is_version t) (Check f One) (count_number t) is),
+)
+
+other_check_record_by : (program f t : Text) → NoHyphen f → NoHyphen t → is_version t ≡ false → HaveBadValue (record_words (check_words program f) t)
+unfolding clap_on_literals
+other_check_record_by program f t a c is = rw (a.1, a.0, a.0, c.1, c.0, c.0) (version_refused t is)
+
+-- ---- as the clauses say it
 
 pub run_taken : (program m s : Text) → is_plain_word m ≡ true → is_plain_word s ≡ true → AskFor (run_words program m s) (Run m s 1 0)
 run_taken program m s p q = run_by program m s (plain_word m p) (plain_word s q)
@@ -167,11 +261,38 @@ clock_taken program m s e t p q r is = clock_by program m s e t (plain_word m p)
 pub other_clock_refused : (program m s e t : Text) → is_plain_word m ≡ true → is_plain_word s ≡ true → is_plain_word e ≡ true → is_plain_word t ≡ true → is_clock t ≡ false → HaveBadValue (clock_words program m s e t)
 other_clock_refused program m s e t p q r u is = other_clock_by program m s e t (plain_word m p) (plain_word s q) (plain_word e r) (plain_word t u) is
 
-pub asm_taken : (program i o : Text) → is_plain_word i ≡ true → is_plain_word o ≡ true → AskFor (asm_words program i o) (Asm i o)
+plain_profile : (t : Text) → is_profile t ≡ true → NoHyphen t
+plain_profile t is = plain_word t (count_plain 1 last_profile t is)
+
+pub asm_taken : (program i o : Text) → is_plain_word i ≡ true → is_plain_word o ≡ true → AskFor (asm_words program i o) (Asm i o One)
 asm_taken program i o p q = asm_by program i o (plain_word i p) (plain_word o q)
 
-pub dis_taken : (program f : Text) → is_plain_word f ≡ true → AskFor (dis_words program f) (Dis f)
+pub asm_profile_taken : (program i o : Text) → is_plain_word i ≡ true → is_plain_word o ≡ true → TakeProfiles (asm_words program i o) (Asm i o)
+asm_profile_taken program i o p q t is = asm_profile_by program i o t (plain_word i p) (plain_word o q) (plain_profile t is) is
+
+pub other_asm_profile_refused : (program i o : Text) → is_plain_word i ≡ true → is_plain_word o ≡ true → RefuseOtherProfiles (asm_words program i o)
+other_asm_profile_refused program i o p q t u is = other_asm_profile_by program i o t (plain_word i p) (plain_word o q) (plain_word t u) is
+
+pub dis_taken : (program f : Text) → is_plain_word f ≡ true → AskFor (dis_words program f) (Dis f One)
 dis_taken program f p = dis_by program f (plain_word f p)
 
-pub check_taken : (program f : Text) → is_plain_word f ≡ true → AskFor (check_words program f) (Check f)
+pub dis_profile_taken : (program f : Text) → is_plain_word f ≡ true → TakeProfiles (dis_words program f) (Dis f)
+dis_profile_taken program f p t is = dis_profile_by program f t (plain_word f p) (plain_profile t is) is
+
+pub other_dis_profile_refused : (program f : Text) → is_plain_word f ≡ true → RefuseOtherProfiles (dis_words program f)
+other_dis_profile_refused program f p t u is = other_dis_profile_by program f t (plain_word f p) (plain_word t u) is
+
+pub check_taken : (program f : Text) → is_plain_word f ≡ true → AskFor (check_words program f) (Check f One First)
 check_taken program f p = check_by program f (plain_word f p)
+
+pub check_profile_taken : (program f : Text) → is_plain_word f ≡ true → TakeProfiles (check_words program f) (λ profile. Check f profile First)
+check_profile_taken program f p t is = check_profile_by program f t (plain_word f p) (plain_profile t is) is
+
+pub other_check_profile_refused : (program f : Text) → is_plain_word f ≡ true → RefuseOtherProfiles (check_words program f)
+other_check_profile_refused program f p t u is = other_check_profile_by program f t (plain_word f p) (plain_word t u) is
+
+pub check_record_taken : (program f : Text) → is_plain_word f ≡ true → TakeVersions (check_words program f) (Check f One)
+check_record_taken program f p t is = check_record_by program f t (plain_word f p) (plain_word t (count_plain 1 last_version t is)) is
+
+pub other_check_record_refused : (program f : Text) → is_plain_word f ≡ true → RefuseOtherVersions (check_words program f)
+other_check_record_refused program f p t u is = other_check_record_by program f t (plain_word f p) (plain_word t u) is

@@ -1,5 +1,5 @@
 -- What a command line asks for, as `clap` reads it.
-use Rattle.std.specs.Prelude.{◌≡◌, ◌≤◌, ◌-◌, ℕ, Bool, true, false, not, ◌==◌, ◌&&◌, ◌||◌, nat_le, if◌then◌else◌, List, [], ◌∷◌, codes, Option, Some, None, option_map, option_and_then}
+use Rattle.std.specs.Prelude.{◌≡◌, ◌≤◌, ◌-◌, ℕ, Bool, true, false, not, ◌==◌, ◌&&◌, ◌||◌, nat_le, if◌then◌else◌, List, [], ◌∷◌, ◌++◌, codes, Option, Some, None, option_map, option_and_then}
 use Rattle.std.specs.Option.{option_map_or}
 use Rattle.std.specs.Str.{bytes_eq}
 use Rattle.std.specs.Str.Parse.{digits_value, without_leading_plus}
@@ -10,6 +10,10 @@ use Rattle.clap.specs.declared.builder.value_parser.ValueParser.TheVariants.{Uns
 use Rattle.clap.specs.declared.error.kind.ErrorKind.TheVariants.{ValueValidation}
 use Rattle.clap.specs.Simple.{on_top}
 use Rattle.pb_base.specs.declared.limits.TheConstants.{MAX_SEATS}
+use Rattle.pb_isa.specs.declared.profile.Profile.{Profile}
+use Rattle.pb_isa.specs.declared.profile.Profile.TheVariants.{One, Two}
+use Rattle.pb_helpers.specs.declared.change.Version.{Version}
+use Rattle.pb_helpers.specs.declared.change.Version.TheVariants.{First, Second}
 use Rattle.pb_texts.specs.declared.words.choice.Options.{Options}
 use Rattle.pb_texts.specs.declared.words.choice.Options.TheVariants as options
 
@@ -52,17 +56,33 @@ clock_rule = number_rule (codes "clock") 0 last_clock
 abbrev pub replay_app : App
 replay_app = with_rule (with_rule (with_rule (with_rule (new_app (codes "replay")) (required_rule (codes "MANIFEST"))) (required_rule (codes "SCRIPT"))) (required_rule (codes "SCHEDULE"))) clock_rule
 
--- `asm IN OUT`
+-- the profiles are numbered from 1 on
+abbrev pub last_profile : ℕ
+last_profile = 2
+
+-- `--profile N`, where N is the number of a profile
+abbrev pub profile_rule : Rule
+profile_rule = number_rule (codes "profile") 1 last_profile
+
+-- so are the versions of the change record
+abbrev pub last_version : ℕ
+last_version = 2
+
+-- `--record N`, where N is the number of a version
+abbrev pub record_rule : Rule
+record_rule = number_rule (codes "record") 1 last_version
+
+-- `asm IN OUT [--profile N]`
 abbrev pub asm_app : App
-asm_app = with_rule (with_rule (new_app (codes "asm")) (required_rule (codes "IN"))) (required_rule (codes "OUT"))
+asm_app = with_rule (with_rule (with_rule (new_app (codes "asm")) (required_rule (codes "IN"))) (required_rule (codes "OUT"))) profile_rule
 
--- `dis FILE`
+-- `dis FILE [--profile N]`
 abbrev pub dis_app : App
-dis_app = with_rule (new_app (codes "dis")) (required_rule (codes "FILE"))
+dis_app = with_rule (with_rule (new_app (codes "dis")) (required_rule (codes "FILE"))) profile_rule
 
--- `check FILE`
+-- `check FILE [--profile N] [--record N]`
 abbrev pub check_app : App
-check_app = with_rule (new_app (codes "check")) (required_rule (codes "FILE"))
+check_app = with_rule (with_rule (with_rule (new_app (codes "check")) (required_rule (codes "FILE"))) profile_rule) record_rule
 
 abbrev pub needs_subcommand : App → App
 needs_subcommand = on_top (λ s. record s { subcommand_required = true })
@@ -76,13 +96,14 @@ abbrev pub program_app : App
 program_app = with_subcommand (with_subcommand texts_app dis_app.top) check_app.top
 
 -- what a command line can ask for: a manifest and a script to run by so many workers beside so many swaps, the same two with
--- a schedule to replay from a clock on, a text to read and a path for its bytes, a file to list or to check
+-- a schedule to replay from a clock on, a text to read and a path for its bytes, a file to list, and one to check
+-- for a version of the change record, each of a profile
 pub data Request : Type 0 where
   Run : Text → Text → ℕ → ℕ → Request
   Replay : Text → Text → Text → ℕ → Request
-  Asm : Text → Text → Request
-  Dis : Text → Request
-  Check : Text → Request
+  Asm : Text → Text → Profile → Request
+  Dis : Text → Profile → Request
+  Check : Text → Profile → Version → Request
 
 abbrev pub both : (Text → Text → Request) → Option Text → Option Text → Option Request
 both make None second = None
@@ -134,6 +155,36 @@ abbrev pub clock_of : Option Text → Option ℕ
 clock_of None = Some 0
 clock_of (Some text) = if is_clock text then Some (clock_number text) else None
 
+-- the profile of this number, which is 1 or 2
+abbrev pub profile_numbered : ℕ → Profile
+profile_numbered number = if number == 1 then One else Two
+
+abbrev pub is_profile : Text → Bool
+is_profile text = is_count 1 last_profile text
+
+-- the profile that a text names, the first where there is no text, and none where it names none
+abbrev pub profile_of : Option Text → Option Profile
+profile_of text = option_map profile_numbered (count_of 1 last_profile text)
+
+-- what is asked for with the profile that the matches name
+abbrev pub with_profile : (Profile → Option Request) → List Row → Option Request
+with_profile ask rows = option_and_then ask (profile_of (first_of (codes "profile") rows))
+
+-- the version of this number, which is 1 or 2
+abbrev pub version_numbered : ℕ → Version
+version_numbered number = if number == 1 then First else Second
+
+abbrev pub is_version : Text → Bool
+is_version text = is_count 1 last_version text
+
+-- the version that a text names, the first where there is no text, and none where it names none
+abbrev pub version_of : Option Text → Option Version
+version_of text = option_map version_numbered (count_of 1 last_version text)
+
+-- what is asked for with the version that the matches name
+abbrev pub with_version : (Version → Option Request) → List Row → Option Request
+with_version ask rows = option_and_then ask (version_of (first_of (codes "record") rows))
+
 -- what the matches of each subcommand ask for
 abbrev pub run_in : List Row → Option Request
 run_in rows =
@@ -149,13 +200,13 @@ replay_in rows =
     (clock_of (one_of (codes "clock") rows))
 
 abbrev pub asm_in : List Row → Option Request
-asm_in rows = both Asm (first_of (codes "IN") rows) (first_of (codes "OUT") rows)
+asm_in rows = with_profile (λ profile. both (λ input output. Asm input output profile) (first_of (codes "IN") rows) (first_of (codes "OUT") rows)) rows
 
 abbrev pub dis_in : List Row → Option Request
-dis_in rows = option_map Dis (first_of (codes "FILE") rows)
+dis_in rows = with_profile (λ profile. option_map (λ file. Dis file profile) (first_of (codes "FILE") rows)) rows
 
 abbrev pub check_in : List Row → Option Request
-check_in rows = option_map Check (first_of (codes "FILE") rows)
+check_in rows = with_profile (λ profile. with_version (λ version. option_map (λ file. Check file profile version) (first_of (codes "FILE") rows)) rows) rows
 
 -- what a subcommand with its matches asks for
 abbrev pub command_in : Option (Text × List Row) → Option Request
@@ -178,21 +229,26 @@ begins_with_plus (x ∷ xs) = x == 43
 abbrev pub has_plus_at : Text → List Row → Bool
 has_plus_at name rows = option_map_or begins_with_plus (first_of name rows) false
 
--- a plus stands before the number of workers or that of swaps, which `clap` takes
+-- a plus, which `clap` takes, stands before the number of workers, of swaps, of a profile or of a version
 abbrev pub has_plus : Option (Text × List Row) → Bool
 has_plus None = false
-has_plus (Some p) = bytes_eq p.0 (codes "run") && (has_plus_at (codes "workers") p.1 || has_plus_at (codes "swaps") p.1)
+has_plus (Some p) =
+    if bytes_eq p.0 (codes "run") then has_plus_at (codes "workers") p.1 || has_plus_at (codes "swaps") p.1
+    else if bytes_eq p.0 (codes "replay") then false
+    else if bytes_eq p.0 (codes "asm") then has_plus_at (codes "profile") p.1
+    else if bytes_eq p.0 (codes "dis") then has_plus_at (codes "profile") p.1
+    else has_plus_at (codes "profile") p.1 || has_plus_at (codes "record") p.1
 
--- the fault that `clap` finds, or that of a plus before the number of workers or that of swaps
+-- the fault that `clap` finds, or that of a plus before the number of workers, of swaps, of a profile or of a version
 abbrev pub words_fault : List Text → Kinds
 words_fault words = or_else (fault_of program_app words) (if has_plus (subcommand_of program_app words) then ValueValidation ∷ [] else [])
 
 abbrev pub request_of : Options → Request
 request_of (options.Run manifest script workers swaps) = Run manifest.now script.now workers swaps
 request_of (options.Replay manifest script schedule clock) = Replay manifest.now script.now schedule.now clock.0
-request_of (options.Asm input output) = Asm input.now output.now
-request_of (options.Dis file) = Dis file.now
-request_of (options.Check file) = Check file.now
+request_of (options.Asm input output profile) = Asm input.now output.now profile
+request_of (options.Dis file profile) = Dis file.now profile
+request_of (options.Check file profile version) = Check file.now profile version
 
 -- a run has a worker at least, and a seat for each, and no more swaps than it may be asked for
 abbrev pub IsInRange : Options → Type 0
@@ -237,6 +293,14 @@ dis_words program file = program ∷ codes "dis" ∷ file ∷ []
 abbrev pub check_words : Text → Text → List Text
 check_words program file = program ∷ codes "check" ∷ file ∷ []
 
+-- these words with `--profile` behind them
+abbrev pub profile_words : List Text → Text → List Text
+profile_words words profile = words ++ codes "--profile" ∷ profile ∷ []
+
+-- these words with `--record` behind them
+abbrev pub record_words : List Text → Text → List Text
+record_words words version = words ++ codes "--record" ∷ version ∷ []
+
 -- the words are taken without fault, and ask for this
 abbrev pub AskFor : List Text → Request → Type 0
 AskFor words request = (words_fault words ≡ []) × (command_of words ≡ Some request)
@@ -244,3 +308,19 @@ AskFor words request = (words_fault words ≡ []) × (command_of words ≡ Some 
 -- the words are refused for a value that isn't what its argument takes
 abbrev pub HaveBadValue : List Text → Type 0
 HaveBadValue words = words_fault words ≡ ValueValidation ∷ []
+
+-- with `--profile` and the number of a profile behind them, the words ask for this of that profile
+abbrev pub TakeProfiles : List Text → (Profile → Request) → Type 0
+TakeProfiles words request = (profile : Text) → is_profile profile ≡ true → AskFor (profile_words words profile) (request (profile_numbered (count_number profile)))
+
+-- with `--profile` and another plain word behind them, the words are refused
+abbrev pub RefuseOtherProfiles : List Text → Type 0
+RefuseOtherProfiles words = (profile : Text) → is_plain_word profile ≡ true → is_profile profile ≡ false → HaveBadValue (profile_words words profile)
+
+-- with `--record` and the number of a version behind them, the words ask for this for that version
+abbrev pub TakeVersions : List Text → (Version → Request) → Type 0
+TakeVersions words request = (version : Text) → is_version version ≡ true → AskFor (record_words words version) (request (version_numbered (count_number version)))
+
+-- with `--record` and another plain word behind them, the words are refused
+abbrev pub RefuseOtherVersions : List Text → Type 0
+RefuseOtherVersions words = (version : Text) → is_plain_word version ≡ true → is_version version ≡ false → HaveBadValue (record_words words version)

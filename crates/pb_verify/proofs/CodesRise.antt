@@ -1,7 +1,7 @@
 use Rattle.std.proofs.Common.{ℕ, ◌+◌, ◌≤◌, Bool, true, false, List, [], ◌∷◌, ◌++◌, arith}
 use Rattle.std.specs.Prelude.{if◌then◌else◌, ℤ, pos, negsuc, nat_eq, nat_le, is_none}
 use Rattle.pb_isa.specs.declared.insn.Insn.{Insn}
-use Rattle.pb_isa.specs.declared.insn.Insn.TheVariants.{Alu, Neg, LoadImm, Load, StoreImm, Store, Jump, JumpIf, Call, Exit}
+use Rattle.pb_isa.specs.declared.insn.Insn.TheVariants.{Alu, MovSx, Neg, LoadImm, Load, StoreImm, Store, Jump, JumpIf, Call, Exit}
 use Rattle.pb_isa.specs.declared.insn.AluOp.{AluOp}
 use Rattle.pb_isa.specs.declared.insn.AluOp.TheVariants.{Add, Sub, Mul, Div, Or, And, Lsh, Rsh, Mod, Xor, Mov, Arsh}
 use Rattle.pb_isa.specs.declared.insn.Width.{Width}
@@ -21,7 +21,7 @@ use Rattle.pb_helpers.specs.declared.code.Code.{Code}
 use Rattle.pb_helpers.specs.declared.code.Code.TheVariants.{ReadsUnset, WritesR10, PointerArithmetic, PointerStored, OutsideStack, UnwrittenByte, OutsideRecord, JumpOutside, JumpIntoPair, FallsOff, ExitsWithPointer, PointerCompared}
 use Rattle.pb_helpers.specs.Codes.{code_number, when, CodesRiseWithin}
 use Rattle.pb_helpers.specs.Arguments.{unset, call_rules, ArgumentCodesRise}
-use Rattle.pb_verify.specs.Rules.{at, reads, sets, reads_operand, on_pointer, bytes_of, falls, numeric_rules, mov_rules, add_rules, alu_rules, loads, stores, load_rules, store_imm_rules, store_rules, jump_rules, jump_if_rules, insn_rules}
+use Rattle.pb_verify.specs.Rules.{at, reads, sets, reads_operand, on_pointer, bytes_of, falls, numeric_rules, part_mov_rules, mov_rules, add_rules, alu_rules, loads, stores, load_rules, store_imm_rules, store_rules, jump_rules, jump_if_rules, insn_rules}
 
 -- ---- lists of codes that rise
 
@@ -75,13 +75,16 @@ numeric_rises f d x =
 read_and_set : (f : Frame) (r d : Reg) → CodesRiseWithin 21 22 (reads f r ++ sets d)
 read_and_set f r d = joined 21 21 22 (reads f r) (sets d) (reads_rise f r) (sets_rise d)
 
+part_mov_rises : (f : Frame) (d r : Reg) → CodesRiseWithin 21 34 (part_mov_rules f d r)
+part_mov_rises f d r =
+    joined 21 22 34 (reads f r ++ sets d) (when (is_pointer (at f r)) PointerArithmetic) (read_and_set f r d)
+    (one 22 34 (is_pointer (at f r)) PointerArithmetic (omega arith) (omega arith))
+
 mov_rises : (f : Frame) (w : Width) (d : Reg) (x : Operand) → CodesRiseWithin 21 34 (mov_rules f w d x)
 mov_rises f Bits64 d (operands.Imm k) = to_higher 21 22 34 (sets d) (omega arith) (sets_rise d)
 mov_rises f Bits32 d (operands.Imm k) = to_higher 21 22 34 (sets d) (omega arith) (sets_rise d)
 mov_rises f Bits64 d (operands.Reg r) = to_higher 21 22 34 (reads f r ++ sets d) (omega arith) (read_and_set f r d)
-mov_rises f Bits32 d (operands.Reg r) =
-    joined 21 22 34 (reads f r ++ sets d) (when (is_pointer (at f r)) PointerArithmetic) (read_and_set f r d)
-    (one 22 34 (is_pointer (at f r)) PointerArithmetic (omega arith) (omega arith))
+mov_rises f Bits32 d (operands.Reg r) = part_mov_rises f d r
 
 add_rises : (f : Frame) (w : Width) (d : Reg) (x : Operand) → CodesRiseWithin 21 34 (add_rules f w d x)
 add_rises f Bits64 d (operands.Imm k) = to_higher 21 22 34 (reads f d ++ sets d) (omega arith) (read_and_set f d d)
@@ -134,9 +137,10 @@ compared p n f d x o =
 
 pub codes_rise : ArgumentCodesRise → (j : JudgedOf) (n : ℕ) (f : Frame) (i : Insn) → CodesRiseWithin 21 38 (insn_rules j n f i)
 codes_rise calls j n f (Alu op w d x) = with_falls j.program.insns (n + 1) (alu_rules f op w d x) (alu_rises f op w d x)
+codes_rise calls j n f (MovSx w z d r) = with_falls j.program.insns (n + 1) (part_mov_rules f d r) (part_mov_rises f d r)
 codes_rise calls j n f (Neg w d) = with_falls j.program.insns (n + 1) (numeric_rules f d (operands.Imm (pos 0))) (numeric_rises f d (operands.Imm (pos 0)))
 codes_rise calls j n f (LoadImm d v) = with_falls j.program.insns (n + 2) (sets d) (to_higher 21 22 34 (sets d) (omega arith) (sets_rise d))
-codes_rise calls j n f (Load z d r o) =
+codes_rise calls j n f (Load z x d r o) =
     with_falls j.program.insns (n + 1) (load_rules j.record_size f z d r o) (joined 21 22 34 (reads f r ++ sets d) (loads j.record_size f (at f r) o (bytes_of z)) (read_and_set f r d) (loads_rise j.record_size f (at f r) o (bytes_of z)))
 codes_rise calls j n f (StoreImm z d o k) =
     with_falls j.program.insns (n + 1) (store_imm_rules f z d o)

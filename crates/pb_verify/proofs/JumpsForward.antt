@@ -4,7 +4,7 @@ use Rattle.std.proofs.lemmas.List.{get_or_past}
 use Rattle.std.proofs.lemmas.Bool.{cases_lt}
 use Rattle.std.proofs.lemmas.Bool.Decides.{nat_tests}
 use Rattle.pb_isa.specs.declared.insn.Insn.{Insn}
-use Rattle.pb_isa.specs.declared.insn.Insn.TheVariants.{Alu, Neg, LoadImm, Load, StoreImm, Store, Jump, JumpIf, Call, Exit}
+use Rattle.pb_isa.specs.declared.insn.Insn.TheVariants.{Alu, MovSx, Neg, LoadImm, Load, StoreImm, Store, Jump, JumpIf, Call, Exit}
 use Rattle.pb_isa.specs.Programs.{JudgedOf}
 use Rattle.pb_isa.specs.Slots.{layout, slots, insn_at}
 use Rattle.pb_kinds.specs.declared.frame.Frame.{Frame}
@@ -38,9 +38,10 @@ next_later m n h = let e = one_is n (m + 1) h in omega arith
 
 pub leads_later : LeadsAreLater
 leads_later m n (Alu op w d x) h = next_later m n h
+leads_later m n (MovSx w z d r) h = next_later m n h
 leads_later m n (Neg w d) h = next_later m n h
 leads_later m n (LoadImm d v) h = let e = one_is n (m + 2) h in omega arith
-leads_later m n (Load z d r o) h = next_later m n h
+leads_later m n (Load z x d r o) h = next_later m n h
 leads_later m n (StoreImm z d o k) h = next_later m n h
 leads_later m n (Store z d r o) h = next_later m n h
 leads_later m n (Jump o) h = ahead_later m n o h

@@ -1,7 +1,7 @@
 -- What is known after an instruction whose rules hold, and where it leads.
 use Rattle.std.specs.Prelude.{ℕ, ◌+◌, ℤ, pos, negsuc, ◌+ℤ◌, neg_ℤ, if◌then◌else◌, List, [], ◌∷◌, slice_set, slice_index_or, Option, Some}
 use Rattle.pb_isa.specs.declared.insn.Insn.{Insn}
-use Rattle.pb_isa.specs.declared.insn.Insn.TheVariants.{Alu, Neg, LoadImm, Load, StoreImm, Store, Jump, JumpIf, Call, Exit}
+use Rattle.pb_isa.specs.declared.insn.Insn.TheVariants.{Alu, MovSx, Neg, LoadImm, Load, StoreImm, Store, Jump, JumpIf, Call, Exit}
 use Rattle.pb_isa.specs.declared.insn.AluOp.{AluOp}
 use Rattle.pb_isa.specs.declared.insn.AluOp.TheVariants.{Add, Sub, Mov}
 use Rattle.pb_isa.specs.declared.insn.Width.{Width}
@@ -53,9 +53,10 @@ after_call f h = clobber f
 
 abbrev pub after : Frame → Insn → Frame
 after f (Alu op w dst src) = with_kind f dst (kind_after f op w dst src)
+after f (MovSx w z dst src) = with_kind f dst Number
 after f (Neg w dst) = with_kind f dst Number
 after f (LoadImm dst imm) = with_kind f dst Number
-after f (Load z dst src offset) = with_kind f dst Number
+after f (Load z x dst src offset) = with_kind f dst Number
 after f (StoreImm z dst offset imm) = with_store f (at f dst) offset (bytes_of z)
 after f (Store z dst src offset) = with_store f (at f dst) offset (bytes_of z)
 after f (Jump offset) = f

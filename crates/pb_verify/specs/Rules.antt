@@ -3,7 +3,7 @@
 use Rattle.std.specs.Prelude.{ℕ, ◌+◌, ℤ, pos, negsuc, ◌+ℤ◌, Bool, false, not, ◌||◌, if◌then◌else◌, List, [], ◌∷◌, ◌++◌, is_none, nat_eq, nat_le}
 use Rattle.std.specs.Int.{byte_len}
 use Rattle.pb_isa.specs.declared.insn.Insn.{Insn}
-use Rattle.pb_isa.specs.declared.insn.Insn.TheVariants.{Alu, Neg, LoadImm, Load, StoreImm, Store, Jump, JumpIf, Call, Exit}
+use Rattle.pb_isa.specs.declared.insn.Insn.TheVariants.{Alu, MovSx, Neg, LoadImm, Load, StoreImm, Store, Jump, JumpIf, Call, Exit}
 use Rattle.pb_isa.specs.declared.insn.AluOp.{AluOp}
 use Rattle.pb_isa.specs.declared.insn.AluOp.TheVariants.{Add, Sub, Mov}
 use Rattle.pb_isa.specs.declared.insn.Width.{Width}
@@ -64,11 +64,15 @@ falls p m = when (nat_eq m (slots p)) FallsOff
 abbrev pub numeric_rules : Frame → Reg → Operand → List Code
 numeric_rules f dst src = reads f dst ++ reads_operand f src ++ sets dst ++ when (on_pointer f dst src) PointerArithmetic
 
+-- a move of some of the source's bits, which doesn't read the destination: the source may not be a pointer
+abbrev pub part_mov_rules : Frame → Reg → Reg → List Code
+part_mov_rules f dst src = reads f src ++ sets dst ++ when (is_pointer (at f src)) PointerArithmetic
+
 -- mov doesn't read the destination; on 32 bits it moves no pointer
 abbrev pub mov_rules : Frame → Width → Reg → Operand → List Code
 mov_rules f w dst (operands.Imm imm) = sets dst
 mov_rules f Bits64 dst (operands.Reg src) = reads f src ++ sets dst
-mov_rules f Bits32 dst (operands.Reg src) = reads f src ++ sets dst ++ when (is_pointer (at f src)) PointerArithmetic
+mov_rules f Bits32 dst (operands.Reg src) = part_mov_rules f dst src
 
 -- add64 and sub64 of an immediate may move a pointer
 abbrev pub add_rules : Frame → Width → Reg → Operand → List Code
@@ -128,9 +132,10 @@ exit_rules f = unset f 0 ++ when (is_pointer (kind_of f 0)) ExitsWithPointer
 -- the slot after it, which has to be there
 abbrev pub insn_rules : JudgedOf → ℕ → Frame → Insn → List Code
 insn_rules j n f (Alu op w dst src) = alu_rules f op w dst src ++ falls j.program.insns (n + 1)
+insn_rules j n f (MovSx w z dst src) = part_mov_rules f dst src ++ falls j.program.insns (n + 1)
 insn_rules j n f (Neg w dst) = numeric_rules f dst (operands.Imm (pos 0)) ++ falls j.program.insns (n + 1)
 insn_rules j n f (LoadImm dst imm) = sets dst ++ falls j.program.insns (n + 2)
-insn_rules j n f (Load z dst src offset) = load_rules j.record_size f z dst src offset ++ falls j.program.insns (n + 1)
+insn_rules j n f (Load z x dst src offset) = load_rules j.record_size f z dst src offset ++ falls j.program.insns (n + 1)
 insn_rules j n f (StoreImm z dst offset imm) = store_imm_rules f z dst offset ++ falls j.program.insns (n + 1)
 insn_rules j n f (Store z dst src offset) = store_rules f z dst src offset ++ falls j.program.insns (n + 1)
 insn_rules j n f (Jump offset) = jump_rules j.program.insns n offset

@@ -112,7 +112,10 @@ pub fn step(frame: &mut Frame, insn: Insn)
             let kind = kind_after(frame, op, width, dst, src);
             set_kind(frame, dst, kind);
         }
-        Insn::Neg { dst, .. } | Insn::LoadImm { dst, .. } | Insn::Load { dst, .. } => {
+        Insn::MovSx { dst, .. }
+        | Insn::Neg { dst, .. }
+        | Insn::LoadImm { dst, .. }
+        | Insn::Load { dst, .. } => {
             set_kind(frame, dst, Kind::Number);
         }
         Insn::StoreImm {

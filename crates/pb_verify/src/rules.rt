@@ -5,7 +5,7 @@ ghost use Rattle.pb_kinds.specs.Ranges as ranges;
 ghost use Rattle.pb_helpers.specs.Bytes.{size_of};
 ghost use Rattle.pb_verify.specs.Versions.{judged_by};
 ghost use Rattle.pb_helpers.specs.Codes.{lowest_code};
-ghost use Rattle.pb_verify.specs.Rules.{at, reads, sets, reads_operand, points, on_pointer, bytes_of, falls, numeric_rules, mov_rules, add_rules, alu_rules, loads, stores, load_rules, store_imm_rules, store_rules, jump_rules, jump_if_rules, exit_rules, insn_rules, CodesRise};
+ghost use Rattle.pb_verify.specs.Rules.{at, reads, sets, reads_operand, points, on_pointer, bytes_of, falls, numeric_rules, part_mov_rules, mov_rules, add_rules, alu_rules, loads, stores, load_rules, store_imm_rules, store_rules, jump_rules, jump_if_rules, exit_rules, insn_rules, CodesRise};
 ghost use Rattle.pb_verify.specs.Within.{IsNear, IsWithin};
 
 use pb_helpers::{
@@ -86,6 +86,16 @@ fn numeric(frame: &Frame, dst: Reg, src: Operand) -> Option<Code>
 }
 
 #[tactic(auto, using(crate::proofs::LowestCode::lowest_append))]
+fn part_mov(frame: &Frame, dst: Reg, src: Reg) -> Option<Code>
+    ensures { result ≡ lowest_code (part_mov_rules frame.now dst src) }
+{
+    let is_pointer = kind(frame, src).is_pointer();
+    reads(frame, src)
+        .or(sets(dst))
+        .or(Code::PointerArithmetic.when(is_pointer))
+}
+
+#[tactic(auto, using(crate::proofs::LowestCode::lowest_append))]
 fn mov(frame: &Frame, width: Width, dst: Reg, src: Operand) -> Option<Code>
     ensures { result ≡ lowest_code (mov_rules frame.now width dst src) }
 {
@@ -93,12 +103,7 @@ fn mov(frame: &Frame, width: Width, dst: Reg, src: Operand) -> Option<Code>
         Operand::Imm(_) => sets(dst),
         Operand::Reg(src) => match width {
             Width::Bits64 => reads(frame, src).or(sets(dst)),
-            Width::Bits32 => {
-                let is_pointer = kind(frame, src).is_pointer();
-                reads(frame, src)
-                    .or(sets(dst))
-                    .or(Code::PointerArithmetic.when(is_pointer))
-            }
+            Width::Bits32 => part_mov(frame, dst, src),
         },
     }
 }
@@ -277,10 +282,17 @@ pub fn lowest_broken(
             dst,
             src,
         } => alu(frame, op, width, dst, src).or(falls),
+        Insn::MovSx {
+            width: _,
+            size: _,
+            dst,
+            src,
+        } => part_mov(frame, dst, src).or(falls),
         Insn::Neg { width: _, dst } => numeric(frame, dst, Operand::Imm(0)).or(falls),
         Insn::LoadImm { dst, imm: _ } => sets(dst).or(self::falls(program, slot + 2)),
         Insn::Load {
             size,
+            extension: _,
             dst,
             src,
             offset,

@@ -80,7 +80,9 @@ pub fn verify_for(
     let Ok(mut jumps) = no_jumps(alloc, program.slots()) else {
         return Err(VerifyFault::NoMemory);
     };
-    let mut ops: Vec<Op> = Vec::new(alloc);
+    let Ok(mut ops) = Vec::<Op>::with_capacity(alloc, program.slots()) else {
+        return Err(VerifyFault::NoMemory);
+    };
     let mut frame = entry();
     // The slot that the frame leads to in order.
     let mut next = 0;
@@ -88,9 +90,7 @@ pub fn verify_for(
         let Some(insn) = program.at(slot) else {
             // The instruction of the first slot is that before.
             let first = program.at(slot.saturating_sub(1));
-            if ops.push(resolve_next(first)).is_err() {
-                return Err(VerifyFault::NoMemory);
-            }
+            ops.push_reserved(resolve_next(first));
             continue;
         };
         let is_reached = arrive(&mut jumps, slot, &mut frame, slot == next);
@@ -101,9 +101,7 @@ pub fn verify_for(
             }));
         }
         let access = access_of(&frame, insn);
-        if ops.push(resolve(slot, insn, access)).is_err() {
-            return Err(VerifyFault::NoMemory);
-        }
+        ops.push_reserved(resolve(slot, insn, access));
         step(&mut frame, insn);
         next = match spread(alloc, &mut jumps, slot, insn, &frame) {
             Ok(next) => next,

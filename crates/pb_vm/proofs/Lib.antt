@@ -6,6 +6,7 @@ pub mod Stepping
 pub mod Starting
 pub mod Advancing
 pub mod Skipping
+pub mod OfProfile
 pub mod Doing
 pub mod LeadingOn
 pub mod Rounds

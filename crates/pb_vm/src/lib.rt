@@ -10,6 +10,7 @@ mod interpreter;
 mod local;
 mod memory;
 mod moved;
+mod operations;
 mod vm;
 mod writes;
 

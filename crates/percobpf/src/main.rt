@@ -1,7 +1,7 @@
 //! The program: `run MANIFEST SCRIPT [--workers N] [--swaps M]` has N workers make a script's changes and run the observers
-//! while M tablets are replaced, and prints the committed cells and the work that is left; `replay MANIFEST SCRIPT SCHEDULE` does the same for a schedule's events;
-//! `asm IN OUT` writes the bytes of a program's text, `dis FILE` lists a program's bytes, and `check FILE` tells whether
-//! they are accepted.
+//! while M tablets are replaced, and prints the committed cells and the work that is left; `replay MANIFEST SCRIPT SCHEDULE`
+//! does the same for a schedule's events; `asm IN OUT` writes the bytes of a program's text, `dis FILE` lists a program's
+//! bytes, and `check FILE` tells whether they are accepted, each with `--profile N`.
 #![tactic(auto)]
 
 ghost use Rattle.std.specs.Prelude.{◌≡◌, vec_len};

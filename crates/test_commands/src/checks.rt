@@ -2,10 +2,16 @@
 use crate::carried::{carry, has_told};
 use crate::programs::{holding, is_cut_anywhere};
 use pb_command::PathFault;
+use pb_helpers::Version;
+use pb_isa::Profile;
 use pb_texts::Options;
 use std::rt::HostRuntime;
 
-const CHECK: Options = Options::Check { file: "i" };
+const CHECK: Options = Options::Check {
+    file: "i",
+    profile: Profile::One,
+    version: Version::First,
+};
 
 #[test]
 fn memory_for_a_program_is_refused(rt: HostRuntime) {

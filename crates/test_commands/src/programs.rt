@@ -7,11 +7,15 @@ ghost use Rattle.pb_command.specs.declared.paths.PathFault.TheVariants as faults
 use crate::carried::{Outcome, carry, has_told, is_cut};
 use pb_base::NoMemory;
 use pb_command::{PathFault, Paths};
+use pb_isa::Profile;
 use pb_texts::Options;
 use std::alloc::Global;
 use std::rt::HostRuntime;
 
-const LISTING: Options = Options::Dis { file: "i" };
+const LISTING: Options = Options::Dis {
+    file: "i",
+    profile: Profile::One,
+};
 
 // A file to be read at the path `i`, and what was written to the path `o`. No other path can be read or written.
 #[derive(Drop)]
@@ -100,6 +104,7 @@ fn asm(rt: &HostRuntime, folder: &mut Folder) -> Result<Outcome, NoMemory> {
     let options = Options::Asm {
         input: "i",
         output: "o",
+        profile: Profile::One,
     };
     carry(rt, &options, folder, usize::MAX, true)
 }
@@ -144,7 +149,10 @@ fn what_was_written_is_read(rt: HostRuntime) {
     let mut folder = holding(rt.alloc(), b"exit");
     let outcome = asm(&rt, &mut folder).expect(&rt, "memory");
     assert!(rt; outcome.status == 0);
-    let listing = Options::Dis { file: "o" };
+    let listing = Options::Dis {
+        file: "o",
+        profile: Profile::One,
+    };
     let outcome = carry(&rt, &listing, &mut folder, usize::MAX, true).expect(&rt, "memory");
     assert!(rt; outcome.status == 0);
     assert!(rt; outcome.out.as_slice() == b"exit\n".as_slice());

@@ -3,12 +3,14 @@ mod ends;
 mod helping;
 mod many;
 mod observers;
+mod profiles;
 mod rows;
 
 use pb_asm::assemble;
 use pb_base::{Cell, Column, Content, Revision, Row, Ts, Value};
-use pb_helpers::HelperTable;
-use pb_registry::accept;
+use pb_helpers::{HelperTable, Version};
+use pb_isa::Profile;
+use pb_registry::accept_in;
 use pb_verify::verify;
 use pb_vm::{Accepted, Finished, Phase, Record, Reply, Vm};
 use std::alloc::Global;
@@ -56,9 +58,9 @@ fn bytes_of(rt: &impl Abort, alloc: Global, slots: &[u64]) -> Vec<u8> {
 }
 
 // The accepted program of these slots, with all helpers.
-fn coded(rt: &impl Abort, alloc: Global, slots: &[u64]) -> Arc<Accepted> {
+fn coded(rt: &impl Abort, alloc: Global, profile: Profile, slots: &[u64]) -> Arc<Accepted> {
     let bytes = bytes_of(rt, alloc, slots);
-    let accepted = accept(alloc, &bytes, HelperTable::all())
+    let accepted = accept_in(alloc, profile, Version::First, &bytes, HelperTable::all())
         .ok()
         .expect(rt, "accepted");
     Arc::new(alloc, accepted).expect(rt, "memory")
@@ -76,7 +78,7 @@ fn assembled(rt: &impl Abort, alloc: Global, text: &str) -> Arc<Accepted> {
 // A machine's run to its end, where each ask is answered by this reply, and how many instructions it did.
 fn run_on(rt: &impl Abort, vm: Vm, reply: Reply) -> (Finished, u16) {
     let mut vm = vm;
-    for _ in 0..1024u32 {
+    for _ in 0..5_000u32 {
         match vm.phase() {
             Phase::Going => {
                 vm.step();

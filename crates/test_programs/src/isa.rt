@@ -1,4 +1,4 @@
-use pb_isa::{AluOp, Cmp, Insn, NoProgram, Operand, Program, Reg, Width, alu, holds};
+use pb_isa::{AluOp, Cmp, Insn, NoProgram, Operand, Profile, Program, Reg, Width, alu, holds};
 use std::alloc::Global;
 use std::process::Abort;
 use std::rt::HostRuntime;
@@ -87,8 +87,8 @@ fn comparisons(rt: HostRuntime) {
     }
 }
 
-// How many slots these instructions take, if they make a program; 0 where they are handed back.
-fn slots_of(rt: &impl Abort, alloc: Global, exits: usize, pairs: usize) -> usize {
+// How many slots these instructions take, if they make a program of the profile; 0 where they are handed back.
+fn slots_of(rt: &impl Abort, alloc: Global, profile: Profile, exits: usize, pairs: usize) -> usize {
     let mut insns = Vec::new(alloc);
     for _ in 0..exits {
         insns.push(Insn::Exit).expect(rt, "memory");
@@ -101,31 +101,41 @@ fn slots_of(rt: &impl Abort, alloc: Global, exits: usize, pairs: usize) -> usize
             })
             .expect(rt, "memory");
     }
-    match Program::new(alloc, insns) {
+    if !profile.has_all(&insns) {
+        return 10_000;
+    }
+    match Program::new(alloc, profile, insns) {
         Ok(program) => program.slots(),
         Err(NoProgram::NotInRange(_)) => 0,
-        Err(NoProgram::NoMemory) => 1000,
+        Err(NoProgram::NoMemory) => 10_000,
     }
 }
 
 #[test]
 fn programs(rt: HostRuntime) {
+    // In profile 1 and in profile 2.
     let table = [
-        (0, 0, 0),
-        (1, 0, 1),
-        (0, 1, 2),
-        (512, 0, 512),
-        (513, 0, 0),
-        (510, 1, 512),
-        (511, 1, 0),
-        (0, 256, 512),
-        (0, 257, 0),
+        (0, 0, 0, 0),
+        (1, 0, 1, 1),
+        (0, 1, 2, 2),
+        (512, 0, 512, 512),
+        (513, 0, 0, 513),
+        (510, 1, 512, 512),
+        (511, 1, 0, 513),
+        (0, 256, 512, 512),
+        (0, 257, 0, 514),
+        (4_096, 0, 0, 4_096),
+        (4_097, 0, 0, 0),
+        (4_094, 1, 0, 4_096),
+        (4_095, 1, 0, 0),
+        (0, 2_048, 0, 4_096),
+        (0, 2_049, 0, 0),
     ];
-    for (exits, pairs, wanted) in table {
-        assert!(rt;
-            slots_of(&rt, rt.alloc(), exits, pairs) == wanted,
-            "{exits} {pairs}"
-        );
+    for (exits, pairs, first, second) in table {
+        let in_first = slots_of(&rt, rt.alloc(), Profile::One, exits, pairs);
+        let in_second = slots_of(&rt, rt.alloc(), Profile::Two, exits, pairs);
+        assert!(rt; in_first == first, "{exits} {pairs}");
+        assert!(rt; in_second == second, "{exits} {pairs}");
     }
 }
 
@@ -142,7 +152,8 @@ fn second_slots_have_no_instruction(rt: HostRuntime) {
         src: Operand::Imm(1),
     };
     let insns = Vec::from_array(rt.alloc(), [pair, last]).expect(&rt, "memory");
-    let program = Program::new(rt.alloc(), insns)
+    assert!(rt; Profile::One.has_all(&insns));
+    let program = Program::new(rt.alloc(), Profile::One, insns)
         .ok()
         .expect(&rt, "a program");
     assert!(rt; program.slots() == 3);

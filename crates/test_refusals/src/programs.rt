@@ -4,7 +4,7 @@ use pb_asm::{assemble, disassemble};
 use pb_base::NoMemory;
 use pb_decode::{DecodeFault, decode, encode};
 use pb_helpers::HelperTable;
-use pb_isa::{Insn, NoProgram, Program, Reg};
+use pb_isa::{Insn, NoProgram, Profile, Program, Reg};
 use pb_verify::{VerifyFault, verify};
 use std::alloc::Global;
 
@@ -28,9 +28,18 @@ fn insns(alloc: Global) -> Result<Vec<Insn>, NoMemory> {
     Ok(insns)
 }
 
+// What `Program::new` answers of those instructions.
+fn made(alloc: Global) -> Result<Result<Program, NoProgram>, NoMemory> {
+    let insns = insns(alloc)?;
+    if !Profile::One.has_all(&insns) {
+        return Ok(Err(NoProgram::NotInRange(insns)));
+    }
+    Ok(Program::new(alloc, Profile::One, insns))
+}
+
 // The program of those instructions.
 fn program(alloc: Global) -> Result<Program, NoMemory> {
-    match Program::new(alloc, insns(alloc)?) {
+    match made(alloc)? {
         Ok(program) => Ok(program),
         Err(_) => Err(NoMemory),
     }
@@ -51,7 +60,7 @@ fn is_it(program: &Program) -> bool {
 
 /// `Program::new`.
 pub fn programs_are_made(alloc: Global, refusals: &mut Refusals) -> Result<bool, NoMemory> {
-    match Program::new(alloc, insns(alloc)?) {
+    match made(alloc)? {
         Ok(program) => Ok(is_it(&program)),
         Err(NoProgram::NotInRange(_)) => Ok(false),
         Err(NoProgram::NoMemory) => {

@@ -1,5 +1,6 @@
-//! Replaces each byte of a program by each other value, one at a time. What this makes is judged with all helpers. A
-//! program that is accepted is run with each cell that it asks for absent, and once more with each found; it must come
+//! Replaces each byte of a program by each other value, one at a time. What this makes is judged with all helpers, in profile
+//! 1 for the first version of the change record, and, where it is refused, in profile 2 for the second. A program that is
+//! accepted is run with each cell that it asks for absent, and once more with each found; it must come
 //! to its end in at most as many instructions as it has slots.
 //!
 //! With `FILE SEED TENTHS` behind its name it does so with so many tenths, 1 to 10, of the replaced bytes of the

@@ -1,7 +1,8 @@
 //! One program: it is refused at one of its slots, or accepted and run to its end.
 use pb_base::{Cell, Column, Content, Refused, Revision, Row, Ts, Value};
-use pb_helpers::HelperTable;
-use pb_registry::accept;
+use pb_helpers::{HelperTable, Version};
+use pb_isa::Profile;
+use pb_registry::accept_in;
 use pb_verify::{Accepted, VerifyFault};
 use pb_vm::{Phase, Record, Reply, Vm};
 use std::alloc::Global;
@@ -40,22 +41,23 @@ fn is_verdict(refused: &Refused, len: usize) -> bool {
     (refused.slot as usize) < len / 8 && matches!(refused.code, 12..=16 | 21..=38)
 }
 
-// The record of a change that put a value to cell 7 0, with nothing acknowledged.
-fn change() -> Option<Record> {
-    let version = Revision {
+// The record, of a version, of a change that put a value to cell 7 0, with nothing acknowledged.
+fn change(version: Version) -> Option<Record> {
+    let found = Revision {
         start: Ts(1),
         commit: Ts(2),
         content: Content::Value(PUT),
     };
-    Some(Record::new(Cell::Data(Row(7), Column::new(0)?), &version, Ts(0)))
+    let cell = Cell::Data(Row(7), Column::new(0)?);
+    Some(Record::of_version(version, cell, &found, Ts(0), None))
 }
 
 // A machine of a program on that record, for a run at 3.
 fn start(alloc: Global, program: &Arc<Accepted>) -> Result<Vm, Fault> {
-    let Some(change) = change() else {
+    let version = program.version();
+    let Some(change) = change(version) else {
         return Err(Fault::NoRecord);
     };
-    let version = program.version();
     if change.version() != version {
         return Err(Fault::NoRecord);
     }
@@ -114,14 +116,29 @@ fn runs_of(alloc: Global, program: Accepted) -> Result<u64, Fault> {
     Ok(runs)
 }
 
-/// Judges the program of this code with all helpers, and runs it where it is accepted.
-pub fn judge(alloc: Global, code: &[u8]) -> Result<Verdict, Fault> {
-    match accept(alloc, code, HelperTable::all()) {
+// Judges the program of this code in a profile, for a version of the change record, with all helpers, and runs it where it is
+// accepted.
+fn judge_in(
+    alloc: Global,
+    profile: Profile,
+    version: Version,
+    code: &[u8],
+) -> Result<Verdict, Fault> {
+    match accept_in(alloc, profile, version, code, HelperTable::all()) {
         Ok(program) => Ok(Verdict::Accepted(runs_of(alloc, program)?)),
         Err(VerifyFault::Refused(refused)) if is_verdict(&refused, code.len()) => {
             Ok(Verdict::Refused)
         }
         Err(VerifyFault::Refused(refused)) => Err(Fault::Verdict(refused)),
         Err(VerifyFault::NoMemory) => Err(Fault::NoMemory),
+    }
+}
+
+/// Judges the program of this code in profile 1 for the first version of the change record, and, where it is refused, in
+/// profile 2 for the second.
+pub fn judge(alloc: Global, code: &[u8]) -> Result<Verdict, Fault> {
+    match judge_in(alloc, Profile::One, Version::First, code)? {
+        Verdict::Refused => judge_in(alloc, Profile::Two, Version::Second, code),
+        accepted => Ok(accepted),
     }
 }

@@ -10,9 +10,9 @@ mod running;
 use crate::running::{NoRun, last_of};
 use pb_asm::disassemble;
 use pb_base::NoMemory;
-use pb_decode::{decode, encode};
+use pb_decode::{decode_in, encode};
 use pb_helpers::HelperTable;
-use pb_isa::{AluOp, Insn, Operand, Program, Reg, Size, Width};
+use pb_isa::{AluOp, Extension, Insn, Operand, Profile, Program, Reg, Size, Width};
 use pb_verify::verify;
 use std::alloc::Global;
 use std::env;
@@ -41,6 +41,7 @@ fn insn_at(place: u16) -> Insn {
         },
         _ => Insn::Load {
             size: Size::Dw,
+            extension: Extension::Zeros,
             dst: Reg::R1,
             src: Reg::R10,
             offset: -8,
@@ -55,7 +56,11 @@ fn bytes_of(alloc: Global, slots: u16) -> Result<Option<Vec<u8>>, NoMemory> {
         insns.push(insn_at(place - 1))?;
     }
     insns.push(Insn::Exit)?;
-    match Program::new(alloc, insns) {
+    let profile = Profile::Two;
+    if !profile.has_all(&insns) {
+        return Ok(None);
+    }
+    match Program::new(alloc, profile, insns) {
         Ok(program) => Ok(Some(encode(alloc, &program)?)),
         Err(_) => Ok(None),
     }
@@ -63,14 +68,14 @@ fn bytes_of(alloc: Global, slots: u16) -> Result<Option<Vec<u8>>, NoMemory> {
 
 // How many bytes the listing of this program has; none where the bytes are no program's.
 fn listed(alloc: Global, bytes: &[u8]) -> Option<usize> {
-    let program = decode(alloc, bytes).ok()?;
+    let program = decode_in(alloc, Profile::Two, bytes).ok()?;
     let listing = disassemble(alloc, &program).ok()?;
     Some(listing.len())
 }
 
 // How many slots this program has; none where the bytes are no accepted program's.
 fn verified(alloc: Global, bytes: &[u8]) -> Option<usize> {
-    let program = decode(alloc, bytes).ok()?;
+    let program = decode_in(alloc, Profile::Two, bytes).ok()?;
     let accepted = verify(alloc, program, HelperTable::all()).ok()?;
     Some(accepted.slots())
 }

@@ -10,7 +10,7 @@ use std::io::Read;
 use std::sync::Arc;
 
 // More than a step and a reply for each instruction of the longest program.
-const CALLS: u16 = 2_048;
+const CALLS: u16 = 8_400;
 
 /// How many instructions a run did, and what it left.
 #[derive(Drop)]

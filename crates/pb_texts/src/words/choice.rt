@@ -3,6 +3,8 @@ ghost use Rattle.std.specs.Prelude.{◌≡◌};
 ghost use Rattle.pb_texts.specs.CommandLines.{swaps_asked};
 
 use pb_base::Ts;
+use pb_helpers::Version;
+use pb_isa::Profile;
 
 /// What the program is to do.
 #[derive(Clone, Copy, Debug)]
@@ -23,18 +25,22 @@ pub enum Options<'a> {
         schedule: &'a str,
         clock: Ts,
     },
-    /// Reads a program's text, and writes its bytes.
+    /// Reads the text of a program of this profile, and writes its bytes.
     Asm {
         input: &'a str,
         output: &'a str,
+        profile: Profile,
     },
-    /// Reads a program's bytes, and lists it.
+    /// Reads the bytes of a program of this profile, and lists it.
     Dis {
         file: &'a str,
+        profile: Profile,
     },
-    /// Reads a program's bytes, and tells whether it is accepted.
+    /// Reads the bytes of a program of this profile, and tells whether it is accepted for change records of this version.
     Check {
         file: &'a str,
+        profile: Profile,
+        version: Version,
     },
 }
 

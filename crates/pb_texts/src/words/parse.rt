@@ -2,13 +2,17 @@
 ghost use Rattle.std.specs.Prelude.{◌≡◌, ℕ, List, true, IfOk, Some, [], false, option_map, codes};
 ghost use Rattle.clap.specs.Words.{FailsBy, app_of, fault_of, first_of, found_of, kind_of, one_of, rows_of, rule_of, subcommand_of, subcommand_rows_of};
 ghost use Rattle.pb_base.specs.Reading.{texts_of};
-ghost use Rattle.pb_texts.specs.CommandLines.{required_rule, workers_rule, run_app, clock_rule, replay_app, asm_app, dis_app, check_app, texts_app, program_app, swaps_rule, is_within, count_of, workers_of, swaps_of, run_in, clock_of, replay_in, asm_in, dis_in, check_in, command_in, command_of, words_fault, request_of, IsInRange, is_plain_word, is_workers, is_swaps, count_number, is_clock, clock_number, run_words, workers_words, swaps_words, replay_words, clock_words, asm_words, dis_words, check_words, Run, Replay, Asm, Dis, Check, AskFor, HaveBadValue};
+ghost use Rattle.pb_texts.specs.CommandLines.{required_rule, workers_rule, run_app, clock_rule, profile_rule, profile_numbered, profile_of, record_rule, version_numbered, version_of, replay_app, asm_app, dis_app, check_app, texts_app, program_app, swaps_rule, is_within, count_of, workers_of, swaps_of, run_in, clock_of, replay_in, asm_in, dis_in, check_in, command_in, command_of, words_fault, request_of, IsInRange, is_plain_word, is_workers, is_swaps, count_number, is_clock, clock_number, run_words, workers_words, swaps_words, replay_words, clock_words, asm_words, dis_words, check_words, Run, Replay, Asm, Dis, Check, AskFor, HaveBadValue, TakeProfiles, RefuseOtherProfiles, TakeVersions, RefuseOtherVersions};
+ghost use Rattle.pb_isa.specs.declared.profile.Profile.TheVariants.{One};
+ghost use Rattle.pb_helpers.specs.declared.change.Version.TheVariants.{First};
 ghost use Rattle.clap.specs.declared.builder.command.Command.TheViews.{out-Command as fields_of};
 
 use crate::words::choice::Options;
 use clap::error::ErrorKind;
 use clap::{Arg, ArgMatches, Command, Error, value_parser};
 use pb_base::{MAX_SEATS, Ts};
+use pb_helpers::Version;
+use pb_isa::Profile;
 use std::alloc::{AllocError, Global};
 
 // The first seat is the main thread's.
@@ -16,6 +20,12 @@ const MAX_WORKERS: u32 = MAX_SEATS - 1;
 
 // So many swaps may be asked for beside a run's workers.
 const MAX_SWAPS: u32 = 1_000;
+
+// The profiles are numbered from 1 on.
+const LAST_PROFILE: u32 = 2;
+
+// So are the versions of the change record.
+const LAST_VERSION: u32 = 2;
 
 fn manifest_operand<'a>(alloc: Global) -> Arg<'a>
     ensures rule { rule_of result ≡ required_rule (codes "MANIFEST") }
@@ -98,40 +108,82 @@ fn replay_command<'a>(alloc: Global) -> Result<Command<'a>, AllocError>
         .arg(clock_option(alloc))
 }
 
+fn text_operand<'a>(alloc: Global) -> Arg<'a>
+    ensures rule { rule_of result ≡ required_rule (codes "IN") }
+    ensures local { result.global ≡ false }
+{
+    let text = Arg::new(alloc, "IN").required(true);
+    text.help("A text file with one instruction a line")
+}
+
+fn output_operand<'a>(alloc: Global) -> Arg<'a>
+    ensures rule { rule_of result ≡ required_rule (codes "OUT") }
+    ensures local { result.global ≡ false }
+{
+    let output = Arg::new(alloc, "OUT").required(true);
+    output.help("The file that the program's bytes are written to")
+}
+
+fn file_operand<'a>(alloc: Global) -> Arg<'a>
+    ensures rule { rule_of result ≡ required_rule (codes "FILE") }
+    ensures local { result.global ≡ false }
+{
+    let file = Arg::new(alloc, "FILE").required(true);
+    file.help("A file with a program's bytes")
+}
+
+fn profile_option<'a>(alloc: Global) -> Arg<'a>
+    ensures rule { rule_of result ≡ profile_rule }
+    ensures local { result.global ≡ false }
+{
+    Arg::new(alloc, "profile")
+        .long("profile")
+        .value_name("N")
+        .value_parser(value_parser!(u64).range(1..=i64::from(LAST_PROFILE)))
+        .help("The profile of the program, 1 or 2; 1 where none is named")
+}
+
+fn record_option<'a>(alloc: Global) -> Arg<'a>
+    ensures rule { rule_of result ≡ record_rule }
+    ensures local { result.global ≡ false }
+{
+    Arg::new(alloc, "record")
+        .long("record")
+        .value_name("N")
+        .value_parser(value_parser!(u64).range(1..=i64::from(LAST_VERSION)))
+        .help("The version of the change record, 1 or 2; 1 where none is named")
+}
+
 fn asm_command<'a>(alloc: Global) -> Result<Command<'a>, AllocError>
     ensures app { IfOk result (λ c. app_of c ≡ asm_app) }
     ensures local { IfOk result (λ c. (fields_of c).has_globals ≡ false) }
 {
-    let input = Arg::new(alloc, "IN").required(true);
-    let output = Arg::new(alloc, "OUT").required(true);
-    let input = input.help("A text file with one instruction a line");
-    let output = output.help("The file that the program's bytes are written to");
     let bare = Command::new(alloc, "asm");
     bare.about("Writes the bytes of a program's text")
-        .arg(input)?
-        .arg(output)
+        .arg(text_operand(alloc))?
+        .arg(output_operand(alloc))?
+        .arg(profile_option(alloc))
 }
 
 fn dis_command<'a>(alloc: Global) -> Result<Command<'a>, AllocError>
     ensures app { IfOk result (λ c. app_of c ≡ dis_app) }
     ensures local { IfOk result (λ c. (fields_of c).has_globals ≡ false) }
 {
-    let file = Arg::new(alloc, "FILE").required(true);
-    let file = file.help("A file with a program's bytes");
     let bare = Command::new(alloc, "dis");
     bare.about("Prints the text of a program's bytes, or where they are refused")
-        .arg(file)
+        .arg(file_operand(alloc))?
+        .arg(profile_option(alloc))
 }
 
 fn check_command<'a>(alloc: Global) -> Result<Command<'a>, AllocError>
     ensures app { IfOk result (λ c. app_of c ≡ check_app) }
     ensures local { IfOk result (λ c. (fields_of c).has_globals ≡ false) }
 {
-    let bytes = Arg::new(alloc, "FILE").required(true);
-    let bytes = bytes.help("A file with a program's bytes");
     let bare = Command::new(alloc, "check");
     bare.about("Prints whether a program's bytes are accepted, or where they are refused")
-        .arg(bytes)
+        .arg(file_operand(alloc))?
+        .arg(profile_option(alloc))?
+        .arg(record_option(alloc))
 }
 
 // The program with the subcommands that read texts.
@@ -244,34 +296,74 @@ fn replay_in<'a>(replay: &ArgMatches<'a>) -> Option<Options<'a>>
     })
 }
 
+fn profile_numbered(number: u32) -> Profile
+    ensures { result ≡ profile_numbered number }
+{
+    match number {
+        1 => Profile::One,
+        _ => Profile::Two,
+    }
+}
+
+// The profile that the matches of `asm`, `dis` or `check` name.
+fn profile_in(program: &ArgMatches) -> Option<Profile>
+    ensures { result ≡ profile_of (first_of (codes "profile") (rows_of (found_of program.now))) }
+{
+    match value_in(program, "profile") {
+        Some(text) => Some(profile_numbered(number_named(text, 1, LAST_PROFILE)?)),
+        None => Some(Profile::One),
+    }
+}
+
+fn version_numbered(number: u32) -> Version
+    ensures { result ≡ version_numbered number }
+{
+    match number {
+        1 => Version::First,
+        _ => Version::Second,
+    }
+}
+
+// The version of the change record that the matches of `check` name.
+fn version_in(check: &ArgMatches) -> Option<Version>
+    ensures { result ≡ version_of (first_of (codes "record") (rows_of (found_of check.now))) }
+{
+    match value_in(check, "record") {
+        Some(text) => Some(version_numbered(number_named(text, 1, LAST_VERSION)?)),
+        None => Some(Version::First),
+    }
+}
+
 // What the matches of `asm` name.
 fn asm_in<'a>(asm: &ArgMatches<'a>) -> Option<Options<'a>>
     ensures { option_map request_of result ≡ asm_in (rows_of (found_of asm.now)) }
 {
-    match (value_in(asm, "IN"), value_in(asm, "OUT")) {
-        (Some(input), Some(output)) => Some(Options::Asm { input, output }),
-        _ => None,
-    }
+    Some(Options::Asm {
+        profile: profile_in(asm)?,
+        input: value_in(asm, "IN")?,
+        output: value_in(asm, "OUT")?,
+    })
 }
 
 // What the matches of `dis` name.
 fn dis_in<'a>(dis: &ArgMatches<'a>) -> Option<Options<'a>>
     ensures { option_map request_of result ≡ dis_in (rows_of (found_of dis.now)) }
 {
-    match value_in(dis, "FILE") {
-        Some(file) => Some(Options::Dis { file }),
-        None => None,
-    }
+    Some(Options::Dis {
+        profile: profile_in(dis)?,
+        file: value_in(dis, "FILE")?,
+    })
 }
 
 // What the matches of `check` name.
 fn check_in<'a>(check: &ArgMatches<'a>) -> Option<Options<'a>>
     ensures { option_map request_of result ≡ check_in (rows_of (found_of check.now)) }
 {
-    match value_in(check, "FILE") {
-        Some(file) => Some(Options::Check { file }),
-        None => None,
-    }
+    Some(Options::Check {
+        profile: profile_in(check)?,
+        version: version_in(check)?,
+        file: value_in(check, "FILE")?,
+    })
 }
 
 // What the matches of a command line name.
@@ -288,15 +380,38 @@ fn command_in<'a>(matches: &ArgMatches<'a>) -> Option<Options<'a>>
     }
 }
 
-// The error of a plus before the number of workers or that of swaps.
-fn plus_refused(alloc: Global) -> Result<Error, AllocError>
+// The error of a plus before the number of this option, with the usage of its subcommand.
+fn plus_told(alloc: Global, command: Command, name: &str, option: &str) -> Result<Error, AllocError>
     ensures { IfOk result (λ e. kind_of e ≡ ErrorKind.ValueValidation) }
 {
-    let mut run = run_command(alloc)?.bin_name("percobpf run")?;
-    run.error(
-        ErrorKind::ValueValidation,
-        "invalid value for '--workers <N>' or '--swaps <M>': a plus stands before the digits",
-    )
+    let text = format!(in alloc; "invalid value for '{option}': a plus stands before the digits")?;
+    let mut named = command.bin_name(name)?;
+    named.error(ErrorKind::ValueValidation, &text)
+}
+
+// The error of a plus before a number, told of the first option that has one.
+fn plus_refused(alloc: Global, matches: &ArgMatches) -> Result<Error, AllocError>
+    ensures { IfOk result (λ e. kind_of e ≡ ErrorKind.ValueValidation) }
+{
+    match matches.subcommand() {
+        Some(("asm", _)) => plus_told(alloc, asm_command(alloc)?, "percobpf asm", "--profile <N>"),
+        Some(("dis", _)) => plus_told(alloc, dis_command(alloc)?, "percobpf dis", "--profile <N>"),
+        Some(("check", check)) => {
+            let option = if profile_in(check).is_none() {
+                "--profile <N>"
+            } else {
+                "--record <N>"
+            };
+            plus_told(alloc, check_command(alloc)?, "percobpf check", option)
+        }
+        Some((_, run)) if workers_in(run).is_none() => plus_told(
+            alloc,
+            run_command(alloc)?,
+            "percobpf run",
+            "--workers <N>",
+        ),
+        _ => plus_told(alloc, run_command(alloc)?, "percobpf run", "--swaps <M>"),
+    }
 }
 
 /// What the words of a command line ask for, the program's own first. The error of another command line has the text
@@ -309,14 +424,15 @@ pub fn options<'a>(alloc: Global, words: &'a [&'a str]) -> Result<Options<'a>, E
     let matches = matches_of(alloc, words)?;
     match command_in(&matches) {
         Some(options) => Ok(options),
-        // Of what `clap` takes, only a plus before the number of workers or that of swaps asks for nothing.
-        None => Err(plus_refused(alloc)?),
+        // Of what `clap` takes, only a plus before a number other than a clock asks for nothing.
+        None => Err(plus_refused(alloc, &matches)?),
     }
 }
 
 /// A subcommand with as many words behind it as it has operands, none of which begins with a hyphen, is taken. So is
 /// `run` with `--workers` and a number of workers behind them, or `--swaps` and a number of swaps, decimal digits alone,
-/// and `replay` with `--clock` and a number of `u64`; with another such word there each is refused.
+/// `replay` with `--clock` and a number of `u64`, and `asm`, `dis` and `check` with `--profile` and 1 or 2, decimal digits
+/// alone; with another such word there each is refused. Without `--profile` the profile is the first.
 pub fn plain_words_are_taken()
     ensures run { (program manifest script : List ℕ) → is_plain_word manifest ≡ true → is_plain_word script ≡ true
         → AskFor (run_words program manifest script) (Run manifest script 1 0) }
@@ -343,8 +459,25 @@ pub fn plain_words_are_taken()
         → is_plain_word script ≡ true → is_plain_word schedule ≡ true → is_plain_word clock ≡ true
         → is_clock clock ≡ false → HaveBadValue (clock_words program manifest script schedule clock) }
     ensures asm { (program input output : List ℕ) → is_plain_word input ≡ true → is_plain_word output ≡ true
-        → AskFor (asm_words program input output) (Asm input output) }
-    ensures dis { (program file : List ℕ) → is_plain_word file ≡ true → AskFor (dis_words program file) (Dis file) }
+        → AskFor (asm_words program input output) (Asm input output One) }
+    ensures asm_profile { (program input output : List ℕ) → is_plain_word input ≡ true → is_plain_word output ≡ true
+        → TakeProfiles (asm_words program input output) (Asm input output) }
+    ensures other_asm_profile { (program input output : List ℕ) → is_plain_word input ≡ true
+        → is_plain_word output ≡ true → RefuseOtherProfiles (asm_words program input output) }
+    ensures dis { (program file : List ℕ) → is_plain_word file ≡ true
+        → AskFor (dis_words program file) (Dis file One) }
+    ensures dis_profile { (program file : List ℕ) → is_plain_word file ≡ true
+        → TakeProfiles (dis_words program file) (Dis file) }
+    ensures other_dis_profile { (program file : List ℕ) → is_plain_word file ≡ true
+        → RefuseOtherProfiles (dis_words program file) }
     ensures check { (program file : List ℕ) → is_plain_word file ≡ true
-        → AskFor (check_words program file) (Check file) }
+        → AskFor (check_words program file) (Check file One First) }
+    ensures check_profile { (program file : List ℕ) → is_plain_word file ≡ true
+        → TakeProfiles (check_words program file) (λ profile. Check file profile First) }
+    ensures other_check_profile { (program file : List ℕ) → is_plain_word file ≡ true
+        → RefuseOtherProfiles (check_words program file) }
+    ensures check_record { (program file : List ℕ) → is_plain_word file ≡ true
+        → TakeVersions (check_words program file) (Check file One) }
+    ensures other_check_record { (program file : List ℕ) → is_plain_word file ≡ true
+        → RefuseOtherVersions (check_words program file) }
 {}

@@ -4,13 +4,14 @@ mod bytes;
 use crate::vm::observers::bytes::COPIER;
 use crate::vm::{VALUE, change_in, coded, data, run};
 use pb_base::Content;
+use pb_isa::Profile;
 use pb_vm::Reply;
 use std::rt::HostRuntime;
 use std::test::*;
 
 #[test]
 fn copier(rt: HostRuntime) {
-    let program = coded(&rt, rt.alloc(), &COPIER);
+    let program = coded(&rt, rt.alloc(), Profile::One, &COPIER);
     assert!(rt; program.slots() == 20);
     // The column of the change, what is written to the next one, and how many instructions that takes.
     let table = [

@@ -1,8 +1,9 @@
 //! Worked programs: their verdicts, and what they end with.
 use crate::vm::{VALUE, bytes_of, change, coded, data, run, start_on};
 use pb_base::{Content, Refused, Row, Ts};
-use pb_helpers::HelperTable;
-use pb_registry::accept;
+use pb_helpers::{HelperTable, Version};
+use pb_isa::Profile;
+use pb_registry::accept_in;
 use pb_verify::VerifyFault;
 use pb_vm::{Ask, Moved, Phase, Reply};
 use std::alloc::Global;
@@ -10,13 +11,14 @@ use std::process::Abort;
 use std::rt::HostRuntime;
 use std::test::*;
 
-const MOV: u64 = 0xb7000000_00000000;
+pub const MOV: u64 = 0xb7000000_00000000;
 
-const EXIT: u64 = 0x95000000_00000000;
+pub const EXIT: u64 = 0x95000000_00000000;
 
 // The number of slots with code 0, or slot and code of the fault.
-fn judged(rt: &impl Abort, alloc: Global, slots: &[u64]) -> (usize, u8) {
-    match accept(alloc, &bytes_of(rt, alloc, slots), HelperTable::all()) {
+pub fn judged(rt: &impl Abort, alloc: Global, profile: Profile, slots: &[u64]) -> (usize, u8) {
+    let bytes = bytes_of(rt, alloc, slots);
+    match accept_in(alloc, profile, Version::First, &bytes, HelperTable::all()) {
         Ok(accepted) => (accepted.slots(), 0),
         Err(VerifyFault::Refused(Refused { slot, code })) => (slot as usize, code),
         Err(VerifyFault::NoMemory) => (0, 1),
@@ -24,8 +26,8 @@ fn judged(rt: &impl Abort, alloc: Global, slots: &[u64]) -> (usize, u8) {
 }
 
 // What a run on a deleted cell ends with, and how many instructions it does, where it asks and writes nothing.
-fn ends(rt: &impl Abort, alloc: Global, slots: &[u64]) -> (u64, u16) {
-    let program = coded(rt, alloc, slots);
+pub fn ends(rt: &impl Abort, alloc: Global, profile: Profile, slots: &[u64]) -> (u64, u16) {
+    let program = coded(rt, alloc, profile, slots);
     let (finished, taken) = run(
         rt,
         alloc,
@@ -35,17 +37,6 @@ fn ends(rt: &impl Abort, alloc: Global, slots: &[u64]) -> (u64, u16) {
     );
     assert!(rt; finished.is_plain());
     (finished.result(), taken)
-}
-
-#[test]
-fn five_hundred_and_twelve_slots(rt: HostRuntime) {
-    let mut slots = [MOV; 512];
-    slots[511] = EXIT;
-    assert!(rt; judged(&rt, rt.alloc(), &slots) == (512, 0));
-    assert!(rt; ends(&rt, rt.alloc(), &slots) == (0, 512));
-    let mut longer = [MOV; 513];
-    longer[512] = EXIT;
-    assert!(rt; judged(&rt, rt.alloc(), &longer) == (0, 11));
 }
 
 // Reads the cell 7 1.
@@ -61,7 +52,7 @@ const READ: [u64; 6] = [
 #[test]
 fn asks(rt: HostRuntime) {
     for (reply, end) in [(Reply::Absent, 1), (Reply::Found(VALUE), 0)] {
-        let program = coded(&rt, rt.alloc(), &READ);
+        let program = coded(&rt, rt.alloc(), Profile::One, &READ);
         let record = change(&rt, 7, Content::Deleted);
         let mut vm = start_on(&rt, rt.alloc(), &program, record);
         for _ in 0..4u32 {
@@ -117,7 +108,7 @@ const COPY: [u64; 16] = [
 #[test]
 fn copy(rt: HostRuntime) {
     for (content, written) in [(Content::Value(VALUE), VALUE), (Content::Deleted, [0; 32])] {
-        let program = coded(&rt, rt.alloc(), &COPY);
+        let program = coded(&rt, rt.alloc(), Profile::One, &COPY);
         let record = change(&rt, 7, content);
         let (finished, taken) = run(&rt, rt.alloc(), &program, record, Reply::Absent);
         assert!(rt; finished.result() == 0 && taken == 16);
@@ -125,6 +116,10 @@ fn copy(rt: HostRuntime) {
         assert!(rt; finished.writes()[0] == (data(&rt, 7, 1), Content::Value(written)));
         assert!(rt; finished.is_of(&program) && finished.run() == Ts(3));
         assert!(rt; finished.record().is_same(&change(&rt, 7, content)));
-        assert!(rt; !finished.is_of(&coded(&rt, rt.alloc(), &[MOV, EXIT])));
+        let other = coded(&rt, rt.alloc(), Profile::One, &[MOV, EXIT]);
+        assert!(rt; !finished.is_of(&other));
+        // The same instructions in profile 2 are another program.
+        let second = coded(&rt, rt.alloc(), Profile::Two, &COPY);
+        assert!(rt; !finished.is_of(&second));
     }
 }

@@ -13,7 +13,7 @@ pub returns-in-Ok-clause-more : goal.returns-in-Ok-clause-more
 returns-in-Ok-clause-more c =
     let new : is_used (names_of (observers_of c.args.observers.now.entries)) (view c.args.element.now) ≡ false = search rules in
     let name : c.in_ok-name.field-0.name ≡ string_bytes c.name.inside.name = search rules in
-    let absent = new_name c.args.observers.now.entries (view c.args.element.now) c.in_ok-name.field-0 c.name.inside.name c.in_ok-name.ensures.ok name new in
+    let absent = new_name c.args.profile c.args.observers.now.entries (view c.args.element.now) c.in_ok-name.field-0 c.name.inside.name c.in_ok-name.ensures.ok name new in
     let last = c.in-Ok.ensures.entries ∙ insert_entry-new (λ x y. bytes_eq (string_bytes x) (string_bytes y)) c.args.observers.now c.name.inside.name (record { column = c.name.inside.column; program = c.name.inside.program }) absent in
     (c.in_ok-name.field-0, c.in_ok-name.ensures.ok, ap observers_of last ∙ map-append observer_of c.args.observers.now.entries ((c.name.inside.name, record { column = c.name.inside.column; program = c.name.inside.program }) ∷ []) ∙ ap (λ o. observers_of c.args.observers.now.entries ++ o ∷ []) c.name.view_is)
 

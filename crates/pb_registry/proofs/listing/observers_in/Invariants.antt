@@ -5,4 +5,4 @@ use Rattle.pb_registry.specs.Judging.{AreObservers}
 use Rattle.pb_registry.proofs.listing.observers_in.Given as goal
 
 abbrev pub invariant-loop-place : goal.invariant-loop-place
-invariant-loop-place l = AreObservers (map view (take l.place l.elements)) (observers_of l.observers.entries)
+invariant-loop-place l = AreObservers l.profile (map view (take l.place l.elements)) (observers_of l.observers.entries)

@@ -8,7 +8,6 @@ use Rattle.pb_verify.specs.Arriving.{merge, if_leads, outs, in_at, frame_before,
 use Rattle.pb_verify.specs.Within.{IsWithinIf}
 use Rattle.pb_verify.proofs.PointersWithin.{within_arriving, within_if_more, within_push, none_within}
 use Rattle.pb_verify.proofs.FramesAfter.{outs_more, in_is, outs_none}
-use Rattle.pb_isa.specs.declared.insn.Insn.{Insn}
 use Rattle.pb_verify.specs.Accesses.{access_at}
 use Rattle.pb_verify.specs.Effects.{effect_of, effect_at, next_imm, IsNextImm, with_next}
 use Rattle.pb_verify.proofs.Pairs.{behind_pair}
@@ -24,7 +23,9 @@ loop-slot-init c = record {
   most = omega arith;
   pair = λ h. absurd (omega (arith, h));
   fine = λ m h. absurd (omega arith);
-  resolved = none_resolved c.args.program.insns _ c.new-ops.ensures.items;
+  count = c.in-Ok-with_capacity.ensures.len;
+  room = search rules;
+  resolved = none_resolved c.args.program.insns _ c.in-Ok-with_capacity.ensures.items;
   near = none_within _ (outs_none c.args.program.insns);
 }
 
@@ -33,7 +34,6 @@ loop-slot-preserved-in_default-at c =
     let n = c.loop-slot.slot in
     let p = c.args.program.insns in
     let none : insn_at p n ≡ None = sym c.at.ensures ∙ c.in_default-at.is in
-    let pushed : c.push.new.self.items ≡ c.loop-slot.ops.items ++ c.resolve_next.result ∷ [] = search rules in
     record {
       len = c.loop-slot.invariant.len;
       known = λ k l h.
@@ -42,7 +42,9 @@ loop-slot-preserved-in_default-at c =
       most = let most = c.loop-slot.invariant.most in omega (arith, most);
       pair = λ h. let most = c.loop-slot.invariant.most in absurd (omega (arith, most, h));
       fine = below_more (λ m. faults (judged_by c.args.version c.args.program c.args.helpers) m ≡ []) n c.loop-slot.invariant.fine (rw none refl);
-      resolved = resolved_more p n c.loop-slot.ops.items _ c.resolve_next.result c.loop-slot.invariant.resolved pushed (λ i at. let wrong : None ≡ Some i = sym none ∙ at in absurd (cc)) (λ m i same at. let first : c.saturating_sub.result ≡ m = search rules in c.resolve_next.ensures i (c.at-first.ensures ∙ ap (λ k. insn_at p k) first ∙ at));
+      count = let count = c.loop-slot.invariant.count in let more = c.push_reserved.ensures.len in omega (arith, count, more);
+      room = let room = c.loop-slot.invariant.room in let same = c.push_reserved.ensures.capacity in omega (arith, room, same);
+      resolved = resolved_more p n c.loop-slot.ops.items _ c.resolve_next.result c.loop-slot.invariant.resolved c.push_reserved.ensures.items (λ i at. let wrong : None ≡ Some i = sym none ∙ at in absurd (cc)) (λ m i same at. let first : c.saturating_sub.result ≡ m = search rules in c.resolve_next.ensures i (c.at-first.ensures ∙ ap (λ k. insn_at p k) first ∙ at));
       near = rw (outs_more p n, none) (within_push (n * 2147483648) ((n + 1) * 2147483648) _ None (omega arith) c.loop-slot.invariant.near tt);
     }
 
@@ -94,7 +96,6 @@ loop-slot-preserved c =
     let at = (goal.at.loop-slot-preserved c).After-arrive-is_reached in
     let reached = c.in_default-code_at.ensures.reached in
     let insn = insn_is at in
-    let pushed : c.push-in-loop-slot.new.self.items ≡ c.loop-slot.ops.items ++ c.resolve.result ∷ [] = search rules in
     let low : c.loop-slot.next ≤ n = search rules in
     let known = rw reached at (known_is at) in
     let near = rw reached at (known_near at) in
@@ -115,7 +116,9 @@ loop-slot-preserved c =
       most = let most = c.in-Ok-spread.ensures.most in omega (arith, most);
       pair = λ h. rw add-one (behind_pair p n c.in-Some.insn insn (c.in-Ok-spread.ensures.pair h));
       fine = below_more (λ m. faults (judged_by c.args.version c.args.program c.args.helpers) m ≡ []) n c.loop-slot.invariant.fine (rw insn (none_broken _ (sym found ∙ c.in_default-code_at.is)));
-      resolved = resolved_more p n c.loop-slot.ops.items _ c.resolve.result c.loop-slot.invariant.resolved pushed
+      count = let count = c.loop-slot.invariant.count in let more = c.push_reserved-in-loop-slot.ensures.len in omega (arith, count, more);
+      room = let room = c.loop-slot.invariant.room in let same = c.push_reserved-in-loop-slot.ensures.capacity in omega (arith, room, same);
+      resolved = resolved_more p n c.loop-slot.ops.items _ c.resolve.result c.loop-slot.invariant.resolved c.push_reserved-in-loop-slot.ensures.items
           (λ i at.
           let same : c.in-Some.insn ≡ i = (let both : Some c.in-Some.insn ≡ Some i = sym insn ∙ at in cc) in
           let access : c.access_of-access.result ≡ access_at p n = rw (insn, ← known) c.access_of-access.ensures in

@@ -1,4 +1,4 @@
-use Rattle.std.proofs.Common.{◌≡◌, ℕ, ◌<◌, ◌≤◌, ◌+◌, ◌*◌, [], Some, None, length}
+use Rattle.std.proofs.Common.{◌≡◌, ℕ, ◌<◌, ◌≤◌, ◌+◌, ◌*◌, [], Some, None, length, vec_len, vec_capacity}
 use Rattle.std.specs.Prelude.{slice_index_or, option_map, if◌then◌else◌, nat_eq}
 use Rattle.std.specs.Box.{box_value}
 use Rattle.pb_isa.specs.Slots.{slots, insn_at}
@@ -15,6 +15,8 @@ invariant-loop-slot l = record {
   most : l.next ≤ l.slot + 1;
   pair : l.slot < l.next → insn_at l.fn.program.insns l.slot ≡ None;
   fine : (m : ℕ) → m < l.slot → faults (judged_by l.fn.version l.fn.program l.fn.helpers) m ≡ [];
+  count : vec_len l.ops ≡ l.slot;
+  room : slots l.fn.program.insns ≤ vec_capacity l.ops;
   resolved : AreResolvedTo l.fn.program.insns l.slot l.ops.items;
   near : AllWithin (l.slot * 2147483648) (outs l.fn.program.insns l.slot);
 }

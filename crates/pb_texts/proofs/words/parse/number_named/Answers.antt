@@ -1,5 +1,5 @@
 use Rattle.std.proofs.Common.{false, sym, ◌∙◌, arith}
-use Rattle.pb_texts.proofs.Counts.{begins_as_told, count_read, count_outside, count_unread}
+use Rattle.pb_texts.proofs.Counts.{begins_as_told, count_read, count_unread}
 use Rattle.pb_texts.proofs.words.parse.number_named.Goals as goal
 
 pub returns-in-Ok : goal.returns-in-Ok

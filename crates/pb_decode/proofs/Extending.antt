@@ -1,0 +1,130 @@
+-- What the profiles differ in: moves and loads that extend the sign.
+use Rattle.std.proofs.Common.{◌≡◌, ℕ, ℤ, ◌⊎◌, inl, inr, Bool, true, false, refl, sym}
+use Rattle.std.specs.Prelude.{◌==◌, ◌||◌, IsTrue}
+use Rattle.std.proofs.lemmas.Bool.{eqb-true, or_cases}
+use Rattle.pb_isa.specs.declared.insn.AluOp.{AluOp}
+use Rattle.pb_isa.specs.declared.insn.AluOp.TheVariants.{Mov}
+use Rattle.pb_isa.specs.declared.insn.Insn.{Insn}
+use Rattle.pb_isa.specs.declared.insn.Insn.TheVariants.{MovSx, Load}
+use Rattle.pb_isa.specs.declared.insn.Extension.{Extension}
+use Rattle.pb_isa.specs.declared.insn.Extension.TheVariants.{Zeros, Sign}
+use Rattle.pb_isa.specs.declared.insn.Reg.{Reg}
+use Rattle.pb_isa.specs.declared.insn.Size.{Size}
+use Rattle.pb_isa.specs.declared.insn.Size.TheVariants.{B, H, W, Dw}
+use Rattle.pb_isa.specs.declared.insn.Width.{Width}
+use Rattle.pb_isa.specs.declared.insn.Width.TheVariants.{Bits32, Bits64}
+use Rattle.pb_isa.specs.declared.profile.Profile.{Profile}
+use Rattle.pb_isa.specs.declared.profile.Profile.TheVariants.{One, Two}
+use Rattle.pb_isa.specs.Profiles.{IsOf, is_narrower}
+use Rattle.pb_decode.specs.declared.forms.Form.{Form}
+use Rattle.pb_decode.specs.declared.forms.Form.TheVariants as form
+use Rattle.pb_decode.specs.Opcodes.{IsFormOf}
+use Rattle.pb_decode.specs.Encoding.{bits_of}
+use Rattle.pb_decode.specs.Reading.{is_alu_offset, size_of_bits}
+
+-- neither
+abbrev pub IsPlain : Insn → Type 0
+IsPlain (MovSx w z d s) = ⊥
+IsPlain (Load z x d s o) = ⊥
+IsPlain i = Unit {0}
+
+pub is_plain : (p : Profile) (i : Insn) → IsPlain i → IsOf p i
+is_plain One (MovSx w z d s) h = absurd h
+is_plain Two (MovSx w z d s) h = absurd h
+is_plain One (Load z x d s o) h = absurd h
+is_plain Two (Load z x d s o) h = absurd h
+is_plain One i h = refl
+is_plain Two i h = refl
+
+abbrev pub IsPlainForm : Form → Type 0
+IsPlainForm (form.Load z x) = ⊥
+IsPlainForm f = Unit {0}
+
+pub plain_form : (p : Profile) (f : Form) → IsPlainForm f → IsFormOf p f
+plain_form One (form.Load z x) h = absurd h
+plain_form Two (form.Load z x) h = absurd h
+plain_form One f h = refl
+plain_form Two f h = refl
+
+-- a profile has the loads of its forms, and no others
+pub load_insn : (p : Profile) (z : Size) (x : Extension) (d s : Reg) (o : ℤ) → IsFormOf p (form.Load z x) → IsOf p (Load z x d s o)
+load_insn One z Zeros d s o h = refl
+load_insn Two z Zeros d s o h = refl
+load_insn One z Sign d s o h = h
+load_insn Two z Sign d s o h = h
+
+pub load_form : (p : Profile) (z : Size) (x : Extension) (d s : Reg) (o : ℤ) → IsOf p (Load z x d s o) → IsFormOf p (form.Load z x)
+load_form One z Zeros d s o h = refl
+load_form Two z Zeros d s o h = refl
+load_form One z Sign d s o h = h
+load_form Two z Sign d s o h = h
+
+-- what a profile has, the next has too
+pub of_next : (i : Insn) → IsOf One i → IsOf Two i
+of_next (MovSx w z d s) h = absurd cc
+of_next (Load z Sign d s o) h = absurd cc
+of_next i h = refl
+
+-- ---- offsets of arithmetic with a register
+
+-- an offset with which a move extends the sign
+pub record IsExtending (p : Profile) (op : AluOp) (w : Width) (n : ℕ) : Type 0 where
+  pub size : Size
+  pub move : op ≡ Mov
+  pub bits : n ≡ bits_of size
+  pub narrower : IsTrue (is_narrower size w)
+  pub of_profile : (d s : Reg) → IsOf p (MovSx w size d s)
+
+bits_are : (w : Width) (z : Size) (n : ℕ) → IsTrue (is_narrower z w) → (n == bits_of z) ≡ true → IsExtending Two Mov w n
+bits_are w z n h e = record { size = z; move = refl; bits = eqb-true n (bits_of z) e; narrower = h; of_profile = λ d s. h }
+
+from_bits32 : (n : ℕ) → ((n == 8) ≡ true) ⊎ ((n == 16) ≡ true) → IsExtending Two Mov Bits32 n
+from_bits32 n (inl h) = bits_are Bits32 B n refl h
+from_bits32 n (inr h) = bits_are Bits32 H n refl h
+
+from_larger : (n : ℕ) → ((n == 16) ≡ true) ⊎ ((n == 32) ≡ true) → IsExtending Two Mov Bits64 n
+from_larger n (inl h) = bits_are Bits64 H n refl h
+from_larger n (inr h) = bits_are Bits64 W n refl h
+
+from_bits64 : (n : ℕ) → ((n == 8) ≡ true) ⊎ (((n == 16) || (n == 32)) ≡ true) → IsExtending Two Mov Bits64 n
+from_bits64 n (inl h) = bits_are Bits64 B n refl h
+from_bits64 n (inr h) = from_larger n (or_cases (n == 16) (n == 32) h)
+
+zero_or : {A : Type 0} (n : ℕ) (b : Bool) → (b ≡ true → A) → ((n == 0) ≡ true) ⊎ (b ≡ true) → (0 ≡ n) ⊎ A
+zero_or n b others (inl h) = inl (sym (eqb-true n 0 h))
+zero_or n b others (inr h) = inr (others h)
+
+pub alu_offset : (p : Profile) (op : AluOp) (w : Width) (n : ℕ) → is_alu_offset p op w n ≡ true → (0 ≡ n) ⊎ IsExtending p op w n
+alu_offset Two Mov Bits64 n h = zero_or n _ (λ o. from_bits64 n (or_cases (n == 8) ((n == 16) || (n == 32)) o)) (or_cases (n == 0) ((n == 8) || ((n == 16) || (n == 32))) h)
+alu_offset Two Mov Bits32 n h = zero_or n _ (λ o. from_bits32 n (or_cases (n == 8) (n == 16) o)) (or_cases (n == 0) ((n == 8) || (n == 16)) h)
+alu_offset p op w n h = inl (sym (eqb-true n 0 h))
+
+pub zero_offset : (p : Profile) (op : AluOp) (w : Width) → is_alu_offset p op w 0 ≡ true
+zero_offset Two Mov Bits64 = refl
+zero_offset Two Mov Bits32 = refl
+zero_offset p op w = refl
+
+-- the offset of a sign-extending move is one of these
+pub extending_offset : (p : Profile) (w : Width) (z : Size) (d s : Reg) → IsOf p (MovSx w z d s) → (is_alu_offset p Mov w (bits_of z) ≡ true) × IsTrue (is_narrower z w)
+extending_offset One w z d s h = absurd cc
+extending_offset Two Bits64 B d s h = (refl, refl)
+extending_offset Two Bits64 H d s h = (refl, refl)
+extending_offset Two Bits64 W d s h = (refl, refl)
+extending_offset Two Bits64 Dw d s h = absurd cc
+extending_offset Two Bits32 B d s h = (refl, refl)
+extending_offset Two Bits32 H d s h = (refl, refl)
+extending_offset Two Bits32 W d s h = absurd cc
+extending_offset Two Bits32 Dw d s h = absurd cc
+
+-- and is read as its size
+pub size_back : (w : Width) (z : Size) → IsTrue (is_narrower z w) → size_of_bits (bits_of z) ≡ z
+size_back w B h = refl
+size_back w H h = refl
+size_back w W h = refl
+size_back w Dw h = absurd cc
+
+pub some_bits : (z : Size) → (bits_of z == 0) ≡ false
+some_bits B = refl
+some_bits H = refl
+some_bits W = refl
+some_bits Dw = refl

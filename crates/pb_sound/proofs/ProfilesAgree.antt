@@ -1,0 +1,145 @@
+-- The profile decides which programs there are, and nothing else.
+use Rattle.std.proofs.Common.{◌≡◌, ℕ, zero, suc, ◌+◌, List, [], ◌∷◌, Option, Some, None, is_some, cond, refl, sym, ap, ◌∙◌, arith}
+use Rattle.std.specs.List.{AllByRecursion}
+use Rattle.pb_base.specs.Batch.{Writes}
+use Rattle.pb_isa.specs.declared.insn.Insn.{Insn}
+use Rattle.pb_isa.specs.declared.insn.Insn.TheVariants.{Alu, MovSx, Neg, LoadImm, Load, StoreImm, Store, Jump, JumpIf, Call, Exit}
+use Rattle.pb_isa.specs.declared.insn.Extension.TheVariants.{Zeros, Sign}
+use Rattle.pb_isa.specs.declared.profile.Profile.{Profile}
+use Rattle.pb_isa.specs.declared.profile.Profile.TheVariants.{One, Two}
+use Rattle.pb_isa.specs.Profiles.{IsOf}
+use Rattle.pb_isa.specs.Slots.{insn_at}
+use Rattle.pb_isa.specs.Helpers.{Helper, Read, Write, Delete, Start, HelperSet, declared_helper}
+use Rattle.pb_isa.specs.Machine.{Placement, Environment, State, Stuck, fetch, helps, calls, does, does_at, act, start}
+use Rattle.pb_isa.specs.Meaning.{Talk, Point, on, onward, point_after, environment_of, EndsWith, Means}
+use Rattle.pb_kinds.specs.declared.frame.Frame.{Frame}
+use Rattle.pb_helpers.specs.declared.code.Code.{Code}
+use Rattle.pb_helpers.specs.Codes.{lowest_code}
+use Rattle.pb_verify.specs.Rules.{insn_rules}
+use Rattle.pb_verify.specs.Arriving.{in_at, codes_at, faults, Accepts, Refuses}
+use Rattle.pb_sound.specs.ProfilesAgree.{judged_in, ProgramsOfOneAreOfTwo, SameAreAccepted, SameAreRefused, SameIsMeant}
+
+-- ---- programs
+
+of_two : (i : Insn) → IsOf One i → IsOf Two i
+of_two (Alu op w d x) h = refl
+of_two (MovSx w z d r) h = cc
+of_two (Neg w d) h = refl
+of_two (LoadImm d v) h = refl
+of_two (Load z Zeros d r o) h = refl
+of_two (Load z Sign d r o) h = cc
+of_two (StoreImm z d o k) h = refl
+of_two (Store z d r o) h = refl
+of_two (Jump o) h = refl
+of_two (JumpIf c w d x o) h = refl
+of_two (Call k) h = refl
+of_two Exit h = refl
+
+all_of_two : (is : List Insn) → AllByRecursion (IsOf One) is → AllByRecursion (IsOf Two) is
+all_of_two [] h = tt
+all_of_two (i ∷ is) h = (of_two i h.0, all_of_two is h.1)
+
+pub programs : ProgramsOfOneAreOfTwo
+programs is p = record { some = p.some; most = (let most = p.most in omega (arith, most)); of_profile = all_of_two is p.of_profile }
+
+module _ (p q : Profile) (is : List Insn) (h : HelperSet) (size : ℕ) where
+  -- ---- rules
+
+  rules_same : (n : ℕ) (f : Frame) (i : Insn) → insn_rules (judged_in p is h size) n f i ≡ insn_rules (judged_in q is h size) n f i
+  rules_same n f (Alu op w d x) = refl
+  rules_same n f (MovSx w z d r) = refl
+  rules_same n f (Neg w d) = refl
+  rules_same n f (LoadImm d v) = refl
+  rules_same n f (Load z x d r o) = refl
+  rules_same n f (StoreImm z d o k) = refl
+  rules_same n f (Store z d r o) = refl
+  rules_same n f (Jump o) = refl
+  rules_same n f (JumpIf c w d x o) = refl
+  rules_same n f (Call k) = refl
+  rules_same n f Exit = refl
+
+  codes_same : (n : ℕ) (i : Option Insn) (f : Option Frame) → codes_at (judged_in p is h size) n i f ≡ codes_at (judged_in q is h size) n i f
+  codes_same n None f = refl
+  codes_same n (Some i) None = refl
+  codes_same n (Some i) (Some f) = rules_same n f i
+
+  faults_same : (n : ℕ) → faults (judged_in p is h size) n ≡ faults (judged_in q is h size) n
+  faults_same n = codes_same n (insn_at is n) (in_at is n)
+
+  accepts : Accepts (judged_in p is h size) → Accepts (judged_in q is h size)
+  accepts ok n inside = sym (faults_same n) ∙ ok n inside
+
+  refuses : (n : ℕ) (c : Code) → Refuses (judged_in p is h size) n c → Refuses (judged_in q is h size) n c
+  refuses n c r = record { inside = r.inside; code = ap lowest_code (sym (faults_same n)) ∙ r.code; before = λ m l. sym (faults_same m) ∙ r.before m l }
+
+  -- ---- runs
+
+  module _ (bytes : List ℕ) (began : ℕ) (a : Placement) where
+    abbrev in_one : Environment
+    in_one = environment_of (judged_in p is h size) bytes began a
+
+    abbrev in_other : Environment
+    in_other = environment_of (judged_in q is h size) bytes began a
+
+    helps_same : (s : State) (x : Helper) → helps in_one s x ≡ helps in_other s x
+    helps_same s Read = refl
+    helps_same s Write = refl
+    helps_same s Delete = refl
+    helps_same s Start = refl
+
+    calls_same : (s : State) (x : Option Helper) → calls in_one s x ≡ calls in_other s x
+    calls_same s None = refl
+    calls_same s (Some x) = ap (λ o. cond (is_some (insn_at is (s.slot + 1))) o Stuck) (helps_same s x)
+
+    does_same : (s : State) (i : Insn) → does in_one s i ≡ does in_other s i
+    unfolding fetch
+    does_same s (Alu op w d x) = refl
+    does_same s (MovSx w z d r) = refl
+    does_same s (Neg w d) = refl
+    does_same s (LoadImm d v) = refl
+    does_same s (Load z x d r o) = refl
+    does_same s (StoreImm z d o k) = refl
+    does_same s (Store z d r o) = refl
+    does_same s (Jump o) = refl
+    does_same s (JumpIf c w d x o) = refl
+    does_same s (Call k) = calls_same s (declared_helper h k)
+    does_same s Exit = refl
+
+    does_at_same : (s : State) (i : Option Insn) → does_at in_one s i ≡ does_at in_other s i
+    does_at_same s None = refl
+    does_at_same s (Some i) = does_same s i
+
+    acts_same : (s : State) → act in_one s ≡ act in_other s
+    unfolding act
+    acts_same s = does_at_same s (insn_at is s.slot)
+
+    onward_same : (talk : Talk) (x : Option Point) → onward in_one talk x ≡ onward in_other talk x
+    onward_same talk None = refl
+    onward_same talk (Some x) = ap (λ o. on talk o x.told) (acts_same x.state)
+
+    point_same : (talk : Talk) (n : ℕ) → point_after in_one talk n ≡ point_after in_other talk n
+    unfolding point_after start
+    point_same talk zero = refl
+    point_same talk (suc n) = ap (onward in_one talk) (point_same talk n) ∙ onward_same talk (point_after in_other talk n)
+
+    ends : (talk : Talk) (r : ℕ) (ws : Writes) → EndsWith in_one talk r ws → EndsWith in_other talk r ws
+    ends talk r ws e = record {
+      steps = e.steps;
+      last = e.last;
+      made = e.made;
+      leads = sym (point_same talk e.steps) ∙ e.leads;
+      ends = sym (acts_same e.last) ∙ e.ends;
+      kept = e.kept;
+    }
+
+  means : (bytes : List ℕ) (began : ℕ) (talk : Talk) (r : ℕ) (ws : Writes) → Means (judged_in p is h size) bytes began talk r ws → Means (judged_in q is h size) bytes began talk r ws
+  means bytes began talk r ws m = record { size = m.size; some = m.some; at = λ a l. ends bytes began a talk r ws (m.at a l) }
+
+pub accepted : SameAreAccepted
+accepted is h size = (accepts One Two is h size, accepts Two One is h size)
+
+pub refused : SameAreRefused
+refused is h size n c = (refuses One Two is h size n c, refuses Two One is h size n c)
+
+pub meant : SameIsMeant
+meant is h size bytes began talk r ws = (means One Two is h size bytes began talk r ws, means Two One is h size bytes began talk r ws)

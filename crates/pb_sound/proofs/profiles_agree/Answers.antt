@@ -1,0 +1,14 @@
+use Rattle.pb_sound.proofs.ProfilesAgree as agree
+use Rattle.pb_sound.proofs.profiles_agree.Goals as goal
+
+pub returns-clause-programs : goal.returns-clause-programs
+returns-clause-programs c = agree.programs
+
+pub returns-clause-accepted : goal.returns-clause-accepted
+returns-clause-accepted c = agree.accepted
+
+pub returns-clause-refused : goal.returns-clause-refused
+returns-clause-refused c = agree.refused
+
+pub returns-clause-meant : goal.returns-clause-meant
+returns-clause-meant c = agree.meant

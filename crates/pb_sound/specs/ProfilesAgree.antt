@@ -1,0 +1,38 @@
+-- Programs of both profiles that have the same instructions.
+use Rattle.std.specs.Prelude.{ℕ, ◌↔◌, List}
+use Rattle.pb_base.specs.Batch.{Writes}
+use Rattle.pb_isa.specs.declared.insn.Insn.{Insn}
+use Rattle.pb_isa.specs.declared.profile.Profile.{Profile}
+use Rattle.pb_isa.specs.declared.profile.Profile.TheVariants.{One, Two}
+use Rattle.pb_isa.specs.Helpers.{HelperSet}
+use Rattle.pb_isa.specs.Programs.{ProgramOf, IsProgram, JudgedOf}
+use Rattle.pb_isa.specs.Meaning.{Talk, Means}
+use Rattle.pb_helpers.specs.declared.code.Code.{Code}
+use Rattle.pb_verify.specs.Arriving.{Accepts, Refuses}
+
+abbrev pub program_in : Profile → List Insn → ProgramOf
+program_in profile is = record { profile = profile; insns = is }
+
+-- judged for these helpers and a record of this size
+abbrev pub judged_in : Profile → List Insn → HelperSet → ℕ → JudgedOf
+judged_in profile is helpers size = record { program = program_in profile is; helpers = helpers; record_size = size }
+
+-- what is a program of profile 1 is one of profile 2
+abbrev pub ProgramsOfOneAreOfTwo : Type 0
+ProgramsOfOneAreOfTwo = (is : List Insn) → IsProgram (program_in One is) → IsProgram (program_in Two is)
+
+-- both are accepted or none is
+abbrev pub SameAreAccepted : Type 0
+SameAreAccepted = (is : List Insn) (helpers : HelperSet) (size : ℕ) → Accepts (judged_in One is helpers size) ↔ Accepts (judged_in Two is helpers size)
+
+-- both are refused at the same slot with the same code
+abbrev pub SameAreRefused : Type 0
+SameAreRefused =
+    (is : List Insn) (helpers : HelperSet) (size slot : ℕ) (code : Code) →
+    Refuses (judged_in One is helpers size) slot code ↔ Refuses (judged_in Two is helpers size) slot code
+
+-- both end with the same result and writes, after the same asks and replies
+abbrev pub SameIsMeant : Type 0
+SameIsMeant =
+    (is : List Insn) (helpers : HelperSet) (size : ℕ) (bytes : List ℕ) (began : ℕ) (talk : Talk) (r : ℕ) (writes : Writes) →
+    Means (judged_in One is helpers size) bytes began talk r writes ↔ Means (judged_in Two is helpers size) bytes began talk r writes
