@@ -1,13 +1,11 @@
 -- Where keys stand in sorted lists, and what a change there does.
-use Rattle.std.proofs.Common.{◌≡◌, ◌≢◌, ℕ, ◌<◌, ◌≤◌, ◌-◌, Bool, true, false, cond, not, List, [], ◌∷◌, None, Some, Result, Ok, Err, IfOk, IfErr, refl, sym, ap, ◌∙◌, subst, arith, zero, suc, length, get_or, set, T, ◌&&◌, add-one}
+use Rattle.std.proofs.Common.{◌≡◌, ◌≢◌, ℕ, ◌<◌, ◌≤◌, ◌-◌, Bool, true, false, cond, not, List, [], ◌∷◌, None, Some, refl, sym, ap, ◌∙◌, subst, arith, zero, suc, length, get_or, set, T, ◌&&◌}
 use Rattle.std.specs.declared.cmp.Ordering.{Ordering}
 use Rattle.std.specs.declared.cmp.Ordering.TheVariants.{Less, Equal, Greater}
-use Rattle.std.specs.Ordering.{is_eq, is_lt, is_gt, ordering_reverse, eq_by_cmp, ordering_index}
+use Rattle.std.specs.Ordering.{is_eq, is_lt, is_gt, ordering_reverse, eq_by_cmp}
 use Rattle.std.proofs.lemmas.List.{get_or_read}
 use Rattle.std.specs.Cmp.{IsTotalOrder, tied_itself, alike_right, eq_by_cmp_equiv}
-use Rattle.std.specs.List.{insert, remove, AllWithin, HoldsAt}
-use Rattle.std.specs.List.Sorted.{IsNonDecreasingBy, IsBinarySearchResult, IsSearchInRange}
-use Rattle.std.proofs.lemmas.List.Sorted.{searchable_from_sorted}
+use Rattle.std.specs.List.{insert, remove, HoldsAt}
 use Rattle.std.specs.FinMap as map
 use Rattle.std.specs.FinMap.{find, put}
 use Rattle.std.specs.FinMap.Entries.{by_order, below_all, is_sorted, where_key, find-put, find-where_key, is_sorted-put, is_sorted-where_key}
@@ -37,11 +35,6 @@ pub is_less : (o : Ordering) (b : Bool) → b ≡ is_lt o → b ≡ true → o �
 is_less Less b e t = refl
 is_less Equal b e t = cc
 is_less Greater b e t = cc
-
-pub is_equal : (o : Ordering) (b : Bool) → b ≡ is_eq o → b ≡ true → o ≡ Equal
-is_equal Less b e t = cc
-is_equal Equal b e t = refl
-is_equal Greater b e t = cc
 
 pub is_greater : (o : Ordering) (b : Bool) → b ≡ is_gt o → b ≡ true → o ≡ Greater
 is_greater Less b e t = cc
@@ -76,37 +69,12 @@ module _ {K X : Type 0} {R : K → K → Ordering} (o : IsTotalOrder R) where
   below_at x (e ∷ es) zero d h lt = less _ (first _ _ h)
   below_at x (e ∷ es) (suc i) d h lt = below_at x es i d (second _ _ h) (omega arith)
 
-  rises : (es : List (K × X)) → T (is_sorted R es) → (i : ℕ) (d : K × X) → suc i < length es → is_lt (R (get_or es (suc i) d).0 (get_or es i d).0) ≡ false
-  rises [] s i d lt = absurd (omega (arith, lt))
-  rises (e ∷ es) s zero d lt = ap is_lt (turned o _ _ Less (below_at e.0 es 0 d (first _ _ s) (omega arith)))
-  rises (e ∷ es) s (suc i) d lt = rises es (second _ _ s) i d (omega arith)
-
-  searchable : (es : List (K × X)) (k : K) → T (is_sorted R es) → IsNonDecreasingBy (λ e. ordering_index (R e.0 k)) es
-  searchable es k s = searchable_from_sorted o (λ e. e.0) es k (λ i d _ lt. rw add-one (rises es s i d (omega arith)))
-
   pub found_at : (es : List (K × X)) (k : K) (i : ℕ) → T (is_sorted R es) → i < length es → HoldsAt (λ e. R e.0 k ≡ Equal) es i → IsFound R es k i
   found_at [] k i s lt h = absurd (omega (arith, lt))
   found_at (e ∷ es) k zero s lt h = turned o _ _ Equal (h e)
   found_at (e ∷ es) k (suc i) s lt h =
       let x = (get_or es i e).0 in
       (sym (o.congr x k e.0 (h e)) ∙ turned o e.0 x Less (below_at e.0 es i e (first _ _ s) (omega arith)), found_at es k i (second _ _ s) (omega arith) h)
-
-  gap_at : (es : List (K × X)) (k : K) (i : ℕ) → i ≤ length es → AllWithin (λ e. R e.0 k ≡ Less) es 0 i → AllWithin (λ e. R e.0 k ≡ Greater) es i (length es) → IsGap R es k i
-  gap_at [] k zero le low high = tt
-  gap_at [] k (suc i) le low high = absurd (omega (arith, le))
-  gap_at (e ∷ es) k zero le low high = turned o _ _ Greater (high 0 e (omega arith) (omega arith))
-  gap_at (e ∷ es) k (suc i) le low high = (
-    turned o _ _ Less (low 0 e (omega arith) (omega arith)),
-    gap_at es k i (omega arith) (λ j d a b. low (suc j) d (omega arith) (omega arith)) (λ j d a b. high (suc j) d (omega arith) (omega arith)),
-  )
-
-  pub found_by_search : (es : List (K × X)) (k : K) (r : Result ℕ ℕ) → T (is_sorted R es) → IsSearchInRange r (length es) → IsBinarySearchResult (λ e. R e.0 k) es r → IfOk r (IsFound R es k)
-  found_by_search es k (Ok i) s lt at = found_at es k i s lt at
-  found_by_search es k (Err i) s le at = tt
-
-  pub gap_by_search : (es : List (K × X)) (k : K) (r : Result ℕ ℕ) → T (is_sorted R es) → IsSearchInRange r (length es) → IsBinarySearchResult (λ e. R e.0 k) es r → IfErr r (IsGap R es k)
-  gap_by_search es k (Ok i) s lt at = tt
-  gap_by_search es k (Err i) s le at = let parts = at (searchable es k s) in gap_at es k i le parts.0 parts.1
 
   -- ---- what is found
   pub find-found : (es : List (K × X)) (k : K) (i : ℕ) (d : K × X) → IsFound R es k i → find R k es ≡ Some (get_or es i d).1

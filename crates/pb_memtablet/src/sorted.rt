@@ -8,55 +8,50 @@ ghost use Rattle.std.specs.FinMap.Entries.{where_key};
 ghost use Rattle.pb_memtablet.specs.Places.{IsFound, IsGap, IsCut};
 
 use std::cell::Cell;
+use std::cmp::Ordering;
 
-// Where the key stands, or where it would stand, by a binary search.
-fn find_spot<K: Ord, V>(entries: &[(K, V)], key: &K) -> Result<usize, usize>
+// How many places are looked at, one beside the other, before a search goes by halves.
+const NEAR: u32 = 8;
+
+// Where the key stands, or where it would stand. The likely place is looked at first, and then those beside it, up to a few;
+// it can be any number.
+fn search_from<K: Ord, V>(entries: &[(K, V)], key: &K, likely: usize) -> Result<usize, usize>
     requires { IsTrue (is_sorted K.cmp entries.now) }
     ensures found { IfOk result (IsFound K.cmp entries.now key.now) }
     ensures gap { IfErr result (IsGap K.cmp entries.now key.now) }
     ensures inside { IfOk result (λ i. i < length entries.now) }
     ensures within { IfErr result (λ i. i ≤ length entries.now) }
 {
-    entries.binary_search_by(|entry| entry.0.cmp(key))
-}
-
-// Whether the key stands at a place.
-fn stands_at<K: Ord, V>(entries: &[(K, V)], place: usize, key: &K) -> bool
-    requires { IsTrue (is_sorted K.cmp entries.now) }
-    ensures found { result ≡ true → IsFound K.cmp entries.now key.now place }
-    ensures inside { result ≡ true → place < length entries.now }
-{
-    place < entries.len() && entries[place].0.cmp(key).is_eq()
-}
-
-// Whether the key is above the one before a place.
-fn is_above_previous<K: Ord, V>(entries: &[(K, V)], place: usize, key: &K) -> bool
-    requires { place ≤ length entries.now }
-    ensures { result ≡ true → 0 < place → HoldsAt (λ e. K.cmp key.now e.0 ≡ Greater) entries.now (place - 1) }
-{
-    if place == 0 {
-        return true;
+    let mut low = 0;
+    let mut high = entries.len();
+    let mut next = likely.min(high.saturating_sub(1));
+    let mut near = NEAR;
+    while near > 0 && low < high {
+        near -= 1;
+        match key.cmp(&entries[next].0) {
+            Ordering::Equal => return Ok(next),
+            Ordering::Greater => {
+                low = next + 1;
+                next = low;
+            }
+            Ordering::Less => {
+                high = next;
+                next = high.saturating_sub(1);
+            }
+        }
     }
-    key.cmp(&entries[place - 1].0).is_gt()
+    while low < high {
+        let middle = low + (high - low) / 2;
+        match key.cmp(&entries[middle].0) {
+            Ordering::Equal => return Ok(middle),
+            Ordering::Greater => low = middle + 1,
+            Ordering::Less => high = middle,
+        }
+    }
+    Err(low)
 }
 
-// Whether the key isn't there, and would stand at a place.
-fn would_stand_at<K: Ord, V>(entries: &[(K, V)], place: usize, key: &K) -> bool
-    requires { IsTrue (is_sorted K.cmp entries.now) }
-    ensures gap { result ≡ true → IsGap K.cmp entries.now key.now place }
-    ensures within { result ≡ true → place ≤ length entries.now }
-{
-    if place > entries.len() || !is_above_previous(entries, place, key) {
-        return false;
-    }
-    if place == entries.len() {
-        return true;
-    }
-    key.cmp(&entries[place].0).is_lt()
-}
-
-// Where the key stands, or where it would stand. The place of the last key is tried first, and this one is noted; it can be
-// any number.
+// The same, noted as the next likely place.
 fn spot<K: Ord, V>(entries: &[(K, V)], key: &K, likely: &Cell<usize>) -> Result<usize, usize>
     requires { IsTrue (is_sorted K.cmp entries.now) }
     ensures found { IfOk result (IsFound K.cmp entries.now key.now) }
@@ -64,14 +59,7 @@ fn spot<K: Ord, V>(entries: &[(K, V)], key: &K, likely: &Cell<usize>) -> Result<
     ensures inside { IfOk result (λ i. i < length entries.now) }
     ensures within { IfErr result (λ i. i ≤ length entries.now) }
 {
-    let place = likely.get();
-    if stands_at(entries, place, key) {
-        return Ok(place);
-    }
-    if would_stand_at(entries, place, key) {
-        return Err(place);
-    }
-    let spot = find_spot(entries, key);
+    let spot = search_from(entries, key, likely.get());
     likely.set(match spot {
         Ok(i) => i,
         Err(i) => i,
@@ -148,6 +136,17 @@ pub(crate) fn take_from<K: Ord + Drop, V: Drop>(
         }
         Err(_) => false,
     }
+}
+
+// Whether the key is above the one before a place.
+fn is_above_previous<K: Ord, V>(entries: &[(K, V)], place: usize, key: &K) -> bool
+    requires { place ≤ length entries.now }
+    ensures { result ≡ true → 0 < place → HoldsAt (λ e. K.cmp key.now e.0 ≡ Greater) entries.now (place - 1) }
+{
+    if place == 0 {
+        return true;
+    }
+    key.cmp(&entries[place - 1].0).is_gt()
 }
 
 // Whether the key belongs where another one stands: above the key before it, and below the one after it.
