@@ -2,6 +2,7 @@
 use Rattle.std.proofs.Common.{◌≡◌, ℕ, Bool, true, false, List, [], ◌∷◌, ◌++◌, length, refl, sym, ◌∙◌, ap, subst, arith, inr, Option, Some, None, MatchBool, MatchOption}
 use Rattle.pb_base.specs.declared.refusal.Reason.{Reason}
 use Rattle.pb_base.specs.declared.cell.Cell.TheVariants.{Data}
+use Rattle.pb_isa.specs.declared.limits.TheConstants.{MAX_RECORD_BYTES}
 use Rattle.pb_isa.specs.Programs.{JudgedOf}
 use Rattle.pb_isa.specs.Machine.{Placement, IsPlacement}
 use Rattle.pb_sound.specs.OneMeaning.{EachHasOneMeaning}
@@ -59,7 +60,7 @@ calls_once law s seat st a b t u told heard sound x y =
 is_placed : (j : JudgedOf) (size : ℕ) → RulesAccept j → size ≡ j.record_size → (a : Placement) × IsPlacement size a
 is_placed j size accepted e =
     let most = accepted.size in
-    (record { stack = 120; record_at = 0 }, record { stack_fits = omega arith; record_fits = omega (arith, most, e); apart = inr (omega (arith, most, e)) })
+    (record { stack = MAX_RECORD_BYTES; record_at = 0 }, record { stack_fits = omega arith; record_fits = omega (arith, most, e); apart = inr (omega (arith, most, e)) })
 
 module _ (meaning : EachHasOneMeaning) (led : MachinesAreLed) (w : WorldOf) where
   module _ (r : RunOf) (said : List Received) (came : RunCame w r said) where

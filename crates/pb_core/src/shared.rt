@@ -53,6 +53,7 @@ pub struct OpenRefused<T: Tablet> {
     pub code: u8,
 }
 
+#[inline(always)]
 fn make_room<X>(list: &mut Vec<X>) -> Result<(), NoMemory>
     ensures items { list.new.items ≡ list.old.items }
     ensures room { OnOk result (vec_len list.new < vec_capacity list.new) }
@@ -61,6 +62,7 @@ fn make_room<X>(list: &mut Vec<X>) -> Result<(), NoMemory>
     Ok(())
 }
 
+#[inline(always)]
 fn append<X: Drop>(list: &mut Vec<X>, item: X)
     requires { vec_len list.old < vec_capacity list.old }
     ensures { list.new.items ≡ list.old.items ++ item ∷ [] }
@@ -88,6 +90,7 @@ fn make_rooms(
 }
 
 // The journal's entry of a step.
+#[inline(always)]
 fn entry_of(seat: u32, step: Step, answer: &Answer, room: &mut AnswerRoom) -> Entry
     requires { room.old ≡ true }
     ensures { result ≡ record { seat = seat; step = step; answer = answer.now } }
@@ -100,6 +103,7 @@ fn entry_of(seat: u32, step: Step, answer: &Answer, room: &mut AnswerRoom) -> En
 }
 
 // A step as its seat received it.
+#[inline(always)]
 fn received_of(step: Step, answer: &Answer, room: &mut AnswerRoom) -> Received
     requires { room.old ≡ true }
     ensures { result ≡ record { step = step; answer = answer.now } }
@@ -370,7 +374,7 @@ impl<T: Tablet> Shared<T> {
 
     /// Takes one step for a seat, and adds its one entry to the journal, to the seat's book and to the seat's list.
     ///
-    /// The numbers 40 to 47 come before any growth; 1 comes only where a growth was refused. Refused, it leaves the
+    /// The numbers 40 to 47 and 49 come before any growth; 1 comes only where a growth was refused. Refused, it leaves the
     /// table and the seat as they were.
     pub fn call(&mut self, seat: &mut Seat, step: &Step) -> Result<Answer, Refusal>
         ensures refused { (r : _) → call_reason self.old seat.old.number step.now ≡ Some r

@@ -1,5 +1,5 @@
 -- The committed transactions of a legal journal are a history of snapshots.
-use Rattle.std.proofs.Common.{◌≡◌, ◌≢◌, ℕ, ◌<◌, ◌≤◌, ◌⊎◌, inl, inr, List, Option, Some, None, refl, sym, ap, subst, ◌∙◌, arith}
+use Rattle.std.proofs.Common.{◌≡◌, ◌≢◌, ℕ, ◌<◌, ◌≤◌, ◌⊎◌, inl, inr, List, [], ◌∷◌, Option, Some, None, refl, sym, ap, subst, ◌∙◌, arith}
 use Rattle.std.specs.Prelude.{option_map}
 use Rattle.pb_base.specs.declared.cell.Cell.{Cell}
 use Rattle.pb_base.specs.declared.content.Content.{Content}
@@ -9,13 +9,14 @@ use Rattle.pb_steps.specs.declared.phase.Phase.{Phase}
 use Rattle.pb_steps.specs.declared.seen.RecordedRead.{RecordedRead}
 use Rattle.pb_steps.specs.declared.step.Step.TheVariants.{Read, ReadAt}
 use Rattle.pb_steps.specs.declared.step.Answer.{Answer}
-use Rattle.pb_steps.specs.declared.step.Answer.TheVariants.{Found, Absent}
+use Rattle.pb_steps.specs.declared.step.Answer.TheVariants.{Locked, Found, Absent}
 use Rattle.pb_steps.specs.Observers.{ObserverOf}
 use Rattle.pb_steps.specs.Reads.{read_up_to}
 use Rattle.pb_steps.specs.State.{StateOf, TransactionOf}
+use Rattle.pb_steps.specs.Steps.{StepCase}
 use Rattle.pb_steps.specs.Readings.{lock_at, write_at}
 use Rattle.pb_history.specs.declared.entry.Entry.{Entry}
-use Rattle.pb_history.specs.Journals.{IsLegal}
+use Rattle.pb_history.specs.Journals.{JournalLeads, IsLegal}
 use Rattle.pb_history.specs.History.{Has, IsEntry, Member, InHistory, WritesTo, IsSnapshot, NoSnapshot}
 use Rattle.pb_history.specs.TableView.{declared_by, reads_by, view_of}
 use Rattle.pb_history.specs.Sound.{IsSoundTable}
@@ -131,11 +132,25 @@ module _ (journal : List Entry) (state : StateOf) (a : Agrees journal state) (i 
   read_at_tells seat s x t Absent e = let told = a.told _ e in absent_at s.0 x (Some t) (subst (λ o. Has (reads_by o) (read_of x (Some t) Absent)) (sym told.1) told.2)
   read_at_tells seat s x t _ e = tt
 
+-- a read at a timestamp names none above its transaction's start
+read_in_time : (old : StateOf) (seat : ℕ) (s : Ts) (x : Cell) (t : Ts) (answer : Answer) (new : StateOf) → StepCase old seat (ReadAt s x t) answer new → t.0 ≤ s.0
+read_in_time old seat s x t (Locked start primary) new c = c.in_time
+read_in_time old seat s x t (Found start commit content) new c = c.in_time
+read_in_time old seat s x t Absent new c = c.in_time
+read_in_time old seat s x t _ new c = absurd c
+
+reads_in_time : (old : StateOf) (journal : List Entry) (new : StateOf) → JournalLeads old journal new → (seat : ℕ) (s : Ts) (x : Cell) (t : Ts) (answer : Answer) → IsEntry journal seat (ReadAt s x t) answer → t.0 ≤ s.0
+reads_in_time old [] new r seat s x t answer e = absurd e
+reads_in_time old (d ∷ ds) new r seat s x t answer (inl is) =
+    read_in_time old seat s x t answer r.0 (subst (λ (z : Entry). StepCase old z.seat z.step z.answer r.0) is r.1.taken)
+reads_in_time old (d ∷ ds) new r seat s x t answer (inr later) = reads_in_time r.0 ds new r.2 seat s x t answer later
+
 module _ (observers : List ObserverOf) (seats clock : ℕ) (journal : List Entry) (state : StateOf) (l : IsLegal observers seats clock journal state) where
   pub tells_snapshots : TellsSnapshots journal state
   tells_snapshots = record {
     read = read_tells journal state (legal_agrees observers seats clock journal state l) (legal_sound observers seats clock journal state l);
     read_at = read_at_tells journal state (legal_agrees observers seats clock journal state l) (legal_sound observers seats clock journal state l);
+    earlier = reads_in_time _ journal state l.run;
   }
 
   pub tells_writers : TellsWriters journal state

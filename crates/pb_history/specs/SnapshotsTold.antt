@@ -1,5 +1,5 @@
 -- What the reads of a legal journal tell of its history (OSDI 2010, section 2.2).
-use Rattle.std.specs.Prelude.{ℕ, List}
+use Rattle.std.specs.Prelude.{ℕ, ◌≤◌, List}
 use Rattle.pb_base.specs.declared.cell.Cell.{Cell}
 use Rattle.pb_base.specs.declared.names.Ts.{Ts}
 use Rattle.pb_steps.specs.declared.step.Step.TheVariants.{Read, ReadAt}
@@ -22,3 +22,5 @@ pub record TellsSnapshots (journal : List Entry) (state : StateOf) : Type 0 wher
   pub read : (seat : ℕ) (s : Ts) (x : Cell) (answer : Answer) → IsEntry journal seat (Read s x) answer → TellsSnapshot state.observers journal s.0 x answer
   -- and so does every read at a timestamp
   pub read_at : (seat : ℕ) (s : Ts) (x : Cell) (t : Ts) (answer : Answer) → IsEntry journal seat (ReadAt s x t) answer → TellsSnapshot state.observers journal t.0 x answer
+  -- which is none above its transaction's start
+  pub earlier : (seat : ℕ) (s : Ts) (x : Cell) (t : Ts) (answer : Answer) → IsEntry journal seat (ReadAt s x t) answer → t.0 ≤ s.0

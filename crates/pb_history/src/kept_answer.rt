@@ -1,5 +1,5 @@
 //! Answers as the journal and the seats keep them.
-ghost use Rattle.std.specs.Prelude.{◌≡◌, OnOk, true, false};
+ghost use Rattle.std.specs.Prelude.{◌≡◌, ◌↔◌, IsTrue, OnOk, true, false};
 ghost use Rattle.pb_steps.specs.declared.step.Answer.TheVariants.{Marked};
 ghost use Rattle.pb_history.specs.KeptAnswers.{answer_of};
 
@@ -91,6 +91,31 @@ fn told(answer: Answer, room: &mut AnswerRoom) -> Form
     }
 }
 
+// Whether what is told is the same.
+fn is_same_form(one: &Form, other: &Form) -> bool
+    ensures { IsTrue result ↔ (answer_of one.now ≡ answer_of other.now) }
+{
+    match (one, other) {
+        (Form::At(at), Form::At(other)) => *at == *other,
+        (Form::Told(told), Form::Told(other)) => **told == **other,
+        (Form::Absent, Form::Absent) => true,
+        (Form::Done, Form::Done) => true,
+        (Form::Conflict, Form::Conflict) => true,
+        (Form::Committed, Form::Committed) => true,
+        (Form::Lost, Form::Lost) => true,
+        (Form::RolledBack, Form::RolledBack) => true,
+        (Form::Waits, Form::Waits) => true,
+        (Form::CommittedAt(at), Form::CommittedAt(other)) => *at == *other,
+        (Form::MarkedData(column, row), Form::MarkedData(c, r)) => *column == *c && *row == *r,
+        (Form::MarkedAck(observer, column, row), Form::MarkedAck(o, c, r)) => {
+            *observer == *o && *column == *c && *row == *r
+        }
+        (Form::NoMark, Form::NoMark) => true,
+        (Form::StillBehind, Form::StillBehind) => true,
+        _ => false,
+    }
+}
+
 // A marked cell.
 fn marked(cell: Cell) -> Form
     ensures { answer_of result ≡ Marked cell }
@@ -102,7 +127,7 @@ fn marked(cell: Cell) -> Form
 }
 
 impl KeptAnswer {
-    ghost use Rattle.std.specs.Prelude.{◌≡◌, true};
+    ghost use Rattle.std.specs.Prelude.{◌≡◌, ◌↔◌, IsTrue, true};
 
     /// Keeps an answer. It takes the room only where it needs it.
     pub fn new(answer: Answer, room: &mut AnswerRoom) -> KeptAnswer
@@ -125,6 +150,13 @@ impl KeptAnswer {
             Answer::StillBehind => Form::StillBehind,
         };
         KeptAnswer { form }
+    }
+
+    /// Whether it is the same answer.
+    pub fn is_same(&self, other: &KeptAnswer) -> bool
+        ensures { IsTrue result ↔ (self.now ≡ other.now) }
+    {
+        is_same_form(&self.form, &other.form)
     }
 
     /// The answer.

@@ -217,6 +217,7 @@ module _ (o : ℕ) (judged : JudgedOf) (row : Row) (column : ℕ) where
     declares = keeps_what _ so.plan p so.talks_are;
     followed = subst (λ w. plan_talks.Talks (plans.fresh so.s.0 w) so.plan p) (sym (keeps_what _ so.plan p so.talks_are)) so.talks_are;
   }
+  ended_at n (Sweeping end) said so = so
   ended_at n place said so = tt
 
 pub ended_runs_mean : PlansTalk → PlansEnd → EndedRunsMean

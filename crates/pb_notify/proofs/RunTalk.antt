@@ -50,6 +50,7 @@ use Rattle.pb_notify.specs.Places.{place_after, locked_at, after_begin, if_found
 use Rattle.pb_notify.specs.Runs.{RunOf, fresh, answered, need_at}
 use Rattle.pb_notify.specs.Talks.{Reaches, made, took, computed}
 use Rattle.pb_notify.specs.Forms.{AreRounds, one_more, IsLooked, at_first, its_begin, IsObserved, IsAcknowledged, IsRecalled, AreAsked, dirty, asked as asked_more, IsRunOn, LooksFrom, at_cell, at_acknowledgment, at_old, at_ask, IsRunTalk, absent, clean, ran, conflicted, lost, blocked, WasMeant, JobsTalk, JobsEnd}
+use Rattle.pb_notify.specs.Led.{IsBeforeSweep}
 use Rattle.pb_notify.proofs.Kept.{at_after, at_computed}
 use Rattle.pb_notify.proofs.LookTalk.{IsIn, InLook, AfterLook, IsBlocked, look_more}
 use Rattle.pb_notify.proofs.LookTalk as looks
@@ -131,11 +132,6 @@ module _ (o : ℕ) (judged : JudgedOf) (row : Row) (column : ℕ) where
     pub said_is : said ≡ base ++ plan
     pub few : n < MAX_LOCKED
 
-  pub record IsSwept (end : JobEnd) (said : List Received) : Type 0 where
-    pub run : Option Meant
-    pub meant : WasMeant run
-    pub ends : (w : Answer) → CanAnswer (Sweep cell) w → IsRunTalk o judged row column (said ++ told (Sweep cell) w ∷ []) end run
-
   pub record IsEnded (end : JobEnd) (said : List Received) : Type 0 where
     pub run : Option Meant
     pub meant : WasMeant run
@@ -154,7 +150,7 @@ module _ (o : ℕ) (judged : JudgedOf) (row : Row) (column : ℕ) where
   SoFar n (Asking s v q look) said =
       (seen : Seen) × (m : ℕ) × (base : List Received) × IsGiven s seen v × AreAsked o second row column s seen v.talk m base × InLook s (Data q.row q.column) None m base look n said
   SoFar n (Planning r p) said = IsPlanned n r p said
-  SoFar n (Sweeping end) said = IsSwept end said
+  SoFar n (Sweeping end) said = IsBeforeSweep o judged row column end said
   SoFar n (Over end) said = IsEnded end said
 
   -- ---- one more answer

@@ -1,15 +1,16 @@
 -- Of which version the record of an accepted program is.
 use Rattle.std.proofs.Common.{◌≡◌, ap, sym, ◌∙◌, refl}
 use Rattle.std.specs.Prelude.{nat_eq}
+use Rattle.pb_isa.specs.declared.limits.TheConstants.{MAX_RECORD_BYTES}
 use Rattle.pb_isa.specs.Programs.{JudgedOf}
 use Rattle.pb_helpers.specs.declared.change.Version.{Version}
 use Rattle.pb_helpers.specs.declared.change.Version.TheVariants.{First, Second}
 use Rattle.pb_helpers.specs.Bytes.{size_of, is_second}
 use Rattle.pb_helpers.specs.OldRecord.{tells_old}
 
-by_size : (v : Version) → nat_eq (size_of v) 120 ≡ is_second v
+by_size : (v : Version) → nat_eq (size_of v) MAX_RECORD_BYTES ≡ is_second v
 by_size First = refl
 by_size Second = refl
 
 pub second_is : (j : JudgedOf) (v : Version) → j.record_size ≡ size_of v → is_second v ≡ tells_old j
-second_is j v e = sym (ap (λ n. nat_eq n 120) e ∙ by_size v)
+second_is j v e = sym (ap (λ n. nat_eq n MAX_RECORD_BYTES) e ∙ by_size v)

@@ -1,6 +1,6 @@
 -- Where the machine of a job stands: its program led it there from entry, on the record of what the job read and with the
 -- replies that it read.
-use Rattle.std.specs.Prelude.{◌≡◌, ℕ, List, ◌++◌, length, None}
+use Rattle.std.specs.Prelude.{◌≡◌, ℕ, List, [], ◌∷◌, ◌++◌, length, Option, None}
 use Rattle.pb_base.specs.declared.cell.Cell.TheVariants.{Data}
 use Rattle.pb_base.specs.declared.names.Row.{Row}
 use Rattle.pb_base.specs.declared.names.Ts.{Ts}
@@ -12,16 +12,20 @@ use Rattle.pb_vm.specs.Moves.{IsAtState, AsksAt}
 use Rattle.pb_vm.specs.Finished.{Meant, IsMeant}
 use Rattle.pb_isa.specs.Meaning.{Talk}
 use Rattle.pb_steps.specs.declared.step.Declared.TheVariants as declared
+use Rattle.pb_steps.specs.declared.step.Step.TheVariants.{Sweep}
+use Rattle.pb_steps.specs.declared.step.Answer.{Answer}
+use Rattle.pb_steps.specs.Answers.{CanAnswer}
 use Rattle.pb_txn.specs.Plans.{PlanOf}
 use Rattle.pb_txn.specs.Plans as plans
-use Rattle.pb_txn.specs.Talks.{Talks}
+use Rattle.pb_txn.specs.Talks.{Talks, told}
 use Rattle.pb_steps.specs.declared.seen.Seen.{Seen}
 use Rattle.pb_history.specs.declared.entry.Received.{Received}
+use Rattle.pb_notify.specs.declared.need.JobEnd.{JobEnd}
 use Rattle.pb_notify.specs.declared.place.Place.{Place}
-use Rattle.pb_notify.specs.declared.place.Place.TheVariants.{Computing, Asking, Planning}
+use Rattle.pb_notify.specs.declared.place.Place.TheVariants.{Computing, Asking, Planning, Sweeping}
 use Rattle.pb_notify.specs.Runs.{RunOf, fresh}
 use Rattle.pb_notify.specs.Talks.{Reaches}
-use Rattle.pb_notify.specs.Forms.{IsLooking, AreAsked, IsRunOn}
+use Rattle.pb_notify.specs.Forms.{IsLooking, AreAsked, IsRunOn, IsRunTalk, WasMeant}
 
 -- the machine of a place stands at this position, begun at this start
 abbrev pub MachineStandsAt : Place → Ts → Position → Type 0
@@ -75,8 +79,16 @@ pub record IsEndedRun (o : ℕ) (judged : JudgedOf) (row : Row) (column r : ℕ)
   pub declares : p.what ≡ declared.Run o run
   pub followed : Talks (plans.fresh s.0 p.what) since p
 
+-- before its sweep: with the sweep's answer what was said is a whole conversation, and if a run was declared in it, that is what
+-- its program means
+pub record IsBeforeSweep (o : ℕ) (judged : JudgedOf) (row : Row) (column : ℕ) (end : JobEnd) (said : List Received) : Type 0 where
+  pub run : Option Meant
+  pub meant : WasMeant run
+  pub ends : (w : Answer) → CanAnswer (Sweep (Data row column)) w → IsRunTalk o judged row column (said ++ told (Sweep (Data row column)) w ∷ []) end run
+
 abbrev pub HasEnded : ℕ → JudgedOf → Row → ℕ → Place → List Received → Type 0
 HasEnded o judged row column (Planning r p) said = IsEndedRun o judged row column r p said
+HasEnded o judged row column (Sweeping end) said = IsBeforeSweep o judged row column end said
 HasEnded o judged row column place said = Unit {0}
 
 abbrev pub AsksAreOpen : Type 0

@@ -109,11 +109,12 @@ impl ObserverJob {
     }
 
     /// Does one instruction of its machine, which it starts before the first. The exit also makes what it declares and its
-    /// plan. Refused for memory it is as before, and goes on when it is called again.
+    /// plan. Refused for memory, which these two alone can be, it is as before, and goes on when it is called again.
     pub fn local(&mut self, alloc: Global) -> Result<(), NoMemory>
         requires { need_of self.old ≡ Local }
         ensures ok { OnOk result (Computes self.old self.new) }
         ensures same { OnErr result (self.new ≡ self.old) }
+        ensures grows { OnErr result (GrowsNext self.old) }
     {
         match move_on(&mut self.place) {
             Some(Moved::Went) => Ok(()),

@@ -254,6 +254,22 @@ pub fn take(second: bool, locked: u8, place: &mut Place, answer: Answer) -> bool
                 }
             }
         }
+        Place::Observing(start, look) => {
+            let (start, look) = (*start, *look);
+            *place = after_cell(start, look_after(locked, look, answer));
+            false
+        }
+        Place::Acknowledging(start, version, look) => {
+            let (start, version, look) = (*start, *version, *look);
+            *place =
+                after_acknowledgment(second, start, version, look_after(locked, look, answer));
+            false
+        }
+        Place::Sweeping(end) => {
+            let end = *end;
+            *place = Place::Over(end);
+            false
+        }
         _ => {
             look_at(second, locked, place, answer);
             false
@@ -326,7 +342,7 @@ fn begin(
 // Does the next instruction of a machine where it stands, and tells what it did, if anything.
 fn move_at(place: &mut Place) -> Option<Moved>
     requires { IsLocal place.old }
-    ensures { MatchOption result (place.new ≡ place.old) (λ m. MovesAt place.old m place.new) }
+    ensures { MatchOption result (GrowsAt place.old × (place.new ≡ place.old)) (λ m. MovesAt place.old m place.new) }
 {
     match place {
         Place::Computing(_, machine) => machine.move_on(),
@@ -359,7 +375,7 @@ fn go_back(place: &mut Place)
 /// a job is moved to another place at these two and at asks alone.
 pub fn move_on(place: &mut Place) -> Option<Moved>
     requires { IsLocal place.old }
-    ensures { MatchOption result (place.new ≡ place.old) (λ m. GoesAt place.old m place.new) }
+    ensures { MatchOption result (GrowsAt place.old × (place.new ≡ place.old)) (λ m. GoesAt place.old m place.new) }
 {
     let moved = move_at(place);
     if let Some(Moved::Ended(_)) = moved {

@@ -8,5 +8,5 @@ use pb_core::{Entry, Received};
 pub(crate) fn is_same(entry: &Entry, told: &Received) -> bool
     ensures { IsTrue result ↔ (told.now ≡ told_by entry.now) }
 {
-    entry.answer.get() == told.answer.get() && told.step.is_same(&entry.step)
+    entry.answer.is_same(&told.answer) && told.step.is_same(&entry.step)
 }

@@ -1,6 +1,7 @@
 -- What holds in every sound world.
 use Rattle.std.proofs.Common.{◌≤◌, ◌≡◌, ◌≢◌, ℕ, List, [], length, slice_get, Some, sym, ap, subst, ◌∙◌, arith, inr, true, false}
 use Rattle.pb_base.specs.Batch.{Writes, is_batch}
+use Rattle.pb_isa.specs.declared.limits.TheConstants.{MAX_RECORD_BYTES}
 use Rattle.pb_isa.specs.Programs.{JudgedOf}
 use Rattle.pb_isa.specs.Machine.{Placement, IsPlacement, State}
 use Rattle.pb_sound.specs.NeverStuck.{AcceptedAreNeverStuck}
@@ -27,8 +28,8 @@ not_empty : (batch : Writes) → is_batch batch ≡ true → batch ≢ []
 not_empty batch is e = false_true (subst (λ b. is_batch b ≡ true) e is)
 
 -- a placement of a record: the record first, and the stack after it
-some_placement : (n : ℕ) → n ≤ 120 → (a : Placement) × IsPlacement n a
-some_placement n is = (record { stack = 120; record_at = 0 }, record { stack_fits = omega arith; record_fits = omega (arith, is); apart = inr (omega (arith, is)) })
+some_placement : (n : ℕ) → n ≤ MAX_RECORD_BYTES → (a : Placement) × IsPlacement n a
+some_placement n is = (record { stack = MAX_RECORD_BYTES; record_at = 0 }, record { stack_fits = omega arith; record_fits = omega (arith, is); apart = inr (omega (arith, is)) })
 
 never_stuck : AcceptedAreNeverStuck → (v : Position) → RulesAccept v.judged → length v.bytes ≡ v.judged.record_size → ((a : Placement) → IsPlacement (length v.bytes) a → (here : State) × IsAtState v a here) → IsNeverStuck v
 never_stuck law v ok size led = record {

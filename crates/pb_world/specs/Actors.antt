@@ -13,7 +13,7 @@ use Rattle.pb_world.specs.declared.actor.NotCalled.TheVariants as causes
 use Rattle.pb_world.specs.declared.job.ActorJob.{ActorJob}
 use Rattle.pb_world.specs.declared.note.Note.{Note}
 use Rattle.pb_world.specs.declared.note.Note.TheVariants.{Called, Refused, Instruction, Crashed, Idle}
-use Rattle.pb_world.specs.Jobs.{next_of, Takes, is_local, Computes, kept}
+use Rattle.pb_world.specs.Jobs.{next_of, Takes, is_local, Computes, GrowsNext, kept}
 
 -- no number of a refusal applies
 abbrev pub NoneApplies : Option Reason → Type 0
@@ -90,9 +90,9 @@ pub record IsIdle (s : SharedOf) (seat : SeatOf) (n : Note) (t : SharedOf) (told
 abbrev pub JobSteps : SharedOf → SeatOf → ActorJob → Note → SharedOf → SeatOf → Option ActorJob → Type 0
 JobSteps s seat j n t told left = MatchBool (is_local j) (Instructs s seat j n t told left) (MatchOption (next_of j) (IsIdle s seat n t told left) (λ step. CallSteps s seat j step n t told left))
 
--- what a job does next may want memory: an instruction, or a call that isn't refused
+-- what a job does next may want memory: an instruction that takes some, or a call that isn't refused
 abbrev pub MayWant : SharedOf → ℕ → ActorJob → Type 0
-MayWant s seat j = MatchBool (is_local j) (Unit {0}) (MatchOption (next_of j) ⊥ (λ step. NoneApplies (call_reason s seat step)))
+MayWant s seat j = MatchBool (is_local j) (GrowsNext j) (MatchOption (next_of j) ⊥ (λ step. NoneApplies (call_reason s seat step)))
 
 abbrev pub ActorMayWant : SharedOf → ℕ → Actor → Type 0
 ActorMayWant s seat a = MatchOption a.job ⊥ (MayWant s seat)

@@ -2,6 +2,7 @@
 use Rattle.std.specs.Prelude.{◌≡◌, Bool, true, false, if◌then◌else◌, Option, Some, None, ◌≤◌}
 use Rattle.std.specs.Option.{is_some}
 use Rattle.pb_base.specs.Batch.{is_batch}
+use Rattle.pb_isa.specs.declared.limits.TheConstants.{MAX_RECORD_BYTES}
 use Rattle.pb_isa.specs.Programs.{JudgedOf, IsProgram}
 use Rattle.pb_verify.specs.Arriving.{Accepts}
 use Rattle.pb_steps.specs.declared.step.Step.{Step}
@@ -45,6 +46,11 @@ abbrev pub Computes : ActorJob → ActorJob → Type 0
 Computes (Change c) k = ⊥
 Computes (Run r) k = (l : RunOf) × (k ≡ Run l) × runs.Computes r l
 
+-- its machine's next instruction takes memory
+abbrev pub GrowsNext : ActorJob → Type 0
+GrowsNext (Change c) = ⊥
+GrowsNext (Run r) = runs.GrowsNext r
+
 abbrev pub is_over : ActorJob → Bool
 is_over (Change c) = is_some (changes.outcome_of c)
 is_over (Run r) = is_over_need (runs.need_of r)
@@ -59,7 +65,7 @@ kept j = if is_over j then None else Some j
 pub record RulesAccept (j : JudgedOf) : Type 0 where
   pub program : IsProgram j.program
   pub accepts : Accepts j
-  pub size : j.record_size ≤ 120
+  pub size : j.record_size ≤ MAX_RECORD_BYTES
 
 -- a change of some cells, each named once, or a run of an accepted program
 abbrev pub IsReady : ActorJob → Type 0

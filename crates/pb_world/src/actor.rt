@@ -23,7 +23,7 @@ pub struct Actor {
 /// Why a call wasn't answered.
 pub enum NotCalled {
     NoMemory,
-    /// The number of the refusal, 40 to 47.
+    /// The number of the refusal, 40 to 47 or 49.
     Refused(u8),
 }
 

@@ -14,7 +14,7 @@ pub enum ActorJob {
 
 impl ActorJob {
     ghost use Rattle.std.specs.Prelude.{◌≡◌, None, Some, MatchOption, true, false, OnOk, OnErr};
-    ghost use Rattle.pb_world.specs.Jobs.{next_of, is_over, is_local, CanTake, Takes, Computes};
+    ghost use Rattle.pb_world.specs.Jobs.{next_of, is_over, is_local, CanTake, Takes, Computes, GrowsNext};
 
     /// The next step, if it asks one.
     pub fn next(&self) -> Option<&Step>
@@ -47,11 +47,12 @@ impl ActorJob {
         }
     }
 
-    /// Does one instruction of its machine. Refused for memory it is as before.
+    /// Does one instruction of its machine. Refused for memory, which the first and the exit alone can be, it is as before.
     pub fn local(&mut self, alloc: Global) -> Result<(), NoMemory>
         requires { is_local self.old ≡ true }
         ensures ok { OnOk result (Computes self.old self.new) }
         ensures same { OnErr result (self.new ≡ self.old) }
+        ensures grows { OnErr result (GrowsNext self.old) }
     {
         match self {
             ActorJob::Change(_) => Ok(()),

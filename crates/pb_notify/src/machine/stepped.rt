@@ -71,7 +71,8 @@ impl Machine {
     /// Does one instruction where it stands, and tells what it did; nothing at an exit that was refused.
     pub fn move_on(&mut self) -> Option<Moved>
         requires { self.old.phase ≡ Going }
-        ensures { MatchOption result (self.new ≡ self.old) (λ m. MovesOn self.old m self.new) }
+        ensures { MatchOption result (IsAtExit self.old × (self.new ≡ self.old))
+            (λ m. MovesOn self.old m self.new) }
     {
         match &mut self.standing {
             Standing::Running(vm) => Some(vm.step()),
