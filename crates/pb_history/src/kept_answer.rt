@@ -91,31 +91,6 @@ fn told(answer: Answer, room: &mut AnswerRoom) -> Form
     }
 }
 
-// Whether what is told is the same.
-fn is_same_form(one: &Form, other: &Form) -> bool
-    ensures { IsTrue result ↔ (answer_of one.now ≡ answer_of other.now) }
-{
-    match (one, other) {
-        (Form::At(at), Form::At(other)) => *at == *other,
-        (Form::Told(told), Form::Told(other)) => **told == **other,
-        (Form::Absent, Form::Absent) => true,
-        (Form::Done, Form::Done) => true,
-        (Form::Conflict, Form::Conflict) => true,
-        (Form::Committed, Form::Committed) => true,
-        (Form::Lost, Form::Lost) => true,
-        (Form::RolledBack, Form::RolledBack) => true,
-        (Form::Waits, Form::Waits) => true,
-        (Form::CommittedAt(at), Form::CommittedAt(other)) => *at == *other,
-        (Form::MarkedData(column, row), Form::MarkedData(c, r)) => *column == *c && *row == *r,
-        (Form::MarkedAck(observer, column, row), Form::MarkedAck(o, c, r)) => {
-            *observer == *o && *column == *c && *row == *r
-        }
-        (Form::NoMark, Form::NoMark) => true,
-        (Form::StillBehind, Form::StillBehind) => true,
-        _ => false,
-    }
-}
-
 // A marked cell.
 fn marked(cell: Cell) -> Form
     ensures { answer_of result ≡ Marked cell }
@@ -152,11 +127,16 @@ impl KeptAnswer {
         KeptAnswer { form }
     }
 
-    /// Whether it is the same answer.
+    /// Whether it is the same answer. What stands on the heap is compared there, since an answer is large to bring in.
     pub fn is_same(&self, other: &KeptAnswer) -> bool
         ensures { IsTrue result ↔ (self.now ≡ other.now) }
     {
-        is_same_form(&self.form, &other.form)
+        match (&self.form, &other.form) {
+            (Form::Told(told), Form::Told(other)) => **told == **other,
+            (Form::At(at), Form::At(other)) => *at == *other,
+            (Form::Done, Form::Done) => true,
+            _ => self.get() == other.get(),
+        }
     }
 
     /// The answer.
