@@ -261,8 +261,7 @@ pub fn take(second: bool, locked: u8, place: &mut Place, answer: Answer) -> bool
         }
         Place::Acknowledging(start, version, look) => {
             let (start, version, look) = (*start, *version, *look);
-            *place =
-                after_acknowledgment(second, start, version, look_after(locked, look, answer));
+            *place = after_acknowledgment(second, start, version, look_after(locked, look, answer));
             false
         }
         Place::Sweeping(end) => {

@@ -1,6 +1,6 @@
-use Rattle.std.proofs.Common.{◌≡◌, sym, subst, rules}
+use Rattle.std.proofs.Common.{sym, subst, rules}
 use Rattle.pb_vm.specs.Position.{Position}
-use Rattle.pb_notify.specs.Steps.{MovesOn, IsAtExit}
+use Rattle.pb_notify.specs.Steps.{IsAtExit}
 use Rattle.pb_notify.specs.Machines.{IsKept, position_in}
 use Rattle.pb_notify.proofs.machine.Machine.move_on.Goals as goal
 use Rattle.pb_notify.proofs.machine.Machine.move_on.Goals.{in-Running, in-Exited}
