@@ -1,4 +1,4 @@
-"""Each rule of docs/MACHINE.md, "Verification", by programs that break it and by the like that don't, worked out by hand.
+"""Each rule of docs/CODES.md, 21 to 38, by programs that break it and by the like that don't, worked out by hand.
 
 Unless a row names its helpers, a program may call all four. The jumps into a pair, 34, stand in verdicts.py.
 """

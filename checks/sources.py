@@ -1,0 +1,158 @@
+"""What stands where in the repository's sources: the crates, the functions of a Rattle file, and the edits of wrong bodies.
+
+Nothing of it proves or runs anything. `checks/wrong-bodies` tries the edits, and `tools/theorems` lists what they are refused by.
+"""
+from __future__ import annotations
+
+import os
+import re
+from dataclasses import dataclass
+from pathlib import Path
+
+TOP = Path(__file__).resolve().parent.parent
+SOURCES = ("src", "specs", "proofs")
+PLACES = ("wrong-bodies", "must-fail")
+
+# What isn't code. A quote after a name is a prime of a clause's, and one before it a lifetime's.
+NOT_CODE = re.compile(r"""//[^\n]*|/\*.*?\*/|"(?:\\.|[^"\\])*"|(?<!\w)'(?:\\.[^']*|[^'\\\n])'""", re.S)
+CLAUSE = re.compile(r"\b(?:requires|ensures|decreases)\b[^{}]*$")
+OWNER = re.compile(r"(?P<kind>impl|trait|mod|struct|enum)\b(?P<head>[^{;]*)$", re.S)
+FUNCTION = re.compile(r"\bfn\s+(\w+)")
+
+
+class BadEdit(Exception):
+    pass
+
+
+@dataclass(frozen=True)
+class Function:
+    """A function of a source file: its name, the type of its `impl` (or none), its text by parts, without comments, and where
+    that begins and ends in the file. One that a trait declares without a body has an empty one."""
+
+    file: str
+    owner: str
+    is_of_trait: bool
+    name: str
+    head: str
+    body: str
+    start: int
+    end: int
+
+    @property
+    def key(self):
+        return self.file, self.owner, self.is_of_trait, self.name
+
+    def is_meant_by(self, path):
+        """Whether this path of a check's line is the function's. A trait's `impl` has both names in one."""
+        inside = self.file.removeprefix("src/").removesuffix(".rt").removesuffix("/mod").split("/")
+        inside = [] if inside in (["lib"], ["main"]) else inside
+        words = path.split("::")[1:]
+        if words[: len(inside)] != inside or words[-1] != self.name:
+            return False
+        between = words[len(inside) : -1]
+        if not self.is_of_trait:
+            return between == ([self.owner] if self.owner else [])
+        return len(between) == 1 and between[0].startswith(self.owner) and between[0] != self.owner
+
+
+def without_comments(text):
+    """The text with blanks for what isn't code, at the same places."""
+    return NOT_CODE.sub(lambda it: re.sub(r"[^\n]", " ", it[0]), text)
+
+
+def closing(text, at):
+    """The place behind the brace that closes the one at this place."""
+    depth = 0
+    for found in re.finditer(r"[{}]", text[at:]):
+        depth += 1 if found[0] == "{" else -1
+        if not depth:
+            return at + found.end()
+    return len(text)
+
+
+def head_end(text, at):
+    """The place of the brace or semicolon that ends the head of an item: a semicolon in brackets, as of an array's type, doesn't."""
+    depth = 0
+    for found in re.compile(r"[][(){;]").finditer(text, at):
+        if found[0] in "{;" and not depth:
+            return found.start()
+        depth += (found[0] in "[(") - (found[0] in "])")
+    return len(text)
+
+
+def functions_in(file, text, owner="", is_of_trait=False, base=0):
+    """The functions of a file's text without comments, and what is left of it beside them. `base` is where the text begins."""
+    found, rest, at = [], [], 0
+    while (start := head_end(text, at)) < len(text):
+        head, is_brace = text[at:start], text[start] == "{"
+        end = closing(text, start) if is_brace else start + 1
+        named = FUNCTION.search(head)
+        held = OWNER.search(head)
+        if named and is_brace:
+            while CLAUSE.search(text[at:start]) and (more := head_end(text, end)) < len(text):
+                start, end = more, closing(text, more) if text[more] == "{" else more + 1
+            begun = at + len(text[at:start]) - len(text[at:start].lstrip())
+            body = text[start:end] if text[start] == "{" else ""
+            places = base + begun, base + end
+            found.append(Function(file, owner, is_of_trait, named[1], text[at:start].strip(), body, *places))
+        elif is_brace and held and held["kind"] in ("impl", "trait", "mod"):
+            inner, left = functions_in(file, text[start + 1 : end - 1], *owner_of(held), base + start + 1)
+            found += inner
+            rest += [head, *left]
+        else:
+            rest.append(text[at:end])
+        at = end
+    return found, [*rest, text[at:]]
+
+
+def owner_of(held):
+    """The type that an `impl` is for, and whether the functions there are a trait's."""
+    head = held["head"].strip()
+    while head.startswith("<"):
+        head = head[1:].partition(">")[2].strip()
+    of_trait, _, of_type = head.rpartition(" for ")
+    return re.match(r"\W*(\w*)", of_type)[1], bool(of_trait) or held["kind"] == "trait"
+
+
+def texts_of(crate):
+    """The texts of a crate's sources, by their paths in it."""
+    folder = TOP / "crates" / crate
+    files = sorted(it for part in SOURCES for it in (folder / part).rglob("*") if it.is_file())
+    return {str(it.relative_to(folder)): it.read_text(encoding="utf-8") for it in files}
+
+
+def edits_of(crate):
+    """The files of a crate's edits."""
+    return sorted(it for place in PLACES for it in (TOP / "crates" / crate / place).glob("*.edit"))
+
+
+def pairs_of(file):
+    """What an edit changes: the path of a source, the old text, and the new one."""
+    path, old, pairs = None, None, []
+    for line in file.read_text(encoding="utf-8").split("\n"):
+        word, _, text = line.partition(": ")
+        if word == "file":
+            path = text.strip()
+            if os.path.normpath(path) != path or not path.startswith(tuple(f"{it}/" for it in SOURCES)):
+                raise BadEdit("a 'file:' line names no file below src/, specs/ or proofs/")
+        elif word == "old":
+            old = text
+        elif line.startswith("new:"):
+            if not path or not old:
+                raise BadEdit("a 'new:' line stands before any 'file:' or 'old:' line")
+            pairs.append((path, old, line.removeprefix("new:").removeprefix(" ")))
+            old = None
+    if not pairs:
+        raise BadEdit("it has no 'old:' and 'new:' pair")
+    return pairs
+
+
+def lines_of_crates():
+    """The lines of crates.txt: a heading, or a crate and what it names."""
+    for line in (TOP / "crates.txt").read_text(encoding="utf-8").splitlines():
+        if line.startswith("# -- "):
+            yield line.removeprefix("# -- "), None
+        else:
+            name, colon, rest = line.partition("#")[0].partition(":")
+            if colon:
+                yield name.split()[0], rest.split()
