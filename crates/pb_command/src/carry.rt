@@ -140,7 +140,11 @@ fn status_of<'a, E: Sink>(alloc: Global, outcome: &Result<Verdict, Fault<'a>>, e
 /// starts no thread: `run` is for [`command`].
 ///
 /// All files are read first, in the order given, and then taken as text, parsed and replayed. Results go to `out`, and the
-/// line of the first fault to `err`. A program's bytes that are refused are a result.
+/// line of the first fault to `err`. A program's bytes that are refused are a result. Where `replay` answers 0, its three
+/// texts were replayed from its clock, and the whole report was written; where `asm` does, OUT holds the encoding of the
+/// program whose text IN holds; where `dis` does, its bytes are a program's, and the whole listing was written; where
+/// `check` does, the rules accept them with all helpers, and the line with the number of slots was written. Where a write
+/// failed, a beginning was written. That OUT can't be written is told only where a write failed.
 pub fn sequential_command<T: Tablet, P: Paths, O: Sink, E: Sink>(
     alloc: Global,
     options: &Options,
@@ -196,7 +200,10 @@ pub fn sequential_command<T: Tablet, P: Paths, O: Sink, E: Sink>(
 /// and for their table's lock. There is a spare for each swap that is asked for.
 ///
 /// Where the report of a run was written, but a worker was refused or a change is unfinished, the lines that tell each go
-/// to `err`, and the status is 1.
+/// to `err`, and the status is 1. Where `run` answers 0, the texts that its two paths hold ran so from the clock 0, the
+/// whole report was written, no seat was refused, and no change is unfinished. That a file can't be read, or is too large,
+/// is told of a path only where reading it answers just that, and all paths before it are read; that one isn't text, only
+/// where all are read, and then of the first. A fault is told in one line; where memory is refused for that, `no memory`.
 pub fn command<R: Threads + Wait + Sync, T: Tablet + Send, P: Paths, O: Sink, E: Sink>(
     rt: &R,
     alloc: Global,

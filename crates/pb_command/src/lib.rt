@@ -1,4 +1,7 @@
 //! What a command line asks for, done over paths and sinks.
+//!
+//! Where a command answers 0, it did so for what its files hold, and `run` left nothing undone; only `asm` writes a
+//! path, OUT.
 #![tactic(auto)]
 
 mod answer;

@@ -1,4 +1,7 @@
 //! The shared table with its journal, its books and its seats.
+//!
+//! A call adds its one entry to journal and seat, or is refused and changes nothing; the journal is legal; a swap
+//! changes neither state nor journal.
 #![tactic(auto)]
 
 mod seat;

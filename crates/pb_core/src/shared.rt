@@ -249,8 +249,10 @@ impl<T: Tablet> Shared<T> {
         state.close();
     }
 
-    /// The entries of all answered calls, in order. Its committed transactions are a legal snapshot history, and each committed
-    /// change is handled by at most one committed run of each observer of its column.
+    /// The entries of all answered calls, in order. Its committed transactions are a legal snapshot history, and each
+    /// committed change is handled by at most one committed run of each observer of its column. It is a run of steps from
+    /// the opening state, and leads to the state that is there. Where no mark and no lock is left, a change is handled by
+    /// exactly one committed run.
     pub fn journal(&self) -> &[Entry]
         ensures entries { result.now ≡ self.now.journal }
         ensures legal { IsLegalTable self.now }
@@ -375,7 +377,7 @@ impl<T: Tablet> Shared<T> {
     /// Takes one step for a seat, and adds its one entry to the journal, to the seat's book and to the seat's list.
     ///
     /// The numbers 40 to 47 and 49 come before any growth; 1 comes only where a growth was refused. Refused, it leaves the
-    /// table and the seat as they were.
+    /// table and the seat as they were. 44 comes exactly where the journal has as many entries as its limit.
     pub fn call(&mut self, seat: &mut Seat, step: &Step) -> Result<Answer, Refusal>
         ensures refused { (r : _) → call_reason self.old seat.old.number step.now ≡ Some r
             → result ≡ Err (refusal_by r) }

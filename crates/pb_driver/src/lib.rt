@@ -1,4 +1,7 @@
 //! What the program does with its texts: a run of workers, or a replay of a schedule's events, and the report of what they left.
+//!
+//! What a run or a replay writes is the report of the journal that its seats or its events name, from the table opened
+//! with the manifest's observers.
 #![tactic(auto)]
 
 mod fault;

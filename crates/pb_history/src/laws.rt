@@ -7,7 +7,8 @@ ghost use Rattle.pb_history.specs.Laws.{HistoriesAreTold, ReadsAreTold, RunsAreC
 ghost use Rattle.pb_history.specs.Laws.{AcknowledgedIsEarlier, BehindIsMarked, HandledAtMostOnce, HandledWhenQuiet};
 ghost use Rattle.pb_history.specs.Laws.{TimestampsRise, CommitsAreOrdered, ReadsTellSnapshots, WritersAreApart, RecordsAreTold};
 
-/// The table is sound as it is opened, and every step keeps it so.
+/// The table is sound as it is opened, and every step keeps it so. Sound is how starts, commits, prewritten cells, locks,
+/// write records and data go together, and what recorded reads still tell.
 pub fn steps_keep_sound()
     ensures step { StepsKeepSound }
     ensures opening { OpeningIsSound }
@@ -24,19 +25,23 @@ pub fn sound_has_data()
     ensures { SoundHasData }
 {}
 
-/// The committed transactions of a legal journal are those of the state that it leads to.
+/// The committed transactions of a legal journal are those of the state that it leads to. What a declaration names is what
+/// its transaction has declared, names each cell once, is known, and is for its work: a run's is of its observer, on a
+/// record of the cell that it observes.
 pub fn histories_are_told()
     ensures { HistoriesAreTold }
 {}
 
-/// A read of a legal journal that found a version, or none, tells what the table held up to its start.
+/// A read of a legal journal that found a version, or none, tells what the table held up to its start, or up to the
+/// timestamp that it named.
 pub fn reads_are_told()
     ensures { ReadsAreTold }
 {}
 
-/// A committed run of a legal journal found its cell, in the snapshot at its start, newer than its acknowledgment, and wrote
-/// this, with its start as the stamp, and then what its program means on the record of what it read, with replies that are
-/// the same snapshot.
+/// A committed run of a legal journal found its cell, in the snapshot at its start, newer than its acknowledgment, and
+/// wrote this, with its start as the stamp, and then what its program means on the record of what it read, with replies
+/// that are the same snapshot; where the record tells it, the value before is that of the snapshot at the acknowledged
+/// timestamp. What its program means is nothing, or 1 to 16 distinct data cells.
 pub fn runs_are_told()
     ensures { RunsAreTold }
 {}
@@ -52,18 +57,20 @@ pub fn runs_are_counted()
     ensures { RunsAreCounted }
 {}
 
-/// A legal journal leads to a sound table, and so does every beginning of it.
+/// A legal journal leads to a sound table, and so does every beginning of it. It has the observers that it was opened with.
 pub fn journals_are_sound()
     ensures { JournalsAreSound }
 {}
 
-/// A transaction of a legal journal is committed above its start, and what begins after the answer has it in its snapshot.
+/// A transaction of a legal journal is committed above its start, and what begins after the answer starts above
+/// that commit, so that it has it in its snapshot.
 pub fn commits_are_ordered()
     ensures { CommitsAreOrdered }
 {}
 
-/// Every read of a legal journal that found a version, or none, tells the snapshot at its start of the whole history,
-/// whatever was committed after it.
+/// Every read of a legal journal that found a version, or none, tells the snapshot at its start, or at the timestamp that
+/// it named, which is none above its start, of the whole history, whatever was committed after it. That is so of any
+/// transaction, committed or not.
 pub fn reads_tell_snapshots()
     ensures { ReadsTellSnapshots }
 {}
@@ -89,7 +96,9 @@ pub fn records_are_told()
     ensures { RecordsAreTold }
 {}
 
-/// What the table has of a transaction follows from the entries of a legal journal that name its start.
+/// What the table has of a transaction follows from the entries of a legal journal that name its start. That is its seat,
+/// work, phase, reads in order, declared and prewritten cells. The first of these entries begins it, no later one does, and
+/// all are of one seat.
 pub fn transactions_are_told()
     ensures { TransactionsAreTold }
 {}
@@ -105,7 +114,7 @@ pub fn handled_at_most_once()
 {}
 
 /// Where neither a mark nor a lock stands, each committed change of an observed cell is handled by a committed run of each
-/// observer of its column.
+/// observer of its column. That is so of changes by scripts and by runs.
 pub fn handled_when_quiet()
     ensures { HandledWhenQuiet }
 {}

@@ -1,4 +1,8 @@
 //! Journals of the shared table, and what legal ones tell.
+//!
+//! Of every legal journal, of however many seats: its history is one of snapshots, no two writers of a cell overlap,
+//! the table holds that history, and each change is handled by at most one committed run of an observer, by one where
+//! neither mark nor lock is left.
 #![tactic(auto)]
 
 mod entry;

@@ -1,4 +1,6 @@
 //! Tablets in memory, and the sorted lists that they are kept in.
+//!
+//! A list tablet and a slab tablet, made empty without memory, whose changes can't fail once there is room.
 #![tactic(auto)]
 
 mod chunks;

@@ -135,7 +135,7 @@ fn stock_spares<K: Drop, V: Drop>(
 }
 
 impl<K: Ord + Drop, V: Drop> SortedList<K, V> {
-    /// Makes room for so many puts.
+    /// Makes room for so many puts. No entry is changed, and it answers Ok where there is room already.
     pub fn reserve(&mut self, puts: usize) -> Result<(), AllocError>
         ensures entries { self.new.entries ≡ self.old.entries }
         ensures ok { OnOk result (puts ≤ self.new.room) }
@@ -153,7 +153,8 @@ impl<K: Ord + Drop, V: Drop> SortedList<K, V> {
         stock_spares(&mut self.spares, self.alloc, puts)
     }
 
-    /// Puts the value at the key. There is room for it.
+    /// Puts the value at the key. There is room for it. All other entries stay, and it takes one room at most. It can't
+    /// fail.
     pub fn put(&mut self, key: K, value: V)
         requires { 0 < self.old.room }
         ensures entries { self.new.entries ≡ put K.cmp key value self.old.entries }
@@ -171,7 +172,7 @@ impl<K: Ord + Drop, V: Drop> SortedList<K, V> {
         }
     }
 
-    /// Takes the key out.
+    /// Takes the key out. It takes no room.
     pub fn take_out(&mut self, key: &K)
         ensures entries { self.new.entries ≡ where_key K.cmp (λ k. not (eq_by_cmp K.cmp key.now k)) self.old.entries }
         ensures room { self.old.room ≤ self.new.room }

@@ -1,4 +1,6 @@
 //! Scripts and schedules, as their texts are read.
+//!
+//! Scripts and schedules are read as defined, line by line, or refused with the first fault, told where it is.
 #![tactic(auto)]
 
 mod event;

@@ -10,8 +10,8 @@ use std::fmt;
 /// Why a manifest is refused: the number of the observer where it is one's fault, the code, and for code 56 where its
 /// program is refused. 50 the text isn't read as JSON, 51 wrong members, types or profile, 52 over 32 observers, 53 a name
 /// that isn't 1 to 32 of `a` to `z`, `0` to `9` and `-`, or that an observer before has, 54 a column over 15, or a helper
-/// that isn't 1 to 4 or named twice, 55 code that isn't pairs of the digits `0` to `9` and `a` to `f`, 56 a program that
-/// isn't accepted with its helpers. Where memory ran out the code is 1.
+/// that isn't 1 to 4 or named twice, or a record of another version than 1 and 2, 55 code that isn't pairs of the digits
+/// `0` to `9` and `a` to `f`, 56 a program that isn't accepted with its helpers. Where memory ran out the code is 1.
 #[derive(Clone, Copy, Debug, PartialEq, Eq, Drop)]
 pub struct RegistryFault {
     pub observer: Option<u8>,

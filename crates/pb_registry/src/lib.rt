@@ -1,4 +1,6 @@
 //! The manifest: which observers there are, each with an accepted program.
+//!
+//! Observers are read in order, no two of one name, each program accepted with its helpers; or the first fault is told.
 #![tactic(auto)]
 
 mod accepting;

@@ -1,4 +1,6 @@
 //! The report of a table, and what reads scripts and schedules, which stand in `pb_parse`.
+//!
+//! A report has its lines and no others, and that of a table tells what a snapshot at its clock has.
 #![tactic(auto)]
 
 mod fault;

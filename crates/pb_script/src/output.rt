@@ -105,8 +105,10 @@ fn text_of<T: Tablet>(alloc: Global, shared: &Shared<T>) -> Result<String, NoMem
     report_of(alloc, &table, &tallies, shared.marks(), shared.locks())
 }
 
-/// Writes the report of a table: the newest committed write of each data cell, the runs of each observer, and what is
-/// left to do.
+/// Writes the report of a table: the newest committed write of each data cell, the runs of each observer, and what is left
+/// to do. A cell's line is of what a snapshot at the table's clock has there, and an observer's of how many committed
+/// transactions are runs of it. Where a write failed or took no byte, a beginning was written; refused for memory, nothing
+/// was.
 pub fn report<T: Tablet, S: Sink>(
     alloc: Global,
     sink: &mut S,

@@ -18,7 +18,9 @@ use std::alloc::Global;
 use std::collections::BTreeMap;
 pub use tally::Tally;
 
-/// The report of the committed writes that the table has the newest of, and of these runs, with so many marks and locks left.
+/// The report of the committed writes that the table has the newest of, and of these runs, with so many marks and locks
+/// left. It has a line for each data cell, rising by row and column, of its write with the greatest commit; then a line for
+/// each observer with its number of runs; then the last line.
 pub fn report_of(
     alloc: Global,
     table: &BTreeMap<Cell, Newest>,

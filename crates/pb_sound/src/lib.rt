@@ -1,5 +1,8 @@
 //! Accepted programs are never stuck: where the rules hold, the machine of the definitions goes on, at every placement alike,
 //! and a machine that tests nothing does the same.
+//!
+//! Laws alone: an accepted program is never stuck, at any placement, ends, has one meaning, and writes nothing or what
+//! a batch could.
 #![tactic(auto)]
 
 ghost use Rattle.pb_sound.specs.NeverStuck.{AcceptedAreNeverStuck};

@@ -1,4 +1,6 @@
 //! The state of the shared table, and its transactions.
+//!
+//! Steps are taken exactly as `TableStep` says, and refused exactly where it says so, with the lowest number.
 #![tactic(auto)]
 
 mod begin;

@@ -43,7 +43,8 @@ impl<T: Tablet> State<T> {
     ghost use Rattle.pb_steps.specs.Readings.{lock_count};
     ghost use Rattle.pb_steps.specs.Steps.{step_reason, TableStep};
 
-    /// A state over an empty table, with seats numbered from 0 and the last timestamp given out.
+    /// A state over an empty table, with seats numbered from 0 and the last timestamp given out. It has no entry, no mark
+    /// and no transaction.
     pub fn new(
         alloc: Global,
         table: Table<T>,
@@ -129,7 +130,7 @@ impl<T: Tablet> State<T> {
         count_marks(&self.parts.table)
     }
 
-    /// The lowest of the numbers 40 to 43 and 45 to 47 that a step is refused with, if one applies.
+    /// The lowest of the numbers 40 to 43, 45 to 47 and 49 that a step is refused with, if one applies.
     pub fn refused(&self, seat: u32, step: &Step) -> Option<Refusal>
         ensures { result ≡ option_map refusal_by (step_reason self.now seat step.now) }
     {
@@ -146,7 +147,8 @@ impl<T: Tablet> State<T> {
         self.parts.reason(seat, step)
     }
 
-    /// Takes a step that isn't refused. A commit of a primary answers `Lost` where its lock is gone.
+    /// Takes a step that isn't refused. A commit of a primary answers `Lost` where its lock is gone. The step and its
+    /// answer are those of `TableStep`. Refused for memory, the state is as before.
     pub fn take(&mut self, seat: u32, step: &Step) -> Result<Answer, NoMemory>
         requires { step_reason self.old seat step.now ≡ None }
         ensures taken { IfOk result (λ a. TableStep self.old seat step.now a self.new) }

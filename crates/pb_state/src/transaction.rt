@@ -8,7 +8,8 @@ use pb_store::{Edit, Table, Tablet};
 use std::alloc::Global;
 use std::marker::Model;
 
-// How many reads a run makes, if its program asks for nothing: of its cell and of its acknowledgment.
+// How many reads a run makes, if its program asks for nothing: of its cell and of its acknowledgment. One that is told what
+// the cell held at the acknowledged timestamp makes a third.
 const RUN_READS: usize = 2;
 
 /// A transaction.

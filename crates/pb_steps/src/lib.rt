@@ -1,4 +1,6 @@
 //! The steps of the shared table (OSDI 2010, sections 2.2 to 2.4): what is asked, what is answered, and what a step does.
+//!
+//! A step is the relation `TableStep` (Steps), with one case for each step and answer; a refused step has none.
 #![tactic(auto)]
 
 mod ended_run;

@@ -83,7 +83,8 @@ impl Declaration {
         Ok(Declaration { owner })
     }
 
-    /// What is declared.
+    /// What is declared. It is known that what a script declares is a batch, and that what a run declares is what its
+    /// program means.
     pub fn get(&self) -> &Declared
         ensures same { result.now ≡ self.now }
         ensures known { IsKnown result.now }

@@ -1,4 +1,6 @@
 //! The words of the program, and whole texts written.
+//!
+//! A command line is read as `clap` reads the program's definition, or refused.
 #![tactic(auto)]
 
 mod sink;

@@ -1,6 +1,9 @@
 //! The verifier: which programs are accepted, and where and why another is refused.
 //!
 //! RFC 9669 leaves verification to the platform: the rules are the project's own profile.
+//!
+//! A program is accepted exactly where the rules hold at every slot, else refused at the first at fault; each has one
+//! verdict.
 #![tactic(auto)]
 
 mod accepted;

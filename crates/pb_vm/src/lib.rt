@@ -1,5 +1,8 @@
 //! The machine that runs accepted programs. It tests no range, no kind and no budget, since acceptance says that none is
 //! passed.
+//!
+//! Each step is one instruction of the machine of the definitions, at every placement; fewer are done than there are
+//! slots until it ends, and its end is what the program means.
 #![tactic(auto)]
 
 mod acting;

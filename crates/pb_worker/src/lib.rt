@@ -1,4 +1,6 @@
 //! Workers in threads of their own, over one table under a lock.
+//!
+//! Of a table under a lock nothing is known at a call but what its type keeps; so all is said of what each seat gained.
 #![tactic(auto)]
 
 mod desk;

@@ -1,4 +1,7 @@
 //! Worlds: one shared table, and actors that are launched, stepped and crashed as a list of events says.
+//!
+//! Events happen exactly as defined, each with its note, up to the first at fault; and after each of any list the
+//! headline holds.
 #![tactic(auto)]
 
 mod actor;

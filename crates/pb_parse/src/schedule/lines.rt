@@ -45,7 +45,7 @@ fn add_line(observers: &[Observer], events: &mut Vec<Event>, line: &str) -> Resu
 }
 
 /// The events of a schedule, one a line, or as many as a line with `step` says. Of several observers of one name the first
-/// is meant.
+/// is meant. Of another text the first line at fault is told, with its code, or want of memory at line 0 with code 1.
 pub fn parse_schedule(
     alloc: Global,
     text: &str,

@@ -114,7 +114,8 @@ impl ScriptFault {
     }
 }
 
-/// The transactions of a script, one a line: operations joined by `; `, each `put ROW COL HEX` or `del ROW COL`.
+/// The transactions of a script, one a line: operations joined by `; `, each `put ROW COL HEX` or `del ROW COL`. Of another
+/// text the first line at fault is told, with its code, or want of memory at line 0 with code 1.
 pub fn parse_script(alloc: Global, text: &str) -> Result<Vec<Batch>, ScriptFault>
     ensures { Reads result (script_of text.now) }
 {

@@ -414,8 +414,11 @@ fn plus_refused(alloc: Global, matches: &ArgMatches) -> Result<Error, AllocError
     }
 }
 
-/// What the words of a command line ask for, the program's own first. The error of another command line has the text
-/// and the status to end with; where help is asked for, the help with status 0.
+/// What the words of a command line ask for, the program's own first. The error of another command line has the text and
+/// the status to end with; where help is asked for, the help with status 0. What is taken as `run` has 1 to 63 workers, 1
+/// where none are named, and 0 to 1,000 swaps, 0 where none are; `asm`, `dis` and `check` have the profile that is named,
+/// or 1, and `check` the version of the record that is named, or 1. The error of others is one that `clap` finds, that of a
+/// plus before a number, or memory.
 pub fn options<'a>(alloc: Global, words: &'a [&'a str]) -> Result<Options<'a>, Error>
     ensures kinds { FailsBy (words_fault (texts_of words.now)) result }
     ensures read { IfOk result (λ o. command_of (texts_of words.now) ≡ Some (request_of o)) }
@@ -429,10 +432,11 @@ pub fn options<'a>(alloc: Global, words: &'a [&'a str]) -> Result<Options<'a>, E
     }
 }
 
-/// A subcommand with as many words behind it as it has operands, none of which begins with a hyphen, is taken. So is
-/// `run` with `--workers` and a number of workers behind them, or `--swaps` and a number of swaps, decimal digits alone,
-/// `replay` with `--clock` and a number of `u64`, and `asm`, `dis` and `check` with `--profile` and 1 or 2, decimal digits
-/// alone; with another such word there each is refused. Without `--profile` the profile is the first.
+/// A subcommand with as many words behind it as it has operands, none of which begins with a hyphen, is taken. So is `run`
+/// with `--workers` and a number of workers behind them, or `--swaps` and a number of swaps, decimal digits alone, `replay`
+/// with `--clock` and a number of `u64`, and `asm`, `dis` and `check` with `--profile` and 1 or 2, decimal digits alone;
+/// with another such word there each is refused. Without `--profile` the profile is the first. So is `check` with
+/// `--record` and 1 or 2.
 pub fn plain_words_are_taken()
     ensures run { (program manifest script : List ℕ) → is_plain_word manifest ≡ true → is_plain_word script ≡ true
         → AskFor (run_words program manifest script) (Run manifest script 1 0) }
