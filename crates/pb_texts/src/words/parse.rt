@@ -1,6 +1,6 @@
 //! A command line, read with `clap`.
 ghost use Rattle.std.specs.Prelude.{◌≡◌, ℕ, List, true, IfOk, Some, [], false, option_map, codes};
-ghost use Rattle.clap.specs.Words.{FailsBy, app_of, fault_of, first_of, found_of, kind_of, one_of, rows_of, rule_of, subcommand_of, subcommand_rows_of};
+ghost use Rattle.clap.specs.Words.{FailsBy, app_of, new_app, fault_of, first_of, found_of, kind_of, one_of, rows_of, rule_of, subcommand_of, subcommand_rows_of};
 ghost use Rattle.pb_base.specs.Reading.{texts_of};
 ghost use Rattle.pb_texts.specs.CommandLines.{required_rule, workers_rule, run_app, clock_rule, profile_rule, profile_numbered, profile_of, record_rule, version_numbered, version_of, replay_app, asm_app, dis_app, check_app, texts_app, program_app, swaps_rule, is_within, count_of, workers_of, swaps_of, run_in, clock_of, replay_in, asm_in, dis_in, check_in, command_in, command_of, words_fault, request_of, IsInRange, is_plain_word, is_workers, is_swaps, count_number, is_clock, clock_number, run_words, workers_words, swaps_words, replay_words, clock_words, asm_words, dis_words, check_words, Run, Replay, Asm, Dis, Check, AskFor, HaveBadValue, TakeProfiles, RefuseOtherProfiles, TakeVersions, RefuseOtherVersions};
 ghost use Rattle.pb_isa.specs.declared.profile.Profile.TheVariants.{One};
@@ -26,6 +26,17 @@ const LAST_PROFILE: u32 = 2;
 
 // So are the versions of the change record.
 const LAST_VERSION: u32 = 2;
+
+// What stands at the end of each help.
+const SEE_CODES: &str = "Codes and exit statuses: docs/CODES.md";
+
+// A command without operands and options: its name, and what its help says of it.
+fn bare_command<'a>(alloc: Global, name: &'a str, about: &'a str) -> Command<'a>
+    ensures app { app_of result ≡ new_app name.now }
+    ensures local { (fields_of result).has_globals ≡ false }
+{
+    Command::new(alloc, name).about(about).after_help(SEE_CODES)
+}
 
 fn manifest_operand<'a>(alloc: Global) -> Arg<'a>
     ensures rule { rule_of result ≡ required_rule (codes "MANIFEST") }
@@ -77,9 +88,12 @@ fn run_command<'a>(alloc: Global) -> Result<Command<'a>, AllocError>
     ensures app { IfOk result (λ c. app_of c ≡ run_app) }
     ensures local { IfOk result (λ c. (fields_of c).has_globals ≡ false) }
 {
-    let bare = Command::new(alloc, "run");
-    bare.about("Makes a script's changes, runs the observers on them, and prints the report")
-        .arg(manifest_operand(alloc))?
+    let bare = bare_command(
+        alloc,
+        "run",
+        "Makes a script's changes, runs the observers on them, and prints the report",
+    );
+    bare.arg(manifest_operand(alloc))?
         .arg(script_operand(alloc))?
         .arg(workers_option(alloc))?
         .arg(swaps_option(alloc))
@@ -100,9 +114,12 @@ fn replay_command<'a>(alloc: Global) -> Result<Command<'a>, AllocError>
     ensures app { IfOk result (λ c. app_of c ≡ replay_app) }
     ensures local { IfOk result (λ c. (fields_of c).has_globals ≡ false) }
 {
-    let bare = Command::new(alloc, "replay");
-    bare.about("Does a schedule's events with a script's changes, and prints the report")
-        .arg(manifest_operand(alloc))?
+    let bare = bare_command(
+        alloc,
+        "replay",
+        "Does a schedule's events with a script's changes, and prints the report",
+    );
+    bare.arg(manifest_operand(alloc))?
         .arg(script_operand(alloc))?
         .arg(schedule_operand(alloc))?
         .arg(clock_option(alloc))
@@ -158,9 +175,8 @@ fn asm_command<'a>(alloc: Global) -> Result<Command<'a>, AllocError>
     ensures app { IfOk result (λ c. app_of c ≡ asm_app) }
     ensures local { IfOk result (λ c. (fields_of c).has_globals ≡ false) }
 {
-    let bare = Command::new(alloc, "asm");
-    bare.about("Writes the bytes of a program's text")
-        .arg(text_operand(alloc))?
+    let bare = bare_command(alloc, "asm", "Writes the bytes of a program's text");
+    bare.arg(text_operand(alloc))?
         .arg(output_operand(alloc))?
         .arg(profile_option(alloc))
 }
@@ -169,19 +185,24 @@ fn dis_command<'a>(alloc: Global) -> Result<Command<'a>, AllocError>
     ensures app { IfOk result (λ c. app_of c ≡ dis_app) }
     ensures local { IfOk result (λ c. (fields_of c).has_globals ≡ false) }
 {
-    let bare = Command::new(alloc, "dis");
-    bare.about("Prints the text of a program's bytes, or where they are refused")
-        .arg(file_operand(alloc))?
-        .arg(profile_option(alloc))
+    let bare = bare_command(
+        alloc,
+        "dis",
+        "Prints the text of a program's bytes, or where they are refused",
+    );
+    bare.arg(file_operand(alloc))?.arg(profile_option(alloc))
 }
 
 fn check_command<'a>(alloc: Global) -> Result<Command<'a>, AllocError>
     ensures app { IfOk result (λ c. app_of c ≡ check_app) }
     ensures local { IfOk result (λ c. (fields_of c).has_globals ≡ false) }
 {
-    let bare = Command::new(alloc, "check");
-    bare.about("Prints whether a program's bytes are accepted, or where they are refused")
-        .arg(file_operand(alloc))?
+    let bare = bare_command(
+        alloc,
+        "check",
+        "Prints whether a program's bytes are accepted, or where they are refused",
+    );
+    bare.arg(file_operand(alloc))?
         .arg(profile_option(alloc))?
         .arg(record_option(alloc))
 }
@@ -193,10 +214,12 @@ fn texts_program<'a>(alloc: Global) -> Result<Command<'a>, AllocError>
     let run = run_command(alloc)?;
     let replay = replay_command(alloc)?;
     let asm = asm_command(alloc)?;
-    let bare = Command::new(alloc, "percobpf").subcommand_required(true);
-    let bare = bare.about(
+    let bare = bare_command(
+        alloc,
+        "percobpf",
         "A table of cells with snapshot transactions, and BPF observers that run on its changes",
     );
+    let bare = bare.subcommand_required(true);
     bare.subcommand(run)?.subcommand(replay)?.subcommand(asm)
 }
 

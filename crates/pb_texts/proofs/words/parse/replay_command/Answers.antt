@@ -1,4 +1,4 @@
-use Rattle.std.proofs.Common.{rules, ap₂, codes, false, ◌≡◌, ◌∙◌}
+use Rattle.std.proofs.Common.{ap₂, codes, false, ◌≡◌, ◌∙◌}
 use Rattle.std.specs.Prelude.{◌||◌}
 use Rattle.std.proofs.lemmas.Result.{IfOk-weaker}
 use Rattle.clap.specs.Words.{app_of, new_app, with_rule}
@@ -7,7 +7,7 @@ use Rattle.pb_texts.proofs.words.parse.replay_command.Goals as goal
 
 pub returns-clause-app : goal.returns-clause-app
 returns-clause-app c =
-    let bare : app_of c.about.result ≡ new_app (codes "replay") = search rules in
+    let bare : app_of c.bare_command-bare.result ≡ new_app (codes "replay") = c.bare_command-bare.ensures.app in
     let one = c.in_ok-arg.ensures.shape c.manifest_operand.ensures.local ∙ ap₂ with_rule bare c.manifest_operand.ensures.rule in
     let two = c.in_ok-arg-2.ensures.shape c.script_operand.ensures.local ∙ ap₂ with_rule one c.script_operand.ensures.rule in
     let three = c.in_ok-arg-3.ensures.shape c.schedule_operand.ensures.local ∙ ap₂ with_rule two c.schedule_operand.ensures.rule in
@@ -15,7 +15,7 @@ returns-clause-app c =
 
 pub returns-clause-local : goal.returns-clause-local
 returns-clause-local c =
-    let bare : (fields_of c.about.result).has_globals ≡ false = search rules in
+    let bare : (fields_of c.bare_command-bare.result).has_globals ≡ false = c.bare_command-bare.ensures.local in
     let one = c.in_ok-arg.ensures.globals ∙ ap₂ (λ a b. a || b) bare c.manifest_operand.ensures.local in
     let two = c.in_ok-arg-2.ensures.globals ∙ ap₂ (λ a b. a || b) one c.script_operand.ensures.local in
     let three = c.in_ok-arg-3.ensures.globals ∙ ap₂ (λ a b. a || b) two c.schedule_operand.ensures.local in

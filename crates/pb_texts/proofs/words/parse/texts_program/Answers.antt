@@ -6,7 +6,7 @@ use Rattle.pb_texts.proofs.words.parse.texts_program.Goals as goal
 
 pub returns : goal.returns
 returns c =
-    let bare : app_of c.about-bare.result ≡ needs_subcommand (new_app (codes "percobpf")) = search rules in
+    let bare : app_of c.subcommand_required-bare.result ≡ needs_subcommand (new_app (codes "percobpf")) = search rules in
     let one = c.in_ok-subcommand.ensures.shape c.in_ok-run.ensures.local ∙ ap₂ with_subcommand bare (ap (λ (a : App). a.top) c.in_ok-run.ensures.app) in
     let two = c.in_ok-subcommand-2.ensures.shape c.in_ok-replay.ensures.local ∙ ap₂ with_subcommand one (ap (λ (a : App). a.top) c.in_ok-replay.ensures.app) in
     IfOk-weaker c.subcommand-3.result _ _ (λ r h. h.shape c.in_ok-asm.ensures.local ∙ ap₂ with_subcommand two (ap (λ (a : App). a.top) c.in_ok-asm.ensures.app)) c.subcommand-3.ensures
