@@ -39,6 +39,8 @@ BY_ITSELF = {
     "disassemble": 3,
     "encode": 1,
     "EndedRun::new": 1,
+    # of a program with two slots that are jumped to
+    "frames": 4,
     "ListTablet::apply": 7,
     # its machine's start, and what it declares at its exit
     "ObserverJob::local": 5,

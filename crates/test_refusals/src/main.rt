@@ -45,6 +45,7 @@ fn programs_hold(alloc: Global, refusals: &mut refusals::Refusals) -> Result<boo
             && programs::programs_are_listed(alloc, refusals)?
             && programs::programs_are_verified(alloc, refusals)?
             && programs::jumps_are_verified(alloc, refusals)?
+            && programs::frames_are_told(alloc, refusals)?
             && observers::programs_are_accepted(alloc, refusals)?
             && observers::machines_start(alloc, refusals)?,
     )

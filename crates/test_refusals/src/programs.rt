@@ -5,7 +5,7 @@ use pb_base::NoMemory;
 use pb_decode::{DecodeFault, decode, encode};
 use pb_helpers::HelperTable;
 use pb_isa::{Insn, NoProgram, Profile, Program, Reg};
-use pb_verify::{VerifyFault, verify};
+use pb_verify::{VerifyFault, frames, verify};
 use std::alloc::Global;
 
 const TEXT: &str = "# five\nlddw r0, 5\nexit\n";
@@ -169,4 +169,20 @@ pub fn jumps_are_verified(alloc: Global, refusals: &mut Refusals) -> Result<bool
             }
         }
     }
+}
+
+/// `frames` of a program with jumps, each slot of which is led to.
+pub fn frames_are_told(alloc: Global, refusals: &mut Refusals) -> Result<bool, NoMemory> {
+    let program = branching(alloc)?;
+    let known = match frames(alloc, &program) {
+        Ok(known) => known,
+        Err(_) => {
+            refusals.note("frames");
+            match frames(alloc, &program) {
+                Ok(known) => known,
+                Err(_) => return Ok(false),
+            }
+        }
+    };
+    Ok(known.len() == 8 && known.iter().all(|frame| frame.is_some()))
 }
