@@ -26,7 +26,7 @@ declare-requires-clause-at c =
     let going : old.phase ≡ Going = search rules in
     let taken : c.taken-taken.result ≡ old.taken = search rules in
     let here = at_exit old new c.in-Ended.field-0 c.finish-finished.result c.taken-taken.result ended finishes going taken in
-    let slot : IsAtSlot old c.slot-slot.result = c.slot-slot.ensures.at in
+    let slot : IsAtSlot old c.slot-slot.result = rw c.in-Running.is at c.slot-slot.ensures.at in
     subst (λ v. IsAtSlot v c.slot-slot.result) (sym here) slot
 
 pub returns-in-Ended-clause-ok : goal.returns-in-Ended-clause-ok
