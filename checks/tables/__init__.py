@@ -10,8 +10,8 @@ import struct
 from dataclasses import dataclass, field, replace
 
 # how many tables there are, and how many rows in all, so that a lost one is noticed
-TABLE_COUNT = 178
-ROW_COUNT = 6095
+TABLE_COUNT = 179
+ROW_COUNT = 6105
 
 TOO_LARGE = bytes(16_777_217)
 
