@@ -8,10 +8,11 @@ from __future__ import annotations
 import re
 import struct
 from dataclasses import dataclass, field, replace
+from functools import cache
 
 # how many tables there are, and how many rows in all, so that a lost one is noticed
-TABLE_COUNT = 178
-ROW_COUNT = 6095
+TABLE_COUNT = 190
+ROW_COUNT = 6610
 
 TOO_LARGE = bytes(16_777_217)
 
@@ -189,6 +190,7 @@ def opcode(word: str, has_register: bool) -> int:
     raise ValueError(f"{word} is no first word")
 
 
+@cache
 def instruction(text: str) -> bytes:
     """The bytes of an instruction that is written as docs/MACHINE.md says."""
     word, _, behind = text.partition(" ")

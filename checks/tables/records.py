@@ -28,7 +28,7 @@ FLAG = encoded(
 ).hex()
 
 
-def recorded(record: int | str | None, **members: str) -> str:
+def recorded(record: int | str | None, **members: int | str) -> str:
     """An observer whose record is of this version, or of none that is named."""
     text = observer(**members)
     return text if record is None else f'{text[:-1]},"record":{record}}}'
@@ -73,6 +73,7 @@ CHECKED = [
 ]
 
 TWO = "put 7 0 2a\nput 7 0 2b\n"
+THREE = f"{TWO}put 7 0 2c\n"
 
 TURNS = "launch 1 change 1\nstep 1 100\nlaunch 1 run keep 7\nstep 1 {}\nlaunch 1 change 2\nstep 1 100\nlaunch 1 run keep 7\nstep 1 {}\n"
 
@@ -96,6 +97,48 @@ REPLAYED = [
     # one run after both changes is a first one: it has no value of before
     replay(keeping(), TWO, "launch 1 change 1\nstep 1 100\nlaunch 1 change 2\nstep 1 100\nlaunch 1 run keep 7\nstep 1 26\n",
            "cell 7 0 commit 4 value 2b\ncell 7 2 commit 6 value 00\nruns keep 1\nquiet\n"),
+    # three changes, each with a run: the third run is told of the value of the second, and not of the first
+    replay(keeping(), THREE, TURNS.format(26, 27) + "launch 1 change 3\nstep 1 100\nlaunch 1 run keep 7\nstep 1 27\n",
+           "cell 7 0 commit 10 value 2c\ncell 7 2 commit 12 value 2b\nruns keep 3\nquiet\n"),
+]
+
+# a change has 5 events, and the first run 26, with the start 3 and the commit 4
+AFTER_THE_FIRST = "launch 1 change 1; step 1 5; launch 1 run keep 7; step 1 26; "
+
+
+def at_once(script: str, schedule: str, report: str) -> Row:
+    """A replay of `keep`, its events parted by `; `, where other steps than those of one change stand between two runs."""
+    return replay(keeping(), script, "".join(f"{event}\n" for event in schedule.split("; ")), report)
+
+
+# what is told is the value as of the start of the last committed run, and not as of another timestamp near it
+ACKNOWLEDGED = [
+    # a lock of 7 comes on the cell after the second run, of 8, has read 6 there: it isn't in the way of what stood there at 3
+    at_once(
+        THREE,
+        f"{AFTER_THE_FIRST}launch 1 change 2; step 1 5; launch 2 change 3; step 2 2; "
+        "launch 1 run keep 7; step 1 3; step 2; step 1 24; step 2 2",
+        "cell 7 0 commit 10 value 2c\ncell 7 2 commit 9 value 2a\nruns keep 2\nmarks 1 locks 0\n",
+    ),
+    # two changes between two runs: not the version before the one that the second run is on
+    at_once(
+        THREE,
+        f"{AFTER_THE_FIRST}launch 1 change 2; step 1 5; launch 1 change 3; step 1 5; launch 1 run keep 7; step 1 27",
+        "cell 7 0 commit 8 value 2c\ncell 7 2 commit 10 value 2a\nruns keep 2\nquiet\n",
+    ),
+    # the second change begins at 3 and commits at 5, between start and commit of the first run, 4 and 6, which hasn't seen it
+    at_once(
+        TWO,
+        "launch 1 change 1; step 1 5; launch 2 change 2; step 2 2; launch 1 run keep 7; step 1 3; step 2 3; step 1 23; "
+        "launch 1 run keep 7; step 1 27",
+        "cell 7 0 commit 5 value 2b\ncell 7 2 commit 8 value 2a\nruns keep 2\nquiet\n",
+    ),
+    # a run that finds nothing newer has 4 events, and no look at what was: its actor is free for the second change then
+    at_once(
+        TWO,
+        f"{AFTER_THE_FIRST}launch 1 run keep 7; step 1 4; launch 1 change 2; step 1 5",
+        "cell 7 0 commit 7 value 2b\ncell 7 2 commit 4 value 00\nruns keep 1\nmarks 1 locks 0\n",
+    ),
 ]
 
 
@@ -114,6 +157,8 @@ FLAGS = [
     flagged(ONE, turns(1), "cell 7 0 commit 2 value 2a\ncell 7 3 commit 4 value 00\nruns flag 1\nquiet\n"),
     flagged(TWO, turns(1, 2),
             "cell 7 0 commit 6 value 2b\ncell 7 3 commit 8 value 010000000000000003\nruns flag 2\nquiet\n"),
+    flagged(THREE, turns(1, 2, 3),
+            "cell 7 0 commit 10 value 2c\ncell 7 3 commit 12 value 010000000000000007\nruns flag 3\nquiet\n"),
     # a deletion is no value, and neither is what was deleted
     flagged("del 7 0\nput 7 0 2a\n", turns(1, 2),
             "cell 7 0 commit 6 value 2a\ncell 7 3 commit 8 value 000000000000000003\nruns flag 2\nquiet\n"),
@@ -128,6 +173,11 @@ RUN = [
     run(manifest_of(recorded(None, name="copy", helpers="2", digits=COPY), recorded(2, name="keep", helpers="2", digits=KEEP),
                     profile=2), ONE,
         "cell 7 0 commit 2 value 2a\ncell 7 1 commit 4 value 2a\ncell 7 2 commit 6 value 00\nruns copy 1\nruns keep 1\nquiet\n"),
+    # `keep` runs on column 1 before `copy` writes there what column 15 has: its second run, of 7, is told what its first saw
+    run(manifest_of(recorded(2, name="keep", column=1, helpers="2", digits=KEEP),
+                    recorded(None, name="copy", column=15, helpers="2", digits=COPY), profile=2), "put 7 1 2a; put 7 15 2b\n",
+        "cell 7 1 commit 6 value 2b\ncell 7 2 commit 8 value 2a\ncell 7 15 commit 2 value 2b\n"
+        "runs keep 2\nruns copy 1\nquiet\n"),
 ]
 
 
@@ -146,6 +196,11 @@ MANIFESTS = [
     run(manifest_of(recorded(2), profile=2), ONE, "cell 7 0 commit 2 value 2a\nruns watch 1\nquiet\n"),
     told(manifest_of(f'{recorded(2)[:-1]},"more":1}}', profile=2), "code 51"),
     told(manifest_of('{"name":"watch","column":0,"helpers":[],"record":2}', profile=2), "code 51"),
+    # of a member that is named twice the last one counts
+    run(manifest_of(f'{recorded(3)[:-1]},"record":2}}', profile=2), ONE, "cell 7 0 commit 2 value 2a\nruns watch 1\nquiet\n"),
+    told(manifest_of(f'{recorded(2)[:-1]},"record":3}}', profile=2), "observer 0 code 54"),
+    told(manifest_of(f'{recorded(2, name="keep", helpers="2", digits=KEEP)[:-1]},"record":1}}', profile=2),
+         "observer 0 code 56 slot 1 code 27"),
     # the lowest code
     told(manifest_of(recorded(3, name="Watch"), profile=2), "observer 0 code 53"),
     told(manifest_of(recorded(3, column="16"), profile=2), "observer 0 code 54"),
@@ -156,6 +211,7 @@ MANIFESTS = [
 TABLES: Tables = {
     "checked": CHECKED,
     "replayed": REPLAYED,
+    "acknowledged": ACKNOWLEDGED,
     "flags": FLAGS,
     "run": RUN,
     "manifests": MANIFESTS,

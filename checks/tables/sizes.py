@@ -42,9 +42,9 @@ SLOTS = 512
 LARGEST = 16_777_216
 
 
-def filled(first: list[str], again: list[str], last: list[str], slots: int = 1) -> list[str]:
-    """A program of 512 slots: between its first and last instructions these again and again, each of so many slots."""
-    room = SLOTS - len(first) - len(last)
+def filled(most: int, first: list[str], again: list[str], last: list[str], slots: int = 1) -> list[str]:
+    """A program of so many slots: between its first and last instructions these again and again, each of a few slots."""
+    room = most - len(first) - len(last)
     return [*first, *islice(cycle(again), room // slots), *["mov64 r0, 0"] * (room % slots), *last]
 
 
@@ -61,45 +61,62 @@ def on_row(group: list[str], row: int) -> list[str]:
 
 
 def groups(group: list[str], count: int) -> list[str]:
-    """The same on so many rows, one after another."""
-    return [line for row in range(count) for line in on_row(group, row)]
+    """The same on so many rows, one after another, and on the first of them once more."""
+    return [line for row in (*range(count - 1), 0) for line in on_row(group, row)]
 
 
 NUMBERS = ["mov64 r0, 1", "mov64 r2, 3"]
 COMPARISONS = [code for code in JUMP_CODES if code not in WITHOUT_WIDTH]
-ASK = ["mov64 r1, {}", "mov64 r2, 1", "mov64 r3, r10", "add64 r3, -32", "call 1"]
+PLACE = ["mov64 r6, r10", "add64 r6, -32"]
+ASK = ["mov64 r1, {}", "mov64 r2, 1", "mov64 r3, r6", "call 1"]
 DELETE = ["mov64 r1, {}", "mov64 r2, 15", "call 3"]
 STORES = [f"stdw [r10{at}], 5" for at in (-32, -24, -16, -8)]
-WRITE = ["mov64 r1, {}", "mov64 r2, 1", "mov64 r3, r10", "add64 r3, -32", "call 2"]
-
-# jumps in the first half, each to a slot of its own in the second, so that 255 frames wait there
-WAITING = ["mov64 r0, 0", *(f"jeq64 r0, {number}, +255" for number in range(1, 256)), *["mov64 r0, 0"] * 255, "exit"]
-
-# each kind of instruction in every slot that may have it
-KINDS = {
-    **{code: filled(NUMBERS, arithmetic(code), ["exit"]) for code in ARITHMETIC_CODES},
-    "pairs": filled([], ["lddw r0, 18446744073709551615"], ["mov64 r0, 0", "exit"], 2),
-    "loads": filled([], [f"ldx{size} r0, [r1+{80 - SIZES[size]}]" for size in SIZES], ["exit"]),
-    "stores": filled(["mov64 r0, 0"], [f"st{size} [r10-512], -5" for size in SIZES], ["exit"]),
-    "register stores": filled(["mov64 r0, 0"], [f"stx{size} [r10-512], r0" for size in SIZES], ["exit"]),
-    "ja": filled(["mov64 r0, 0"], ["ja +0"], ["exit"]),
-    "comparisons": filled(
-        NUMBERS,
-        [f"{code}{width} r0, {operand}, +0" for code in COMPARISONS for width in ("32", "64") for operand in ("-5", "r2")],
-        ["exit"],
-    ),
-    "starts": filled([], ["call 4"], ["exit"]),
-    "asks": [*groups(ASK, 102), "mov64 r0, 0", "exit"],
-    "deletions": [*groups(DELETE, 170), "mov64 r0, 0", "exit"],
-    "writes": [*STORES, *groups(WRITE, 101), "mov64 r0, 0", "mov64 r0, 0", "exit"],
-    "stores at the end": [*["mov64 r0, 0"] * 502, *STORES, *on_row(WRITE, 0), "exit"],
-    "waiting": WAITING,
-}
+WRITE = ["mov64 r1, {}", "mov64 r2, 1", "mov64 r3, r6", "call 2"]
 
 
-def code_of(lines: list[str]) -> bytes:
+def waiting(most: int) -> list[str]:
+    """Jumps in the first half, each to a slot of its own in the second, so that as many frames wait there."""
+    half = most // 2 - 1
+    jumps = [f"jeq64 r0, {number}, +{half}" for number in range(1, half + 1)]
+    return ["mov64 r0, 0", *jumps, *["mov64 r0, 0"] * half, "exit"]
+
+
+def half_written(most: int) -> list[str]:
+    """The same, but that a byte is written where no jump goes by, and read at last."""
+    lines = waiting(most)
+    return [*lines[: most // 2 - 1], "stb [r10-1], 5", *lines[most // 2 : -2], "ldxb r0, [r10-1]", "exit"]
+
+
+def kinds_of(most: int) -> dict[str, list[str]]:
+    """Programs of so many slots, each with a kind of instruction in every slot that may have it."""
+    comparisons = [
+        f"{code}{width} r0, {operand}, +0" for code in COMPARISONS for width in ("32", "64") for operand in ("-5", "r2")
+    ]
+    return {
+        **{code: filled(most, NUMBERS, arithmetic(code), ["exit"]) for code in ARITHMETIC_CODES},
+        "pairs": filled(most, [], ["lddw r0, 18446744073709551615"], ["mov64 r0, 0", "exit"], 2),
+        "loads": filled(most, [], [f"ldx{size} r0, [r1+{80 - SIZES[size]}]" for size in SIZES], ["exit"]),
+        "stores": filled(most, ["mov64 r0, 0"], [f"st{size} [r10-512], -5" for size in SIZES], ["exit"]),
+        "register stores": filled(most, ["mov64 r0, 0"], [f"stx{size} [r10-512], r0" for size in SIZES], ["exit"]),
+        "ja": filled(most, ["mov64 r0, 0"], ["ja +0"], ["exit"]),
+        "comparisons": filled(most, NUMBERS, comparisons, ["exit"]),
+        "starts": filled(most, [], ["call 4"], ["exit"]),
+        # as many as there is room for
+        "asks": filled(most, [*PLACE, *groups(ASK, (most - 4) // 4)], ["mov64 r0, 0"], ["exit"]),
+        "deletions": filled(most, groups(DELETE, (most - 1) // 3), ["mov64 r0, 0"], ["exit"]),
+        "writes": filled(most, [*STORES, *PLACE, *groups(WRITE, (most - 8) // 4)], ["mov64 r0, 0"], ["exit"]),
+        "stores at the end": filled(most, [], ["mov64 r0, 0"], [*STORES, *PLACE, *on_row(WRITE, 0), "exit"]),
+        "waiting": waiting(most),
+    }
+
+
+KINDS = kinds_of(SLOTS)
+
+
+def code_of(lines: list[str], most: int = SLOTS) -> bytes:
+    """The bytes of a program, which has to have so many slots."""
     code = encoded(*lines)
-    if len(code) != 8 * SLOTS:
+    if len(code) != 8 * most:
         raise ValueError(f"{len(code) // 8} slots of {lines[0]}")
     return code
 
@@ -113,9 +130,9 @@ LISTED = [dis(code_of(lines), text_of(lines)) for lines in KINDS.values()]
 ACCEPTED = [accepted(code_of(lines), SLOTS) for lines in KINDS.values()]
 
 
-def ran(lines: list[str], helpers: str, report: str) -> Row:
+def ran(code: bytes, helpers: str, report: str, profile: int = 1) -> Row:
     """A run of this program on the one change, which leaves these cells."""
-    manifest = manifest_of(observer("large", 0, helpers, code_of(lines).hex()))
+    manifest = manifest_of(observer("large", 0, helpers, code.hex()), profile=profile)
     return run(manifest, ONE, f"{report}runs large 1\nquiet\n")
 
 
@@ -137,7 +154,7 @@ LEFT = {
     "stores at the end": ("2", f"cell 0 1 commit 4 {FIVES}\n{CHANGED}"),
 }
 
-RUN = [ran(lines, *LEFT.get(kind, ("", CHANGED))) for kind, lines in KINDS.items()]
+RUN = [ran(code_of(lines), *LEFT.get(kind, ("", CHANGED))) for kind, lines in KINDS.items()]
 
 MOV, EXIT = encoded("mov64 r0, 0"), encoded("exit")
 
@@ -214,12 +231,9 @@ def one_jump(target: int) -> list[str]:
     return ["mov64 r0, 0", f"jeq64 r0, 1, +{target - 2}", *["mov64 r0, 0"] * 509, "exit"]
 
 
-# of the ways that wait, one on which a byte that is read at last is written
-HALF_WRITTEN = [*WAITING[:255], "stb [r10-1], 5", *["mov64 r0, 0"] * 254, "ldxb r0, [r10-1]", "exit"]
-
 JUMPS = [
     *(accepted(code_of(one_jump(target)), SLOTS) for target in (100, 200, 250, 299, 300, 400, 511)),
-    refused(code_of(HALF_WRITTEN), 510, 26),
+    refused(code_of(half_written(SLOTS)), 510, 26),
 ]
 
 # numbers over the whole range of an immediate
@@ -299,7 +313,7 @@ LAST = 2**64 - 1
 POWERS = [2**power for power in range(64)]
 
 # asks for a cell of the last row, and writes it
-FAR = code_of([*["mov64 r0, 0"] * 493, *STORES, *on_row(ASK, -1), *STORES, *on_row(WRITE, -1), "exit"])
+FAR = code_of([*["mov64 r0, 0"] * 493, *PLACE, *STORES, *on_row(ASK, -1), *STORES, *on_row(WRITE, -1), "exit"])
 
 SEATS_AND_ROWS = [
     # all begin, at 3 to 65, before the first prewrites its acknowledgment, which is in the way of the others

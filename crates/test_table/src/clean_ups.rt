@@ -45,12 +45,25 @@ fn are_told<T: Tablet>(shared: Shared<T>, seats: Vec<Seat>, told: &[Told]) -> bo
     held
 }
 
-// The same, on a table with these observers and three seats.
+// The same, on a table with these observers and three seats, whose journal has room for so many entries.
+pub fn are_told_in(
+    alloc: Global,
+    observers: Vec<Observer>,
+    limit: usize,
+    told: &[Told],
+) -> Result<bool, NoMemory>
+    requires few { length observers.items ≤ 32 }
+    requires bounded { limit ≤ 1000000 }
+{
+    let (shared, seats) = opened(alloc, observers, 3, Ts(0), limit)?;
+    Ok(are_told(shared, seats, told))
+}
+
+// The same, with room for more than they are.
 pub fn are_told_on(alloc: Global, observers: Vec<Observer>, told: &[Told]) -> Result<bool, NoMemory>
     requires { length observers.items ≤ 32 }
 {
-    let (shared, seats) = opened(alloc, observers, 3, Ts(0), 100)?;
-    Ok(are_told(shared, seats, told))
+    are_told_in(alloc, observers, 100, told)
 }
 
 #[test]

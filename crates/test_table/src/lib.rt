@@ -6,8 +6,12 @@
 #[cfg(test)]
 mod clean_ups;
 #[cfg(test)]
+mod earlier_reads;
+#[cfg(test)]
 mod marks;
 #[cfg(test)]
 mod refused_calls;
 #[cfg(test)]
 mod tables;
+#[cfg(test)]
+mod told_runs;

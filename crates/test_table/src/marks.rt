@@ -38,6 +38,23 @@ fn finished_by(rt: &impl Abort, vm: Vm, reply: Reply) -> Finished {
     }
 }
 
+// The run of an observer's program on this record, from this start.
+pub fn run_on(
+    rt: &impl Abort,
+    alloc: Global,
+    observer: &Observer,
+    record: Record,
+    start: Ts,
+    reply: Reply,
+) -> Declaration {
+    let version = observer.program.version();
+    assert!(rt; record.version() == version);
+    let vm = Vm::start(alloc, &observer.program, record, start).expect(rt, "memory");
+    let run = EndedRun::new(alloc, finished_by(rt, vm, reply));
+    let declared = Declared::Run(first(rt), run.ok().expect(rt, "memory"));
+    Declaration::new(alloc, declared).ok().expect(rt, "memory")
+}
+
 // The run at 3 of an observer on what was found.
 fn run_of(rt: &impl Abort, alloc: Global, observer: &Observer, reply: Reply) -> Declaration {
     let version = Revision {
@@ -46,12 +63,7 @@ fn run_of(rt: &impl Abort, alloc: Global, observer: &Observer, reply: Reply) -> 
         content: Content::Deleted,
     };
     let record = Record::new(cell(rt, 7, 0), &version, Ts(0));
-    let version = observer.program.version();
-    assert!(rt; record.version() == version);
-    let vm = Vm::start(alloc, &observer.program, record, THREE).expect(rt, "memory");
-    let run = EndedRun::new(alloc, finished_by(rt, vm, reply));
-    let declared = Declared::Run(first(rt), run.ok().expect(rt, "memory"));
-    Declaration::new(alloc, declared).ok().expect(rt, "memory")
+    run_on(rt, alloc, observer, record, THREE, reply)
 }
 
 // A change of column 0, committed, and a run that has read its cell and its acknowledgment.

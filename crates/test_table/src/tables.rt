@@ -3,8 +3,9 @@ ghost use Rattle.std.specs.Prelude.{◌≤◌, length, IfOk};
 
 use pb_base::{Batch, Cell, Column, Content, NoMemory, ObserverNo, Row};
 use pb_core::{Declaration, Declared, Observer};
-use pb_helpers::HelperTable;
-use pb_registry::accept;
+use pb_helpers::{HelperTable, Version};
+use pb_isa::Profile;
+use pb_registry::accept_in;
 use std::alloc::Global;
 use std::process::Abort;
 use std::sync::Arc;
@@ -43,10 +44,15 @@ pub fn deletes(rt: &impl Abort, alloc: Global, columns: &[u8]) -> Declaration {
     Declaration::new(alloc, Declared::Script(batch)).expect(rt, "memory")
 }
 
-/// The one observer of column 0, whose program may call all helpers.
+/// The one observer of column 0, whose program may call all helpers, and takes the change record of version 1.
 pub fn observer_of(rt: &impl Abort, alloc: Global, digits: &str) -> Observer {
+    observer_by(rt, alloc, Version::First, digits)
+}
+
+/// The same, with this version of the record.
+pub fn observer_by(rt: &impl Abort, alloc: Global, version: Version, digits: &str) -> Observer {
     let bytes = hex::decode(alloc, digits).ok().expect(rt, "digits");
-    let program = accept(alloc, &bytes, HelperTable::all())
+    let program = accept_in(alloc, Profile::Two, version, &bytes, HelperTable::all())
         .ok()
         .expect(rt, "accepted");
     Observer {
