@@ -9,3 +9,4 @@ mod texts;
 pub use fault::RunFault;
 pub use replay::replay_texts;
 pub use run::{Ran, run_texts};
+pub use texts::read_replay;
