@@ -1,7 +1,8 @@
 -- Where a machine stood before its exit, by what it left.
-use Rattle.std.proofs.Common.{◌≡◌, ℕ, ◌≤◌, ◌<◌, sym, ap, subst, ◌∙◌, arith}
+use Rattle.std.proofs.Common.{◌≡◌, ℕ, ◌+◌, ◌-◌, ◌≤◌, ◌<◌, sym, ap, subst, ◌∙◌, arith}
 use Rattle.pb_isa.specs.Slots.{slots}
 use Rattle.pb_vm.specs.declared.moved.Phase.TheVariants.{Going, Over}
+use Rattle.pb_vm.specs.MachineSlot.{IsAtSlot}
 use Rattle.pb_vm.specs.Position.{Position}
 use Rattle.pb_vm.specs.Moves.{EndedWith, EndsAt, Finishes}
 use Rattle.pb_vm.specs.Finished.{Meant, IsMeant}
@@ -29,3 +30,12 @@ left old new r f taken e k going same most meant =
       few = few;
     } in
     subst (λ v. Leaves v f) (sym here) whole
+
+-- the slot at which it stands once it has ended is the exit's
+pub at_slot : (old new : Position) (r slot : ℕ) → EndedWith old r new → old.phase ≡ Going → IsAtSlot new slot → IsAtSlot old slot
+at_slot old new r slot e going at =
+    let ended : Position = record old { taken = old.taken + 1; phase = Over r } in
+    let same : new ≡ ended = λ i. record { judged = e.given.judged i; bytes = e.given.bytes i; began = e.given.began i; talk = e.talk i; taken = e.taken i; phase = e.phase i } in
+    let before : old.taken + 1 - 1 ≡ old.taken = omega arith in
+    let here : IsAtSlot (record old { taken = old.taken + 1 - 1; phase = Going }) slot = subst (λ (v : Position). IsAtSlot v slot) same at in
+    subst (λ (v : Position). IsAtSlot v slot) (ap (λ p. record old { phase = p }) (sym going)) (subst (λ k. IsAtSlot (record old { taken = k; phase = Going }) slot) before here)

@@ -10,6 +10,7 @@ use Rattle.pb_helpers.specs.Replies.{ask_of, reply_of}
 use Rattle.pb_vm.specs.declared.moved.Phase.TheVariants.{Going}
 use Rattle.pb_vm.specs.Position.{Position}
 use Rattle.pb_vm.specs.Moves.{EndsAt, RepliedWith}
+use Rattle.pb_vm.specs.MachineSlot.{IsAtSlot}
 use Rattle.pb_vm.specs.Finished.{Meant, IsMeant}
 use Rattle.pb_steps.specs.declared.step.Answer.{Answer}
 use Rattle.pb_steps.specs.Reads.{value_in}
@@ -49,8 +50,8 @@ exit_at f taken = record { judged = f.judged; bytes = f.bytes; began = f.began; 
 
 abbrev pub position_in : Standing → Position
 position_in (Running v) = v
-position_in (Exited f taken) = exit_at f taken
+position_in (Exited f taken slot) = exit_at f taken
 
 abbrev pub IsKept : Standing → Type 0
 IsKept (Running v) = Unit {0}
-IsKept (Exited f taken) = Leaves (exit_at f taken) f
+IsKept (Exited f taken slot) = Leaves (exit_at f taken) f × IsAtSlot (exit_at f taken) slot

@@ -1,5 +1,5 @@
 -- Where a job stands: the step at each place, and where each answer and each instruction leads.
-use Rattle.std.specs.Prelude.{◌≡◌, ℕ, ◌<◌, Bool, nat_lt, if◌then◌else◌, length, Option, Some, None}
+use Rattle.std.specs.Prelude.{◌≡◌, ℕ, ◌<◌, Bool, nat_lt, if◌then◌else◌, length, Option, Some, None, MatchOption}
 use Rattle.pb_base.specs.declared.cell.Cell.{Cell}
 use Rattle.pb_base.specs.declared.cell.Cell.TheVariants.{Data, Ack}
 use Rattle.pb_base.specs.declared.names.Row.{Row}
@@ -9,6 +9,7 @@ use Rattle.pb_isa.specs.Programs.{JudgedOf}
 use Rattle.pb_helpers.specs.declared.ask.Ask.{Ask}
 use Rattle.pb_helpers.specs.OldRecord.{tells_old, record_by}
 use Rattle.pb_vm.specs.declared.moved.Phase.TheVariants as phases
+use Rattle.pb_vm.specs.MachineSlot.{IsAtSlot}
 use Rattle.pb_vm.specs.Position.{Position}
 use Rattle.pb_steps.specs.declared.seen.Seen.{Seen}
 use Rattle.pb_steps.specs.declared.step.Work.TheVariants as works
@@ -219,6 +220,12 @@ abbrev pub IsLocal : Place → Type 0
 IsLocal (Starting s seen) = Unit {0}
 IsLocal (Computing s v) = v.phase ≡ phases.Going
 IsLocal place = ⊥
+
+-- the slot of that instruction: of the first, before the machine is started
+abbrev pub IsSlotAt : Place → Option ℕ → Type 0
+IsSlotAt (Starting s seen) slot = slot ≡ Some 0
+IsSlotAt (Computing s v) slot = MatchOption slot ⊥ (IsAtSlot v)
+IsSlotAt place slot = slot ≡ None
 
 -- its plan is next
 abbrev pub IsPlanning : Place → Type 0

@@ -11,7 +11,7 @@ use Rattle.pb_notify.specs.declared.need.Need.{Need}
 use Rattle.pb_notify.specs.declared.need.Need.TheVariants as needs
 use Rattle.pb_notify.specs.declared.place.Place.{Place}
 use Rattle.pb_notify.specs.declared.place.Place.TheVariants.{Beginning, Starting, Computing, Over}
-use Rattle.pb_notify.specs.Places.{stored_step, step_at, place_after, locked_at, AtPlace, IsToldAt, ComesFrom, GrowsAt}
+use Rattle.pb_notify.specs.Places.{stored_step, step_at, place_after, locked_at, AtPlace, IsSlotAt, IsToldAt, ComesFrom, GrowsAt}
 
 -- the observer and its program, the row and column of the cell, how many reads met a lock, and where it stands
 pub record RunOf : Type 0 where
@@ -40,6 +40,10 @@ need_at _ = needs.Call
 
 abbrev pub need_of : RunOf → Need
 need_of j = need_at j.place
+
+-- the slot of its machine's next instruction, where that is next
+abbrev pub IsSlotOf : RunOf → Option ℕ → Type 0
+IsSlotOf j slot = IsSlotAt j.place slot
 
 -- after its next step was answered
 abbrev pub answered : RunOf → Answer → RunOf

@@ -43,7 +43,7 @@ impl Model for ObserverJob {
 impl ObserverJob {
     ghost use Rattle.std.specs.Prelude.{◌≡◌, ◌≢◌, None, Some, MatchOption, OnOk, OnErr};
     ghost use Rattle.pb_notify.specs.declared.need.Need.TheVariants.{Local, Call};
-    ghost use Rattle.pb_notify.specs.Runs.{fresh, next_of, HasNext, need_of, answered, HearsLook, CanTake, Computes, ComputesOn, ComputesSome, GrowsNext};
+    ghost use Rattle.pb_notify.specs.Runs.{fresh, next_of, HasNext, need_of, IsSlotOf, answered, HearsLook, CanTake, Computes, ComputesOn, ComputesSome, GrowsNext};
 
     /// The run of this observer, whose program this is, on the cell of this row and column. It takes no memory.
     pub fn new(
@@ -73,6 +73,17 @@ impl ObserverJob {
             Place::Starting(..) | Place::Computing(..) => Need::Local,
             Place::Over(end) => Need::Over(*end),
             _ => Need::Call,
+        }
+    }
+
+    /// The slot of its machine's next instruction, where that is next: 0 before the machine is started.
+    pub fn slot(&self) -> Option<usize>
+        ensures { IsSlotOf self.now result }
+    {
+        match &self.place {
+            Place::Starting(..) => Some(0),
+            Place::Computing(_, machine) => Some(machine.slot()),
+            _ => None,
         }
     }
 

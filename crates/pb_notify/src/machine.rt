@@ -2,6 +2,7 @@
 ghost use Rattle.std.specs.Prelude.{◌≡◌, length, IfOk};
 ghost use Rattle.pb_steps.specs.Reads.{value_in};
 ghost use Rattle.pb_notify.specs.Machines.{first_position, after_reply, HearsReply};
+ghost use Rattle.pb_vm.specs.MachineSlot.{IsAtSlot};
 ghost use Rattle.pb_vm.specs.declared.moved.Phase.TheVariants.{Asking};
 
 mod stepped;
@@ -25,8 +26,8 @@ pub struct Machine {
 #[derive(Drop)]
 enum Standing {
     Running(Vm),
-    /// What it left at its exit, with the instructions before that.
-    Exited(Finished, u16),
+    /// What it left at its exit, with the instructions before that and its slot.
+    Exited(Finished, u16, usize),
 }
 
 impl Model for Machine {
@@ -55,6 +56,16 @@ impl Machine {
         Ok(Machine {
             standing: Standing::Running(vm),
         })
+    }
+
+    /// The slot at which it stands.
+    pub fn slot(&self) -> usize
+        ensures { IsAtSlot self.now result }
+    {
+        match &self.standing {
+            Standing::Running(vm) => vm.slot(),
+            Standing::Exited(_, _, slot) => *slot,
+        }
     }
 
     /// Tells the instruction that waits what a read of its cell was answered.

@@ -4,7 +4,7 @@
 
 ghost use Rattle.pb_sound.specs.NeverStuck.{AcceptedAreNeverStuck};
 ghost use Rattle.pb_sound.specs.Alike.{EndIsMeaning};
-ghost use Rattle.pb_sound.specs.Placements.{EachPlacementIsAlike};
+ghost use Rattle.pb_sound.specs.Placements.{EachPlacementIsAlike, EachPlacementHasTheSlot};
 ghost use Rattle.pb_sound.specs.Silent.{WithoutHelpersSilent};
 ghost use Rattle.pb_sound.specs.RunWrites.{RunsWriteBatches};
 ghost use Rattle.pb_sound.specs.OneMeaning.{EachHasOneMeaning};
@@ -79,6 +79,15 @@ pub fn every_run_ends()
 /// the same.
 pub fn each_placement_is_alike()
     ensures { EachPlacementIsAlike }
+{
+    frames_are_meets();
+    jumps_lead_on();
+    next_slots_are_first();
+}
+
+/// The slot that a run of an accepted program is at, at one placement, it is at, at every one.
+pub fn each_placement_has_the_slot()
+    ensures { EachPlacementHasTheSlot }
 {
     frames_are_meets();
     jumps_lead_on();

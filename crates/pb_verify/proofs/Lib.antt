@@ -4,6 +4,7 @@ pub mod PointersWithin
 pub mod FramesAfter
 pub mod Pairs
 pub mod Pending
+pub mod KnownFrames
 pub mod Resolved
 pub mod CallsCounted
 pub mod FramesAreMeets

@@ -9,3 +9,4 @@ pub mod Accesses
 pub mod Effects
 pub mod Versions
 pub mod Needs
+pub mod Known

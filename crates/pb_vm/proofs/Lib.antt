@@ -11,3 +11,4 @@ pub mod Doing
 pub mod LeadingOn
 pub mod Rounds
 pub mod SlotsLeft
+pub mod OneSlot

@@ -7,3 +7,4 @@ pub mod Moves
 pub mod Keeping
 pub mod OnWay
 pub mod Phases
+pub mod MachineSlot

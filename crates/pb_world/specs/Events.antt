@@ -1,6 +1,6 @@
 -- Worlds, and runs of a list of events.
 use Rattle.std.specs.Prelude.{◌≡◌, ℕ, ◌-◌, ◌≤◌, ◌==◌, if◌then◌else◌, List, [], ◌∷◌, length, take, replicate, Option, Some, None, MatchOption, slice_get, slice_set, ◌⊎◌}
-use Rattle.std.specs.Option.{option_map}
+use Rattle.std.specs.Option.{option_map, option_and_then}
 use Rattle.pb_base.specs.Batch.{Writes}
 use Rattle.pb_base.specs.Reasons.{reason_code}
 use Rattle.pb_base.specs.declared.names.Row.{Row}
@@ -61,6 +61,10 @@ job_for w (jobs.Run o row) = run_of w.shared.state.observers o row
 -- the actor of this number, from 1
 abbrev pub actor_of : WorldOf → ℕ → Option Actor
 actor_of w k = if k == 0 then None else slice_get w.actors k
+
+-- and the job that it has
+abbrev pub held_job : WorldOf → ℕ → Option ActorJob
+held_job w k = option_and_then (λ (a : Actor). a.job) (actor_of w k)
 
 abbrev pub no_job : Option ActorJob → Option EventFault
 no_job None = Some faults.NoSuchJob

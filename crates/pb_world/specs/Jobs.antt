@@ -1,5 +1,5 @@
 -- The job of an actor, as the table meets it.
-use Rattle.std.specs.Prelude.{◌≡◌, Bool, true, false, if◌then◌else◌, Option, Some, None, ◌≤◌}
+use Rattle.std.specs.Prelude.{◌≡◌, ℕ, Bool, true, false, if◌then◌else◌, Option, Some, None, ◌≤◌}
 use Rattle.std.specs.Option.{is_some}
 use Rattle.pb_base.specs.Batch.{is_batch}
 use Rattle.pb_isa.specs.Programs.{JudgedOf, IsProgram}
@@ -39,6 +39,11 @@ is_over_need _ = false
 abbrev pub is_local : ActorJob → Bool
 is_local (Change c) = false
 is_local (Run r) = is_local_need (runs.need_of r)
+
+-- the slot of that instruction
+abbrev pub IsSlotOf : ActorJob → Option ℕ → Type 0
+IsSlotOf (Change c) slot = slot ≡ None
+IsSlotOf (Run r) slot = runs.IsSlotOf r slot
 
 -- after one instruction of its machine
 abbrev pub Computes : ActorJob → ActorJob → Type 0

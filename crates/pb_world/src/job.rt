@@ -5,7 +5,7 @@ use pb_notify::{Need, ObserverJob};
 use pb_txn::ChangeJob;
 use std::alloc::Global;
 
-/// What an actor follows.
+/// What an actor follows: a change, or a run of an observer.
 #[derive(Drop)]
 pub enum ActorJob {
     Change(ChangeJob),
@@ -14,7 +14,7 @@ pub enum ActorJob {
 
 impl ActorJob {
     ghost use Rattle.std.specs.Prelude.{◌≡◌, None, Some, MatchOption, true, false, OnOk, OnErr};
-    ghost use Rattle.pb_world.specs.Jobs.{next_of, is_over, is_local, CanTake, Takes, Computes};
+    ghost use Rattle.pb_world.specs.Jobs.{next_of, is_over, is_local, IsSlotOf, CanTake, Takes, Computes};
 
     /// The next step, if it asks one.
     pub fn next(&self) -> Option<&Step>
@@ -26,8 +26,18 @@ impl ActorJob {
         }
     }
 
+    /// The slot of its machine's next instruction, where that is next: 0 before the machine is started.
+    pub fn slot(&self) -> Option<usize>
+        ensures { IsSlotOf self.now result }
+    {
+        match self {
+            ActorJob::Change(_) => None,
+            ActorJob::Run(job) => job.slot(),
+        }
+    }
+
     /// Takes the answer of the next step, which is one that such a step can have.
-    pub fn took(&mut self, answer: Answer)
+    pub(crate) fn took(&mut self, answer: Answer)
         requires { CanTake self.old answer }
         ensures { Takes self.old answer self.new }
     {
@@ -38,7 +48,7 @@ impl ActorJob {
     }
 
     /// Whether its machine's next instruction is next.
-    pub fn is_local(&self) -> bool
+    pub(crate) fn is_local(&self) -> bool
         ensures { result ≡ is_local self.now }
     {
         match self {
@@ -48,7 +58,7 @@ impl ActorJob {
     }
 
     /// Does one instruction of its machine. Refused for memory it is as before.
-    pub fn local(&mut self, alloc: Global) -> Result<(), NoMemory>
+    pub(crate) fn local(&mut self, alloc: Global) -> Result<(), NoMemory>
         requires { is_local self.old ≡ true }
         ensures ok { OnOk result (Computes self.old self.new) }
         ensures same { OnErr result (self.new ≡ self.old) }
@@ -60,7 +70,7 @@ impl ActorJob {
     }
 
     /// Whether it has come to its end.
-    pub fn is_over(&self) -> bool
+    pub(crate) fn is_over(&self) -> bool
         ensures { result ≡ is_over self.now }
     {
         match self {

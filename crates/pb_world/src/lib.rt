@@ -9,6 +9,7 @@ mod note;
 mod world;
 
 pub use fault::{EventFault, WorldFault};
+pub use job::ActorJob;
 pub use laws::{actors_hold_their_launch, worlds_hold, worlds_stay_sound};
 pub use note::Note;
 pub use pb_parse::{Event, Job};

@@ -82,7 +82,7 @@ impl<T: Tablet> World<T> {
     ghost use Rattle.pb_world.specs.declared.fault.EventFault.TheVariants as faults;
     ghost use Rattle.pb_world.specs.Actors.{OnNote};
     ghost use Rattle.pb_world.specs.Jobs.{IsReady};
-    ghost use Rattle.pb_world.specs.Events.{idle_actors, actor_of, change_of, job_for, no_actor, no_launch, fault_of, Launches, StepsActor, CrashesActor, OwnCalls, Does, StepMayWant, OwnMayWant, MayWant, Wants, Happens, RunsTo, StopsAtEvent};
+    ghost use Rattle.pb_world.specs.Events.{idle_actors, actor_of, held_job, change_of, job_for, no_actor, no_launch, fault_of, Launches, StepsActor, CrashesActor, OwnCalls, Does, StepMayWant, OwnMayWant, MayWant, Wants, Happens, RunsTo, StopsAtEvent};
 
     /// A world over a table with all its seats, in order, where these changes may be launched. Its actors have no job.
     ///
@@ -148,6 +148,13 @@ impl<T: Tablet> World<T> {
         } else {
             self.actors.get(number as usize)
         }
+    }
+
+    /// The job of the actor of this number, where there is such an actor and it has one.
+    pub fn job(&self, number: u32) -> Option<&ActorJob>
+        ensures { MatchOption result (held_job self.now number ≡ None) (λ j. held_job self.now number ≡ Some j.now) }
+    {
+        self.actor(number)?.job.as_ref()
     }
 
     // The change of this number, from 1.

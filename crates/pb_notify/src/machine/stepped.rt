@@ -2,6 +2,7 @@
 ghost use Rattle.std.specs.Prelude.{◌≡◌, ℕ, IfOk, IfErr, MatchOption};
 ghost use Rattle.pb_notify.specs.Machines.{exit_at, Leaves};
 ghost use Rattle.pb_notify.specs.Steps.{Steps, MovesOn, FollowsOn, IsAtExit};
+ghost use Rattle.pb_vm.specs.MachineSlot.{IsAtSlot};
 ghost use Rattle.pb_vm.specs.Position.{Position};
 ghost use Rattle.pb_vm.specs.declared.moved.Moved.TheVariants.{Ended};
 ghost use Rattle.pb_vm.specs.declared.moved.Phase.TheVariants.{Going};
@@ -29,8 +30,10 @@ fn declare(
     observer: ObserverNo,
     finished: Finished,
     taken: u16,
+    slot: usize,
 ) -> Result<Stepped, Machine>
-    requires { Leaves (exit_at finished taken) finished }
+    requires leaves { Leaves (exit_at finished taken) finished }
+    requires at { IsAtSlot (exit_at finished taken) slot }
     ensures ok { IfOk result (Steps observer (exit_at finished taken)) }
     ensures same { IfErr result (λ m. m ≡ exit_at finished taken) }
 {
@@ -39,7 +42,7 @@ fn declare(
         Ok(run) => run,
         Err(failed) => {
             return Err(Machine {
-                standing: Standing::Exited(failed.value, taken),
+                standing: Standing::Exited(failed.value, taken, slot),
             });
         }
     };
@@ -47,7 +50,7 @@ fn declare(
         Ok(what) => Ok(Stepped::Ended(end, what)),
         Err(failed) => match failed.value {
             Declared::Run(_, run) => Err(Machine {
-                standing: Standing::Exited(run.into_finished(), taken),
+                standing: Standing::Exited(run.into_finished(), taken, slot),
             }),
             Declared::Script(_) => unreachable!(),
         },
@@ -86,12 +89,13 @@ impl Machine {
     {
         match self.standing {
             Standing::Running(vm) => {
+                let slot = vm.slot();
                 let taken = vm.taken() - 1;
                 let finished = vm.finish();
                 // For the proof: result and writes are what the program means.
                 finished.known();
                 Machine {
-                    standing: Standing::Exited(finished, taken),
+                    standing: Standing::Exited(finished, taken, slot),
                 }
             }
             Standing::Exited(..) => unreachable!(),
@@ -107,6 +111,7 @@ impl Machine {
     {
         match self.standing {
             Standing::Running(mut vm) => {
+                let slot = vm.slot();
                 let taken = vm.taken();
                 match vm.step() {
                     Moved::Went => Ok(Stepped::Went(Machine {
@@ -122,11 +127,13 @@ impl Machine {
                         let finished = vm.finish();
                         // For the proof: result and writes are what the program means.
                         finished.known();
-                        declare(alloc, observer, finished, taken)
+                        declare(alloc, observer, finished, taken, slot)
                     }
                 }
             }
-            Standing::Exited(finished, taken) => declare(alloc, observer, finished, taken),
+            Standing::Exited(finished, taken, slot) => {
+                declare(alloc, observer, finished, taken, slot)
+            }
         }
     }
 }

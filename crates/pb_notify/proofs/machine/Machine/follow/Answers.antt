@@ -17,6 +17,6 @@ returns c =
           rw (w.result-is, w.self-inside-is) (subst (λ (p : Position). FollowsOn p w.follow.result w.follow.new.self) old did)
       | in-Exited w ↦
           let kept = subst IsKept w.in-Exited.is c.self.invariant in
-          let ends = subst (λ s. IsAtExit (position_in s)) (sym w.in-Exited.is) (w.in-Exited.field-0.result, kept.ends) in
+          let ends = subst (λ s. IsAtExit (position_in s)) (sym w.in-Exited.is) (w.in-Exited.field-0.result, kept.0.ends) in
           rw (w.result-is, w.self-inside-is) (subst IsAtExit c.self.view_is ends, c.self.view_is)
     ]

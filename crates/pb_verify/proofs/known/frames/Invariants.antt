@@ -1,0 +1,20 @@
+use Rattle.std.proofs.Common.{◌≡◌, ℕ, ◌<◌, ◌≤◌, ◌+◌, ◌*◌, Some, None, length, vec_len, vec_capacity}
+use Rattle.std.specs.Prelude.{slice_index_or, option_map, if◌then◌else◌, nat_eq}
+use Rattle.std.specs.Box.{box_value}
+use Rattle.pb_isa.specs.Slots.{slots, insn_at}
+use Rattle.pb_verify.specs.Arriving.{merge, outs, frame_before}
+use Rattle.pb_verify.proofs.PointersWithin.{AllWithin}
+use Rattle.pb_verify.proofs.KnownFrames.{AreKnownTo}
+use Rattle.pb_verify.proofs.known.frames.Given as goal
+
+abbrev pub invariant-loop-slot : goal.invariant-loop-slot
+invariant-loop-slot l = record {
+  len : length l.jumps.items ≡ slots l.fn.program.insns;
+  waits : (k : ℕ) → l.slot ≤ k → k < slots l.fn.program.insns → merge (option_map box_value (slice_index_or l.jumps.items k None)) (if nat_eq k l.next then Some l.frame else None) ≡ frame_before l.fn.program.insns k (outs l.fn.program.insns l.slot);
+  most : l.next ≤ l.slot + 1;
+  pair : l.slot < l.next → insn_at l.fn.program.insns l.slot ≡ None;
+  count : vec_len l.known ≡ l.slot;
+  room : slots l.fn.program.insns ≤ vec_capacity l.known;
+  told : AreKnownTo l.fn.program.insns l.slot l.known.items;
+  near : AllWithin (l.slot * 2147483648) (outs l.fn.program.insns l.slot);
+}
