@@ -10,8 +10,11 @@ import sys
 from dataclasses import dataclass
 from pathlib import Path
 
+import model
+
 TOP = Path(__file__).resolve().parent.parent
 PROGRAM = TOP / "crates/percobpf/out/percobpf"
+STORY = TOP / "crates/percobpf_story/out/percobpf_story"
 REFUSALS = TOP / "crates/test_refusals/out/test_refusals"
 LARGEST_FILE = 16_777_216
 
@@ -20,7 +23,7 @@ MACHINES = 7
 
 # how many runs of a case end otherwise than with ample memory, at least: by its first word, and where its words are refused or
 # ask for help
-LEAST = {"run": 50, "replay": 50, "asm": 40, "dis": 40, "check": 40}
+LEAST = {"run": 50, "replay": 50, "asm": 40, "dis": 40, "check": 40, "frames": 40}
 LEAST_OF_WORDS = 30
 
 # how often each call of `test_refusals` is refused, at least: of the table with each kind of step, where in each of two tables the
@@ -86,6 +89,9 @@ COPY = (
     "79624800000000007b2af8ff000000007961000000000000b702000001000000bfa300000000000007030000e0ffffff8500000002000000"
     "b7000000000000009500000000000000"
 )
+
+# the replays whose story is told too
+TOLD = ("rivals", "crashed-late", "cleared", "settled", "clock", "copy-26", "event-61", "event-63", "code-91")
 
 # loads the flag of a change record of version 2
 KEEP = "7910500000000000" "b700000000000000" "9500000000000000"
@@ -344,6 +350,30 @@ def replay_cases(room):
     yield Case("replay-full-output", [*watch, "rivals.schedule"], 1, b"", b"cannot write the output\n", "/dev/full")
 
 
+def story_cases(room):
+    """Cases of the story of some of these replays, as checks/model.py tells it, and of what is known before the slots of a program."""
+    for name, manifest, script, schedule, clock, told in replays():
+        if name not in TOLD:
+            continue
+        words = ["replay", f"{manifest}.json", f"{name}.script", f"{name}.schedule", *(["--clock", str(clock)] if clock else [])]
+        out, err, status = "", told, 1
+        if not told.startswith("schedule"):
+            out, err, status = model.story((room / f"{manifest}.json").read_text(), script, schedule, clock)
+        yield Case(f"story-{name}", words, status, out.encode(), err.encode(), program=STORY)
+    rivals = ["replay", "watch.json", "rivals.script", "rivals.schedule"]
+    yield Case("story-missing", [*rivals[:3], "missing"], 1, b"", b"cannot read missing\n", program=STORY)
+    yield Case("story-full-output", rivals, 1, b"", b"cannot write the output\n", "/dev/full", STORY)
+    known = b"0 r1=record+0 r10=stack+0\n1 r0=number r1=record+0 r10=stack+0\n2 r0=number r1=number r10=stack+0\n"
+    (room / "known").write_bytes(bytes.fromhex("b700000000000000" "b701000000000000" "9500000000000000"))
+    yield Case("frames", ["frames", "known", "--record", "2"], 0, known, program=STORY)
+    yield Case("frames-refused", ["frames", "bad-code"], 1, b"refused slot 1 code 12\n", program=STORY)
+    yield Case("frames-missing", ["frames", "missing"], 1, b"", b"cannot read missing\n", program=STORY)
+    yield Case("frames-full-output", ["frames", "known"], 1, b"", b"cannot write the output\n", "/dev/full", STORY)
+    for number, words in enumerate(([], ["run", "m", "s"], ["frames"], ["frames", "f", "--profile", "+1"], ["replay", "m", "s"]), 1):
+        yield Case(f"story-words-{number}", words, 2, b"", None, program=STORY)
+    yield Case("story-help", ["--help"], 0, None, b"", program=STORY)
+
+
 def machine_cases(room):
     """Cases of machines of accepted programs."""
     (room / "copy").write_bytes(bytes.fromhex(COPY))
@@ -434,6 +464,7 @@ def cases(room):
     yield from file_cases(room)
     yield from program_cases(room)
     yield from replay_cases(room)
+    yield from story_cases(room)
     yield from word_cases()
     yield from machine_cases(room)
     yield Case("refusals", [], 0, b"", b"", None, REFUSALS, calls=BY_ITSELF)

@@ -1,6 +1,6 @@
 """The tables that checks/rows runs, each a list of rows under its name in `TABLES` of a module here; and what rows are made of.
 
-A row says what the program is run on, and how that ends. The files of a row have short names: m is a manifest, s a script,
+A row says what a program is run on, and how that ends. The files of a row have short names: m is a manifest, s a script,
 e a schedule, i what `asm`, `dis` and `check` read, and o what `asm` writes.
 """
 from __future__ import annotations
@@ -11,8 +11,8 @@ from dataclasses import dataclass, field, replace
 from functools import cache
 
 # how many tables there are, and how many rows in all, so that a lost one is noticed
-TABLE_COUNT = 190
-ROW_COUNT = 6610
+TABLE_COUNT = 215
+ROW_COUNT = 7694
 
 TOO_LARGE = bytes(16_777_217)
 
@@ -32,7 +32,7 @@ COPY = (
 
 @dataclass(frozen=True)
 class Row:
-    """The words behind the program's name, the files of the folder that it is started in, and how that ends.
+    """The words behind a program's name, the files of the folder that it is started in, and how that ends.
 
     An output of None is any but the empty one. In the end the folder holds the files and what is `written`, and nothing
     else. Where a `memory` is named, the program has so many bytes of addresses.
@@ -45,11 +45,12 @@ class Row:
     err: bytes | None = b""
     written: dict[str, bytes] = field(default_factory=dict)
     memory: int | None = None
+    program: str = "percobpf"
 
     def key(self) -> tuple:
         """The same for the same rows alone."""
         files, written = frozenset(self.files.items()), frozenset(self.written.items())
-        return (tuple(self.words), files, self.status, self.out, self.err, written, self.memory)
+        return (self.program, tuple(self.words), files, self.status, self.out, self.err, written, self.memory)
 
 
 Tables = dict[str, list[Row]]

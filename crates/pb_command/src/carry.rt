@@ -120,8 +120,12 @@ fn replay_files<'a, T: Tablet, P: Paths, O: Sink>(
     }
 }
 
-// The status of an outcome. Its fault, if it is one, is told.
-fn status_of<'a, E: Sink>(alloc: Global, outcome: &Result<Verdict, Fault<'a>>, err: &mut E) -> u8
+/// The status of an outcome. Its fault, if it is one, is told.
+pub fn status_of<'a, E: Sink>(
+    alloc: Global,
+    outcome: &Result<Verdict, Fault<'a>>,
+    err: &mut E,
+) -> u8
     requires unfailed { E.failed err.old ≡ false }
     ensures { IsToldAs outcome.now (E.taken err.old) (E.taken err.new) (E.failed err.new) result }
 {

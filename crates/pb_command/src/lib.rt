@@ -7,11 +7,17 @@
 mod answer;
 mod carry;
 mod fault;
+mod files;
 mod laws;
 mod paths;
 mod programs;
 mod reading;
 
-pub use carry::{command, sequential_command};
+pub use answer::{Answer, Verdict};
+pub use carry::{command, sequential_command, status_of};
+pub use fault::Fault;
+pub use files::Files;
 pub use laws::{first_file_fault_is_told, known_programs_are_judged};
 pub use paths::{PathFault, Paths};
+pub use programs::{refusal_of, write_answer};
+pub use reading::{bytes_at, three_texts_at};

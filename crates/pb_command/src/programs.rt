@@ -80,8 +80,8 @@ fn refusal_line(alloc: Global, refused: Refused) -> Result<String, AllocError>
     format!(in alloc; "refused slot {slot} code {code}\n")
 }
 
-// A refusal, and the line that tells it.
-fn refusal_of<'a>(alloc: Global, refused: Refused) -> Result<Answer, Fault<'a>>
+/// A refusal, and the line that tells it.
+pub fn refusal_of<'a>(alloc: Global, refused: Refused) -> Result<Answer, Fault<'a>>
     ensures told { IfOk result
         (λ a. (a.verdict ≡ verdicts.Refused) × (string_bytes a.text ≡ refusal_line refused.slot refused.code)) }
     ensures fault { IfErr result IsMemoryFault }
@@ -141,8 +141,8 @@ fn verdict_of<'a>(
     }
 }
 
-// Writes an answer.
-fn write_answer<'a, O: Sink>(answer: &Answer, out: &mut O) -> Result<Verdict, Fault<'a>>
+/// Writes an answer.
+pub fn write_answer<'a, O: Sink>(answer: &Answer, out: &mut O) -> Result<Verdict, Fault<'a>>
     requires unfailed { O.failed out.old ≡ false }
     ensures ok { IfOk result (λ v. (v ≡ answer.now.verdict) × (O.failed out.new ≡ false)
         × Appends (O.taken out.old) (O.taken out.new) (string_bytes answer.now.text)) }

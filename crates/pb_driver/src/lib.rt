@@ -12,3 +12,4 @@ mod texts;
 pub use fault::RunFault;
 pub use replay::replay_texts;
 pub use run::{Ran, run_texts};
+pub use texts::read_replay;

@@ -11,7 +11,7 @@ ghost use Rattle.pb_script.specs.declared.reports.newest.Put.{Put};
 use crate::reports::lines::last_line;
 use crate::reports::newest::cell_lines;
 use crate::reports::tally::run_lines;
-pub use lines::Newest;
+pub use lines::{Newest, digits_of};
 pub use newest::{Put, note};
 use pb_base::{Cell, NoMemory};
 use std::alloc::Global;

@@ -6,3 +6,4 @@ pub mod Counts
 pub mod Asked
 pub mod Faults
 pub mod Taken
+pub mod StoryFaults

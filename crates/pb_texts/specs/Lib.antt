@@ -1,2 +1,3 @@
 pub mod Sinks
 pub mod CommandLines
+pub mod StoryLines

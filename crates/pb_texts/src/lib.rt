@@ -7,4 +7,4 @@ mod sink;
 mod words;
 
 pub use sink::write_all;
-pub use words::{Options, options, plain_words_are_taken};
+pub use words::{Options, StoryOptions, options, plain_words_are_taken, story_options};

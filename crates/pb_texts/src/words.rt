@@ -1,6 +1,8 @@
 //! The words of a command line.
 mod choice;
 mod parse;
+mod story;
 
-pub use choice::Options;
+pub use choice::{Options, StoryOptions};
 pub use parse::{options, plain_words_are_taken};
+pub use story::story_options;

@@ -7,14 +7,12 @@
 ghost use Rattle.std.specs.Prelude.{◌≡◌, vec_len};
 ghost use Rattle.pb_texts.specs.CommandLines.{IsInRange, swaps_asked};
 
-mod files;
 mod tablets;
 
-use crate::files::Files;
 use crate::tablets::{first_tablets, spares_for};
 use clap::error::ErrorKind;
 use pb_base::{NoMemory, Out, Row};
-use pb_command::command;
+use pb_command::{Files, command};
 use pb_store::{Table, Tablet};
 use pb_texts::{Options, options};
 use pb_worker::end_spares;

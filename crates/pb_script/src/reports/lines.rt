@@ -30,8 +30,8 @@ fn trimmed(bytes: &[u8]) -> &[u8]
     trimmed(front)
 }
 
-// Two hexadecimal digits for each byte of a value.
-fn digits_of<'a>(value: &Value, room: &'a mut [u8; 64]) -> &'a str
+/// Two hexadecimal digits for each byte of a value, but for the zeros at its end; at least one byte is told.
+pub fn digits_of<'a>(value: &Value, room: &'a mut [u8; 64]) -> &'a str
     ensures { result.now ≡ encode_lower (trimmed value.now) }
 {
     let bytes = trimmed(value);

@@ -44,6 +44,26 @@ pub enum Options<'a> {
     },
 }
 
+/// What the story program is to do.
+#[derive(Clone, Copy, Debug)]
+pub enum StoryOptions<'a> {
+    /// Reads the bytes of a program of this profile, and tells what is known before each of its slots. That is the same for
+    /// change records of either version.
+    Frames {
+        file: &'a str,
+        profile: Profile,
+        version: Version,
+    },
+    /// Reads a manifest, a script and a schedule, does the schedule's events with this as the last timestamp given out
+    /// before them, tells what each did, and then what is newest.
+    Replay {
+        manifest: &'a str,
+        script: &'a str,
+        schedule: &'a str,
+        clock: Ts,
+    },
+}
+
 impl Options<'_> {
     /// How many tablets are to be replaced: none but by a run.
     pub fn swaps(&self) -> u32

@@ -110,7 +110,7 @@ fn clock_option<'a>(alloc: Global) -> Arg<'a>
         .help("The last timestamp given out before the events, 0 where none is named")
 }
 
-fn replay_command<'a>(alloc: Global) -> Result<Command<'a>, AllocError>
+pub fn replay_command<'a>(alloc: Global) -> Result<Command<'a>, AllocError>
     ensures app { IfOk result (λ c. app_of c ≡ replay_app) }
     ensures local { IfOk result (λ c. (fields_of c).has_globals ≡ false) }
 {
@@ -141,7 +141,7 @@ fn output_operand<'a>(alloc: Global) -> Arg<'a>
     output.help("The file that the program's bytes are written to")
 }
 
-fn file_operand<'a>(alloc: Global) -> Arg<'a>
+pub fn file_operand<'a>(alloc: Global) -> Arg<'a>
     ensures rule { rule_of result ≡ required_rule (codes "FILE") }
     ensures local { result.global ≡ false }
 {
@@ -149,7 +149,7 @@ fn file_operand<'a>(alloc: Global) -> Arg<'a>
     file.help("A file with a program's bytes")
 }
 
-fn profile_option<'a>(alloc: Global) -> Arg<'a>
+pub fn profile_option<'a>(alloc: Global) -> Arg<'a>
     ensures rule { rule_of result ≡ profile_rule }
     ensures local { result.global ≡ false }
 {
@@ -160,7 +160,7 @@ fn profile_option<'a>(alloc: Global) -> Arg<'a>
         .help("The profile of the program, 1 or 2; 1 where none is named")
 }
 
-fn record_option<'a>(alloc: Global) -> Arg<'a>
+pub fn record_option<'a>(alloc: Global) -> Arg<'a>
     ensures rule { rule_of result ≡ record_rule }
     ensures local { result.global ≡ false }
 {
@@ -239,7 +239,7 @@ fn matches_of<'a>(alloc: Global, words: &'a [&'a str]) -> Result<ArgMatches<'a>,
     command.try_get_matches_from(words)
 }
 
-fn value_in<'a>(run: &ArgMatches<'a>, id: &str) -> Option<&'a str>
+pub fn value_in<'a>(run: &ArgMatches<'a>, id: &str) -> Option<&'a str>
     ensures { option_map (λ s. s.now) result ≡ first_of id.now (rows_of (found_of run.now)) }
 {
     run.get_str(id)
@@ -298,7 +298,7 @@ fn run_in<'a>(run: &ArgMatches<'a>) -> Option<Options<'a>>
 }
 
 // The clock that the matches of `replay` name.
-fn clock_in(replay: &ArgMatches) -> Option<Ts>
+pub fn clock_in(replay: &ArgMatches) -> Option<Ts>
     ensures { option_map (λ t. t.0) result ≡ clock_of (one_of (codes "clock") (rows_of (found_of replay.now))) }
 {
     match replay.try_get_one::<u64>("clock") {
@@ -329,7 +329,7 @@ fn profile_numbered(number: u32) -> Profile
 }
 
 // The profile that the matches of `asm`, `dis` or `check` name.
-fn profile_in(program: &ArgMatches) -> Option<Profile>
+pub fn profile_in(program: &ArgMatches) -> Option<Profile>
     ensures { result ≡ profile_of (first_of (codes "profile") (rows_of (found_of program.now))) }
 {
     match value_in(program, "profile") {
@@ -348,7 +348,7 @@ fn version_numbered(number: u32) -> Version
 }
 
 // The version of the change record that the matches of `check` name.
-fn version_in(check: &ArgMatches) -> Option<Version>
+pub fn version_in(check: &ArgMatches) -> Option<Version>
     ensures { result ≡ version_of (first_of (codes "record") (rows_of (found_of check.now))) }
 {
     match value_in(check, "record") {
@@ -404,7 +404,12 @@ fn command_in<'a>(matches: &ArgMatches<'a>) -> Option<Options<'a>>
 }
 
 // The error of a plus before the number of this option, with the usage of its subcommand.
-fn plus_told(alloc: Global, command: Command, name: &str, option: &str) -> Result<Error, AllocError>
+pub fn plus_told(
+    alloc: Global,
+    command: Command,
+    name: &str,
+    option: &str,
+) -> Result<Error, AllocError>
     ensures { IfOk result (λ e. kind_of e ≡ ErrorKind.ValueValidation) }
 {
     let text = format!(in alloc; "invalid value for '{option}': a plus stands before the digits")?;

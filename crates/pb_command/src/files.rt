@@ -1,7 +1,7 @@
 //! The real files.
 ghost use Rattle.std.specs.Prelude.{None};
 
-use pb_command::{PathFault, Paths};
+use crate::paths::{PathFault, Paths};
 use std::fs;
 use std::io::{self, ErrorKind, Read};
 

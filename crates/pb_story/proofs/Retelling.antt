@@ -1,0 +1,118 @@
+-- How the story of a list of events grows, and how it ends.
+use Rattle.std.proofs.Common.{◌≡◌, ◌∙◌, ℕ, ◌+◌, ◌≤◌, Bool, false, List, [], ◌∷◌, ◌++◌, length, take, Option, Some, Ok, Err, inl, inr, refl, sym, ap, subst, arith, append_assoc, append-nil}
+use Rattle.std.specs.Prelude.{slice_get}
+use Rattle.std.specs.Io.KnownBytes.{Appends}
+use Rattle.std.proofs.KnownBytes.{Appends-nil, Appends-trans}
+use Rattle.std.proofs.lemmas.List.{take_more, take_all, length-take-le}
+use Rattle.std.proofs.lemmas.Option.{slice_get_within, get_or_from_slice_get}
+use Rattle.pb_parse.specs.declared.event.Event.{Event}
+use Rattle.pb_world.specs.declared.fault.WorldFault.{WorldFault}
+use Rattle.pb_world.specs.Events.{WorldOf}
+use Rattle.pb_texts.specs.Sinks.{AppendsPart}
+use Rattle.pb_script.specs.declared.fault.ReportFault.TheVariants as ends
+use Rattle.pb_script.specs.TableReports.{Reports}
+use Rattle.pb_story.specs.declared.fault.StoryFault.{StoryFault}
+use Rattle.pb_story.specs.declared.fault.StoryFault.TheVariants as faults
+use Rattle.pb_story.specs.Stories.{Recounts, IsTold, EventEnds, AreTold, BeganLines, Stopped, LinesEnd, StoryEnds}
+
+-- ---- one event more
+
+recounts_more : (w : WorldOf) (number : ℕ) (es : List Event) (text : List ℕ) (v u : WorldOf) (e : Event) (line : List ℕ)
+    → Recounts w number es text v → IsTold v (number + length es) e u line → Recounts w number (es ++ e ∷ []) (text ++ line) u
+recounts_more w number [] text v u e line r t =
+    let at : number + 0 ≡ number = omega arith in
+    let told : IsTold w number e u line = subst (λ x. IsTold x number e u line) r.1 (subst (λ k. IsTold v k e u line) at t) in
+    (told.note, u, line, [], told.happens, told.is_line, (refl, refl), ap (λ (x : List ℕ). x ++ line) r.0 ∙ sym (append-nil line))
+recounts_more w number (f ∷ es) text v u e line r t =
+    let at : number + length (f ∷ es) ≡ (number + 1) + length es = omega arith in
+    let more = recounts_more r.1 (number + 1) es r.3 v u e line r.6 (subst (λ k. IsTold v k e u line) at t) in
+    (r.0, r.1, r.2, r.3 ++ line, r.4, r.5, more, ap (λ (x : List ℕ). x ++ line) r.7 ∙ append_assoc r.2 r.3 line)
+
+next_is : (es : List Event) (i : ℕ) (e : Event) → slice_get es i ≡ Some e → take (i + 1) es ≡ take i es ++ e ∷ []
+next_is es i e h = take_more es i e (slice_get_within es i e h) ∙ ap (λ (x : Event). take i es ++ x ∷ []) (get_or_from_slice_get es i e e h)
+
+recounts_next : (w : WorldOf) (es : List Event) (i : ℕ) (lines : List ℕ) (v u : WorldOf) (e : Event) (line : List ℕ)
+    → slice_get es i ≡ Some e → Recounts w 0 (take i es) lines v → IsTold v i e u line → Recounts w 0 (take (i + 1) es) (lines ++ line) u
+recounts_next w es i lines v u e line is r t =
+    let at : i ≡ 0 + length (take i es) = let inside = slice_get_within es i e is in let long = length-take-le i es (omega (arith, inside)) in omega (arith, long) in
+    subst (λ (xs : List Event). Recounts w 0 xs (lines ++ line) u) (sym (next_is es i e is)) (recounts_more w 0 (take i es) lines v u e line r (subst (λ k. IsTold v k e u line) at t))
+
+-- ---- parts
+
+whole_part : (a b : Option (List ℕ)) (xs : List ℕ) → Appends a b xs → AppendsPart a b xs
+whole_part a b xs h = ([], (xs, sym (append-nil xs), h))
+
+part_after : (a b c : Option (List ℕ)) (xs ys : List ℕ) → Appends a b xs → AppendsPart b c ys → AppendsPart a c (xs ++ ys)
+part_after a b c xs ys h p = (p.0, (xs ++ p.1.0, ap (λ (z : List ℕ). xs ++ z) p.1.1 ∙ sym (append_assoc xs p.1.0 p.0), Appends-trans a b c xs p.1.0 h p.1.2))
+
+-- ---- the lines
+
+pub none_told : (w : WorldOf) (es : List Event) (old : Option (List ℕ)) → AreTold w (take 0 es) w old old
+none_told w es old = record { lines = []; recounts = (refl, refl); written = Appends-nil old }
+
+pub told_more : (w : WorldOf) (es : List Event) (i : ℕ) (v u : WorldOf) (e : Event) (old mid now : Option (List ℕ)) (failed : Bool)
+    → slice_get es i ≡ Some e → AreTold w (take i es) v old mid → EventEnds v i e u mid now failed (Ok tt) → AreTold w (take (i + 1) es) u old now
+told_more w es i v u e old mid now failed is t end =
+    record { lines = t.lines ++ end.0; recounts = recounts_next w es i t.lines v u e end.0 is t.recounts end.1; written = Appends-trans old mid now t.lines end.0 t.written end.2 }
+
+began : (w : WorldOf) (es : List Event) (i : ℕ) (v : WorldOf) (old now : Option (List ℕ)) → i ≤ length es → AreTold w (take i es) v old now → BeganLines w es old now
+began w es i v old now within t = record { count = i; within = within; lines = t.lines; after = v; recounts = t.recounts; written = whole_part old now t.lines t.written }
+
+-- the first fault ends the lines
+pub told_to : (w : WorldOf) (es : List Event) (i : ℕ) (v u x : WorldOf) (e : Event) (old mid now : Option (List ℕ)) (failed : Bool) (f : StoryFault)
+    → slice_get es i ≡ Some e → AreTold w (take i es) v old mid → EventEnds v i e u mid now failed (Err f) → LinesEnd w es x old now failed (Err f)
+told_to w es i v u x e old mid now failed faults.Output is t end =
+    let lines = recounts_next w es i t.lines v u e end.0 is t.recounts end.1 in
+    let within : i + 1 ≤ length es = let lt = slice_get_within es i e is in omega (arith, lt) in
+    (record { count = i + 1; within = within; lines = t.lines ++ end.0; after = u; recounts = lines; written = part_after old mid now t.lines end.0 t.written end.2 }, end.3)
+told_to w es i v u x e old mid now failed faults.NoMemory is t end =
+    let within : i ≤ length es = let lt = slice_get_within es i e is in omega (arith, lt) in
+    (began w es i v old now within (subst (λ (s : Option (List ℕ)). AreTold w (take i es) v old s) (sym end.0) t), end.1)
+told_to w es i v u x e old mid now failed (faults.Event f) is t end =
+    let at : i ≡ f.event = sym end.0.0 in
+    let told = subst (λ (s : Option (List ℕ)). AreTold w (take i es) v old s) (sym end.1) t in (
+      record {
+        before = v;
+        told = subst (λ k. AreTold w (take k es) v old now) at told;
+        event = e;
+        there = subst (λ k. slice_get es k ≡ Some e) at is;
+        at_fault = end.0.1;
+      },
+      end.2,
+    )
+
+-- ---- the story
+
+pub all_told : (w : WorldOf) (es : List Event) (i : ℕ) (v : WorldOf) (old now : Option (List ℕ)) → length es ≤ i → AreTold w (take i es) v old now → AreTold w es v old now
+all_told w es i v old now done t = subst (λ (xs : List Event). AreTold w xs v old now) (take_all i es done) t
+
+pub reported : (w : WorldOf) (es : List Event) (v : WorldOf) (old mid now : Option (List ℕ)) (failed : Bool) → AreTold w es v old mid → Reports v.shared mid now failed (Ok tt) → StoryEnds w es old now failed (Ok tt)
+reported w es v old mid now failed t r = (
+  record {
+    text = t.lines ++ r.0.text;
+    story = record { lines = t.lines; after = v; recounts = t.recounts; report = r.0.text; reported = r.0.report; text_is = refl };
+    written = Appends-trans old mid now t.lines r.0.text t.written r.0.appended;
+  },
+  r.1,
+)
+
+pub report_cut : (w : WorldOf) (es : List Event) (v : WorldOf) (old mid now : Option (List ℕ)) (failed : Bool) → AreTold w es v old mid → Reports v.shared mid now failed (Err ends.Output) → StoryEnds w es old now failed (Err faults.Output)
+report_cut w es v old mid now failed t r = (
+  inr (record {
+    text = t.lines ++ r.0.text;
+    story = record { lines = t.lines; after = v; recounts = t.recounts; report = r.0.text; reported = r.0.report; text_is = refl };
+    written = part_after old mid now t.lines r.0.text t.written r.0.appended;
+  }),
+  r.1,
+)
+
+pub report_unmade : (w : WorldOf) (es : List Event) (v : WorldOf) (old mid now : Option (List ℕ)) (failed : Bool) → AreTold w es v old mid → Reports v.shared mid now failed (Err ends.NoMemory) → StoryEnds w es old now failed (Err faults.NoMemory)
+report_unmade w es v old mid now failed t r =
+    let all : take (length es) es ≡ es = take_all (length es) es (omega arith) in
+    let told = subst (λ (s : Option (List ℕ)). AreTold w (take (length es) es) v old s) (sym r.0) (subst (λ (xs : List Event). AreTold w xs v old mid) (sym all) t) in
+    (began w es (length es) v old now (omega arith) told, r.1)
+
+pub lines_cut : (w : WorldOf) (es : List Event) (v : WorldOf) (old now : Option (List ℕ)) (failed : Bool) (f : StoryFault) → LinesEnd w es v old now failed (Err f) → StoryEnds w es old now failed (Err f)
+lines_cut w es v old now failed faults.Output h = (inl h.0, h.1)
+lines_cut w es v old now failed faults.NoMemory h = h
+lines_cut w es v old now failed (faults.Event f) h = h

@@ -1,0 +1,42 @@
+-- Cells, and what they hold, in words.
+use Rattle.std.specs.Prelude.{ℕ, List, [], ◌++◌, codes, Option, Some, None, slice_get}
+use Rattle.std.specs.List.{flat_map}
+use Rattle.std.specs.Fmt.{decimal}
+use Rattle.hex.specs.Hex.{encode_lower}
+use Rattle.pb_base.specs.Batch.{Writes}
+use Rattle.pb_base.specs.declared.names.Row.{Row}
+use Rattle.pb_base.specs.declared.cell.Cell.{Cell}
+use Rattle.pb_base.specs.declared.cell.Cell.TheVariants.{Data, Ack}
+use Rattle.pb_base.specs.declared.content.Content.{Content}
+use Rattle.pb_base.specs.declared.content.Content.TheVariants.{Value, Deleted, Stamp}
+use Rattle.pb_steps.specs.Observers.{ObserverOf}
+use Rattle.pb_script.specs.ReportLines.{trimmed}
+
+abbrev pub name_in : Option ObserverOf → List ℕ
+name_in None = []
+name_in (Some x) = x.name
+
+-- the name of the observer of this number, nothing where there is none
+abbrev pub observer_name : List ObserverOf → ℕ → List ℕ
+observer_name observers o = name_in (slice_get observers o)
+
+abbrev pub row_and_column : Row → ℕ → List ℕ
+row_and_column row column = decimal row.0 ++ (codes " " ++ decimal column)
+
+-- row and column, and before those of an acknowledgment its observer
+abbrev pub cell_text : List ObserverOf → Cell → List ℕ
+cell_text observers (Data row column) = row_and_column row column
+cell_text observers (Ack o row column) = codes "ack " ++ (observer_name observers o ++ (codes " " ++ row_and_column row column))
+
+-- a value without the zeros at its end, as a report tells it
+abbrev pub content_text : Content → List ℕ
+content_text (Value bytes) = codes "value " ++ encode_lower (trimmed bytes)
+content_text Deleted = codes "deleted"
+content_text (Stamp t) = codes "stamp " ++ decimal t.0
+
+abbrev pub write_text : List ObserverOf → Cell × Content → List ℕ
+write_text observers w = codes "; " ++ (cell_text observers w.0 ++ (codes " " ++ content_text w.1))
+
+-- in order, each behind a semicolon
+abbrev pub writes_text : List ObserverOf → Writes → List ℕ
+writes_text observers ws = flat_map (write_text observers) ws

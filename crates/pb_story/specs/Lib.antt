@@ -1,0 +1,6 @@
+pub mod Cells
+pub mod Steps
+pub mod Answers
+pub mod Lines
+pub mod Stories
+pub mod Frames

@@ -1,0 +1,80 @@
+-- The line of an event: its number, its seat, what it does and its note.
+use Rattle.std.specs.Prelude.{◌≡◌, ℕ, List, [], ◌++◌, codes, Option, Some, None}
+use Rattle.std.specs.Fmt.{decimal}
+use Rattle.pb_steps.specs.Observers.{ObserverOf}
+use Rattle.pb_steps.specs.declared.step.Step.{Step}
+use Rattle.pb_steps.specs.declared.step.Step.TheVariants as steps
+use Rattle.pb_parse.specs.declared.event.Event.{Event}
+use Rattle.pb_parse.specs.declared.event.Event.TheVariants as events
+use Rattle.pb_parse.specs.declared.event.Job.{Job}
+use Rattle.pb_parse.specs.declared.event.Job.TheVariants as jobs
+use Rattle.pb_world.specs.declared.job.ActorJob.{ActorJob}
+use Rattle.pb_world.specs.declared.note.Note.{Note}
+use Rattle.pb_world.specs.declared.note.Note.TheVariants as notes
+use Rattle.pb_world.specs.Jobs.{next_of, IsSlotOf}
+use Rattle.pb_world.specs.Events.{WorldOf, held_job}
+use Rattle.pb_story.specs.Cells.{observer_name}
+use Rattle.pb_story.specs.Steps.{step_text}
+use Rattle.pb_story.specs.Answers.{answer_text}
+
+-- the text grew by one of which this holds
+abbrev pub GrowsBy : (List ℕ → Type 0) → List ℕ → List ℕ → Type 0
+GrowsBy Is old new = (more : List ℕ) × Is more × (new ≡ old ++ more)
+
+-- ---- what an event does
+
+-- an actor has the seat of its number; what no actor does, the main seat does
+abbrev pub seat_of : Event → ℕ
+seat_of (events.Launch k job) = k
+seat_of (events.Step k) = k
+seat_of (events.Crash k) = k
+seat_of e = 0
+
+abbrev pub job_text : List ObserverOf → Job → List ℕ
+job_text observers (jobs.Change k) = codes "change " ++ decimal k
+job_text observers (jobs.Run o row) = codes "run " ++ (observer_name observers o ++ (codes " " ++ decimal row.0))
+
+-- the instruction of this slot, or else this step of the table
+abbrev pub turn_text : List ObserverOf → Option ℕ → Option Step → List ℕ
+turn_text observers (Some slot) step = codes "instruction " ++ decimal slot
+turn_text observers None (Some step) = step_text observers step
+turn_text observers None None = codes "step"
+
+-- what an actor with this job does next: its machine's next instruction, or its next step
+abbrev pub IsTurn : List ObserverOf → Option ActorJob → List ℕ → Type 0
+IsTurn observers None text = text ≡ codes "step"
+IsTurn observers (Some j) text = (slot : Option ℕ) × IsSlotOf j slot × (text ≡ turn_text observers slot (next_of j))
+
+-- what the event does in a world
+abbrev pub IsDeed : WorldOf → Event → List ℕ → Type 0
+IsDeed w (events.Launch k job) text = text ≡ codes "launch " ++ job_text w.shared.state.observers job
+IsDeed w (events.Step k) text = IsTurn w.shared.state.observers (held_job w k) text
+IsDeed w (events.Crash k) text = text ≡ codes "crash"
+IsDeed w (events.Settle x) text = text ≡ step_text w.shared.state.observers (steps.Settle x)
+IsDeed w (events.Clear x) text = text ≡ step_text w.shared.state.observers (steps.Clear x)
+IsDeed w (events.Sweep x) text = text ≡ step_text w.shared.state.observers (steps.Sweep x)
+
+-- ---- what it came to
+
+-- an instruction has nothing to tell
+abbrev pub note_text : List ObserverOf → Note → List ℕ
+note_text observers notes.Launched = codes " -> launched"
+note_text observers (notes.Called answer) = codes " -> " ++ answer_text observers answer
+note_text observers (notes.Refused code) = codes " -> refused " ++ decimal code
+note_text observers notes.Instruction = []
+note_text observers notes.Crashed = codes " -> crashed"
+note_text observers notes.Idle = codes " -> idle"
+
+-- ---- the line
+
+-- up to the note, of the event of this number that is to happen in a world
+pub record IsOpenLine (w : WorldOf) (number : ℕ) (e : Event) (text : List ℕ) : Type 0 where
+  pub deed : List ℕ
+  pub does : IsDeed w e deed
+  pub text_is : text ≡ decimal number ++ (codes " " ++ (decimal (seat_of e) ++ (codes " " ++ deed)))
+
+-- with its note, where it led to another world, whose observers are the same
+pub record IsLine (w : WorldOf) (number : ℕ) (e : Event) (n : Note) (v : WorldOf) (text : List ℕ) : Type 0 where
+  pub opening : List ℕ
+  pub opens : IsOpenLine w number e opening
+  pub text_is : text ≡ opening ++ (note_text v.shared.state.observers n ++ codes "\n")

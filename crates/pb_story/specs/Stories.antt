@@ -1,0 +1,108 @@
+-- Stories: the lines of a list of events, and how they are written.
+use Rattle.std.specs.Prelude.{◌≡◌, ◌≢◌, ℕ, ◌+◌, ◌≤◌, ◌⊎◌, Bool, true, false, List, [], ◌∷◌, ◌++◌, length, take, Option, Some, slice_get, Result, Ok, Err}
+use Rattle.std.specs.Io.KnownBytes.{Appends}
+use Rattle.pb_parse.specs.declared.event.Event.{Event}
+use Rattle.pb_world.specs.declared.fault.EventFault.{EventFault}
+use Rattle.pb_world.specs.declared.fault.WorldFault.{WorldFault}
+use Rattle.pb_world.specs.declared.note.Note.{Note}
+use Rattle.pb_world.specs.Faults.{fault_code}
+use Rattle.pb_world.specs.Events.{WorldOf, fault_of, Happens}
+use Rattle.pb_texts.specs.Sinks.{AppendsPart}
+use Rattle.pb_script.specs.TableReports.{IsReportIn}
+use Rattle.pb_story.specs.declared.fault.StoryFault.{StoryFault}
+use Rattle.pb_story.specs.declared.fault.StoryFault.TheVariants as faults
+use Rattle.pb_story.specs.Lines.{IsLine}
+
+-- Each event happens in turn, the first of them that of this number, and the text is the line of each, with its note, in the
+-- world before it.
+abbrev pub Recounts : WorldOf → ℕ → List Event → List ℕ → WorldOf → Type 0
+Recounts w number [] text v = (text ≡ []) × (v ≡ w)
+Recounts w number (e ∷ es) text v =
+    (n : Note) × (m : WorldOf) × (line : List ℕ) × (rest : List ℕ) ×
+    Happens w e n m × IsLine w number e n m line × Recounts m (number + 1) es rest v × (text ≡ line ++ rest)
+
+-- ---- how one event was told
+
+-- it happened, and its line is this
+pub record IsTold (w : WorldOf) (number : ℕ) (e : Event) (v : WorldOf) (line : List ℕ) : Type 0 where
+  pub note : Note
+  pub happens : Happens w e note v
+  pub is_line : IsLine w number e note v line
+
+-- it is at fault by itself, with this number
+pub record IsAtFault (w : WorldOf) (e : Event) (code : ℕ) : Type 0 where
+  pub fault : EventFault
+  pub why : fault_of w e ≡ Some fault
+  pub code_is : code ≡ fault_code fault
+
+-- why one event, that of this number, did nothing
+abbrev pub IsEventFault : WorldOf → ℕ → Event → WorldOf → StoryFault → Type 0
+IsEventFault w number e v (faults.Event f) = (f.event ≡ number) × IsAtFault w e f.code × (v ≡ w)
+IsEventFault w number e v faults.NoMemory = Unit {0}
+IsEventFault w number e v faults.Output = ⊥
+
+-- what the sink had taken and has taken: a line, a beginning of it where a write failed, or else nothing
+abbrev pub EventEnds : WorldOf → ℕ → Event → WorldOf → Option (List ℕ) → Option (List ℕ) → Bool → Result (Unit {0}) StoryFault → Type 0
+EventEnds w number e v old now failed (Ok _) = (line : List ℕ) × IsTold w number e v line × Appends old now line × (failed ≡ false)
+EventEnds w number e v old now failed (Err faults.Output) = (line : List ℕ) × IsTold w number e v line × AppendsPart old now line × (failed ≡ true)
+EventEnds w number e v old now failed (Err (faults.Event f)) = IsEventFault w number e v (faults.Event f) × (now ≡ old) × (failed ≡ false)
+EventEnds w number e v old now failed (Err faults.NoMemory) = (now ≡ old) × (failed ≡ false)
+
+-- ---- how all were told
+
+-- the lines of all events were written
+pub record AreTold (w : WorldOf) (es : List Event) (v : WorldOf) (old now : Option (List ℕ)) : Type 0 where
+  pub lines : List ℕ
+  pub recounts : Recounts w 0 es lines v
+  pub written : Appends old now lines
+
+-- a beginning of the lines of the first so many events was written
+pub record BeganLines (w : WorldOf) (es : List Event) (old now : Option (List ℕ)) : Type 0 where
+  pub count : ℕ
+  pub within : count ≤ length es
+  pub lines : List ℕ
+  pub after : WorldOf
+  pub recounts : Recounts w 0 (take count es) lines after
+  pub written : AppendsPart old now lines
+
+-- an event was at fault by itself, and the lines of those before it were written
+pub record Stopped (w : WorldOf) (es : List Event) (f : WorldFault) (old now : Option (List ℕ)) : Type 0 where
+  pub before : WorldOf
+  pub told : AreTold w (take f.event es) before old now
+  pub event : Event
+  pub there : slice_get es f.event ≡ Some event
+  pub at_fault : IsAtFault before event f.code
+
+abbrev pub LinesEnd : WorldOf → List Event → WorldOf → Option (List ℕ) → Option (List ℕ) → Bool → Result (Unit {0}) StoryFault → Type 0
+LinesEnd w es v old now failed (Ok _) = AreTold w es v old now × (failed ≡ false)
+LinesEnd w es v old now failed (Err faults.Output) = BeganLines w es old now × (failed ≡ true)
+LinesEnd w es v old now failed (Err (faults.Event f)) = Stopped w es f old now × (failed ≡ false)
+LinesEnd w es v old now failed (Err faults.NoMemory) = BeganLines w es old now × (failed ≡ false)
+
+-- ---- the story of events in a world: their lines, and then the report of what they left
+
+pub record IsStory (w : WorldOf) (es : List Event) (text : List ℕ) : Type 0 where
+  pub lines : List ℕ
+  pub after : WorldOf
+  pub recounts : Recounts w 0 es lines after
+  pub report : List ℕ
+  pub reported : IsReportIn after.shared report
+  pub text_is : text ≡ lines ++ report
+
+pub record WroteStory (w : WorldOf) (es : List Event) (old now : Option (List ℕ)) : Type 0 where
+  pub text : List ℕ
+  pub story : IsStory w es text
+  pub written : Appends old now text
+
+-- a beginning of the story was written
+pub record BeganStory (w : WorldOf) (es : List Event) (old now : Option (List ℕ)) : Type 0 where
+  pub text : List ℕ
+  pub story : IsStory w es text
+  pub written : AppendsPart old now text
+
+-- how a story ended, and what the sink had taken and has taken
+abbrev pub StoryEnds : WorldOf → List Event → Option (List ℕ) → Option (List ℕ) → Bool → Result (Unit {0}) StoryFault → Type 0
+StoryEnds w es old now failed (Ok _) = WroteStory w es old now × (failed ≡ false)
+StoryEnds w es old now failed (Err faults.Output) = (BeganLines w es old now ⊎ BeganStory w es old now) × (failed ≡ true)
+StoryEnds w es old now failed (Err (faults.Event f)) = Stopped w es f old now × (failed ≡ false)
+StoryEnds w es old now failed (Err faults.NoMemory) = BeganLines w es old now × (failed ≡ false)

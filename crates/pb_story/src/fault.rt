@@ -1,0 +1,26 @@
+//! Why a story ended early.
+ghost use Rattle.std.specs.Prelude.{◌≡◌};
+ghost use Rattle.pb_story.specs.declared.fault.StoryFault.TheVariants as faults;
+
+use pb_base::NoMemory;
+use pb_world::WorldFault;
+use std::alloc::AllocError;
+
+/// Why a story ended before it was whole.
+#[derive(Clone, Copy, Drop)]
+pub enum StoryFault {
+    /// An event was at fault. The lines of those before it were written.
+    Event(WorldFault),
+    /// A write failed, or took no byte.
+    Output,
+    /// A growth was refused. The lines of the first events were written.
+    NoMemory,
+}
+
+impl From<AllocError> for StoryFault {
+    ghost from_gives = { λ _ e. e ≡ faults.NoMemory };
+
+    fn from(_e: AllocError) -> StoryFault {
+        StoryFault::NoMemory
+    }
+}

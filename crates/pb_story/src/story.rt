@@ -1,0 +1,97 @@
+//! The story of a list of events, as it is written while they happen.
+ghost use Rattle.std.specs.Prelude.{◌≡◌, false, IfOk, IfErr};
+ghost use Rattle.pb_world.specs.Events.{Happens};
+ghost use Rattle.pb_story.specs.Stories.{IsEventFault, EventEnds, LinesEnd, StoryEnds};
+
+use crate::fault::StoryFault;
+use crate::lines::{end_line, open_line};
+use pb_base::{Reason, Sink};
+use pb_script::{ReportFault, report};
+use pb_store::Tablet;
+use pb_texts::write_all;
+use pb_world::{Event, Note, World, WorldFault};
+use std::alloc::Global;
+use std::slice;
+
+// Lets one event happen, that of this number.
+fn happen<T: Tablet>(
+    alloc: Global,
+    world: &mut World<T>,
+    number: usize,
+    event: &Event,
+) -> Result<Note, StoryFault>
+    ensures ok { IfOk result (λ n. Happens world.old event.now n world.new) }
+    ensures err { IfErr result (IsEventFault world.old number event.now world.new) }
+{
+    match world.run(alloc, slice::from_ref(event)) {
+        Ok(notes) => Ok(notes[0]),
+        Err(fault) => {
+            if fault.code == Reason::NoMemory.code() {
+                Err(StoryFault::NoMemory)
+            } else {
+                Err(StoryFault::Event(WorldFault {
+                    event: number,
+                    code: fault.code,
+                }))
+            }
+        }
+    }
+}
+
+// Lets one event happen, that of this number, and writes its line.
+fn tell_event<T: Tablet, S: Sink>(
+    alloc: Global,
+    world: &mut World<T>,
+    number: usize,
+    event: &Event,
+    sink: &mut S,
+) -> Result<(), StoryFault>
+    requires unfailed { S.failed sink.old ≡ false }
+    ensures { EventEnds world.old number event.now world.new (S.taken sink.old) (S.taken sink.new) (S.failed sink.new)
+        result }
+{
+    let mut line = open_line(alloc, world, number, event)?;
+    let note = happen(alloc, world, number, event)?;
+    end_line(&mut line, world.shared().observers(), &note)?;
+    match write_all(sink, line.as_bytes()) {
+        Ok(()) => Ok(()),
+        Err(_) => Err(StoryFault::Output),
+    }
+}
+
+// Lets the events happen in order, and writes the line of each as soon as it has happened.
+fn tell_events<T: Tablet, S: Sink>(
+    alloc: Global,
+    world: &mut World<T>,
+    events: &[Event],
+    sink: &mut S,
+) -> Result<(), StoryFault>
+    requires unfailed { S.failed sink.old ≡ false }
+    ensures { LinesEnd world.old events.now world.new (S.taken sink.old) (S.taken sink.new) (S.failed sink.new) result }
+{
+    for number in 0..events.len() {
+        tell_event(alloc, world, number, &events[number], sink)?;
+    }
+    Ok(())
+}
+
+/// Lets the events happen in order, as [`World::run`] does, writes the line of each, with its note, as soon as it has
+/// happened, and then the report of what they left.
+///
+/// Where an event is at fault, the lines of those before it were written, and no report follows.
+pub fn tell_story<T: Tablet, S: Sink>(
+    alloc: Global,
+    world: &mut World<T>,
+    events: &[Event],
+    sink: &mut S,
+) -> Result<(), StoryFault>
+    requires unfailed { S.failed sink.old ≡ false }
+    ensures { StoryEnds world.old events.now (S.taken sink.old) (S.taken sink.new) (S.failed sink.new) result }
+{
+    tell_events(alloc, world, events, sink)?;
+    match report(alloc, sink, world.shared()) {
+        Ok(()) => Ok(()),
+        Err(ReportFault::Output) => Err(StoryFault::Output),
+        Err(ReportFault::NoMemory) => Err(StoryFault::NoMemory),
+    }
+}

@@ -1,0 +1,92 @@
+//! What the words of the story program ask for, done.
+ghost use Rattle.std.specs.Prelude.{◌≡◌, false};
+ghost use Rattle.pb_store.specs.Contents.{nothing};
+ghost use Rattle.percobpf_story.specs.Commands.{TellLeaves, StoryCommands};
+
+use crate::frames::frames_file;
+use crate::replay::tell_texts;
+use pb_base::{Sink, Ts};
+use pb_command::{Fault, Paths, Verdict, status_of, three_texts_at};
+use pb_store::{Table, Tablet};
+use pb_texts::StoryOptions;
+use std::alloc::Global;
+
+// Tells the story of three files on the table, from this clock, and ends it.
+fn tell_files<'a, T: Tablet, P: Paths, O: Sink>(
+    alloc: Global,
+    manifest: &'a str,
+    script: &'a str,
+    schedule: &'a str,
+    clock: Ts,
+    paths: &mut P,
+    table: Table<T>,
+    out: &mut O,
+) -> Result<Verdict, Fault<'a>>
+    requires empty { table.contents ≡ nothing }
+    requires unfailed { O.failed out.old ≡ false }
+    ensures told { TellLeaves (P.held paths.old) manifest.now script.now schedule.now clock.0 (O.taken out.old)
+        (O.taken out.new) (O.failed out.new) result }
+    ensures same { P.held paths.new ≡ P.held paths.old }
+    ensures quiet { P.failed paths.new ≡ P.failed paths.old }
+{
+    match three_texts_at(paths, manifest, script, schedule) {
+        Ok((manifest, script, schedule)) => {
+            let outcome = tell_texts(
+                alloc,
+                manifest.as_str(),
+                script.as_str(),
+                schedule.as_str(),
+                table,
+                clock,
+                out,
+            );
+            match outcome {
+                Ok(()) => Ok(Verdict::Accepted),
+                Err(fault) => Err(Fault::Run(fault)),
+            }
+        }
+        Err(fault) => {
+            table.close();
+            Err(fault)
+        }
+    }
+}
+
+/// Does what a command line of the story program asked for, on an empty table, and answers the status: 0, or 1 where what it
+/// was given is refused or a fault was told. It ends the table on every path.
+///
+/// All files are read first, in the order given, and then taken as text, parsed and replayed. Results go to `out`, and the
+/// line of the first fault to `err`. A program's bytes that are refused are a result.
+pub fn story_command<T: Tablet, P: Paths, O: Sink, E: Sink>(
+    alloc: Global,
+    options: &StoryOptions,
+    paths: &mut P,
+    table: Table<T>,
+    out: &mut O,
+    err: &mut E,
+) -> u8
+    requires empty { table.contents ≡ nothing }
+    requires out_unfailed { O.failed out.old ≡ false }
+    requires err_unfailed { E.failed err.old ≡ false }
+    ensures { StoryCommands options.now (P.held paths.old) (P.held paths.new) (P.failed paths.old) (P.failed paths.new)
+        (O.taken out.old) (O.taken out.new) (O.failed out.new) (E.taken err.old) (E.taken err.new) (E.failed err.new)
+        result }
+{
+    let outcome = match options {
+        StoryOptions::Frames {
+            file,
+            profile,
+            version: _,
+        } => {
+            table.close();
+            frames_file(alloc, *profile, file, paths, out)
+        }
+        StoryOptions::Replay {
+            manifest,
+            script,
+            schedule,
+            clock,
+        } => tell_files(alloc, manifest, script, schedule, *clock, paths, table, out),
+    };
+    status_of(alloc, &outcome, err)
+}
