@@ -15,19 +15,3 @@ use Rattle.percobpf_story.specs.Replays.{of_story, ToldOn, TellsTexts}
 pub none_told : (w : WorldOf) (es : List Event) (old : Option (List ℕ)) (failed : Bool) → failed ≡ false → StoryEnds w es old old failed (Err ends.NoMemory)
 none_told w es old failed quiet =
     (record { count = 0; within = omega arith; lines = []; after = w; recounts = (refl, refl); written = ([], ([], refl, Appends-nil old)) }, quiet)
-
-pub told_as : (manifest script schedule : List ℕ) (last : ℕ) (old now : Option (List ℕ)) (failed : Bool) (f : StoryFault)
-    → ToldOn manifest script schedule last old now failed (Err f) → TellsTexts manifest script schedule last old now failed (Err (of_story f))
-told_as m s e last old now failed (ends.Event f) t = t
-told_as m s e last old now failed ends.Output t = t
-told_as m s e last old now failed ends.NoMemory t = inl t
-
-pub unread : (manifest script schedule : List ℕ) (last : ℕ) (old : Option (List ℕ)) (failed : Bool) (f : RunFault)
-    → failed ≡ false → IsReplayUnread manifest script schedule f → TellsTexts manifest script schedule last old old failed (Err f)
-unread m s e last old failed (faults.Manifest f) quiet is = (is, refl, quiet)
-unread m s e last old failed (faults.Script f) quiet is = (is, refl, quiet)
-unread m s e last old failed (faults.Schedule f) quiet is = (is, refl, quiet)
-unread m s e last old failed (faults.Event f) quiet is = absurd is
-unread m s e last old failed faults.SeatsDiffer quiet is = absurd is
-unread m s e last old failed faults.Output quiet is = absurd is
-unread m s e last old failed faults.NoMemory quiet is = inr (refl, quiet)
