@@ -15,6 +15,10 @@ TOP = Path(__file__).resolve().parent.parent.parent
 # codes that are told of all bytes together
 OF_ALL_BYTES = (10, 11)
 
+# the program that tells what is known before a slot, in a checkout that has it
+STORY = "percobpf_story"
+HAS_STORY = (TOP / "crates" / STORY).is_dir()
+
 
 class NotTold(Exception):
     """Why nothing is told of a file."""
@@ -102,7 +106,7 @@ def listing(code: bytes, options: Options) -> list[tuple[int, str]]:
 
 def frame_before(slot: int, code: bytes, options: Options) -> frames.Frame | None:
     """What is known before a slot, or None where nothing leads to it."""
-    output = told_of(code, "percobpf_story", "frames", options.words("profile", "record"))
+    output = told_of(code, STORY, "frames", options.words("profile", "record"))
     return dict(frames.frame_of(line) for line in output.splitlines())[slot]
 
 

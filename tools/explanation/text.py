@@ -92,7 +92,9 @@ def lines_of_rule(its: Subject, refused: Refused) -> list[str]:
 
 
 def known(its: Subject, refused: Refused, options: Options) -> list[str]:
-    """What is known before the slot that is refused."""
+    """What is known before the slot that is refused, where a program is there that tells it."""
+    if not programs.HAS_STORY:
+        return []
     head = f"known before slot {refused.slot}:"
     try:
         frame = programs.frame_before(refused.slot, its.code, options)
