@@ -12,7 +12,7 @@ from functools import cache
 
 # how many tables there are, and how many rows in all, so that a lost one is noticed
 TABLE_COUNT = 215
-ROW_COUNT = 7694
+ROW_COUNT = 7695
 
 TOO_LARGE = bytes(16_777_217)
 

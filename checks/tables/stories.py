@@ -193,7 +193,6 @@ MILLION = [
 
 # the lines of the events before the one at fault are told, and no report
 STOPPED = [
-    story_stops(WATCHED, ONE, "launch 1 change 2\n", "", "event 0 code 63"),
     story_stops(
         WATCHED,
         ONE,
@@ -204,19 +203,24 @@ STOPPED = [
 ]
 
 
+def files_and_clock(row: Row) -> tuple[list[str], int]:
+    """The files that a replay names, and the clock that it begins with."""
+    words = " ".join(row.words[1:])
+    found = re.search(r" ?--clock[ =]\+?(\d+)", words)
+    return (words.replace(found[0], "", 1).split(), int(found[1])) if found else (words.split(), 0)
+
+
 def told_by_model(row: Row) -> Row:
     """The story of the events of a replay, as the model tells it."""
-    words, clock = " ".join(row.words[1:]), 0
-    if found := re.search(r" ?--clock[ =]\+?(\d+)", words):
-        words, clock = words.replace(found[0], "", 1), int(found[1])
-    out, err, status = model.story(*(row.files[word].decode() for word in words.split()), clock)
+    files, clock = files_and_clock(row)
+    out, err, status = model.story(*(row.files[file].decode() for file in files), clock)
     return replace(row, out=out.encode(), err=err.encode(), status=status, program=STORY)
 
 
 def story_of(row: Row) -> Row:
     """The row of a replay, told: what is refused before its events is refused in the same way."""
     comes_to_events = row.status == 0 or (row.err or b"").startswith(b"event")
-    has_files = all(word in row.files for word in row.words[1:4])
+    has_files = all(file in row.files for file in files_and_clock(row)[0])
     return told_by_model(row) if comes_to_events and has_files else replace(row, program=STORY)
 
 
@@ -231,6 +235,12 @@ def replays_of(module: str) -> list[Row]:
     tables = importlib.import_module(f"tables.{module}").TABLES
     replays = [row for rows in tables.values() for row in rows if row.words[:1] == ["replay"] and row.out is not None]
     return [row for row in replays if is_short(row)]
+
+
+def stories_of(module: str) -> list[Row]:
+    """The stories of these replays, without those that are made by hand."""
+    by_hand = {row.key() for row in HAND_MADE}
+    return [told for row in replays_of(module) if (told := story_of(row)).key() not in by_hand]
 
 
 def example(manifest: str, script: str, schedule: str, *more: str) -> Row:
@@ -254,9 +264,6 @@ WORDS = [
         ["check", "i"],
         ["frames"],
         ["frames", "i", "x"],
-        ["replay", "m", "s"],
-        ["replay", "m", "s", "e", "x"],
-        ["replay", "m", "s", "e", "--clock"],
         ["replay", "m", "s", "e", "--profile", "1"],
         *(["frames", "i", "--profile", number] for number in ("0", "3", "+1", "x", "")),
         *(["frames", "i", "--record", number] for number in ("0", "3", "+2", "x", "")),
@@ -271,7 +278,7 @@ TABLES: Tables = {
     "million": MILLION,
     "stopped": STOPPED,
     "example schedules": EXAMPLE_SCHEDULES,
-    **{f"of {module}": [story_of(row) for row in replays_of(module)] for module in REPLAYED},
+    **{f"of {module}": stories_of(module) for module in REPLAYED},
     "words": WORDS,
     "help": HELP,
 }
