@@ -1,19 +1,18 @@
 -- How the story of a list of events grows, and how it ends.
-use Rattle.std.proofs.Common.{◌≡◌, ◌∙◌, ℕ, ◌+◌, ◌≤◌, Bool, false, List, [], ◌∷◌, ◌++◌, length, take, Option, Some, Ok, Err, inl, inr, refl, sym, ap, subst, arith, append_assoc, append-nil}
+use Rattle.std.proofs.Common.{◌≡◌, ◌∙◌, ℕ, ◌+◌, ◌≤◌, Bool, List, [], ◌∷◌, ◌++◌, length, take, Option, Some, Ok, Err, inl, inr, refl, sym, ap, subst, arith, append_assoc, append-nil}
 use Rattle.std.specs.Prelude.{slice_get}
 use Rattle.std.specs.Io.KnownBytes.{Appends}
-use Rattle.std.proofs.KnownBytes.{Appends-nil, Appends-trans}
+use Rattle.std.proofs.KnownBytes.{Appends-trans}
 use Rattle.std.proofs.lemmas.List.{take_more, take_all, length-take-le}
 use Rattle.std.proofs.lemmas.Option.{slice_get_within, get_or_from_slice_get}
 use Rattle.pb_parse.specs.declared.event.Event.{Event}
-use Rattle.pb_world.specs.declared.fault.WorldFault.{WorldFault}
 use Rattle.pb_world.specs.Events.{WorldOf}
 use Rattle.pb_texts.specs.Sinks.{AppendsPart}
 use Rattle.pb_script.specs.declared.fault.ReportFault.TheVariants as ends
 use Rattle.pb_script.specs.TableReports.{Reports}
 use Rattle.pb_story.specs.declared.fault.StoryFault.{StoryFault}
 use Rattle.pb_story.specs.declared.fault.StoryFault.TheVariants as faults
-use Rattle.pb_story.specs.Stories.{Recounts, IsTold, EventEnds, AreTold, BeganLines, Stopped, LinesEnd, StoryEnds}
+use Rattle.pb_story.specs.Stories.{Recounts, IsTold, EventEnds, AreTold, BeganLines, LinesEnd, StoryEnds}
 
 -- ---- one event more
 
@@ -47,9 +46,6 @@ part_after a b c xs ys h p = (p.0, (xs ++ p.1.0, ap (λ (z : List ℕ). xs ++ z)
 
 -- ---- the lines
 
-pub none_told : (w : WorldOf) (es : List Event) (old : Option (List ℕ)) → AreTold w (take 0 es) w old old
-none_told w es old = record { lines = []; recounts = (refl, refl); written = Appends-nil old }
-
 pub told_more : (w : WorldOf) (es : List Event) (i : ℕ) (v u : WorldOf) (e : Event) (old mid now : Option (List ℕ)) (failed : Bool)
     → slice_get es i ≡ Some e → AreTold w (take i es) v old mid → EventEnds v i e u mid now failed (Ok tt) → AreTold w (take (i + 1) es) u old now
 told_more w es i v u e old mid now failed is t end =
@@ -82,9 +78,6 @@ told_to w es i v u x e old mid now failed (faults.Event f) is t end =
     )
 
 -- ---- the story
-
-pub all_told : (w : WorldOf) (es : List Event) (i : ℕ) (v : WorldOf) (old now : Option (List ℕ)) → length es ≤ i → AreTold w (take i es) v old now → AreTold w es v old now
-all_told w es i v old now done t = subst (λ (xs : List Event). AreTold w xs v old now) (take_all i es done) t
 
 pub reported : (w : WorldOf) (es : List Event) (v : WorldOf) (old mid now : Option (List ℕ)) (failed : Bool) → AreTold w es v old mid → Reports v.shared mid now failed (Ok tt) → StoryEnds w es old now failed (Ok tt)
 reported w es v old mid now failed t r = (
