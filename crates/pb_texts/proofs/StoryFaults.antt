@@ -1,7 +1,7 @@
 -- What `clap` takes of the story program's words is a fault exactly where it asks for nothing.
 use Rattle.std.proofs.Common.{◌≡◌, List, [], Some, None, refl, inl}
 use Rattle.clap.specs.Walk.{Text}
-use Rattle.clap.specs.Kinds.{IsAmong, or_else}
+use Rattle.clap.specs.Kinds.{IsAmong}
 use Rattle.clap.specs.Faults.{fault_of}
 use Rattle.clap.specs.declared.error.kind.ErrorKind.TheVariants.{ValueValidation}
 use Rattle.pb_texts.specs.CommandLines.{Request}
