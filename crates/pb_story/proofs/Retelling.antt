@@ -12,7 +12,7 @@ use Rattle.pb_script.specs.declared.fault.ReportFault.TheVariants as ends
 use Rattle.pb_script.specs.TableReports.{Reports}
 use Rattle.pb_story.specs.declared.fault.StoryFault.{StoryFault}
 use Rattle.pb_story.specs.declared.fault.StoryFault.TheVariants as faults
-use Rattle.pb_story.specs.Stories.{Recounts, IsTold, EventEnds, AreTold, BeganLines, LinesEnd, StoryEnds}
+use Rattle.pb_story.specs.Stories.{Recounts, IsTold, IsAtFault, IsUntold, EventEnds, AreTold, LeftOff, LinesEnd, StoryEnds}
 
 -- ---- one event more
 
@@ -51,61 +51,60 @@ pub told_more : (w : WorldOf) (es : List Event) (i : ℕ) (v u : WorldOf) (e : E
 told_more w es i v u e old mid now failed is t end =
     record { lines = t.lines ++ end.0; recounts = recounts_next w es i t.lines v u e end.0 is t.recounts end.1; written = Appends-trans old mid now t.lines end.0 t.written end.2 }
 
-began : (w : WorldOf) (es : List Event) (i : ℕ) (v : WorldOf) (old now : Option (List ℕ)) → i ≤ length es → AreTold w (take i es) v old now → BeganLines w es old now
-began w es i v old now within t = record { count = i; within = within; lines = t.lines; after = v; recounts = t.recounts; written = whole_part old now t.lines t.written }
+untold : (w : WorldOf) (es : List Event) (i : ℕ) (v u : WorldOf) (e : Event) (old now : Option (List ℕ)) → slice_get es i ≡ Some e → AreTold w (take i es) v old now → IsUntold v e u → LeftOff w es u old now
+untold w es i v u e old now is t h = record { count = i; before = v; told = t; rest = inr (e, is, h) }
 
 -- the first fault ends the lines
-pub told_to : (w : WorldOf) (es : List Event) (i : ℕ) (v u x : WorldOf) (e : Event) (old mid now : Option (List ℕ)) (failed : Bool) (f : StoryFault)
-    → slice_get es i ≡ Some e → AreTold w (take i es) v old mid → EventEnds v i e u mid now failed (Err f) → LinesEnd w es x old now failed (Err f)
-told_to w es i v u x e old mid now failed faults.Output is t end =
+pub told_to : (w : WorldOf) (es : List Event) (i : ℕ) (v u : WorldOf) (e : Event) (old mid now : Option (List ℕ)) (failed : Bool) (f : StoryFault)
+    → slice_get es i ≡ Some e → AreTold w (take i es) v old mid → EventEnds v i e u mid now failed (Err f) → LinesEnd w es u old now failed (Err f)
+told_to w es i v u e old mid now failed faults.Output is t end =
     let lines = recounts_next w es i t.lines v u e end.0 is t.recounts end.1 in
     let within : i + 1 ≤ length es = let lt = slice_get_within es i e is in omega (arith, lt) in
-    (record { count = i + 1; within = within; lines = t.lines ++ end.0; after = u; recounts = lines; written = part_after old mid now t.lines end.0 t.written end.2 }, end.3)
-told_to w es i v u x e old mid now failed faults.NoMemory is t end =
-    let within : i ≤ length es = let lt = slice_get_within es i e is in omega (arith, lt) in
-    (began w es i v old now within (subst (λ (s : Option (List ℕ)). AreTold w (take i es) v old s) (sym end.0) t), end.1)
-told_to w es i v u x e old mid now failed (faults.Event f) is t end =
+    (record { count = i + 1; within = within; lines = t.lines ++ end.0; recounts = lines; written = part_after old mid now t.lines end.0 t.written end.2 }, end.3)
+told_to w es i v u e old mid now failed faults.NoMemory is t end =
+    (untold w es i v u e old now is (subst (λ (s : Option (List ℕ)). AreTold w (take i es) v old s) (sym end.1) t) end.0, end.2)
+told_to w es i v u e old mid now failed (faults.Event f) is t end =
     let at : i ≡ f.event = sym end.0.0 in
+    let same : v ≡ u = sym end.0.2 in
     let told = subst (λ (s : Option (List ℕ)). AreTold w (take i es) v old s) (sym end.1) t in (
       record {
-        before = v;
-        told = subst (λ k. AreTold w (take k es) v old now) at told;
+        told = subst (λ x. AreTold w (take f.event es) x old now) same (subst (λ k. AreTold w (take k es) v old now) at told);
         event = e;
         there = subst (λ k. slice_get es k ≡ Some e) at is;
-        at_fault = end.0.1;
+        at_fault = subst (λ x. IsAtFault x e f.code) same end.0.1;
       },
       end.2,
     )
 
 -- ---- the story
 
-pub reported : (w : WorldOf) (es : List Event) (v : WorldOf) (old mid now : Option (List ℕ)) (failed : Bool) → AreTold w es v old mid → Reports v.shared mid now failed (Ok tt) → StoryEnds w es old now failed (Ok tt)
+pub reported : (w : WorldOf) (es : List Event) (v : WorldOf) (old mid now : Option (List ℕ)) (failed : Bool) → AreTold w es v old mid → Reports v.shared mid now failed (Ok tt) → StoryEnds w es v old now failed (Ok tt)
 reported w es v old mid now failed t r = (
   record {
     text = t.lines ++ r.0.text;
-    story = record { lines = t.lines; after = v; recounts = t.recounts; report = r.0.text; reported = r.0.report; text_is = refl };
+    story = record { lines = t.lines; recounts = t.recounts; report = r.0.text; reported = r.0.report; text_is = refl };
     written = Appends-trans old mid now t.lines r.0.text t.written r.0.appended;
   },
   r.1,
 )
 
-pub report_cut : (w : WorldOf) (es : List Event) (v : WorldOf) (old mid now : Option (List ℕ)) (failed : Bool) → AreTold w es v old mid → Reports v.shared mid now failed (Err ends.Output) → StoryEnds w es old now failed (Err faults.Output)
+pub report_cut : (w : WorldOf) (es : List Event) (v : WorldOf) (old mid now : Option (List ℕ)) (failed : Bool) → AreTold w es v old mid → Reports v.shared mid now failed (Err ends.Output) → StoryEnds w es v old now failed (Err faults.Output)
 report_cut w es v old mid now failed t r = (
   inr (record {
     text = t.lines ++ r.0.text;
-    story = record { lines = t.lines; after = v; recounts = t.recounts; report = r.0.text; reported = r.0.report; text_is = refl };
+    story = record { lines = t.lines; recounts = t.recounts; report = r.0.text; reported = r.0.report; text_is = refl };
     written = part_after old mid now t.lines r.0.text t.written r.0.appended;
   }),
   r.1,
 )
 
-pub report_unmade : (w : WorldOf) (es : List Event) (v : WorldOf) (old mid now : Option (List ℕ)) (failed : Bool) → AreTold w es v old mid → Reports v.shared mid now failed (Err ends.NoMemory) → StoryEnds w es old now failed (Err faults.NoMemory)
+pub report_unmade : (w : WorldOf) (es : List Event) (v : WorldOf) (old mid now : Option (List ℕ)) (failed : Bool) → AreTold w es v old mid → Reports v.shared mid now failed (Err ends.NoMemory) → StoryEnds w es v old now failed (Err faults.NoMemory)
 report_unmade w es v old mid now failed t r =
     let all : take (length es) es ≡ es = take_all (length es) es (omega arith) in
     let told = subst (λ (s : Option (List ℕ)). AreTold w (take (length es) es) v old s) (sym r.0) (subst (λ (xs : List Event). AreTold w xs v old mid) (sym all) t) in
-    (began w es (length es) v old now (omega arith) told, r.1)
+    (record { count = length es; before = v; told = told; rest = inl (refl, refl) }, r.1)
 
-pub lines_cut : (w : WorldOf) (es : List Event) (v : WorldOf) (old now : Option (List ℕ)) (failed : Bool) (f : StoryFault) → LinesEnd w es v old now failed (Err f) → StoryEnds w es old now failed (Err f)
+pub lines_cut : (w : WorldOf) (es : List Event) (v : WorldOf) (old now : Option (List ℕ)) (failed : Bool) (f : StoryFault) → LinesEnd w es v old now failed (Err f) → StoryEnds w es v old now failed (Err f)
 lines_cut w es v old now failed faults.Output h = (inl h.0, h.1)
 lines_cut w es v old now failed faults.NoMemory h = h
 lines_cut w es v old now failed (faults.Event f) h = h

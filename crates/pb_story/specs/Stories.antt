@@ -38,15 +38,19 @@ pub record IsAtFault (w : WorldOf) (e : Event) (code : ℕ) : Type 0 where
 -- why one event, that of this number, did nothing
 abbrev pub IsEventFault : WorldOf → ℕ → Event → WorldOf → StoryFault → Type 0
 IsEventFault w number e v (faults.Event f) = (f.event ≡ number) × IsAtFault w e f.code × (v ≡ w)
-IsEventFault w number e v faults.NoMemory = Unit {0}
+IsEventFault w number e v faults.NoMemory = v ≡ w
 IsEventFault w number e v faults.Output = ⊥
+
+-- memory was refused before it happened, or for its line after that
+abbrev pub IsUntold : WorldOf → Event → WorldOf → Type 0
+IsUntold w e v = (v ≡ w) ⊎ ((n : Note) × Happens w e n v)
 
 -- what the sink had taken and has taken: a line, a beginning of it where a write failed, or else nothing
 abbrev pub EventEnds : WorldOf → ℕ → Event → WorldOf → Option (List ℕ) → Option (List ℕ) → Bool → Result (Unit {0}) StoryFault → Type 0
 EventEnds w number e v old now failed (Ok _) = (line : List ℕ) × IsTold w number e v line × Appends old now line × (failed ≡ false)
 EventEnds w number e v old now failed (Err faults.Output) = (line : List ℕ) × IsTold w number e v line × AppendsPart old now line × (failed ≡ true)
 EventEnds w number e v old now failed (Err (faults.Event f)) = IsEventFault w number e v (faults.Event f) × (now ≡ old) × (failed ≡ false)
-EventEnds w number e v old now failed (Err faults.NoMemory) = (now ≡ old) × (failed ≡ false)
+EventEnds w number e v old now failed (Err faults.NoMemory) = IsUntold w e v × (now ≡ old) × (failed ≡ false)
 
 -- ---- how all were told
 
@@ -56,53 +60,61 @@ pub record AreTold (w : WorldOf) (es : List Event) (v : WorldOf) (old now : Opti
   pub recounts : Recounts w 0 es lines v
   pub written : Appends old now lines
 
--- a beginning of the lines of the first so many events was written
-pub record BeganLines (w : WorldOf) (es : List Event) (old now : Option (List ℕ)) : Type 0 where
+-- the first so many events happened, and a beginning of their lines was written
+pub record BeganLines (w : WorldOf) (es : List Event) (v : WorldOf) (old now : Option (List ℕ)) : Type 0 where
   pub count : ℕ
   pub within : count ≤ length es
   pub lines : List ℕ
-  pub after : WorldOf
-  pub recounts : Recounts w 0 (take count es) lines after
+  pub recounts : Recounts w 0 (take count es) lines v
   pub written : AppendsPart old now lines
 
 -- an event was at fault by itself, and the lines of those before it were written
-pub record Stopped (w : WorldOf) (es : List Event) (f : WorldFault) (old now : Option (List ℕ)) : Type 0 where
-  pub before : WorldOf
-  pub told : AreTold w (take f.event es) before old now
+pub record Stopped (w : WorldOf) (es : List Event) (v : WorldOf) (f : WorldFault) (old now : Option (List ℕ)) : Type 0 where
+  pub told : AreTold w (take f.event es) v old now
   pub event : Event
   pub there : slice_get es f.event ≡ Some event
-  pub at_fault : IsAtFault before event f.code
+  pub at_fault : IsAtFault v event f.code
+
+-- there is an event of this number, and memory was refused for it or for its line
+abbrev pub IsUntoldAt : WorldOf → List Event → ℕ → WorldOf → Type 0
+IsUntoldAt w es number v = (e : Event) × (slice_get es number ≡ Some e) × IsUntold w e v
+
+-- memory was refused, and the lines of the first so many events were written: of all, or of those before one that is untold
+pub record LeftOff (w : WorldOf) (es : List Event) (v : WorldOf) (old now : Option (List ℕ)) : Type 0 where
+  pub count : ℕ
+  pub before : WorldOf
+  pub told : AreTold w (take count es) before old now
+  pub rest : ((count ≡ length es) × (v ≡ before)) ⊎ IsUntoldAt before es count v
 
 abbrev pub LinesEnd : WorldOf → List Event → WorldOf → Option (List ℕ) → Option (List ℕ) → Bool → Result (Unit {0}) StoryFault → Type 0
 LinesEnd w es v old now failed (Ok _) = AreTold w es v old now × (failed ≡ false)
-LinesEnd w es v old now failed (Err faults.Output) = BeganLines w es old now × (failed ≡ true)
-LinesEnd w es v old now failed (Err (faults.Event f)) = Stopped w es f old now × (failed ≡ false)
-LinesEnd w es v old now failed (Err faults.NoMemory) = BeganLines w es old now × (failed ≡ false)
+LinesEnd w es v old now failed (Err faults.Output) = BeganLines w es v old now × (failed ≡ true)
+LinesEnd w es v old now failed (Err (faults.Event f)) = Stopped w es v f old now × (failed ≡ false)
+LinesEnd w es v old now failed (Err faults.NoMemory) = LeftOff w es v old now × (failed ≡ false)
 
 -- ---- the story of events in a world: their lines, and then the report of what they left
 
-pub record IsStory (w : WorldOf) (es : List Event) (text : List ℕ) : Type 0 where
+pub record IsStory (w : WorldOf) (es : List Event) (v : WorldOf) (text : List ℕ) : Type 0 where
   pub lines : List ℕ
-  pub after : WorldOf
-  pub recounts : Recounts w 0 es lines after
+  pub recounts : Recounts w 0 es lines v
   pub report : List ℕ
-  pub reported : IsReportIn after.shared report
+  pub reported : IsReportIn v.shared report
   pub text_is : text ≡ lines ++ report
 
-pub record WroteStory (w : WorldOf) (es : List Event) (old now : Option (List ℕ)) : Type 0 where
+pub record WroteStory (w : WorldOf) (es : List Event) (v : WorldOf) (old now : Option (List ℕ)) : Type 0 where
   pub text : List ℕ
-  pub story : IsStory w es text
+  pub story : IsStory w es v text
   pub written : Appends old now text
 
 -- a beginning of the story was written
-pub record BeganStory (w : WorldOf) (es : List Event) (old now : Option (List ℕ)) : Type 0 where
+pub record BeganStory (w : WorldOf) (es : List Event) (v : WorldOf) (old now : Option (List ℕ)) : Type 0 where
   pub text : List ℕ
-  pub story : IsStory w es text
+  pub story : IsStory w es v text
   pub written : AppendsPart old now text
 
--- how a story ended, and what the sink had taken and has taken
-abbrev pub StoryEnds : WorldOf → List Event → Option (List ℕ) → Option (List ℕ) → Bool → Result (Unit {0}) StoryFault → Type 0
-StoryEnds w es old now failed (Ok _) = WroteStory w es old now × (failed ≡ false)
-StoryEnds w es old now failed (Err faults.Output) = (BeganLines w es old now ⊎ BeganStory w es old now) × (failed ≡ true)
-StoryEnds w es old now failed (Err (faults.Event f)) = Stopped w es f old now × (failed ≡ false)
-StoryEnds w es old now failed (Err faults.NoMemory) = BeganLines w es old now × (failed ≡ false)
+-- how a story ended, to which world the events led, and what the sink had taken and has taken
+abbrev pub StoryEnds : WorldOf → List Event → WorldOf → Option (List ℕ) → Option (List ℕ) → Bool → Result (Unit {0}) StoryFault → Type 0
+StoryEnds w es v old now failed (Ok _) = WroteStory w es v old now × (failed ≡ false)
+StoryEnds w es v old now failed (Err faults.Output) = (BeganLines w es v old now ⊎ BeganStory w es v old now) × (failed ≡ true)
+StoryEnds w es v old now failed (Err (faults.Event f)) = Stopped w es v f old now × (failed ≡ false)
+StoryEnds w es v old now failed (Err faults.NoMemory) = LeftOff w es v old now × (failed ≡ false)

@@ -78,7 +78,8 @@ fn tell_events<T: Tablet, S: Sink>(
 /// Lets the events happen in order, as [`World::run`] does, writes the line of each, with its note, as soon as it has
 /// happened, and then the report of what they left.
 ///
-/// Where an event is at fault, the lines of those before it were written, and no report follows.
+/// Where an event is at fault, the lines of those before it were written, and no report follows. Where memory is refused,
+/// whole lines were written, and at most one event more has happened than they tell.
 pub fn tell_story<T: Tablet, S: Sink>(
     alloc: Global,
     world: &mut World<T>,
@@ -86,7 +87,7 @@ pub fn tell_story<T: Tablet, S: Sink>(
     sink: &mut S,
 ) -> Result<(), StoryFault>
     requires unfailed { S.failed sink.old ≡ false }
-    ensures { StoryEnds world.old events.now (S.taken sink.old) (S.taken sink.new) (S.failed sink.new) result }
+    ensures { StoryEnds world.old events.now world.new (S.taken sink.old) (S.taken sink.new) (S.failed sink.new) result }
 {
     tell_events(alloc, world, events, sink)?;
     match report(alloc, sink, world.shared()) {

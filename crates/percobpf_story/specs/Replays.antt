@@ -5,6 +5,7 @@ use Rattle.pb_base.specs.Batch.{Writes}
 use Rattle.pb_steps.specs.Observers.{ObserverOf}
 use Rattle.pb_core.specs.Calls.{SeatOf, AreSeats}
 use Rattle.pb_parse.specs.declared.event.Event.{Event}
+use Rattle.pb_world.specs.Events.{WorldOf}
 use Rattle.pb_driver.specs.declared.fault.RunFault.{RunFault}
 use Rattle.pb_driver.specs.declared.fault.RunFault.TheVariants as faults
 use Rattle.pb_driver.specs.Texts.{IsReplayRead, IsReplayUnread, fresh}
@@ -28,7 +29,8 @@ pub record ToldOn (manifest script schedule : List ℕ) (last : ℕ) (old now : 
   pub read : IsReplayRead manifest script schedule observers batches events
   pub seats : List SeatOf
   pub seated : AreSeats (fresh observers MAX_SEATS last) seats
-  pub ends : StoryEnds (opened_world (fresh observers MAX_SEATS last) seats batches) events old now failed result
+  pub after : WorldOf
+  pub ends : StoryEnds (opened_world (fresh observers MAX_SEATS last) seats batches) events after old now failed result
 
 -- How the story of three texts ended, and what the sink had taken and has taken. Where memory was refused before the first
 -- event, nothing was written.

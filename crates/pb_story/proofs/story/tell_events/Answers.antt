@@ -14,7 +14,7 @@ returns-in_err-tell_event g c =
     let now = g.S.Sink.taken c.tell_event.new.sink in
     let failed = g.S.Sink.failed c.tell_event.new.sink in
     subst (λ r. LinesEnd c.args.world.now c.args.events.now c.tell_event.new.world (g.S.Sink.taken c.args.sink.now) now failed r) (sym same)
-    (told_to c.args.world.now c.args.events.now l.number l.world c.tell_event.new.world c.tell_event.new.world c.index-events-number.result
+    (told_to c.args.world.now c.args.events.now l.number l.world c.tell_event.new.world c.index-events-number.result
     (g.S.Sink.taken c.args.sink.now) (g.S.Sink.taken l.sink) now failed c.in_err-tell_event.field-0.0 at l.invariant.told c.in_err-tell_event.ensures)
 
 pub loop-number-preserved : goal.loop-number-preserved

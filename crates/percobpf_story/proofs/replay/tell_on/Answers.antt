@@ -3,4 +3,6 @@ use Rattle.percobpf_story.proofs.StoryEndings.{none_told}
 use Rattle.percobpf_story.proofs.replay.tell_on.Goals as goal
 
 pub returns-in-Err : goal.returns-in-Err
-returns-in-Err g c = none_told (opened_world c.args.shared c.args.seats.items c.args.batches.items) c.args.events.now (g.S.Sink.taken c.args.sink.now) (g.S.Sink.failed c.args.sink.now) c.requires.unfailed
+returns-in-Err g c =
+    let w = opened_world c.args.shared c.args.seats.items c.args.batches.items in
+    (w, none_told w c.args.events.now (g.S.Sink.taken c.args.sink.now) (g.S.Sink.failed c.args.sink.now) c.requires.unfailed)
