@@ -38,9 +38,6 @@ recounts_next w es i lines v u e line is r t =
 
 -- ---- parts
 
-whole_part : (a b : Option (List ℕ)) (xs : List ℕ) → Appends a b xs → AppendsPart a b xs
-whole_part a b xs h = ([], (xs, sym (append-nil xs), h))
-
 part_after : (a b c : Option (List ℕ)) (xs ys : List ℕ) → Appends a b xs → AppendsPart b c ys → AppendsPart a c (xs ++ ys)
 part_after a b c xs ys h p = (p.0, (xs ++ p.1.0, ap (λ (z : List ℕ). xs ++ z) p.1.1 ∙ sym (append_assoc xs p.1.0 p.0), Appends-trans a b c xs p.1.0 h p.1.2))
 

@@ -87,7 +87,8 @@ pub fn tell_story<T: Tablet, S: Sink>(
     sink: &mut S,
 ) -> Result<(), StoryFault>
     requires unfailed { S.failed sink.old ≡ false }
-    ensures { StoryEnds world.old events.now world.new (S.taken sink.old) (S.taken sink.new) (S.failed sink.new) result }
+    ensures { StoryEnds world.old events.now world.new (S.taken sink.old) (S.taken sink.new) (S.failed sink.new)
+        result }
 {
     tell_events(alloc, world, events, sink)?;
     match report(alloc, sink, world.shared()) {
