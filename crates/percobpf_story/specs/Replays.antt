@@ -20,6 +20,11 @@ of_story (ends.Event f) = faults.Event f
 of_story ends.Output = faults.Output
 of_story ends.NoMemory = faults.NoMemory
 
+-- the story of events in a world, which is ended then
+pub record StoryEndsFrom (w : WorldOf) (es : List Event) (old now : Option (List ℕ)) (failed : Bool) (result : Result (Unit {0}) StoryFault) : Type 0 where
+  pub after : WorldOf
+  pub ends : StoryEnds w es after old now failed result
+
 -- The three texts are read, and the story of the schedule's events ended so in a world of the manifest's observers and the
 -- script's changes, over the table as opened with all its seats and the clock at `last`.
 pub record ToldOn (manifest script schedule : List ℕ) (last : ℕ) (old now : Option (List ℕ)) (failed : Bool) (result : Result (Unit {0}) StoryFault) : Type 0 where
@@ -29,8 +34,7 @@ pub record ToldOn (manifest script schedule : List ℕ) (last : ℕ) (old now : 
   pub read : IsReplayRead manifest script schedule observers batches events
   pub seats : List SeatOf
   pub seated : AreSeats (fresh observers MAX_SEATS last) seats
-  pub after : WorldOf
-  pub ends : StoryEnds (opened_world (fresh observers MAX_SEATS last) seats batches) events after old now failed result
+  pub ends : StoryEndsFrom (opened_world (fresh observers MAX_SEATS last) seats batches) events old now failed result
 
 -- How the story of three texts ended, and what the sink had taken and has taken. Where memory was refused before the first
 -- event, nothing was written.

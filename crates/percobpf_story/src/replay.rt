@@ -2,10 +2,8 @@
 ghost use Rattle.std.specs.Prelude.{◌≡◌, false};
 ghost use Rattle.pb_store.specs.Contents.{nothing};
 ghost use Rattle.pb_core.specs.Calls.{AreSeats};
-ghost use Rattle.pb_world.specs.Events.{WorldOf};
 ghost use Rattle.pb_driver.specs.Replays.{opened_world};
-ghost use Rattle.pb_story.specs.Stories.{StoryEnds};
-ghost use Rattle.percobpf_story.specs.Replays.{of_story, TellsTexts};
+ghost use Rattle.percobpf_story.specs.Replays.{of_story, StoryEndsFrom, TellsTexts};
 
 use pb_base::{Batch, MAX_ENTRIES, MAX_SEATS, Sink, Ts};
 use pb_core::{OpenRefused, Seat, Shared};
@@ -37,7 +35,7 @@ fn tell_on<T: Tablet, S: Sink>(
 ) -> Result<(), StoryFault>
     requires seated { AreSeats shared seats.items }
     requires unfailed { S.failed sink.old ≡ false }
-    ensures { (v : WorldOf) × StoryEnds (opened_world shared seats.items batches.items) events.now v (S.taken sink.old)
+    ensures { StoryEndsFrom (opened_world shared seats.items batches.items) events.now (S.taken sink.old)
         (S.taken sink.new) (S.failed sink.new) result }
 {
     match World::open(alloc, shared, seats, batches) {
