@@ -7,12 +7,13 @@ from __future__ import annotations
 
 import re
 import struct
+from collections.abc import Callable
 from dataclasses import dataclass, field, replace
 from functools import cache
 
 # how many tables there are, and how many rows in all, so that a lost one is noticed
-TABLE_COUNT = 215
-ROW_COUNT = 7695
+TABLE_COUNT = 231
+ROW_COUNT = 7885
 
 TOO_LARGE = bytes(16_777_217)
 
@@ -35,7 +36,8 @@ class Row:
     """The words behind a program's name, the files of the folder that it is started in, and how that ends.
 
     An output of None is any but the empty one. In the end the folder holds the files and what is `written`, and nothing
-    else. Where a `memory` is named, the program has so many bytes of addresses.
+    else. Where a `memory` is named, the program has so many bytes of addresses. An output that differs from time to time has a
+    `judge`, which says what of it isn't as it has to be.
     """
 
     words: list[str]
@@ -46,6 +48,7 @@ class Row:
     written: dict[str, bytes] = field(default_factory=dict)
     memory: int | None = None
     program: str = "percobpf"
+    judge: Callable[[bytes], list[str]] | None = None
 
     def key(self) -> tuple:
         """The same for the same rows alone."""

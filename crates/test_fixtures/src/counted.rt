@@ -1,24 +1,25 @@
 //! A tablet that counts how often it is changed, and may refuse a change.
 ghost use Rattle.std.specs.Prelude.{◌≡◌};
+ghost use Rattle.pb_memtablet.specs.Either.{contents_of};
 ghost use Rattle.pb_store.specs.Contents.{Contents};
 
 use pb_base::{Cell, NoMemory, Ts};
-use pb_memtablet::ListTablet;
+use pb_memtablet::EitherTablet;
 use pb_store::{Edit, Item, Slot, Sort, Tablet};
 use std::sync::Arc;
 use std::sync::atomic::{AtomicUsize, Ordering};
 
-/// A list tablet that counts the calls of `apply`, where others can read it, and refuses the one of this number, counted from 0,
+/// A tablet that counts the calls of `apply`, where others can read it, and refuses the one of this number, counted from 0,
 /// for want of memory.
 #[derive(Drop)]
 pub struct CountedTablet {
-    pub inner: ListTablet,
+    pub inner: EitherTablet,
     pub calls: Arc<AtomicUsize>,
     pub refused: Option<usize>,
 }
 
 impl Tablet for CountedTablet {
-    ghost contents = { λ t. t.inner };
+    ghost contents = { λ t. contents_of t.inner };
 
     fn get(&self, slot: Slot) -> Option<Item> {
         self.inner.get(slot)

@@ -4,7 +4,7 @@ ghost use Rattle.pb_base.specs.Cell.{row_of};
 
 use pb_base::{Batch, Cell, Column, Content, NoMemory, Row, Ts};
 use pb_core::{Answer, Declaration, Declared, Seat, Shared, Step, Work};
-use pb_memtablet::{ListTablet, SlabTablet};
+use pb_memtablet::{EitherTablet, ListTablet, SlabTablet};
 use pb_store::{Edit, Item, Slot, Sort, Table, Tablet};
 use std::alloc::Global;
 use std::process::Abort;
@@ -72,16 +72,16 @@ fn steps(rt: &impl Abort, alloc: Global) -> Result<Vec<(Step, Answer)>, NoMemory
     writes.push((Row(1000), column, Content::Deleted))?;
     let batch = Batch::new(writes).ok().expect(rt, "a batch");
     let what = Declaration::new(alloc, Declared::Script(batch)).expect(rt, "memory");
-    let mut told = Vec::new(alloc);
-    told.push((Step::Begin(Work::Script), Answer::At(one)))?;
-    told.push((Step::Declare(one, what), Answer::Done))?;
-    told.push((Step::Prewrite(one, cell(rt, 7)), Answer::Done))?;
-    told.push((Step::Prewrite(one, cell(rt, 1000)), Answer::Done))?;
-    told.push((Step::Stamp(one), Answer::At(Ts(2))))?;
-    told.push((Step::CommitPrimary(one), Answer::Committed))?;
-    told.push((Step::CommitSecondary(one, cell(rt, 1000)), Answer::Done))?;
-    told.push((Step::NextMark(None), Answer::NoMark))?;
-    Ok(told)
+    Ok(vec![in alloc;
+        (Step::Begin(Work::Script), Answer::At(one)),
+        (Step::Declare(one, what), Answer::Done),
+        (Step::Prewrite(one, cell(rt, 7)), Answer::Done),
+        (Step::Prewrite(one, cell(rt, 1000)), Answer::Done),
+        (Step::Stamp(one), Answer::At(Ts(2))),
+        (Step::CommitPrimary(one), Answer::Committed),
+        (Step::CommitSecondary(one, cell(rt, 1000)), Answer::Done),
+        (Step::NextMark(None), Answer::NoMark),
+    ]?)
 }
 
 // Whether all steps are answered as said, where before each a spare is swapped in at each of so many places, as long as there
@@ -346,7 +346,7 @@ fn swaps_are_refused(rt: HostRuntime) -> Result<(), NoMemory> {
 fn changes_in(alloc: Global, told: &[(Step, Answer)]) -> Result<usize, NoMemory> {
     let calls = Arc::new(alloc, AtomicUsize::new(0))?;
     let counted = CountedTablet {
-        inner: ListTablet::new(alloc),
+        inner: EitherTablet::new(alloc, false),
         calls: calls.clone()?,
         refused: None,
     };

@@ -77,28 +77,29 @@ fn a_rival_rolls_back(rt: HostRuntime) -> Result<(), NoMemory> {
         primary: first,
     };
     let what = deletes(&rt, rt.alloc(), &[1, 0]);
-    let mut told = Vec::new(rt.alloc());
-    told.push((1, Step::Begin(Work::Script), Ok(Answer::At(one))))?;
-    told.push((1, Step::Declare(one, what), Ok(Answer::Done)))?;
-    told.push((1, Step::Prewrite(one, second), Err(42)))?;
-    told.push((1, Step::Prewrite(one, first), Ok(Answer::Done)))?;
-    told.push((1, Step::Prewrite(one, first), Err(46)))?;
-    told.push((1, Step::Prewrite(one, cell(&rt, 8, 0)), Err(45)))?;
-    told.push((1, Step::Prewrite(one, second), Ok(Answer::Done)))?;
-    told.push((2, Step::Begin(Work::Script), Ok(Answer::At(two))))?;
-    told.push((2, Step::Read(two, second), Ok(locked)))?;
-    told.push((2, Step::Clear(second), Ok(Answer::Waits)))?;
-    told.push((2, Step::Settle(second), Ok(locked)))?;
-    told.push((2, Step::Settle(first), Ok(Answer::RolledBack)))?;
-    told.push((2, Step::Clear(second), Ok(Answer::RolledBack)))?;
-    told.push((2, Step::Read(two, second), Ok(Answer::Absent)))?;
-    told.push((2, Step::Read(one, second), Err(41)))?;
-    told.push((1, Step::CommitSecondary(one, second), Err(42)))?;
-    told.push((1, Step::Stamp(one), Ok(Answer::At(Ts(3)))))?;
-    told.push((1, Step::CommitPrimary(one), Ok(Answer::Lost)))?;
-    told.push((1, Step::CommitSecondary(one, second), Err(42)))?;
-    told.push((0, Step::Settle(first), Ok(Answer::Absent)))?;
-    told.push((0, Step::Clear(second), Ok(Answer::Absent)))?;
+    let told = [
+        (1, Step::Begin(Work::Script), Ok(Answer::At(one))),
+        (1, Step::Declare(one, what), Ok(Answer::Done)),
+        (1, Step::Prewrite(one, second), Err(42)),
+        (1, Step::Prewrite(one, first), Ok(Answer::Done)),
+        (1, Step::Prewrite(one, first), Err(46)),
+        (1, Step::Prewrite(one, cell(&rt, 8, 0)), Err(45)),
+        (1, Step::Prewrite(one, second), Ok(Answer::Done)),
+        (2, Step::Begin(Work::Script), Ok(Answer::At(two))),
+        (2, Step::Read(two, second), Ok(locked)),
+        (2, Step::Clear(second), Ok(Answer::Waits)),
+        (2, Step::Settle(second), Ok(locked)),
+        (2, Step::Settle(first), Ok(Answer::RolledBack)),
+        (2, Step::Clear(second), Ok(Answer::RolledBack)),
+        (2, Step::Read(two, second), Ok(Answer::Absent)),
+        (2, Step::Read(one, second), Err(41)),
+        (1, Step::CommitSecondary(one, second), Err(42)),
+        (1, Step::Stamp(one), Ok(Answer::At(Ts(3)))),
+        (1, Step::CommitPrimary(one), Ok(Answer::Lost)),
+        (1, Step::CommitSecondary(one, second), Err(42)),
+        (0, Step::Settle(first), Ok(Answer::Absent)),
+        (0, Step::Clear(second), Ok(Answer::Absent)),
+    ];
     assert!(rt; are_told_on(rt.alloc(), Vec::new(rt.alloc()), &told)?);
     Ok(())
 }
@@ -114,21 +115,22 @@ fn a_rival_finishes(rt: HostRuntime) -> Result<(), NoMemory> {
         content: Content::Deleted,
     };
     let what = deletes(&rt, rt.alloc(), &[1, 0]);
-    let mut told = Vec::new(rt.alloc());
-    told.push((1, Step::Begin(Work::Script), Ok(Answer::At(one))))?;
-    told.push((1, Step::Declare(one, what), Ok(Answer::Done)))?;
-    told.push((1, Step::Prewrite(one, first), Ok(Answer::Done)))?;
-    told.push((1, Step::Prewrite(one, second), Ok(Answer::Done)))?;
-    told.push((1, Step::Stamp(one), Ok(Answer::At(Ts(2)))))?;
-    told.push((0, Step::Clear(first), Ok(Answer::Waits)))?;
-    told.push((1, Step::CommitPrimary(one), Ok(Answer::Committed)))?;
-    told.push((2, Step::CommitSecondary(one, second), Err(41)))?;
-    told.push((1, Step::CommitSecondary(one, cell(&rt, 8, 0)), Err(45)))?;
-    told.push((2, Step::Clear(second), Ok(Answer::CommittedAt(Ts(2)))))?;
-    told.push((1, Step::CommitSecondary(one, second), Ok(Answer::Done)))?;
-    told.push((2, Step::Begin(Work::Script), Ok(Answer::At(Ts(3)))))?;
-    told.push((2, Step::Read(Ts(3), first), Ok(found)))?;
-    told.push((2, Step::Read(Ts(3), second), Ok(found)))?;
+    let told = [
+        (1, Step::Begin(Work::Script), Ok(Answer::At(one))),
+        (1, Step::Declare(one, what), Ok(Answer::Done)),
+        (1, Step::Prewrite(one, first), Ok(Answer::Done)),
+        (1, Step::Prewrite(one, second), Ok(Answer::Done)),
+        (1, Step::Stamp(one), Ok(Answer::At(Ts(2)))),
+        (0, Step::Clear(first), Ok(Answer::Waits)),
+        (1, Step::CommitPrimary(one), Ok(Answer::Committed)),
+        (2, Step::CommitSecondary(one, second), Err(41)),
+        (1, Step::CommitSecondary(one, cell(&rt, 8, 0)), Err(45)),
+        (2, Step::Clear(second), Ok(Answer::CommittedAt(Ts(2)))),
+        (1, Step::CommitSecondary(one, second), Ok(Answer::Done)),
+        (2, Step::Begin(Work::Script), Ok(Answer::At(Ts(3)))),
+        (2, Step::Read(Ts(3), first), Ok(found)),
+        (2, Step::Read(Ts(3), second), Ok(found)),
+    ];
     assert!(rt; are_told_on(rt.alloc(), Vec::new(rt.alloc()), &told)?);
     Ok(())
 }

@@ -67,12 +67,15 @@ pub fn add_change(
     let start = Ts(at.0);
     let batch = batch_of(rt, alloc, &[0], content);
     let what = Declaration::new(alloc, Declared::Script(batch)).ok();
-    told.push((1, Step::Begin(Work::Script), Ok(Answer::At(start))))?;
     let what = what.expect(rt, "memory");
-    told.push((1, Step::Declare(start, what), Ok(Answer::Done)))?;
-    told.push((1, Step::Prewrite(start, x), Ok(Answer::Done)))?;
-    told.push((1, Step::Stamp(start), Ok(Answer::At(Ts(at.1)))))?;
-    told.push((1, Step::CommitPrimary(start), Ok(Answer::Committed)))?;
+    let mut more = vec![in alloc;
+        (1, Step::Begin(Work::Script), Ok(Answer::At(start))),
+        (1, Step::Declare(start, what), Ok(Answer::Done)),
+        (1, Step::Prewrite(start, x), Ok(Answer::Done)),
+        (1, Step::Stamp(start), Ok(Answer::At(Ts(at.1)))),
+        (1, Step::CommitPrimary(start), Ok(Answer::Committed)),
+    ]?;
+    told.append(&mut more)?;
     Ok(())
 }
 

@@ -70,20 +70,20 @@ fn run_of(rt: &impl Abort, alloc: Global, observer: &Observer, reply: Reply) -> 
 fn begun(rt: &impl Abort, alloc: Global) -> Result<Vec<Told>, NoMemory> {
     let ack = acknowledgment(rt);
     let what = deletes(rt, alloc, &[0]);
-    let mut told = Vec::new(alloc);
-    told.push((1, Step::Begin(Work::Script), Ok(Answer::At(ONE))))?;
-    told.push((1, Step::Declare(ONE, what), Ok(Answer::Done)))?;
-    told.push((1, Step::Prewrite(ONE, cell(rt, 7, 0)), Ok(Answer::Done)))?;
-    told.push((1, Step::Stamp(ONE), Ok(Answer::At(Ts(2)))))?;
-    told.push((1, Step::CommitPrimary(ONE), Ok(Answer::Committed)))?;
-    told.push((
-        2,
-        Step::Begin(Work::Run(first(rt), Row(7))),
-        Ok(Answer::At(THREE)),
-    ))?;
-    told.push((2, Step::Read(THREE, cell(rt, 7, 0)), Ok(FOUND)))?;
-    told.push((2, Step::Read(THREE, ack), Ok(Answer::Absent)))?;
-    Ok(told)
+    Ok(vec![in alloc;
+        (1, Step::Begin(Work::Script), Ok(Answer::At(ONE))),
+        (1, Step::Declare(ONE, what), Ok(Answer::Done)),
+        (1, Step::Prewrite(ONE, cell(rt, 7, 0)), Ok(Answer::Done)),
+        (1, Step::Stamp(ONE), Ok(Answer::At(Ts(2)))),
+        (1, Step::CommitPrimary(ONE), Ok(Answer::Committed)),
+        (
+            2,
+            Step::Begin(Work::Run(first(rt), Row(7))),
+            Ok(Answer::At(THREE))
+        ),
+        (2, Step::Read(THREE, cell(rt, 7, 0)), Ok(FOUND)),
+        (2, Step::Read(THREE, ack), Ok(Answer::Absent)),
+    ]?)
 }
 
 #[test]
@@ -93,44 +93,45 @@ fn a_cleared_cell_is_marked_and_swept(rt: HostRuntime) -> Result<(), NoMemory> {
     let ack = acknowledgment(&rt);
     let observer = observer_of(&rt, rt.alloc(), WATCH);
     let run = run_of(&rt, rt.alloc(), &observer, Reply::Absent);
-    let mut told = Vec::new(rt.alloc());
-    told.push((1, Step::Begin(Work::Script), Ok(Answer::At(ONE))))?;
     let what = deletes(&rt, rt.alloc(), &[1, 0]);
-    told.push((1, Step::Declare(ONE, what), Ok(Answer::Done)))?;
-    told.push((1, Step::Prewrite(ONE, other), Ok(Answer::Done)))?;
-    told.push((1, Step::Prewrite(ONE, x), Ok(Answer::Done)))?;
-    told.push((1, Step::Stamp(ONE), Ok(Answer::At(Ts(2)))))?;
-    told.push((1, Step::CommitPrimary(ONE), Ok(Answer::Committed)))?;
-    // The primary's column has no observer.
-    told.push((2, Step::NextMark(None), Ok(Answer::NoMark)))?;
-    told.push((2, Step::Clear(x), Ok(Answer::CommittedAt(Ts(2)))))?;
-    told.push((2, Step::NextMark(None), Ok(Answer::Marked(x))))?;
-    told.push((2, Step::NextMark(Some(x)), Ok(Answer::NoMark)))?;
-    told.push((
-        2,
-        Step::NextMark(Some(cell(&rt, 6, 15))),
-        Ok(Answer::Marked(x)),
-    ))?;
-    told.push((0, Step::Sweep(other), Ok(Answer::NoMark)))?;
-    told.push((0, Step::Sweep(x), Ok(Answer::StillBehind)))?;
-    told.push((
-        2,
-        Step::Begin(Work::Run(first(&rt), Row(7))),
-        Ok(Answer::At(THREE)),
-    ))?;
-    told.push((2, Step::Read(THREE, x), Ok(FOUND)))?;
-    told.push((2, Step::Read(THREE, ack), Ok(Answer::Absent)))?;
-    told.push((2, Step::Declare(THREE, run), Ok(Answer::Done)))?;
-    told.push((2, Step::Prewrite(THREE, ack), Ok(Answer::Done)))?;
-    told.push((2, Step::Stamp(THREE), Ok(Answer::At(Ts(4)))))?;
-    told.push((1, Step::Sweep(x), Ok(Answer::StillBehind)))?;
-    told.push((2, Step::CommitPrimary(THREE), Ok(Answer::Committed)))?;
-    // An acknowledgment isn't marked.
-    told.push((0, Step::NextMark(Some(x)), Ok(Answer::NoMark)))?;
-    told.push((0, Step::NextMark(None), Ok(Answer::Marked(x))))?;
-    told.push((0, Step::Sweep(x), Ok(Answer::Done)))?;
-    told.push((0, Step::Sweep(x), Ok(Answer::NoMark)))?;
-    told.push((0, Step::NextMark(None), Ok(Answer::NoMark)))?;
+    let told = [
+        (1, Step::Begin(Work::Script), Ok(Answer::At(ONE))),
+        (1, Step::Declare(ONE, what), Ok(Answer::Done)),
+        (1, Step::Prewrite(ONE, other), Ok(Answer::Done)),
+        (1, Step::Prewrite(ONE, x), Ok(Answer::Done)),
+        (1, Step::Stamp(ONE), Ok(Answer::At(Ts(2)))),
+        (1, Step::CommitPrimary(ONE), Ok(Answer::Committed)),
+        // The primary's column has no observer.
+        (2, Step::NextMark(None), Ok(Answer::NoMark)),
+        (2, Step::Clear(x), Ok(Answer::CommittedAt(Ts(2)))),
+        (2, Step::NextMark(None), Ok(Answer::Marked(x))),
+        (2, Step::NextMark(Some(x)), Ok(Answer::NoMark)),
+        (
+            2,
+            Step::NextMark(Some(cell(&rt, 6, 15))),
+            Ok(Answer::Marked(x)),
+        ),
+        (0, Step::Sweep(other), Ok(Answer::NoMark)),
+        (0, Step::Sweep(x), Ok(Answer::StillBehind)),
+        (
+            2,
+            Step::Begin(Work::Run(first(&rt), Row(7))),
+            Ok(Answer::At(THREE)),
+        ),
+        (2, Step::Read(THREE, x), Ok(FOUND)),
+        (2, Step::Read(THREE, ack), Ok(Answer::Absent)),
+        (2, Step::Declare(THREE, run), Ok(Answer::Done)),
+        (2, Step::Prewrite(THREE, ack), Ok(Answer::Done)),
+        (2, Step::Stamp(THREE), Ok(Answer::At(Ts(4)))),
+        (1, Step::Sweep(x), Ok(Answer::StillBehind)),
+        (2, Step::CommitPrimary(THREE), Ok(Answer::Committed)),
+        // An acknowledgment isn't marked.
+        (0, Step::NextMark(Some(x)), Ok(Answer::NoMark)),
+        (0, Step::NextMark(None), Ok(Answer::Marked(x))),
+        (0, Step::Sweep(x), Ok(Answer::Done)),
+        (0, Step::Sweep(x), Ok(Answer::NoMark)),
+        (0, Step::NextMark(None), Ok(Answer::NoMark)),
+    ];
     let observers = observers_of(rt.alloc(), observer)?;
     assert!(rt; are_told_on(rt.alloc(), observers, &told)?);
     Ok(())
@@ -148,10 +149,13 @@ fn a_run_declares_what_it_read(rt: HostRuntime) -> Result<(), NoMemory> {
     let early = run_of(&rt, rt.alloc(), &observer, Reply::Absent);
     let invented = run_of(&rt, rt.alloc(), &observer, Reply::Found([9; 32]));
     let mut told = begun(&rt, rt.alloc())?;
-    told.push((2, Step::Declare(THREE, early), Err(43)))?;
-    told.push((2, Step::Read(THREE, cell(&rt, 7, 1)), Ok(Answer::Absent)))?;
-    told.push((2, Step::Declare(THREE, invented), Err(43)))?;
-    told.push((2, Step::Declare(THREE, absent), Ok(Answer::Done)))?;
+    let mut more = vec![in rt.alloc();
+        (2, Step::Declare(THREE, early), Err(43)),
+        (2, Step::Read(THREE, cell(&rt, 7, 1)), Ok(Answer::Absent)),
+        (2, Step::Declare(THREE, invented), Err(43)),
+        (2, Step::Declare(THREE, absent), Ok(Answer::Done)),
+    ]?;
+    told.append(&mut more)?;
     let observers = observers_of(rt.alloc(), observer)?;
     assert!(rt; are_told_on(rt.alloc(), observers, &told)?);
     Ok(())
@@ -170,15 +174,6 @@ fn a_run_writes_its_acknowledgment_and_more(rt: HostRuntime) -> Result<(), NoMem
     let ack = acknowledgment(&rt);
     let five = Ts(5);
     let mut told = begun(&rt, rt.alloc())?;
-    told.push((2, Step::Declare(THREE, run), Ok(Answer::Done)))?;
-    told.push((2, Step::Prewrite(THREE, written), Err(42)))?;
-    told.push((2, Step::Prewrite(THREE, ack), Ok(Answer::Done)))?;
-    told.push((2, Step::Stamp(THREE), Err(42)))?;
-    told.push((2, Step::Prewrite(THREE, written), Ok(Answer::Done)))?;
-    told.push((2, Step::Stamp(THREE), Ok(Answer::At(Ts(4)))))?;
-    told.push((2, Step::CommitPrimary(THREE), Ok(Answer::Committed)))?;
-    told.push((2, Step::CommitSecondary(THREE, written), Ok(Answer::Done)))?;
-    told.push((0, Step::Begin(Work::Script), Ok(Answer::At(five))))?;
     let stamp = Answer::Found {
         start: THREE,
         commit: Ts(4),
@@ -189,8 +184,20 @@ fn a_run_writes_its_acknowledgment_and_more(rt: HostRuntime) -> Result<(), NoMem
         commit: Ts(4),
         content: Content::Deleted,
     };
-    told.push((0, Step::Read(five, ack), Ok(stamp)))?;
-    told.push((0, Step::Read(five, written), Ok(deleted)))?;
+    let mut more = vec![in rt.alloc();
+        (2, Step::Declare(THREE, run), Ok(Answer::Done)),
+        (2, Step::Prewrite(THREE, written), Err(42)),
+        (2, Step::Prewrite(THREE, ack), Ok(Answer::Done)),
+        (2, Step::Stamp(THREE), Err(42)),
+        (2, Step::Prewrite(THREE, written), Ok(Answer::Done)),
+        (2, Step::Stamp(THREE), Ok(Answer::At(Ts(4)))),
+        (2, Step::CommitPrimary(THREE), Ok(Answer::Committed)),
+        (2, Step::CommitSecondary(THREE, written), Ok(Answer::Done)),
+        (0, Step::Begin(Work::Script), Ok(Answer::At(five))),
+        (0, Step::Read(five, ack), Ok(stamp)),
+        (0, Step::Read(five, written), Ok(deleted)),
+    ]?;
+    told.append(&mut more)?;
     let observers = observers_of(rt.alloc(), observer)?;
     assert!(rt; are_told_on(rt.alloc(), observers, &told)?);
     Ok(())

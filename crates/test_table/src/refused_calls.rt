@@ -61,25 +61,28 @@ fn steps_are_refused(rt: HostRuntime) -> Result<(), NoMemory> {
     let column = Column::new(0).expect(&rt, "a column");
     let cell = Cell::Data(Row(7), column);
     let other = Cell::Data(Row(7), Column::new(1).expect(&rt, "a column"));
-    let begin = steps_to(rt.alloc(), column, 0, Step::Begin(Work::Script))?;
-    assert!(rt; refused(rt.alloc(), Ts(0), 10, &begin)? == 0);
-    assert!(rt; refused(rt.alloc(), Ts(u64::MAX), 10, &begin)? == 40);
-    assert!(rt; refused(rt.alloc(), Ts(0), 0, &begin)? == 44);
-    assert!(rt; refused(rt.alloc(), Ts(0), 1, &begin)? == 0);
-    let foreign = steps_to(rt.alloc(), column, 1, Step::Stamp(Ts(2)))?;
-    assert!(rt; refused(rt.alloc(), Ts(0), 10, &foreign)? == 41);
-    let early = steps_to(rt.alloc(), column, 2, Step::Stamp(Ts(1)))?;
-    assert!(rt; refused(rt.alloc(), Ts(0), 10, &early)? == 42);
-    let before = steps_to(rt.alloc(), column, 2, Step::Prewrite(Ts(1), other))?;
-    assert!(rt; refused(rt.alloc(), Ts(0), 10, &before)? == 42);
-    let undeclared = steps_to(rt.alloc(), column, 3, Step::Prewrite(Ts(1), other))?;
-    assert!(rt; refused(rt.alloc(), Ts(0), 10, &undeclared)? == 45);
-    let again = steps_to(rt.alloc(), column, 3, Step::Prewrite(Ts(1), cell))?;
-    assert!(rt; refused(rt.alloc(), Ts(0), 10, &again)? == 46);
-    assert!(rt; refused(rt.alloc(), Ts(0), 3, &again)? == 44);
-    let full = steps_to(rt.alloc(), column, 3, Step::Stamp(Ts(1)))?;
-    assert!(rt; refused(rt.alloc(), Ts(0), 4, &full)? == 0);
-    assert!(rt; refused(rt.alloc(), Ts(0), 3, &full)? == 44);
+    // How many of the first three steps come before, the last step, the last timestamp given out, the journal's limit, and the
+    // number.
+    let table = [
+        (0, Step::Begin(Work::Script), 0, 10, 0),
+        (0, Step::Begin(Work::Script), u64::MAX, 10, 40),
+        (0, Step::Begin(Work::Script), 0, 0, 44),
+        (0, Step::Begin(Work::Script), 0, 1, 0),
+        (1, Step::Stamp(Ts(2)), 0, 10, 41),
+        (2, Step::Stamp(Ts(1)), 0, 10, 42),
+        (2, Step::Prewrite(Ts(1), other), 0, 10, 42),
+        (3, Step::Prewrite(Ts(1), other), 0, 10, 45),
+        (3, Step::Prewrite(Ts(1), cell), 0, 10, 46),
+        (3, Step::Prewrite(Ts(1), cell), 0, 3, 44),
+        (3, Step::Stamp(Ts(1)), 0, 4, 0),
+        (3, Step::Stamp(Ts(1)), 0, 3, 44),
+    ];
+    for (count, last, given, limit, wanted) in &table {
+        assert!(rt; *limit <= 10, "a small journal");
+        let steps = steps_to(rt.alloc(), column, *count, last.copy()?)?;
+        let number = refused(rt.alloc(), Ts(*given), *limit, &steps)?;
+        assert!(rt; number == *wanted, "{number} for {wanted}");
+    }
     Ok(())
 }
 

@@ -1,151 +1,186 @@
 //! What `finish` accepts, and that it hands back what it refuses.
-ghost use Rattle.std.specs.Prelude.{◌≡◌, length};
-
-use crate::tables::{NONE, Task, told, worked};
+//!
+//! An operation is a word: `-P` takes the seat at a place aside, and `+` puts the last such seat behind the others; `oP` puts that
+//! of the other run's seats behind them, and `xP` ends one; `sPQ` exchanges two. `f` compares, which has to be refused.
+use crate::account::is_end_told;
+use crate::tablets::place_of;
+use crate::task::Task;
+use crate::work::worked;
 use pb_core::{Seat, Shared};
-use pb_memtablet::EitherTablet;
 use pb_worker::{Open, Worked, finish};
 use std::alloc::Global;
-use std::process::Abort;
 use std::sync::Wait;
 use std::thread::Threads;
+use test_fixtures::CountedTablet;
 
-// A change by the first of two workers; the second has none.
-const SCRIPT: &str = "put 7 0 2a\n";
+// Table and seats after a script, the seats that were taken aside, and those of another run.
+struct Moved {
+    shared: Shared<CountedTablet>,
+    seats: Vec<Seat>,
+    aside: Vec<Seat>,
+    others: Vec<Seat>,
+}
 
-const REPORT: &[u8] = b"cell 7 0 commit 2 value 2a\nquiet\n";
+// Moves the seat at a place of a list behind another list.
+fn is_moved(from: &mut Vec<Seat>, place: usize, to: &mut Vec<Seat>) -> bool {
+    if place >= from.len() {
+        return false;
+    }
+    let seat = from.remove(place);
+    to.push(seat).is_ok()
+}
 
-// Table and seats after a script by two workers.
-fn left<R: Threads + Wait + Abort + Sync>(
+fn is_put_back(moved: &mut Moved) -> bool {
+    match moved.aside.pop() {
+        Some(seat) => moved.seats.push(seat).is_ok(),
+        None => false,
+    }
+}
+
+fn is_ended(seats: &mut Vec<Seat>, place: usize) -> bool {
+    if place >= seats.len() {
+        return false;
+    }
+    let _ = seats.remove(place);
+    true
+}
+
+fn is_exchanged(seats: &mut Vec<Seat>, first: usize, second: usize) -> bool {
+    if first >= seats.len() || second >= seats.len() {
+        return false;
+    }
+    seats.swap(first, second);
+    true
+}
+
+// Whether an operation on the seats alone was done.
+fn is_done(moved: &mut Moved, operation: &[u8]) -> bool {
+    match operation {
+        [b'+'] => is_put_back(moved),
+        [b'-', place] => is_moved(&mut moved.seats, place_of(*place), &mut moved.aside),
+        [b'o', place] => is_moved(&mut moved.others, place_of(*place), &mut moved.seats),
+        [b'x', place] => is_ended(&mut moved.seats, place_of(*place)),
+        [b's', first, second] => {
+            is_exchanged(&mut moved.seats, place_of(*first), place_of(*second))
+        }
+        _ => false,
+    }
+}
+
+// The number of each seat, and how much it received.
+fn lists_of(alloc: Global, seats: &[Seat]) -> Option<Vec<(u32, usize)>> {
+    let mut lists = Vec::new(alloc);
+    for seat in seats {
+        lists.push((seat.number(), seat.received().len())).ok()?;
+    }
+    Some(lists)
+}
+
+// What is handed back, as it was, where `finish` refuses table and seats.
+fn refused(alloc: Global, moved: Moved) -> Option<Moved> {
+    let Moved {
+        shared,
+        seats,
+        aside,
+        others,
+    } = moved;
+    let entries = shared.journal().len();
+    let lists = lists_of(alloc, &seats);
+    match finish(shared, seats) {
+        Ok(ended) => {
+            ended.close();
+            None
+        }
+        Err((shared, seats)) => {
+            if shared.journal().len() == entries && lists_of(alloc, &seats) == lists {
+                return Some(Moved {
+                    shared,
+                    seats,
+                    aside,
+                    others,
+                });
+            }
+            shared.close();
+            None
+        }
+    }
+}
+
+// What is there after an operation, if it was done.
+fn after(alloc: Global, moved: Moved, operation: &[u8]) -> Option<Moved> {
+    if matches!(operation, [b'f']) {
+        return refused(alloc, moved);
+    }
+    let mut moved = moved;
+    if is_done(&mut moved, operation) {
+        return Some(moved);
+    }
+    let Moved {
+        shared,
+        seats: _,
+        aside: _,
+        others: _,
+    } = moved;
+    shared.close();
+    None
+}
+
+// What is there after all operations, if they were done.
+fn after_all(alloc: Global, moved: Moved, operations: &[String]) -> Option<Moved> {
+    let mut moved = moved;
+    for operation in operations {
+        moved = match after(alloc, moved, operation.as_bytes()) {
+            Some(next) => next,
+            None => return None,
+        };
+    }
+    Some(moved)
+}
+
+// What two workers leave of a script, with the seats of two that did another.
+fn left<R: Threads + Wait + Sync>(
     rt: &R,
     alloc: Global,
-    script: &str,
-) -> (Shared<EitherTablet>, Vec<Seat>)
-    ensures { length result.1.items ≡ 3 }
-{
+    first: &Task,
+    second: &Task,
+) -> Option<Moved> {
+    let Worked {
+        shared: other,
+        seats: others,
+        refusals: _,
+        unfinished: _,
+    } = worked(rt, alloc, second, Vec::new(alloc), &Open).ok()?;
+    other.close();
     let Worked {
         shared,
         seats,
         refusals: _,
         unfinished: _,
-    } = worked(rt, alloc, &Task::new(NONE, script, 2), &Open);
-    if seats.len() != 3 {
-        shared.close();
-        panic!(rt; "not three seats");
-    }
-    (shared, seats)
+    } = worked(rt, alloc, first, Vec::new(alloc), &Open).ok()?;
+    Some(Moved {
+        shared,
+        seats,
+        aside: Vec::new(alloc),
+        others,
+    })
 }
 
-// The number of each seat, and how much it received.
-fn lists_of(rt: &impl Abort, alloc: Global, seats: &[Seat]) -> Vec<(u32, usize)> {
-    let mut lists = Vec::new(alloc);
-    for seat in seats {
-        lists
-            .push((seat.number(), seat.received().len()))
-            .expect(rt, "memory");
-    }
-    lists
-}
-
-// Table and seats, as they are handed back.
-fn handed_back(
-    rt: &impl Abort,
-    alloc: Global,
-    shared: Shared<EitherTablet>,
-    seats: Vec<Seat>,
-) -> (Shared<EitherTablet>, Vec<Seat>)
-    ensures { result.1 ≡ seats }
-{
-    let entries = shared.journal().len();
-    let lists = lists_of(rt, alloc, &seats);
-    match finish(shared, seats) {
-        Ok(ended) => {
-            ended.close();
-            panic!(rt; "accepted")
-        }
-        Err((shared, seats)) => {
-            assert_eq!(rt; shared.journal().len(), entries);
-            assert_eq!(rt; lists_of(rt, alloc, &seats).as_slice(), lists.as_slice());
-            (shared, seats)
-        }
-    }
-}
-
-#[test]
-fn a_seat_left_out_is_refused(rt: HostRuntime) {
-    let alloc = rt.alloc();
-    for place in 0..3usize {
-        let (shared, mut seats) = left(&rt, rt.alloc(), SCRIPT);
-        let seat = seats.remove(place);
-        let (shared, mut seats) = handed_back(&rt, alloc, shared, seats);
-        seats.push(seat).expect(&rt, "memory");
-        assert!(rt;
-            told(&rt, alloc, shared, seats).as_slice() == REPORT,
-            "seat {place}"
-        );
-    }
-}
-
-#[test]
-fn a_seat_twice_is_refused(rt: HostRuntime) {
-    let alloc = rt.alloc();
-    let (shared, mut seats) = left(&rt, rt.alloc(), SCRIPT);
-    let (other, mut others) = left(&rt, rt.alloc(), SCRIPT);
-    other.close();
-    let same = others.remove(1);
-    let idle = seats.remove(2);
-    seats.push(same).expect(&rt, "memory");
-    // Two seats have the number 1, and each list of it is the journal's.
-    let (shared, mut seats) = handed_back(&rt, alloc, shared, seats);
-    seats.push(idle).expect(&rt, "memory");
-    let (shared, mut seats) = handed_back(&rt, alloc, shared, seats);
-    assert_eq!(rt; seats.len(), 4);
-    let _ = seats.remove(2);
-    assert!(rt; told(&rt, alloc, shared, seats).as_slice() == REPORT);
-}
-
-#[test]
-fn seats_come_in_any_order(rt: HostRuntime) {
-    // Each of the five other orders, by the places that are exchanged first and then.
-    let orders = [
-        ((0, 1), (0, 0)),
-        ((0, 2), (0, 0)),
-        ((1, 2), (0, 0)),
-        ((0, 1), (0, 2)),
-        ((0, 1), (1, 2usize)),
-    ];
-    for (first, then) in orders {
-        let (shared, mut seats) = left(&rt, rt.alloc(), SCRIPT);
-        assert!(rt;
-            first.0 < 3 && first.1 < 3 && then.0 < 3 && then.1 < 3,
-            "places"
-        );
-        seats.swap(first.0, first.1);
-        seats.swap(then.0, then.1);
-        assert_eq!(rt; seats.len(), 3);
-        let is_same = seats[0].number() == 0 && seats[1].number() == 1;
-        assert!(rt; !is_same, "another order");
-        assert!(rt; told(&rt, rt.alloc(), shared, seats).as_slice() == REPORT);
-    }
-}
-
-#[test]
-fn a_list_of_another_table_is_refused(rt: HostRuntime) {
-    let alloc = rt.alloc();
-    // The second differs in what is declared alone, the third in how much it received.
-    for script in ["put 7 0 2b\n", "put 7 0 2a\nput 8 0 2a\nput 9 0 2a\n", ""] {
-        let (shared, mut seats) = left(&rt, rt.alloc(), SCRIPT);
-        let (other, mut others) = left(&rt, rt.alloc(), script);
-        other.close();
-        let own = seats.remove(1);
-        seats.push(others.remove(1)).expect(&rt, "memory");
-        let (shared, mut seats) = handed_back(&rt, alloc, shared, seats);
-        assert_eq!(rt; seats.len(), 3);
-        let _ = seats.remove(2);
-        seats.push(own).expect(&rt, "memory");
-        assert!(rt;
-            told(&rt, alloc, shared, seats).as_slice() == REPORT,
-            "in place of {script}"
-        );
-    }
+/// Whether the operations that the words name were done, and the end is told.
+pub fn are_told<R: Threads + Wait + Sync>(
+    threads: &R,
+    rt: &HostRuntime,
+    words: &[String],
+) -> Option<bool> {
+    let manifest = words.get(0)?.as_str();
+    let first = Task::of_two(manifest, words.get(1)?.as_str());
+    let second = Task::of_two(manifest, words.get(2)?.as_str());
+    let operations = words.get(3..)?;
+    let moved = left(threads, rt.alloc(), &first, &second)?;
+    let Moved {
+        shared,
+        seats,
+        aside: _,
+        others: _,
+    } = after_all(rt.alloc(), moved, operations)?;
+    Some(is_end_told(rt, shared, seats))
 }

@@ -1,0 +1,93 @@
+//! Lets workers work as its words say, and prints what they leave, for the rows of checks/tables/workers.py.
+//!
+//! With `HOW TURNS WORKERS LAST LIMIT SORTS REFUSED MANIFEST SCRIPT SPARE..` so many workers make the changes of a script and
+//! run the observers of a manifest, in such turns (`free`, `crossing`, `stubborn` or `together`), over a table with a tablet of
+//! each of these sorts (`l`, a list, or `s`, a slab), with `LAST` the last timestamp given out and room for `LIMIT` entries.
+//! Of the tablets' changes the one of the number `REFUSED`, from 0, is refused for want of memory; `-` names none. A spare is
+//! the place at which it is swapped in and its sort, and `m` where there is a mark in it. `HOW` is `told`; or `listed`, which
+//! lists the journal; or `cleared`, where the main seat settles and clears what is left before the seats are compared.
+//!
+//! With `finish MANIFEST SCRIPT OTHER OPERATION..` the seats of two runs are moved about before they are compared (finishes.rt).
+//! With `--help` it names its words. It ends with status 1 where it has no such words or no memory.
+#![tactic(auto)]
+
+mod account;
+mod clearing;
+mod finishes;
+mod tablets;
+mod task;
+mod turns;
+mod work;
+
+use account::{How, is_told};
+use std::env;
+use std::process::ExitCode;
+use std::sync::Wait;
+use std::sync::atomic::Ordering;
+use std::thread::Threads;
+use std::time::Clock;
+use tablets::{Count, Spares, spares_in};
+use task::Task;
+use turns::{Marks, Turns};
+use work::worked;
+
+const WORDS: &str =
+    "told|listed|cleared TURNS WORKERS LAST LIMIT SORTS REFUSED MANIFEST SCRIPT SPARE..
+finish MANIFEST SCRIPT OTHER OPERATION..";
+
+// How often each spare was changed.
+fn are_counts_told(rt: &HostRuntime, spares: &[Count]) -> bool {
+    if print!(rt; "changed").is_err() {
+        return false;
+    }
+    for count in spares {
+        if print!(rt; " {}", count.load(Ordering::SeqCst)).is_err() {
+            return false;
+        }
+    }
+    println!(rt; "").is_ok()
+}
+
+// Whether workers worked as the words say, and that is told.
+fn work_is_told<R: Threads + Wait + Clock + Sync>(
+    threads: &R,
+    rt: &HostRuntime,
+    how: How,
+    words: &[String],
+) -> Option<bool> {
+    let task = Task::of(words)?;
+    let Spares { parts, counts } = spares_in(rt.alloc(), words.get(8..)?).ok()?;
+    let turns = Turns {
+        rt: threads,
+        marks: Marks::new(task.order),
+    };
+    let worked = worked(threads, rt.alloc(), &task, parts, &turns).ok()?;
+    let is_told = is_told(rt, worked, how);
+    let word = if turns.marks.are_in_time() {
+        "kept"
+    } else {
+        "late"
+    };
+    let are_kept_told = println!(rt; "turns {word}").is_ok();
+    Some(is_told && are_kept_told && are_counts_told(rt, &counts))
+}
+
+// Whether what the words ask for was done and told.
+fn is_done<R: Threads + Wait + Clock + Sync>(threads: &R, rt: &HostRuntime) -> Option<bool> {
+    let args = env::args(rt).ok()?;
+    let words: Vec<String> = args.collect(rt.alloc()).ok()?;
+    let rest = words.get(2..)?;
+    match words.get(1)?.as_str() {
+        "--help" => Some(println!(rt; "{WORDS}").is_ok()),
+        "finish" => finishes::are_told(threads, rt, rest),
+        how => work_is_told(threads, rt, How::of(how)?, rest),
+    }
+}
+
+fn main(rt: HostRuntime) -> ExitCode {
+    if is_done(&rt, &rt) == Some(true) {
+        ExitCode::SUCCESS
+    } else {
+        ExitCode::FAILURE
+    }
+}
