@@ -29,7 +29,7 @@ LEAST_OF_WORDS = 30
 # how often each call of `test_refusals` is refused, at least: of the table with each kind of step, where in each of two tables the
 # journal, the book and the list of the seat grow; of a state with those kinds that grow there
 KINDS = "Begin Read ReadAt Declare Prewrite Stamp CommitPrimary CommitSecondary Settle Clear NextMark Sweep".split()
-GROWING_KINDS = "Begin Read Prewrite CommitPrimary CommitSecondary Clear".split()
+GROWING_KINDS = "Begin Read ReadAt Prewrite CommitPrimary CommitSecondary Clear".split()
 
 BY_ITSELF = {
     "a preparation": 500,

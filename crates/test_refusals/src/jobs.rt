@@ -181,25 +181,28 @@ fn steps_of(
     };
     let what = Declared::Run(watch, EndedRun::new(alloc, finished)?);
     let ack = Cell::Ack(watch, Row(7), column()?);
+    let asked = Cell::Data(Row(7), column_of(1)?);
     let deleted = Cell::Data(Row(5), column_of(15)?);
-    let mut steps = Vec::new(alloc);
-    steps.push(Step::Begin(Work::Script))?;
-    steps.push(declares(alloc, Ts(1), batch(alloc)?)?)?;
-    steps.push(Step::Prewrite(Ts(1), cell))?;
-    steps.push(Step::Stamp(Ts(1)))?;
-    steps.push(Step::CommitPrimary(Ts(1)))?;
-    steps.push(Step::Begin(Work::Run(watch, Row(7))))?;
-    steps.push(Step::Read(Ts(3), cell))?;
-    steps.push(Step::Read(Ts(3), ack))?;
-    steps.push(Step::Read(Ts(3), Cell::Data(Row(7), column_of(1)?)))?;
-    steps.push(Step::Declare(Ts(3), Declaration::new(alloc, what)?))?;
-    steps.push(Step::Prewrite(Ts(3), ack))?;
-    steps.push(Step::Prewrite(Ts(3), deleted))?;
-    steps.push(Step::Stamp(Ts(3)))?;
-    steps.push(Step::CommitPrimary(Ts(3)))?;
-    steps.push(Step::CommitSecondary(Ts(3), deleted))?;
-    steps.push(Step::Sweep(cell))?;
-    Ok(steps)
+    let change = declares(alloc, Ts(1), batch(alloc)?)?;
+    let run = Declaration::new(alloc, what)?;
+    Ok(vec![in alloc;
+        Step::Begin(Work::Script),
+        change,
+        Step::Prewrite(Ts(1), cell),
+        Step::Stamp(Ts(1)),
+        Step::CommitPrimary(Ts(1)),
+        Step::Begin(Work::Run(watch, Row(7))),
+        Step::Read(Ts(3), cell),
+        Step::Read(Ts(3), ack),
+        Step::Read(Ts(3), asked),
+        Step::Declare(Ts(3), run),
+        Step::Prewrite(Ts(3), ack),
+        Step::Prewrite(Ts(3), deleted),
+        Step::Stamp(Ts(3)),
+        Step::CommitPrimary(Ts(3)),
+        Step::CommitSecondary(Ts(3), deleted),
+        Step::Sweep(cell),
+    ]?)
 }
 
 // Whether a job comes to its end at this pace after so many calls, and asks all that it is to.

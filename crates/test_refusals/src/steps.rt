@@ -55,31 +55,36 @@ pub fn declares(alloc: Global, start: Ts, batch: Batch) -> Result<Step, NoMemory
 }
 
 /// A step of each kind and more: a transaction of three cells, one of which is cleared by others once it is committed, one of two
-/// cells that is undone, and one that reads; and the first mark, and a sweep.
+/// cells that is undone, and one that reads three times, which has room for two reads from the first on; and the first mark, and
+/// a sweep.
 pub fn steps(alloc: Global) -> Result<Vec<Step>, NoMemory> {
     let (one, three, four) = (Ts(1), Ts(3), Ts(4));
-    let mut steps = Vec::new(alloc);
-    steps.push(Step::Begin(Work::Script))?;
-    steps.push(declares(alloc, one, three_cells(alloc)?)?)?;
-    steps.push(Step::Prewrite(one, cell_of(0)?))?;
-    steps.push(Step::Prewrite(one, cell_of(1)?))?;
-    steps.push(Step::Prewrite(one, cell_of(2)?))?;
-    steps.push(Step::Stamp(one))?;
-    steps.push(Step::CommitPrimary(one))?;
-    steps.push(Step::CommitSecondary(one, cell_of(1)?))?;
-    steps.push(Step::Clear(cell_of(2)?))?;
-    steps.push(Step::Begin(Work::Script))?;
-    steps.push(declares(alloc, three, batch_of(alloc, 2)?)?)?;
-    steps.push(Step::Prewrite(three, cell_of(0)?))?;
-    steps.push(Step::Prewrite(three, cell_of(1)?))?;
-    steps.push(Step::Settle(cell_of(0)?))?;
-    steps.push(Step::Clear(cell_of(1)?))?;
-    steps.push(Step::Begin(Work::Script))?;
-    steps.push(Step::Read(four, cell_of(1)?))?;
-    steps.push(Step::ReadAt(four, cell_of(1)?, Ts(2)))?;
-    steps.push(Step::NextMark(None))?;
-    steps.push(Step::Sweep(cell_of(0)?))?;
-    Ok(steps)
+    let (first, second, third) = (cell_of(0)?, cell_of(1)?, cell_of(2)?);
+    let writes_three = declares(alloc, one, three_cells(alloc)?)?;
+    let writes_two = declares(alloc, three, batch_of(alloc, 2)?)?;
+    Ok(vec![in alloc;
+        Step::Begin(Work::Script),
+        writes_three,
+        Step::Prewrite(one, first),
+        Step::Prewrite(one, second),
+        Step::Prewrite(one, third),
+        Step::Stamp(one),
+        Step::CommitPrimary(one),
+        Step::CommitSecondary(one, second),
+        Step::Clear(third),
+        Step::Begin(Work::Script),
+        writes_two,
+        Step::Prewrite(three, first),
+        Step::Prewrite(three, second),
+        Step::Settle(first),
+        Step::Clear(second),
+        Step::Begin(Work::Script),
+        Step::Read(four, second),
+        Step::Read(four, third),
+        Step::ReadAt(four, second, Ts(2)),
+        Step::NextMark(None),
+        Step::Sweep(first),
+    ]?)
 }
 
 /// The kind of a step.

@@ -63,9 +63,9 @@ impl Marks {
         self.late.load(Ordering::SeqCst) == 0
     }
 
-    // Waits until the number is there, at most 10,000 turns of a millisecond.
+    // Waits until the number is there, at most 30,000 turns of a millisecond.
     fn hold<R: Clock>(&self, rt: &R, flag: &AtomicU64, number: u64) {
-        for _ in 0..10_000u32 {
+        for _ in 0..30_000u32 {
             if flag.load(Ordering::SeqCst) >= number {
                 return;
             }
