@@ -2,12 +2,13 @@
 ghost use Rattle.std.specs.Prelude.{◌≡◌, ℕ, List, true, IfOk, Some, [], false, option_map, codes};
 ghost use Rattle.clap.specs.Words.{FailsBy, app_of, new_app, fault_of, first_of, found_of, kind_of, one_of, rows_of, rule_of, subcommand_of, subcommand_rows_of};
 ghost use Rattle.pb_base.specs.Reading.{texts_of};
-ghost use Rattle.pb_texts.specs.CommandLines.{required_rule, workers_rule, run_app, clock_rule, profile_rule, profile_numbered, profile_of, record_rule, version_numbered, version_of, replay_app, asm_app, dis_app, check_app, texts_app, program_app, swaps_rule, is_within, count_of, workers_of, swaps_of, run_in, clock_of, replay_in, asm_in, dis_in, check_in, command_in, command_of, words_fault, request_of, IsInRange, is_plain_word, is_workers, is_swaps, count_number, is_clock, clock_number, run_words, workers_words, swaps_words, replay_words, clock_words, asm_words, dis_words, check_words, Run, Replay, Asm, Dis, Check, AskFor, HaveBadValue, TakeProfiles, RefuseOtherProfiles, TakeVersions, RefuseOtherVersions};
+ghost use Rattle.pb_texts.specs.CommandLines.{required_rule, number_rule, run_app, clock_rule, profile_rule, profile_numbered, profile_of, record_rule, version_numbered, version_of, replay_app, asm_app, dis_app, check_app, texts_app, program_app, is_within, count_of, workers_of, run_in, clock_of, replay_in, asm_in, dis_in, check_in, command_in, command_of, words_fault, request_of, IsInRange, is_plain_word, is_workers, is_swaps, count_number, is_clock, clock_number, run_words, workers_words, swaps_words, replay_words, clock_words, asm_words, dis_words, check_words, Run, Replay, Asm, Dis, Check, AskFor, HaveBadValue, TakeProfiles, RefuseOtherProfiles, TakeVersions, RefuseOtherVersions};
 ghost use Rattle.pb_isa.specs.declared.profile.Profile.TheVariants.{One};
 ghost use Rattle.pb_helpers.specs.declared.change.Version.TheVariants.{First};
 ghost use Rattle.clap.specs.declared.builder.command.Command.TheViews.{out-Command as fields_of};
 
 use crate::words::choice::Options;
+use clap::builder::ValueParser;
 use clap::error::ErrorKind;
 use clap::{Arg, ArgMatches, Command, Error, value_parser};
 use pb_base::{MAX_SEATS, Ts};
@@ -30,6 +31,10 @@ const LAST_VERSION: u32 = 2;
 // What stands at the end of each help.
 const SEE_CODES: &str = "Codes and exit statuses: docs/CODES.md";
 
+// What the help says of the operands that two subcommands take.
+const MANIFEST: &str = "A JSON file with the observers and their programs";
+const SCRIPT: &str = "A text file with the changes, one a line";
+
 // A command without operands and options: its name, and what its help says of it.
 fn bare_command<'a>(alloc: Global, name: &'a str, about: &'a str) -> Command<'a>
     ensures app { app_of result ≡ new_app name.now }
@@ -38,50 +43,30 @@ fn bare_command<'a>(alloc: Global, name: &'a str, about: &'a str) -> Command<'a>
     Command::new(alloc, name).about(about).after_help(SEE_CODES)
 }
 
-fn manifest_operand<'a>(alloc: Global) -> Arg<'a>
-    ensures rule { rule_of result ≡ required_rule (codes "MANIFEST") }
+fn operand<'a>(alloc: Global, name: &'a str, help: &'a str) -> Arg<'a>
+    ensures rule { rule_of result ≡ required_rule name.now }
     ensures local { result.global ≡ false }
 {
-    let manifest = Arg::new(alloc, "MANIFEST").required(true);
-    manifest.help("A JSON file with the observers and their programs")
+    Arg::new(alloc, name).required(true).help(help)
 }
 
-fn script_operand<'a>(alloc: Global) -> Arg<'a>
-    ensures rule { rule_of result ≡ required_rule (codes "SCRIPT") }
+// The option `--name`, whose value is a number from `low` to `high`.
+fn number_option<'a>(
+    alloc: Global,
+    name: &'a str,
+    value: &'a str,
+    low: u32,
+    high: u32,
+    help: &'a str,
+) -> Arg<'a>
+    ensures rule { rule_of result ≡ number_rule name.now low high }
     ensures local { result.global ≡ false }
 {
-    let script = Arg::new(alloc, "SCRIPT").required(true);
-    script.help("A text file with the changes, one a line")
-}
-
-fn schedule_operand<'a>(alloc: Global) -> Arg<'a>
-    ensures rule { rule_of result ≡ required_rule (codes "SCHEDULE") }
-    ensures local { result.global ≡ false }
-{
-    let schedule = Arg::new(alloc, "SCHEDULE").required(true);
-    schedule.help("A text file with the events, one a line")
-}
-
-fn workers_option<'a>(alloc: Global) -> Arg<'a>
-    ensures rule { rule_of result ≡ workers_rule }
-    ensures local { result.global ≡ false }
-{
-    Arg::new(alloc, "workers")
-        .long("workers")
-        .value_name("N")
-        .value_parser(value_parser!(u64).range(1..=i64::from(MAX_WORKERS)))
-        .help("How many threads make the changes, 1 to 63; 1 where none is named")
-}
-
-fn swaps_option<'a>(alloc: Global) -> Arg<'a>
-    ensures rule { rule_of result ≡ swaps_rule }
-    ensures local { result.global ≡ false }
-{
-    Arg::new(alloc, "swaps")
-        .long("swaps")
-        .value_name("M")
-        .value_parser(value_parser!(u64).range(0..=i64::from(MAX_SWAPS)))
-        .help("How many tablets are replaced beside the workers, 0 to 1000; 0 where none is named")
+    Arg::new(alloc, name)
+        .long(name)
+        .value_name(value)
+        .value_parser(ValueParser::unsigned(u64::from(low), u64::from(high)))
+        .help(help)
 }
 
 fn run_command<'a>(alloc: Global) -> Result<Command<'a>, AllocError>
@@ -93,10 +78,12 @@ fn run_command<'a>(alloc: Global) -> Result<Command<'a>, AllocError>
         "run",
         "Makes a script's changes, runs the observers on them, and prints the report",
     );
-    bare.arg(manifest_operand(alloc))?
-        .arg(script_operand(alloc))?
-        .arg(workers_option(alloc))?
-        .arg(swaps_option(alloc))
+    let workers = "How many threads make the changes, 1 to 63; 1 where none is named";
+    let swaps = "How many tablets are replaced beside the workers, 0 to 1000; 0 where none is named";
+    bare.arg(operand(alloc, "MANIFEST", MANIFEST))?
+        .arg(operand(alloc, "SCRIPT", SCRIPT))?
+        .arg(number_option(alloc, "workers", "N", 1, MAX_WORKERS, workers))?
+        .arg(number_option(alloc, "swaps", "M", 0, MAX_SWAPS, swaps))
 }
 
 fn clock_option<'a>(alloc: Global) -> Arg<'a>
@@ -119,56 +106,34 @@ pub fn replay_command<'a>(alloc: Global) -> Result<Command<'a>, AllocError>
         "replay",
         "Does a schedule's events with a script's changes, and prints the report",
     );
-    bare.arg(manifest_operand(alloc))?
-        .arg(script_operand(alloc))?
-        .arg(schedule_operand(alloc))?
+    let schedule = "A text file with the events, one a line";
+    bare.arg(operand(alloc, "MANIFEST", MANIFEST))?
+        .arg(operand(alloc, "SCRIPT", SCRIPT))?
+        .arg(operand(alloc, "SCHEDULE", schedule))?
         .arg(clock_option(alloc))
-}
-
-fn text_operand<'a>(alloc: Global) -> Arg<'a>
-    ensures rule { rule_of result ≡ required_rule (codes "IN") }
-    ensures local { result.global ≡ false }
-{
-    let text = Arg::new(alloc, "IN").required(true);
-    text.help("A text file with one instruction a line")
-}
-
-fn output_operand<'a>(alloc: Global) -> Arg<'a>
-    ensures rule { rule_of result ≡ required_rule (codes "OUT") }
-    ensures local { result.global ≡ false }
-{
-    let output = Arg::new(alloc, "OUT").required(true);
-    output.help("The file that the program's bytes are written to")
 }
 
 pub fn file_operand<'a>(alloc: Global) -> Arg<'a>
     ensures rule { rule_of result ≡ required_rule (codes "FILE") }
     ensures local { result.global ≡ false }
 {
-    let file = Arg::new(alloc, "FILE").required(true);
-    file.help("A file with a program's bytes")
+    operand(alloc, "FILE", "A file with a program's bytes")
 }
 
 pub fn profile_option<'a>(alloc: Global) -> Arg<'a>
     ensures rule { rule_of result ≡ profile_rule }
     ensures local { result.global ≡ false }
 {
-    Arg::new(alloc, "profile")
-        .long("profile")
-        .value_name("N")
-        .value_parser(value_parser!(u64).range(1..=i64::from(LAST_PROFILE)))
-        .help("The profile of the program, 1 or 2; 1 where none is named")
+    let help = "The profile of the program, 1 or 2; 1 where none is named";
+    number_option(alloc, "profile", "N", 1, LAST_PROFILE, help)
 }
 
 pub fn record_option<'a>(alloc: Global) -> Arg<'a>
     ensures rule { rule_of result ≡ record_rule }
     ensures local { result.global ≡ false }
 {
-    Arg::new(alloc, "record")
-        .long("record")
-        .value_name("N")
-        .value_parser(value_parser!(u64).range(1..=i64::from(LAST_VERSION)))
-        .help("The version of the change record, 1 or 2; 1 where none is named")
+    let help = "The version of the change record, 1 or 2; 1 where none is named";
+    number_option(alloc, "record", "N", 1, LAST_VERSION, help)
 }
 
 fn asm_command<'a>(alloc: Global) -> Result<Command<'a>, AllocError>
@@ -176,8 +141,9 @@ fn asm_command<'a>(alloc: Global) -> Result<Command<'a>, AllocError>
     ensures local { IfOk result (λ c. (fields_of c).has_globals ≡ false) }
 {
     let bare = bare_command(alloc, "asm", "Writes the bytes of a program's text");
-    bare.arg(text_operand(alloc))?
-        .arg(output_operand(alloc))?
+    let output = "The file that the program's bytes are written to";
+    bare.arg(operand(alloc, "IN", "A text file with one instruction a line"))?
+        .arg(operand(alloc, "OUT", output))?
         .arg(profile_option(alloc))
 }
 
@@ -265,24 +231,20 @@ fn number_named(text: &str, low: u32, high: u32) -> Option<u32>
     }
 }
 
-// The number of workers that the matches of `run` name.
-fn workers_in(run: &ArgMatches) -> Option<u32>
-    ensures { result ≡ workers_of (first_of (codes "workers") (rows_of (found_of run.now))) }
+// The number from `low` to `high` that the matches name for an option, `low` where they name none.
+fn count_in(matches: &ArgMatches, option: &str, low: u32, high: u32) -> Option<u32>
+    ensures { result ≡ count_of low high (first_of option.now (rows_of (found_of matches.now))) }
 {
-    match value_in(run, "workers") {
-        Some(text) => number_named(text, 1, MAX_WORKERS),
-        None => Some(1),
+    match value_in(matches, option) {
+        Some(text) => number_named(text, low, high),
+        None => Some(low),
     }
 }
 
-// The number of swaps that the matches of `run` name.
-fn swaps_in(run: &ArgMatches) -> Option<u32>
-    ensures { result ≡ swaps_of (first_of (codes "swaps") (rows_of (found_of run.now))) }
+fn workers_in(run: &ArgMatches) -> Option<u32>
+    ensures { result ≡ workers_of (first_of (codes "workers") (rows_of (found_of run.now))) }
 {
-    match value_in(run, "swaps") {
-        Some(text) => number_named(text, 0, MAX_SWAPS),
-        None => Some(0),
-    }
+    count_in(run, "workers", 1, MAX_WORKERS)
 }
 
 // What the matches of `run` name.
@@ -291,7 +253,7 @@ fn run_in<'a>(run: &ArgMatches<'a>) -> Option<Options<'a>>
 {
     Some(Options::Run {
         workers: workers_in(run)?,
-        swaps: swaps_in(run)?,
+        swaps: count_in(run, "swaps", 0, MAX_SWAPS)?,
         manifest: value_in(run, "MANIFEST")?,
         script: value_in(run, "SCRIPT")?,
     })
@@ -332,10 +294,8 @@ fn profile_numbered(number: u32) -> Profile
 pub fn profile_in(program: &ArgMatches) -> Option<Profile>
     ensures { result ≡ profile_of (first_of (codes "profile") (rows_of (found_of program.now))) }
 {
-    match value_in(program, "profile") {
-        Some(text) => Some(profile_numbered(number_named(text, 1, LAST_PROFILE)?)),
-        None => Some(Profile::One),
-    }
+    let number = count_in(program, "profile", 1, LAST_PROFILE)?;
+    Some(profile_numbered(number))
 }
 
 fn version_numbered(number: u32) -> Version
@@ -351,10 +311,8 @@ fn version_numbered(number: u32) -> Version
 pub fn version_in(check: &ArgMatches) -> Option<Version>
     ensures { result ≡ version_of (first_of (codes "record") (rows_of (found_of check.now))) }
 {
-    match value_in(check, "record") {
-        Some(text) => Some(version_numbered(number_named(text, 1, LAST_VERSION)?)),
-        None => Some(Version::First),
-    }
+    let number = count_in(check, "record", 1, LAST_VERSION)?;
+    Some(version_numbered(number))
 }
 
 // What the matches of `asm` name.

@@ -8,15 +8,15 @@ use Rattle.pb_texts.proofs.words.parse.replay_command.Goals as goal
 pub returns-clause-app : goal.returns-clause-app
 returns-clause-app c =
     let bare : app_of c.bare_command-bare.result ≡ new_app (codes "replay") = c.bare_command-bare.ensures.app in
-    let one = c.in_ok-arg.ensures.shape c.manifest_operand.ensures.local ∙ ap₂ with_rule bare c.manifest_operand.ensures.rule in
-    let two = c.in_ok-arg-2.ensures.shape c.script_operand.ensures.local ∙ ap₂ with_rule one c.script_operand.ensures.rule in
-    let three = c.in_ok-arg-3.ensures.shape c.schedule_operand.ensures.local ∙ ap₂ with_rule two c.schedule_operand.ensures.rule in
+    let one = c.in_ok-arg.ensures.shape c.operand.ensures.local ∙ ap₂ with_rule bare c.operand.ensures.rule in
+    let two = c.in_ok-arg-2.ensures.shape c.operand-2.ensures.local ∙ ap₂ with_rule one c.operand-2.ensures.rule in
+    let three = c.in_ok-arg-3.ensures.shape c.operand-3.ensures.local ∙ ap₂ with_rule two c.operand-3.ensures.rule in
     IfOk-weaker c.arg-4.result _ _ (λ r h. h.shape c.clock_option.ensures.local ∙ ap₂ with_rule three c.clock_option.ensures.rule) c.arg-4.ensures
 
 pub returns-clause-local : goal.returns-clause-local
 returns-clause-local c =
     let bare : (fields_of c.bare_command-bare.result).has_globals ≡ false = c.bare_command-bare.ensures.local in
-    let one = c.in_ok-arg.ensures.globals ∙ ap₂ (λ a b. a || b) bare c.manifest_operand.ensures.local in
-    let two = c.in_ok-arg-2.ensures.globals ∙ ap₂ (λ a b. a || b) one c.script_operand.ensures.local in
-    let three = c.in_ok-arg-3.ensures.globals ∙ ap₂ (λ a b. a || b) two c.schedule_operand.ensures.local in
+    let one = c.in_ok-arg.ensures.globals ∙ ap₂ (λ a b. a || b) bare c.operand.ensures.local in
+    let two = c.in_ok-arg-2.ensures.globals ∙ ap₂ (λ a b. a || b) one c.operand-2.ensures.local in
+    let three = c.in_ok-arg-3.ensures.globals ∙ ap₂ (λ a b. a || b) two c.operand-3.ensures.local in
     IfOk-weaker c.arg-4.result _ _ (λ r h. h.globals ∙ ap₂ (λ a b. a || b) three c.clock_option.ensures.local) c.arg-4.ensures
