@@ -6,7 +6,7 @@ ghost use Rattle.pb_command.specs.declared.fault.Fault.TheVariants as faults;
 use pb_asm::AsmFault;
 use pb_base::{NoMemory, Refusal, Sink};
 use pb_driver::{Ran, RunFault};
-use pb_script::{ScheduleFault, ScriptFault};
+use pb_parse::{ScheduleFault, ScriptFault};
 use pb_texts::write_all;
 use pb_world::WorldFault;
 use std::alloc::{AllocError, Global};

@@ -7,10 +7,13 @@
 mod seat;
 mod shared;
 
+pub use pb_helpers::Record;
 pub use pb_history::{Entry, KeptAnswer, Received};
-pub use pb_state::{
-    Accepted, Answer, Declaration, Declared, EndedRun, Finished, Moved, Observer, Phase, Record,
-    RecordedRead, Seen, Step, Vm, Work, acknowledged_in, version_in,
+pub use pb_steps::{
+    Answer, Declaration, Declared, EndedRun, Phase, RecordedRead, Seen, Step, Work,
+    acknowledged_in, version_in,
 };
+pub use pb_verify::{Accepted, Observer};
+pub use pb_vm::{Finished, Moved, Vm};
 pub use seat::Seat;
 pub use shared::{OpenRefused, Shared};

@@ -11,8 +11,9 @@ use pb_history::{
     steps_can_answer, timestamps_rise, writers_are_apart,
 };
 use pb_state::State;
-use pb_steps::{Answer, Observer, Phase, Step};
+use pb_steps::{Answer, Phase, Step};
 use pb_store::{Table, Tablet};
+use pb_verify::Observer;
 use std::alloc::Global;
 use std::marker::Model;
 

@@ -4,7 +4,7 @@ use Rattle.pb_base.specs.declared.limits.TheConstants.{MAX_SEATS}
 use Rattle.pb_base.specs.declared.refusal.Reason.TheVariants.{NoMemory}
 use Rattle.pb_base.specs.Reasons.{reason_code}
 use Rattle.pb_base.specs.Batch.{Writes}
-use Rattle.pb_steps.specs.Observers.{ObserverOf}
+use Rattle.pb_verify.specs.Observers.{ObserverOf}
 use Rattle.pb_core.specs.Calls.{SharedOf, SeatOf, AreSeats}
 use Rattle.pb_parse.specs.declared.event.Event.{Event}
 use Rattle.pb_world.specs.declared.fault.WorldFault.{WorldFault}

@@ -2,7 +2,7 @@
 use Rattle.std.specs.Prelude.{◌≡◌, ℕ, List, [], Ok, Err}
 use Rattle.pb_base.specs.declared.limits.TheConstants.{MAX_ENTRIES}
 use Rattle.pb_base.specs.Batch.{Writes}
-use Rattle.pb_steps.specs.Observers.{ObserverOf}
+use Rattle.pb_verify.specs.Observers.{ObserverOf}
 use Rattle.pb_steps.specs.State.{opening}
 use Rattle.pb_core.specs.Calls.{SharedOf}
 use Rattle.pb_registry.specs.Judging.{ReadsManifest}

@@ -2,8 +2,9 @@
 ghost use Rattle.std.specs.Prelude.{◌≡◌};
 ghost use Rattle.pb_driver.specs.Texts.{of_report};
 
+use pb_parse::{ScheduleFault, ScriptFault};
 use pb_registry::RegistryFault;
-use pb_script::{ReportFault, ScheduleFault, ScriptFault};
+use pb_script::ReportFault;
 use pb_world::WorldFault;
 
 /// Why a run or a replay ended before its report was written.

@@ -8,9 +8,9 @@ ghost use Rattle.pb_driver.specs.Texts.{IsBadManifest, IsBadScript, IsBadSchedul
 
 use crate::fault::RunFault;
 use pb_base::{Batch, Reason};
-use pb_core::Observer;
+use pb_parse::{Event, parse_schedule, parse_script};
 use pb_registry::Registry;
-use pb_script::{Event, parse_schedule, parse_script};
+use pb_verify::Observer;
 use std::alloc::Global;
 
 // The manifest's observers.

@@ -4,7 +4,7 @@ use Rattle.pb_base.specs.declared.cell.Cell.TheVariants.{Ack}
 use Rattle.pb_base.specs.declared.names.Row.{Row}
 use Rattle.pb_steps.specs.declared.step.Answer.{Answer}
 use Rattle.pb_steps.specs.declared.step.Answer.TheVariants.{Found}
-use Rattle.pb_steps.specs.Observers.{ObserverOf}
+use Rattle.pb_verify.specs.Observers.{ObserverOf}
 use Rattle.pb_steps.specs.Reads.{stamp_of, acknowledged_in}
 use Rattle.pb_steps.specs.State.{StateOf}
 use Rattle.pb_history.specs.declared.entry.Entry.{Entry}

@@ -14,7 +14,7 @@ use Rattle.pb_steps.specs.declared.step.Work.{Work}
 use Rattle.pb_steps.specs.declared.step.Work.TheVariants as works
 use Rattle.pb_steps.specs.declared.step.Declared.{Declared}
 use Rattle.pb_steps.specs.declared.step.Declared.TheVariants as declared
-use Rattle.pb_steps.specs.Observers.{ObserverOf, observed_column, acknowledgment}
+use Rattle.pb_verify.specs.Observers.{ObserverOf, observed_column, acknowledgment}
 use Rattle.pb_steps.specs.Phases.{is_reading}
 use Rattle.pb_steps.specs.Declarations.{IsKnown, MayDeclare}
 use Rattle.pb_steps.specs.State.{StateOf, cells_of}

@@ -12,7 +12,7 @@ use Rattle.pb_base.specs.Batch.{Writes, content_in}
 use Rattle.pb_steps.specs.declared.step.Work.TheVariants as works
 use Rattle.pb_steps.specs.declared.phase.Phase.TheVariants as phases
 use Rattle.pb_steps.specs.State.{StateOf, TransactionOf}
-use Rattle.pb_steps.specs.Observers.{ObserverOf, column_or_zero, observed_column, acknowledgment}
+use Rattle.pb_verify.specs.Observers.{ObserverOf, column_or_zero, observed_column, acknowledgment}
 use Rattle.pb_steps.specs.Readings.{write_at}
 use Rattle.pb_history.specs.declared.entry.Entry.{Entry}
 use Rattle.pb_history.specs.Journals.{IsLegal}

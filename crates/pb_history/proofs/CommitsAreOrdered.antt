@@ -5,7 +5,7 @@ use Rattle.pb_base.specs.declared.names.Ts.{Ts}
 use Rattle.pb_steps.specs.declared.step.Work.{Work}
 use Rattle.pb_steps.specs.declared.step.Step.TheVariants.{Begin, Stamp}
 use Rattle.pb_steps.specs.declared.step.Answer.TheVariants.{At}
-use Rattle.pb_steps.specs.Observers.{ObserverOf}
+use Rattle.pb_verify.specs.Observers.{ObserverOf}
 use Rattle.pb_steps.specs.State.{StateOf, TransactionOf, opening}
 use Rattle.pb_history.specs.declared.entry.Entry.{Entry}
 use Rattle.pb_history.specs.Journals.{JournalLeads, IsLegal}

@@ -16,7 +16,7 @@ use Rattle.pb_steps.specs.declared.step.Work.{Work}
 use Rattle.pb_steps.specs.declared.step.Work.TheVariants as works
 use Rattle.pb_steps.specs.declared.step.Declared.{Declared}
 use Rattle.pb_steps.specs.declared.step.Declared.TheVariants as declared
-use Rattle.pb_steps.specs.Observers.{ObserverOf, observed_column}
+use Rattle.pb_verify.specs.Observers.{ObserverOf, observed_column}
 use Rattle.pb_steps.specs.Declarations.{IsKnown}
 use Rattle.pb_steps.specs.State.{cells_of}
 

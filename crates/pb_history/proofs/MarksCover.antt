@@ -20,7 +20,7 @@ use Rattle.pb_steps.specs.declared.step.Step.TheVariants as steps
 use Rattle.pb_steps.specs.declared.step.Answer.{Answer}
 use Rattle.pb_steps.specs.declared.step.Answer.TheVariants as answers
 use Rattle.pb_steps.specs.State.{StateOf, opening}
-use Rattle.pb_steps.specs.Observers.{ObserverOf}
+use Rattle.pb_verify.specs.Observers.{ObserverOf}
 use Rattle.pb_steps.specs.Reads.{stamp_of}
 use Rattle.pb_steps.specs.Readings.{write_at, lock_at, start_of, last_timestamp, IsVersion, IsNewestVersion}
 use Rattle.pb_steps.specs.Marks.{is_observed, with_mark, is_marked, stamp_in, IsBehind, SomeBehind, AllUpToDate}

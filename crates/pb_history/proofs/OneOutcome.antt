@@ -18,7 +18,7 @@ use Rattle.pb_steps.specs.declared.step.Answer.{Answer}
 use Rattle.pb_steps.specs.declared.step.Answer.TheVariants as answers
 use Rattle.pb_steps.specs.declared.phase.Phase.{Phase}
 use Rattle.pb_steps.specs.declared.phase.Phase.TheVariants as phases
-use Rattle.pb_steps.specs.Observers.{ObserverOf}
+use Rattle.pb_verify.specs.Observers.{ObserverOf}
 use Rattle.pb_steps.specs.Marks.{stamp_in, SomeBehind, AllUpToDate}
 use Rattle.pb_steps.specs.State.{StateOf, TransactionOf, with_transaction, new_transaction, phase_in, cells_of}
 use Rattle.pb_steps.specs.Reads.{read_up_to, found_answer}

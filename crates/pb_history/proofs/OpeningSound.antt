@@ -7,7 +7,7 @@ use Rattle.pb_base.specs.Batch.{content_in, primary_in}
 use Rattle.pb_store.specs.Slot.{slot_cmp}
 use Rattle.pb_store.specs.Contents.{slot_at}
 use Rattle.pb_store.specs.declared.slot.Sort.TheVariants as sorts
-use Rattle.pb_steps.specs.Observers.{ObserverOf}
+use Rattle.pb_verify.specs.Observers.{ObserverOf}
 use Rattle.pb_steps.specs.State.{TransactionOf, opening, is_in}
 use Rattle.pb_steps.specs.Readings.{data_of, primary_of, start_of}
 use Rattle.pb_history.specs.TableView.{TableView, declared_by, prewritten_by, reads_by, view_of}

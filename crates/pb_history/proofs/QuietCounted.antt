@@ -18,7 +18,7 @@ use Rattle.pb_steps.specs.declared.step.Step.{Step}
 use Rattle.pb_steps.specs.declared.step.Step.TheVariants.{Begin, Read, ReadAt, Declare, Prewrite, Stamp, CommitPrimary, CommitSecondary, Settle, Clear, NextMark, Sweep}
 use Rattle.pb_steps.specs.declared.step.Answer.{Answer}
 use Rattle.pb_steps.specs.declared.step.Answer.TheVariants.{At, Locked, Found, Absent, Done, Conflict, Committed, Lost, RolledBack, Waits, CommittedAt, Marked, NoMark, StillBehind}
-use Rattle.pb_steps.specs.Observers.{ObserverOf}
+use Rattle.pb_verify.specs.Observers.{ObserverOf}
 use Rattle.pb_steps.specs.State.{StateOf, opening}
 use Rattle.pb_steps.specs.Marks.{is_marked}
 use Rattle.pb_steps.specs.Readings.{lock_at, primary_of, is_lock, lock_count}

@@ -12,7 +12,7 @@ use Rattle.pb_steps.specs.declared.step.Answer.TheVariants.{At}
 use Rattle.pb_steps.specs.declared.phase.Phase.{Phase}
 use Rattle.pb_steps.specs.declared.phase.Phase.TheVariants as phases
 use Rattle.pb_steps.specs.State.{StateOf, TransactionOf, phase_in}
-use Rattle.pb_steps.specs.Observers.{ObserverOf}
+use Rattle.pb_verify.specs.Observers.{ObserverOf}
 use Rattle.pb_history.specs.declared.entry.Entry.{Entry}
 use Rattle.pb_history.specs.Journals.{IsLegal}
 use Rattle.pb_history.specs.History.{Has, Member, InHistory, TellsHistory}

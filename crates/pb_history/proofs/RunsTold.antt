@@ -21,7 +21,7 @@ use Rattle.pb_steps.specs.declared.step.Step.TheVariants.{Read, ReadAt}
 use Rattle.pb_steps.specs.declared.step.Answer.{Answer}
 use Rattle.pb_steps.specs.declared.step.Answer.TheVariants.{Found, Absent}
 use Rattle.pb_steps.specs.State.{StateOf, opening, cells_of}
-use Rattle.pb_steps.specs.Observers.{ObserverOf, observed_cell, observed_column, acknowledgment}
+use Rattle.pb_verify.specs.Observers.{ObserverOf, observed_cell, observed_column, acknowledgment}
 use Rattle.pb_steps.specs.Declarations.{IsKnown, IsReadOf, old_at, WasOld, AreReplies, IsItsRun, MayDeclare}
 use Rattle.pb_steps.specs.Phases.{is_reading}
 use Rattle.pb_steps.specs.Reads.{asked_cell, read_up_to, stamp_of, value_in, found_answer, version_in, acknowledged_in}

@@ -5,7 +5,7 @@ use Rattle.pb_steps.specs.declared.seen.RecordedRead.{RecordedRead}
 use Rattle.pb_steps.specs.declared.step.Work.TheVariants as works
 use Rattle.pb_steps.specs.declared.step.Declared.{Declared}
 use Rattle.pb_steps.specs.declared.step.Declared.TheVariants as declared
-use Rattle.pb_steps.specs.Observers.{ObserverOf}
+use Rattle.pb_verify.specs.Observers.{ObserverOf}
 use Rattle.pb_steps.specs.Phases.{is_reading}
 use Rattle.pb_steps.specs.Declarations.{IsKnown, MayDeclare}
 use Rattle.pb_steps.specs.State.{StateOf, cells_of}

@@ -9,7 +9,7 @@ use Rattle.pb_steps.specs.declared.step.Step.{Step}
 use Rattle.pb_steps.specs.declared.step.Step.TheVariants.{Begin, Read, ReadAt, Declare, Prewrite, Stamp, CommitPrimary, CommitSecondary, Settle, Clear, NextMark, Sweep}
 use Rattle.pb_steps.specs.declared.step.Answer.{Answer}
 use Rattle.pb_steps.specs.declared.step.Answer.TheVariants.{At, Locked, Found, Absent, Done, Conflict, Committed, Lost, RolledBack, Waits, CommittedAt, Marked, NoMark, StillBehind}
-use Rattle.pb_steps.specs.Observers.{ObserverOf}
+use Rattle.pb_verify.specs.Observers.{ObserverOf}
 use Rattle.pb_steps.specs.State.{StateOf, TransactionOf, new_transaction, cells_of}
 use Rattle.pb_steps.specs.Read.{with_read}
 use Rattle.pb_steps.specs.Steps.{StepCase}

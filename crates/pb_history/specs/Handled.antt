@@ -6,7 +6,7 @@ use Rattle.pb_base.specs.declared.names.Row.{Row}
 use Rattle.pb_base.specs.declared.content.Content.{Content}
 use Rattle.pb_steps.specs.declared.step.Work.TheVariants as works
 use Rattle.pb_steps.specs.State.{StateOf}
-use Rattle.pb_steps.specs.Observers.{ObserverOf, observed_cell, acknowledgment}
+use Rattle.pb_verify.specs.Observers.{ObserverOf, observed_cell, acknowledgment}
 use Rattle.pb_steps.specs.Marks.{is_marked}
 use Rattle.pb_steps.specs.Readings.{NoLock, lock_count}
 use Rattle.pb_history.specs.declared.entry.Entry.{Entry}

@@ -17,7 +17,7 @@ use Rattle.pb_steps.specs.declared.step.Answer.{Answer}
 use Rattle.pb_steps.specs.declared.step.Answer.TheVariants.{At, Done, Committed}
 use Rattle.pb_steps.specs.declared.phase.Phase.TheVariants as phases
 use Rattle.pb_steps.specs.State.{StateOf, TransactionOf, cells_of}
-use Rattle.pb_steps.specs.Observers.{ObserverOf, observed_cell}
+use Rattle.pb_verify.specs.Observers.{ObserverOf, observed_cell}
 use Rattle.pb_steps.specs.Declarations.{IsKnown}
 use Rattle.pb_history.specs.declared.entry.Entry.{Entry}
 

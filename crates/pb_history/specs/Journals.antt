@@ -1,6 +1,6 @@
 -- Legal journals.
 use Rattle.std.specs.Prelude.{◌≡◌, ℕ, ◌<◌, ◌^◌, List, [], ◌∷◌}
-use Rattle.pb_steps.specs.Observers.{ObserverOf}
+use Rattle.pb_verify.specs.Observers.{ObserverOf}
 use Rattle.pb_steps.specs.State.{StateOf, opening}
 use Rattle.pb_steps.specs.Steps.{TableStep}
 use Rattle.pb_history.specs.declared.entry.Entry.{Entry}

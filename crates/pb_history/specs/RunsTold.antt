@@ -12,7 +12,7 @@ use Rattle.pb_sound.specs.RunWrites.{AreRunWrites}
 use Rattle.pb_helpers.specs.OldRecord.{tells_old, record_by}
 use Rattle.pb_steps.specs.declared.step.Work.TheVariants as works
 use Rattle.pb_steps.specs.State.{StateOf}
-use Rattle.pb_steps.specs.Observers.{ObserverOf, observed_cell, acknowledgment}
+use Rattle.pb_verify.specs.Observers.{ObserverOf, observed_cell, acknowledgment}
 use Rattle.pb_steps.specs.Reads.{asked_cell, value_of}
 use Rattle.pb_history.specs.declared.entry.Entry.{Entry}
 use Rattle.pb_history.specs.History.{Member, InHistory, IsSnapshot, NoSnapshot}

@@ -19,7 +19,7 @@ use Rattle.pb_steps.specs.declared.step.Answer.TheVariants.{At}
 use Rattle.pb_steps.specs.Declarations.{old_at, WasOld, AreReplies, is_its}
 use Rattle.pb_steps.specs.Reads.{read_up_to}
 use Rattle.pb_steps.specs.declared.seen.Seen.{Seen}
-use Rattle.pb_steps.specs.Observers.{ObserverOf, column_or_zero, observed_column}
+use Rattle.pb_verify.specs.Observers.{ObserverOf, column_or_zero, observed_column}
 use Rattle.pb_steps.specs.State.{StateOf, TransactionOf}
 use Rattle.pb_steps.specs.Reasons.{IsOwn}
 use Rattle.pb_steps.specs.Steps.{step_reason}

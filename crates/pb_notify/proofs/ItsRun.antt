@@ -19,7 +19,7 @@ use Rattle.pb_steps.specs.declared.seen.Seen.{Seen}
 use Rattle.pb_steps.specs.declared.step.Work.TheVariants as works
 use Rattle.pb_steps.specs.declared.step.Declared.TheVariants as declared
 use Rattle.pb_steps.specs.Reads.{version_in, acknowledged_in, value_in, value_code, asked_cell}
-use Rattle.pb_steps.specs.Observers.{ObserverOf, observed_cell, acknowledgment}
+use Rattle.pb_verify.specs.Observers.{ObserverOf, observed_cell, acknowledgment}
 use Rattle.pb_steps.specs.Declarations.{IsReadOf, old_at, WasOld, WasSeen, AreReplies, IsItsRun, is_at, is_read_of, with_old, seen_by, seen_in, asked_in, are_replies, is_run, is_run_by, is_its}
 
 same_cells : (x y : Cell) → x ≡ y → eq_by_cmp cell_cmp x y ≡ true

@@ -18,7 +18,7 @@ use Rattle.pb_steps.specs.declared.step.Step.TheVariants.{Begin, Settle, Clear}
 use Rattle.pb_steps.specs.declared.step.Answer.{Answer}
 use Rattle.pb_steps.specs.declared.step.Answer.TheVariants.{At, Locked, Found, Absent, Waits}
 use Rattle.pb_steps.specs.Declarations.{IsReadOf, old_at, WasOld, WasSeen, AreReplies}
-use Rattle.pb_steps.specs.Observers.{ObserverOf}
+use Rattle.pb_verify.specs.Observers.{ObserverOf}
 use Rattle.pb_steps.specs.Read.{read_step, with_read}
 use Rattle.pb_steps.specs.Reads.{asked_cell, value_in}
 use Rattle.pb_steps.specs.State.{TransactionOf, new_transaction}

@@ -9,7 +9,7 @@ use Rattle.pb_base.specs.declared.limits.TheConstants.{COLUMNS, MAX_CHANGES, MAX
 use Rattle.pb_base.specs.declared.cell.Cell.{Cell}
 use Rattle.pb_base.specs.declared.names.Row.{Row}
 use Rattle.pb_base.specs.Reading.{◌>>=◌, is_numeral, next_word, no_word, numeral_upto, words_of}
-use Rattle.pb_steps.specs.Observers.{ObserverOf, acknowledgment}
+use Rattle.pb_verify.specs.Observers.{ObserverOf, acknowledgment}
 use Rattle.pb_parse.specs.declared.event.Job.{Job}
 use Rattle.pb_parse.specs.declared.event.Job.TheVariants.{Run}
 use Rattle.pb_parse.specs.declared.event.Event.{Event}

@@ -10,7 +10,7 @@ use Rattle.std.proofs.lemmas.Option.{slice_get-get_or}
 use Rattle.serde_json.specs.View.{view}
 use Rattle.serde_json.specs.declared.value.Value.{Value}
 use Rattle.pb_isa.specs.declared.profile.Profile.{Profile}
-use Rattle.pb_steps.specs.Observers.{ObserverOf}
+use Rattle.pb_verify.specs.Observers.{ObserverOf}
 use Rattle.pb_registry.specs.declared.code.Code.{Code}
 use Rattle.pb_registry.specs.declared.code.Code.TheVariants.{Memory}
 use Rattle.pb_registry.specs.declared.fault.RegistryFault.{RegistryFault}

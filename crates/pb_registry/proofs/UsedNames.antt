@@ -9,7 +9,7 @@ use Rattle.pb_base.specs.Reading.{◌>>=◌}
 use Rattle.pb_isa.specs.Helpers.{HelperSet}
 use Rattle.pb_isa.specs.declared.profile.Profile.{Profile}
 use Rattle.pb_helpers.specs.declared.change.Version.{Version}
-use Rattle.pb_steps.specs.Observers.{ObserverOf}
+use Rattle.pb_verify.specs.Observers.{ObserverOf}
 use Rattle.pb_registry.specs.declared.code.Code.{Code}
 use Rattle.pb_registry.specs.declared.code.Code.TheVariants.{Name}
 use Rattle.pb_registry.specs.declared.observer.Held.{Held}

@@ -6,7 +6,7 @@ use Rattle.serde_json.specs.Data.{Data}
 use Rattle.pb_isa.specs.declared.profile.Profile.{Profile}
 use Rattle.pb_isa.specs.Helpers.{HelperSet}
 use Rattle.pb_helpers.specs.declared.change.Version.{Version}
-use Rattle.pb_steps.specs.Observers.{ObserverOf}
+use Rattle.pb_verify.specs.Observers.{ObserverOf}
 use Rattle.pb_registry.specs.declared.code.Code.{Code}
 use Rattle.pb_registry.specs.declared.code.Code.TheVariants.{Memory, Name, Program}
 use Rattle.pb_registry.specs.declared.fault.RegistryFault.{RegistryFault}

@@ -14,7 +14,7 @@ use crate::observer::{Held, observer_in};
 use indexmap::IndexMap;
 use pb_base::MAX_OBSERVERS;
 use pb_isa::Profile;
-use pb_steps::Observer;
+use pb_verify::Observer;
 use serde_json::Value;
 use std::alloc::Global;
 

@@ -8,7 +8,7 @@ use crate::listing::observers_in;
 use crate::observer::Held;
 use indexmap::IndexMap;
 use pb_base::MAX_OBSERVERS;
-use pb_steps::Observer;
+use pb_verify::Observer;
 use std::alloc::Global;
 use std::marker::Model;
 
@@ -20,7 +20,7 @@ pub struct Registry {
 
 impl Model for Registry {
     ghost use Rattle.std.specs.Prelude.{List};
-    ghost use Rattle.pb_steps.specs.Observers.{ObserverOf};
+    ghost use Rattle.pb_verify.specs.Observers.{ObserverOf};
     ghost use Rattle.pb_registry.specs.Observers.{observers_of, observers_code};
 
     ghost Value = { List ObserverOf };

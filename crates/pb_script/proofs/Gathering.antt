@@ -19,7 +19,7 @@ use Rattle.pb_steps.specs.declared.step.Answer.TheVariants as answers
 use Rattle.pb_steps.specs.declared.phase.Phase.{Phase}
 use Rattle.pb_steps.specs.declared.phase.Phase.TheVariants as phases
 use Rattle.pb_steps.specs.State.{StateOf, TransactionOf, phase_in, cells_of}
-use Rattle.pb_steps.specs.Observers.{ObserverOf, acknowledgment}
+use Rattle.pb_verify.specs.Observers.{ObserverOf, acknowledgment}
 use Rattle.pb_base.specs.declared.names.Row.{Row}
 use Rattle.pb_base.specs.declared.cell.Cell.TheVariants.{Data, Ack}
 use Rattle.pb_steps.specs.declared.step.Work.{Work}

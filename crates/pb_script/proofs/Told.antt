@@ -6,7 +6,7 @@ use Rattle.pb_history.specs.declared.entry.Entry.{Entry}
 use Rattle.pb_script.specs.declared.reports.lines.Newest.{Newest}
 use Rattle.pb_script.specs.declared.reports.newest.Put.{Put}
 use Rattle.pb_base.specs.declared.names.Row.{Row}
-use Rattle.pb_steps.specs.Observers.{ObserverOf}
+use Rattle.pb_verify.specs.Observers.{ObserverOf}
 use Rattle.pb_script.specs.ReportLines.{Tallies}
 use Rattle.pb_script.specs.Reports.{IsNewestPut, IsTold, IsReport, IsReportOf}
 use Rattle.pb_script.specs.Committed.{AreSeen, Gathers, IsSeenAt}

@@ -1,6 +1,6 @@
 -- How often each observer ran.
 use Rattle.std.specs.Prelude.{◌≡◌, ℕ, ◌+◌, List, [], ◌∷◌}
-use Rattle.pb_steps.specs.Observers.{ObserverOf}
+use Rattle.pb_verify.specs.Observers.{ObserverOf}
 use Rattle.pb_history.specs.declared.entry.Entry.{Entry}
 use Rattle.pb_history.specs.RunCounts.{IsRunCount}
 use Rattle.pb_script.specs.ReportLines.{Tallies}

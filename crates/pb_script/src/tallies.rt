@@ -5,8 +5,11 @@ ghost use Rattle.pb_history.specs.RunCounts.{IsRunCount, begins_committed_run, p
 
 use crate::reports::Tally;
 use pb_base::NoMemory;
-use pb_core::{Answer, Entry, Observer, Phase, Shared, Step, Work};
+use pb_core::Shared;
+use pb_history::Entry;
+use pb_steps::{Answer, Phase, Step, Work};
 use pb_store::Tablet;
+use pb_verify::Observer;
 use std::alloc::Global;
 
 fn phase_is_committed(phase: Option<Phase>) -> bool

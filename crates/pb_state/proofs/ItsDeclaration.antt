@@ -24,7 +24,8 @@ use Rattle.pb_steps.specs.declared.step.Declared.{Declared}
 use Rattle.pb_steps.specs.declared.step.Declared.TheVariants as declared
 use Rattle.pb_steps.specs.Reads.{asked_cell, version_in, acknowledged_in, value_in, value_code}
 use Rattle.pb_steps.specs.State.{cells_of}
-use Rattle.pb_steps.specs.Observers.{ObserverOf, observed_cell, acknowledgment, acknowledgment_by}
+use Rattle.pb_verify.specs.Observers.{ObserverOf, observed_cell, acknowledgment}
+use Rattle.pb_state.specs.Cells.{acknowledgment_by}
 use Rattle.pb_steps.specs.Declarations.{IsReadOf, old_at, WasOld, WasSeen, AreReplies, IsItsRun, MayDeclare, is_at, is_read_of, with_old, seen_by, seen_in, asked_in, is_replied, are_replies, is_made_of, is_run, is_run_by, is_run_of, is_its}
 
 both : (a b : Bool) → (a && b) ≡ true → (a ≡ true) × (b ≡ true)

@@ -5,7 +5,7 @@ use Rattle.pb_base.specs.declared.cell.Cell.TheVariants.{Ack}
 use Rattle.pb_base.specs.declared.names.Row.{Row}
 use Rattle.pb_base.specs.declared.content.Revision.{Revision}
 use Rattle.pb_store.specs.Contents.{Entries}
-use Rattle.pb_steps.specs.Observers.{ObserverOf}
+use Rattle.pb_verify.specs.Observers.{ObserverOf}
 use Rattle.pb_steps.specs.Readings.{IsNewestVersion}
 use Rattle.pb_steps.specs.Marks.{stamp_in}
 

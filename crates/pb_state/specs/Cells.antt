@@ -1,10 +1,14 @@
 -- What a transaction keeps of what it has declared.
-use Rattle.std.specs.Prelude.{[], ◌∷◌}
+use Rattle.std.specs.Prelude.{List, [], ◌∷◌, Option, None, slice_get}
+use Rattle.pb_base.specs.declared.cell.Cell.{Cell}
 use Rattle.pb_base.specs.declared.content.Content.TheVariants.{Stamp}
 use Rattle.pb_base.specs.Batch.{Writes}
 use Rattle.pb_steps.specs.declared.step.Declared.{Declared}
 use Rattle.pb_steps.specs.declared.step.Declared.TheVariants as declared
 use Rattle.pb_steps.specs.State.{batch_in}
+use Rattle.pb_steps.specs.declared.step.Work.{Work}
+use Rattle.pb_steps.specs.declared.step.Work.TheVariants as works
+use Rattle.pb_verify.specs.Observers.{ObserverOf, acknowledgment_at}
 use Rattle.pb_state.specs.declared.cells.Cells.{Cells}
 use Rattle.pb_state.specs.declared.cells.Cells.TheVariants.{Nothing, Batch, Run}
 
@@ -17,3 +21,8 @@ abbrev pub cells_in : Cells → Writes
 cells_in Nothing = []
 cells_in (Batch what) = batch_in what
 cells_in (Run x s what) = (x, Stamp s) ∷ run_writes what
+
+-- the acknowledgment of a run, where there is its observer
+abbrev pub acknowledgment_by : List ObserverOf → Work → Option Cell
+acknowledgment_by observers works.Script = None
+acknowledgment_by observers (works.Run o row) = acknowledgment_at (slice_get observers o) o row

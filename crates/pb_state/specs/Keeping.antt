@@ -2,7 +2,7 @@
 use Rattle.std.specs.Prelude.{ℕ, ◌≤◌, List, length}
 use Rattle.pb_base.specs.declared.limits.TheConstants.{MAX_SEATS, MAX_OBSERVERS}
 use Rattle.pb_store.specs.TableOf.{TableOf}
-use Rattle.pb_steps.specs.Observers.{ObserverOf}
+use Rattle.pb_verify.specs.Observers.{ObserverOf}
 use Rattle.pb_steps.specs.State.{StateOf, Transactions}
 
 abbrev pub parts_as_state : TableOf → List ObserverOf → ℕ → ℕ → Transactions → StateOf

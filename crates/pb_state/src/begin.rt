@@ -9,8 +9,9 @@ use crate::parts::Parts;
 use crate::transaction::Transaction;
 use pb_base::{NoMemory, Reason, Ts};
 use pb_history::sound_has_data;
-use pb_steps::{Answer, Observer, Step, Work};
+use pb_steps::{Answer, Step, Work};
 use pb_store::Tablet;
+use pb_verify::Observer;
 
 // Whether a run is of an observer that there isn't.
 fn is_unknown(observers: &[Observer], work: Work) -> bool

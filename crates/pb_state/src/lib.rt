@@ -23,9 +23,11 @@ mod sweep;
 mod transaction;
 mod transactions;
 
+pub use pb_helpers::Record;
 pub use pb_steps::{
-    Answer, Declaration, Declared, EndedRun, Observer, Phase, RecordedRead, Seen, Step, Work,
+    Answer, Declaration, Declared, EndedRun, Phase, RecordedRead, Seen, Step, Work,
     acknowledged_in, version_in,
 };
-pub use pb_vm::{Accepted, Finished, Moved, Record, Vm};
+pub use pb_verify::{Accepted, Observer};
+pub use pb_vm::{Finished, Moved, Vm};
 pub use state::State;

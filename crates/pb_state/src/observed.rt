@@ -4,21 +4,20 @@ ghost use Rattle.std.specs.Option.{option_copied};
 ghost use Rattle.pb_base.specs.Batch.{primary_in};
 ghost use Rattle.pb_helpers.specs.Replies.{ask_of, reply_of};
 ghost use Rattle.pb_vm.specs.Position.{talk_of};
-ghost use Rattle.pb_steps.specs.Observers.{acknowledgment_by};
 ghost use Rattle.pb_steps.specs.Reads.{value_in};
 ghost use Rattle.pb_steps.specs.Declarations.{IsKnown, is_at, is_read_of, with_old, seen_by, seen_in, asked_in, is_replied, are_replies, is_made_of, is_run, is_run_by, is_run_of, is_its};
 ghost use Rattle.pb_helpers.specs.OldRecord as versions;
 ghost use Rattle.pb_steps.specs.State.{cells_of};
-ghost use Rattle.pb_state.specs.Cells.{cells_in};
+ghost use Rattle.pb_state.specs.Cells.{acknowledgment_by, cells_in};
 
 use crate::cells::Cells;
 use pb_base::{Cell, NoMemory, ObserverNo, Revision, Row, Ts};
 use pb_helpers::{Ask, Record, Reply};
 use pb_steps::{
-    Answer, Declaration, Declared, Observer, RecordedRead, Seen, Work, acknowledged_in, old_at,
-    reply_in, version_in,
+    Answer, Declaration, Declared, RecordedRead, Seen, Work, acknowledged_in, old_at, reply_in,
+    version_in,
 };
-use pb_verify::Accepted;
+use pb_verify::{Accepted, Observer};
 use pb_vm::Finished;
 use std::sync::Arc;
 

@@ -4,8 +4,9 @@ ghost use Rattle.std.specs.Prelude.{◌≡◌};
 use crate::transaction::Transaction;
 use crate::transactions::Transactions;
 use pb_base::{NoMemory, Reason, Ts};
-use pb_steps::{Answer, Observer, Step};
+use pb_steps::{Answer, Step};
 use pb_store::{Table, Tablet};
+use pb_verify::Observer;
 use std::alloc::Global;
 use std::marker::Model;
 

@@ -6,8 +6,9 @@ use crate::readings::{count_locks, count_marks};
 use crate::transactions::Transactions;
 use pb_base::{MAX_OBSERVERS, MAX_SEATS, NoMemory, Reason, Refusal, Ts};
 use pb_history::steps_keep_sound;
-use pb_steps::{Answer, Observer, Phase, Step};
+use pb_steps::{Answer, Phase, Step};
 use pb_store::{Table, Tablet};
+use pb_verify::Observer;
 use std::alloc::Global;
 use std::marker::Model;
 

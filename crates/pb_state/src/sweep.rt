@@ -12,8 +12,9 @@ use crate::parts::Parts;
 use crate::readings::{LAST, version_of};
 use pb_base::{Cell, Column, NoMemory, ObserverNo, Row, Ts};
 use pb_history::sound_has_data;
-use pb_steps::{Answer, Observer, Step, stamp_of};
+use pb_steps::{Answer, Step, stamp_of};
 use pb_store::{Edit, Table, Tablet};
+use pb_verify::Observer;
 use std::cmp::Ordering;
 
 // A cell of the row before, or none.

@@ -4,7 +4,7 @@ use Rattle.std.specs.FinMap as map
 use Rattle.pb_base.specs.declared.refusal.Reason.TheVariants.{OutOfTimestamps, NotOfSeat, NoSuchObserver}
 use Rattle.pb_steps.specs.declared.step.Work.{Work}
 use Rattle.pb_steps.specs.declared.step.Work.TheVariants.{Script, Run}
-use Rattle.pb_steps.specs.Observers.{ObserverOf}
+use Rattle.pb_verify.specs.Observers.{ObserverOf}
 use Rattle.pb_steps.specs.State.{StateOf, new_transaction}
 use Rattle.pb_steps.specs.Reasons.{Reasons, is_out, no_seat}
 

@@ -23,7 +23,7 @@ use Rattle.pb_steps.specs.declared.step.Work.TheVariants as works
 use Rattle.pb_steps.specs.declared.step.Declared.{Declared}
 use Rattle.pb_steps.specs.declared.step.Declared.TheVariants as declared
 use Rattle.pb_steps.specs.Reads.{asked_cell, version_in, acknowledged_in, value_in, value_code}
-use Rattle.pb_steps.specs.Observers.{ObserverOf, observed_cell, acknowledgment}
+use Rattle.pb_verify.specs.Observers.{ObserverOf, observed_cell, acknowledgment}
 
 -- what every declaration is: a script's writes are a batch; a run is its program's meaning, and writes nothing or what a
 -- batch could

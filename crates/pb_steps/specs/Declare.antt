@@ -4,7 +4,7 @@ use Rattle.pb_base.specs.declared.refusal.Reason.TheVariants.{WrongPhase, NotIts
 use Rattle.pb_steps.specs.declared.step.Declared.{Declared}
 use Rattle.pb_steps.specs.declared.phase.Phase.TheVariants as phases
 use Rattle.pb_steps.specs.Phases.{is_reading}
-use Rattle.pb_steps.specs.Observers.{ObserverOf}
+use Rattle.pb_verify.specs.Observers.{ObserverOf}
 use Rattle.pb_steps.specs.State.{StateOf, TransactionOf, with_transaction, cells_of}
 use Rattle.pb_steps.specs.Declarations.{IsKnown, MayDeclare, is_its}
 use Rattle.pb_steps.specs.Reasons.{Reasons, IsOwn}

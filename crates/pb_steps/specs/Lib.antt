@@ -1,5 +1,4 @@
 pub mod Phases
-pub mod Observers
 pub mod Reads
 pub mod State
 pub mod Readings

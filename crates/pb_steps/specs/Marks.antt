@@ -7,7 +7,7 @@ use Rattle.pb_base.specs.declared.cell.Cell.TheVariants.{Data, Ack}
 use Rattle.pb_base.specs.declared.names.Row.{Row}
 use Rattle.pb_base.specs.declared.content.Revision.{Revision}
 use Rattle.pb_store.specs.Contents.{Entries, Marks}
-use Rattle.pb_steps.specs.Observers.{ObserverOf}
+use Rattle.pb_verify.specs.Observers.{ObserverOf}
 use Rattle.pb_steps.specs.Reads.{stamp_of}
 use Rattle.pb_steps.specs.Readings.{write_at, last_timestamp, IsVersion, IsNewestVersion}
 

@@ -24,7 +24,7 @@ use Rattle.pb_store.specs.contracts.slot.Item as item
 use Rattle.pb_steps.specs.contracts.step.Work as work
 use Rattle.pb_steps.specs.contracts.seen.RecordedRead as read
 use Rattle.pb_steps.specs.contracts.phase.Phase as phase
-use Rattle.pb_steps.specs.Observers.{ObserverOf, observer_code, acknowledgment}
+use Rattle.pb_verify.specs.Observers.{ObserverOf, observer_code, acknowledgment}
 
 -- a transaction: whose it is, what for, how far it has come, what it read, and what it writes
 pub record TransactionOf : Type 0 where

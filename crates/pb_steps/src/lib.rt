@@ -4,14 +4,12 @@
 #![tactic(auto)]
 
 mod ended_run;
-mod observer;
 mod phase;
 mod same;
 mod seen;
 mod step;
 
 pub use ended_run::EndedRun;
-pub use observer::Observer;
 pub use phase::Phase;
 pub use seen::{RecordedRead, Seen, acknowledged_in, old_at, reply_in, stamp_of, version_in};
 pub use step::{Answer, Declaration, Declared, Step, Work};

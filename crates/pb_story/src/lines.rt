@@ -5,9 +5,10 @@ ghost use Rattle.pb_story.specs.Lines.{GrowsBy, seat_of, job_text, IsTurn, IsDee
 use crate::answers::add_answer;
 use crate::cells::add_name;
 use crate::steps::{add_on_cell, add_step};
-use pb_core::Observer;
+use pb_parse::{Event, Job};
 use pb_store::Tablet;
-use pb_world::{ActorJob, Event, Job, Note, World};
+use pb_verify::Observer;
+use pb_world::{ActorJob, Note, World};
 use std::alloc::{AllocError, Global};
 
 fn seat_of(event: &Event) -> u32

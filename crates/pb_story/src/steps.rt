@@ -4,7 +4,8 @@ ghost use Rattle.pb_story.specs.Steps.{work_text, declared_text, start_text, on_
 
 use crate::cells::{add_batch, add_cell, add_name, add_writes};
 use pb_base::{Cell, Ts};
-use pb_core::{Declared, Observer, Step, Work};
+use pb_steps::{Declared, Step, Work};
+use pb_verify::Observer;
 use std::alloc::AllocError;
 
 // Adds what a transaction is for.

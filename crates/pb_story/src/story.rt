@@ -6,10 +6,11 @@ ghost use Rattle.pb_story.specs.Stories.{IsEventFault, EventEnds, LinesEnd, Stor
 use crate::fault::StoryFault;
 use crate::lines::{end_line, open_line};
 use pb_base::{Reason, Sink};
+use pb_parse::Event;
 use pb_script::{ReportFault, report};
 use pb_store::Tablet;
 use pb_texts::write_all;
-use pb_world::{Event, Note, World, WorldFault};
+use pb_world::{Note, World, WorldFault};
 use std::alloc::Global;
 use std::slice;
 

@@ -12,7 +12,7 @@ use Rattle.pb_steps.specs.declared.step.Work.TheVariants as works
 use Rattle.pb_steps.specs.declared.step.Declared.{Declared}
 use Rattle.pb_steps.specs.declared.step.Declared.TheVariants as declared
 use Rattle.pb_steps.specs.State.{cells_of}
-use Rattle.pb_steps.specs.Observers.{ObserverOf, observed_cell}
+use Rattle.pb_verify.specs.Observers.{ObserverOf, observed_cell}
 use Rattle.pb_history.specs.History.{IsForWork}
 use Rattle.pb_txn.specs.Places.{declared_cells}
 use Rattle.pb_txn.specs.Allowed.{IsInRange}

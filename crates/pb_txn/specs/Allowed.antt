@@ -10,7 +10,7 @@ use Rattle.pb_steps.specs.declared.step.Work.TheVariants as works
 use Rattle.pb_steps.specs.declared.step.Declared.{Declared}
 use Rattle.pb_steps.specs.declared.step.Step.{Step}
 use Rattle.pb_steps.specs.declared.step.Step.TheVariants.{Declare, Prewrite, Stamp, CommitPrimary, CommitSecondary}
-use Rattle.pb_steps.specs.Observers.{ObserverOf, observed_column}
+use Rattle.pb_verify.specs.Observers.{ObserverOf, observed_column}
 use Rattle.pb_steps.specs.State.{StateOf, TransactionOf}
 use Rattle.pb_steps.specs.Steps.{step_reason}
 use Rattle.pb_history.specs.declared.entry.Entry.{Entry}

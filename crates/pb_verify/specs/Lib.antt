@@ -10,3 +10,4 @@ pub mod Effects
 pub mod Versions
 pub mod Needs
 pub mod Known
+pub mod Observers

@@ -5,7 +5,7 @@ use Rattle.std.proofs.lemmas.List.{get_or-map}
 use Rattle.std.proofs.lemmas.Option.{slice_get-get_or}
 use Rattle.pb_base.specs.declared.refusal.Refusal.{Refusal}
 use Rattle.pb_base.specs.Batch.{Writes}
-use Rattle.pb_steps.specs.Observers.{ObserverOf}
+use Rattle.pb_verify.specs.Observers.{ObserverOf}
 use Rattle.pb_history.specs.declared.entry.Entry.{Entry}
 use Rattle.pb_core.specs.Calls.{SeatOf, AreSeatsFrom}
 use Rattle.pb_worker.specs.declared.worker.Worker.{Worker}

@@ -6,7 +6,7 @@ use Rattle.pb_base.specs.declared.refusal.Refusal.{Refusal}
 use Rattle.pb_steps.specs.declared.step.Step.{Step}
 use Rattle.pb_steps.specs.declared.step.Answer.{Answer}
 use Rattle.pb_steps.specs.Answers.{CanAnswer}
-use Rattle.pb_steps.specs.Observers.{ObserverOf}
+use Rattle.pb_verify.specs.Observers.{ObserverOf}
 use Rattle.pb_core.specs.Calls.{SeatOf}
 use Rattle.pb_txn.specs.Talks.{told}
 use Rattle.pb_notify.specs.declared.need.Need.{Need}

@@ -8,7 +8,7 @@ use Rattle.pb_base.specs.Cell.{row_of}
 use Rattle.pb_steps.specs.declared.step.Work.TheVariants as works
 use Rattle.pb_steps.specs.declared.step.Step.TheVariants.{Begin, CommitPrimary, NextMark}
 use Rattle.pb_steps.specs.declared.step.Answer.TheVariants.{At, Marked, NoMark}
-use Rattle.pb_steps.specs.Observers.{ObserverOf}
+use Rattle.pb_verify.specs.Observers.{ObserverOf}
 use Rattle.pb_history.specs.declared.entry.Received.{Received}
 use Rattle.pb_history.specs.History.{Has}
 use Rattle.pb_txn.specs.Talks.{told}

@@ -3,7 +3,7 @@ use Rattle.std.specs.Prelude.{◌≡◌, ℕ, ◌+◌, ◌-◌, ◌%◌, ◌<◌
 use Rattle.pb_base.specs.declared.refusal.Refusal.{Refusal}
 use Rattle.pb_base.specs.Batch.{Writes}
 use Rattle.pb_steps.specs.declared.step.Work.TheVariants as works
-use Rattle.pb_steps.specs.Observers.{ObserverOf}
+use Rattle.pb_verify.specs.Observers.{ObserverOf}
 use Rattle.pb_history.specs.History.{Has, Member, InHistory}
 use Rattle.pb_core.specs.Calls.{SharedOf, SeatOf, AreSeats}
 use Rattle.pb_core.specs.Histories.{IsLegalTable}

@@ -5,7 +5,7 @@ use Rattle.pb_base.specs.Cell.{row_of, column_of}
 use Rattle.pb_vm.specs.Finished.{Meant}
 use Rattle.pb_steps.specs.declared.step.Step.TheVariants.{NextMark}
 use Rattle.pb_steps.specs.declared.step.Answer.TheVariants.{Marked, NoMark}
-use Rattle.pb_steps.specs.Observers.{ObserverOf}
+use Rattle.pb_verify.specs.Observers.{ObserverOf}
 use Rattle.pb_history.specs.declared.entry.Received.{Received}
 use Rattle.pb_txn.specs.Talks.{told}
 use Rattle.pb_notify.specs.declared.need.JobEnd.{JobEnd}

@@ -8,7 +8,7 @@ use Rattle.pb_base.specs.Cell.{row_of}
 use Rattle.pb_vm.specs.Finished.{Meant}
 use Rattle.pb_steps.specs.declared.step.Step.TheVariants.{NextMark}
 use Rattle.pb_steps.specs.declared.step.Answer.TheVariants.{Marked}
-use Rattle.pb_steps.specs.Observers.{ObserverOf}
+use Rattle.pb_verify.specs.Observers.{ObserverOf}
 use Rattle.pb_history.specs.declared.entry.Received.{Received}
 use Rattle.pb_txn.specs.declared.place.Outcome.{Outcome}
 use Rattle.pb_txn.specs.Changes.{ChangeOf, new_change, Talks, IsWholeChange}

@@ -9,7 +9,8 @@ ghost use Rattle.pb_worker.specs.Gains.{Told, MayRefuse};
 
 use crate::gate::Gate;
 use pb_base::Refusal;
-use pb_core::{Answer, Seat, Shared, Step};
+use pb_core::{Seat, Shared};
+use pb_steps::{Answer, Step};
 use pb_store::Tablet;
 use std::sync::{Mutex, Wait};
 

@@ -7,7 +7,8 @@ ghost use Rattle.pb_worker.specs.Cursors.{told_by, AreBelow, ArePlaces, IsAt, Ha
 
 use crate::same::is_same;
 use pb_base::MAX_SEATS;
-use pb_core::{Entry, Received, Seat, Shared};
+use pb_core::{Seat, Shared};
+use pb_history::{Entry, Received};
 use pb_store::Tablet;
 use std::marker::Model;
 

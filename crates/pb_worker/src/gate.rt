@@ -1,5 +1,5 @@
 //! What is called before each call of the table.
-use pb_core::Step;
+use pb_steps::Step;
 
 /// What is called before each call of the table, with the seat that asks and the step that it asks, while the caller holds no
 /// lock. It may wait.

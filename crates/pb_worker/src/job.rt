@@ -7,8 +7,9 @@ ghost use Rattle.pb_worker.specs.Stops.{RunStops};
 use crate::desk::{Callee, ask};
 use crate::gate::Gate;
 use pb_base::{Cell, NoMemory, ObserverNo, Reason, Refusal};
-use pb_core::{Observer, Seat};
+use pb_core::Seat;
 use pb_notify::{Need, ObserverJob, jobs_talk};
+use pb_verify::Observer;
 use std::alloc::Global;
 use std::sync::{Arc, Mutex, Wait};
 

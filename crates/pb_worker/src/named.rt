@@ -3,7 +3,8 @@ ghost use Rattle.std.specs.Prelude.{◌≡◌};
 
 use crate::desk::Callee;
 use pb_base::Refusal;
-use pb_core::{Answer, Seat, Shared, Step};
+use pb_core::{Seat, Shared};
+use pb_steps::{Answer, Step};
 use pb_store::Tablet;
 use std::marker::{Brand, PhantomData};
 use std::sync::Mutex;
@@ -11,7 +12,7 @@ use std::sync::Mutex;
 /// Which observers a table has, and how it was opened.
 pub trait Opening {
     ghost use Rattle.std.specs.Prelude.{ℕ, List};
-    ghost use Rattle.pb_steps.specs.Observers.{ObserverOf};
+    ghost use Rattle.pb_verify.specs.Observers.{ObserverOf};
 
     ghost observers: { List ObserverOf };
 

@@ -9,7 +9,9 @@ use crate::desk::{Callee, ask};
 use crate::gate::Gate;
 use crate::job::run_one;
 use pb_base::{Cell, ObserverNo, Refusal};
-use pb_core::{Answer, Observer, Seat, Step};
+use pb_core::Seat;
+use pb_steps::{Answer, Step};
+use pb_verify::Observer;
 use std::alloc::Global;
 use std::sync::{Mutex, Wait};
 

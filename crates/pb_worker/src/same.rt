@@ -2,7 +2,7 @@
 ghost use Rattle.std.specs.Prelude.{◌≡◌, ◌↔◌, IsTrue};
 ghost use Rattle.pb_worker.specs.Cursors.{told_by};
 
-use pb_core::{Entry, Received};
+use pb_history::{Entry, Received};
 
 /// Whether a seat was told what the journal's entry says.
 pub(crate) fn is_same(entry: &Entry, told: &Received) -> bool

@@ -10,7 +10,8 @@ use crate::gate::Gate;
 use crate::passes::drain;
 use crate::tries::change_all;
 use pb_base::{Batch, Refusal};
-use pb_core::{Observer, Seat};
+use pb_core::Seat;
+use pb_verify::Observer;
 use std::alloc::Global;
 use std::sync::{Mutex, Wait};
 

@@ -13,7 +13,7 @@ use Rattle.pb_vm.specs.Position.{Position}
 use Rattle.pb_steps.specs.declared.step.Step.{Step}
 use Rattle.pb_steps.specs.declared.step.Step.TheVariants as step
 use Rattle.pb_steps.specs.declared.step.Answer.{Answer}
-use Rattle.pb_steps.specs.Observers.{ObserverOf}
+use Rattle.pb_verify.specs.Observers.{ObserverOf}
 use Rattle.pb_history.specs.History.{Has}
 use Rattle.pb_core.specs.Calls.{SharedOf, SeatOf, call_reason}
 use Rattle.pb_txn.specs.Changes.{new_change}

@@ -7,7 +7,7 @@ use Rattle.pb_base.specs.declared.names.Row.{Row}
 use Rattle.pb_steps.specs.declared.step.Step.{Step}
 use Rattle.pb_steps.specs.declared.step.Step.TheVariants as steps
 use Rattle.pb_steps.specs.declared.step.Answer.{Answer}
-use Rattle.pb_steps.specs.Observers.{ObserverOf}
+use Rattle.pb_verify.specs.Observers.{ObserverOf}
 use Rattle.pb_core.specs.Calls.{SharedOf, SeatOf, Calls, call_reason}
 use Rattle.pb_txn.specs.Changes.{new_change}
 use Rattle.pb_notify.specs.Runs.{fresh}

@@ -2,7 +2,7 @@
 -- told since the launch.
 use Rattle.std.specs.Prelude.{◌≡◌, ℕ, true, List, ◌++◌, length, Some, None, slice_get}
 use Rattle.pb_base.specs.Batch.{is_batch}
-use Rattle.pb_steps.specs.Observers.{ObserverOf}
+use Rattle.pb_verify.specs.Observers.{ObserverOf}
 use Rattle.pb_history.specs.declared.entry.Received.{Received}
 use Rattle.pb_core.specs.Calls.{SeatOf, AreSeats}
 use Rattle.pb_core.specs.Histories.{IsLegalTable}

@@ -9,7 +9,8 @@ ghost use Rattle.pb_world.specs.declared.note.Note.TheVariants.{Called};
 use crate::job::ActorJob;
 use crate::note::Note;
 use pb_base::{NoMemory, Reason};
-use pb_core::{Answer, Seat, Shared, Step};
+use pb_core::{Seat, Shared};
+use pb_steps::{Answer, Step};
 use pb_store::Tablet;
 use std::alloc::Global;
 

@@ -1,7 +1,7 @@
 //! The job of an actor: a change or a run of an observer.
 use pb_base::NoMemory;
-use pb_core::{Answer, Step};
 use pb_notify::{Need, ObserverJob};
+use pb_steps::{Answer, Step};
 use pb_txn::ChangeJob;
 use std::alloc::Global;
 

@@ -1,5 +1,5 @@
 //! Notes of events.
-use pb_core::Answer;
+use pb_steps::Answer;
 
 /// What an event did.
 #[derive(Clone, Copy, Debug, PartialEq, Eq)]

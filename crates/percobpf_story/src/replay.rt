@@ -8,9 +8,10 @@ ghost use Rattle.percobpf_story.specs.Replays.{of_story, StoryEndsFrom, TellsTex
 use pb_base::{Batch, MAX_ENTRIES, MAX_SEATS, Sink, Ts};
 use pb_core::{OpenRefused, Seat, Shared};
 use pb_driver::{RunFault, read_replay};
+use pb_parse::Event;
 use pb_store::{Table, Tablet};
 use pb_story::{StoryFault, tell_story};
-use pb_world::{Event, World};
+use pb_world::World;
 use std::alloc::Global;
 
 // The fault of a story as one of a replay.

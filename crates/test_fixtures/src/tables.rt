@@ -5,9 +5,10 @@ ghost use Rattle.pb_core.specs.Calls.{AreSeats};
 ghost use Rattle.pb_store.specs.Contents.{nothing};
 
 use pb_base::{NoMemory, Row, Ts};
-use pb_core::{Observer, OpenRefused, Seat, Shared};
+use pb_core::{OpenRefused, Seat, Shared};
 use pb_memtablet::{EitherTablet, ListTablet};
 use pb_store::{Table, Tablet};
+use pb_verify::Observer;
 use std::alloc::Global;
 
 /// An empty table of one tablet.

@@ -2,12 +2,13 @@
 ghost use Rattle.std.specs.Prelude.{◌≤◌, length, IfOk};
 
 use pb_base::{Batch, Column, Content, NoMemory, ObserverNo, Row};
-use pb_core::{Accepted, Observer, Seat, Shared};
+use pb_core::{Seat, Shared};
 use pb_helpers::HelperTable;
 use pb_notify::ObserverJob;
 use pb_registry::accept;
 use pb_store::Tablet;
 use pb_txn::ChangeJob;
+use pb_verify::{Accepted, Observer};
 use std::alloc::Global;
 use std::sync::Arc;
 

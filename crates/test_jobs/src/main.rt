@@ -16,9 +16,10 @@ mod turns;
 
 use jobs::{Job, jobs_of, observer_of, observers_of};
 use pb_base::Ts;
-use pb_core::{Observer, Shared};
+use pb_core::Shared;
 use pb_store::Tablet;
 use pb_story::{add_answer, add_step};
+use pb_verify::Observer;
 use std::alloc::{AllocError, Global};
 use std::env;
 use std::process::ExitCode;

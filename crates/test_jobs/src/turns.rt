@@ -3,8 +3,9 @@ ghost use Rattle.std.specs.Prelude.{◌≡◌};
 
 use crate::jobs::{Job, all_calls, number_of};
 use pb_base::{Cell, Column, ObserverNo, Row};
-use pb_core::{Seat, Shared, Step};
+use pb_core::{Seat, Shared};
 use pb_notify::{JobEnd, Need, ObserverJob};
+use pb_steps::Step;
 use pb_store::Tablet;
 use std::alloc::Global;
 

@@ -8,11 +8,11 @@ mod rows;
 
 use pb_asm::assemble;
 use pb_base::{Cell, Column, Content, Revision, Row, Ts, Value};
-use pb_helpers::{HelperTable, Version};
+use pb_helpers::{HelperTable, Record, Reply, Version};
 use pb_isa::Profile;
 use pb_registry::accept_in;
-use pb_verify::verify;
-use pb_vm::{Accepted, Finished, Phase, Record, Reply, Vm};
+use pb_verify::{Accepted, verify};
+use pb_vm::{Finished, Phase, Vm};
 use std::alloc::Global;
 use std::process::Abort;
 use std::sync::Arc;

@@ -6,9 +6,9 @@ use crate::steps::steps;
 use crate::swaps::are_swapped;
 use crate::twins::{Twins, all_called, called, close, opened_twice, two_tables};
 use pb_base::{NoMemory, Ts};
-use pb_core::{Answer, Step};
 use pb_memtablet::EitherTablet;
 use pb_state::State;
+use pb_steps::{Answer, Step};
 use std::alloc::Global;
 
 // Looks for marks until the journal is as long as its room, and with it book and list of the seat.

@@ -2,7 +2,7 @@
 use crate::refusals::Refusals;
 use crate::steps::three_cells;
 use pb_base::{Batch, NoMemory, Ts};
-use pb_core::{Declaration, Declared, Step};
+use pb_steps::{Declaration, Declared, Step};
 use std::alloc::Global;
 
 /// `Batch::copy`.

@@ -1,11 +1,10 @@
 //! Machines, also of the program in a file.
 use crate::refusals::Refusals;
 use pb_base::{Cell, Column, Content, NoMemory, Revision, Row, Ts};
-use pb_core::{Finished, Record, Vm};
-use pb_helpers::HelperTable;
+use pb_helpers::{HelperTable, Record, Reply};
 use pb_registry::accept;
 use pb_verify::Accepted;
-use pb_vm::{Phase, Reply};
+use pb_vm::{Finished, Phase, Vm};
 use std::alloc::Global;
 use std::fs;
 use std::io::Read;

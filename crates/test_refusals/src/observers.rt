@@ -7,11 +7,12 @@ use crate::refusals::Refusals;
 use crate::steps::{batch, column, column_of, declares};
 use crate::twins::{all_called, close, opened_twice};
 use pb_base::{Cell, NoMemory, ObserverNo, Row, Ts};
-use pb_core::{Declaration, Declared, EndedRun, Finished, Observer, Step, Work};
 use pb_helpers::HelperTable;
+use pb_parse::{Event, Job, parse_schedule};
 use pb_registry::{Registry, RegistryFault, accept};
-use pb_script::{Event, Job, parse_schedule};
-use pb_verify::{Accepted, VerifyFault};
+use pb_steps::{Declaration, Declared, EndedRun, Step, Work};
+use pb_verify::{Accepted, Observer, VerifyFault};
+use pb_vm::Finished;
 use std::alloc::Global;
 use std::sync::Arc;
 

@@ -1,6 +1,6 @@
 //! Which calls are refused.
 use crate::steps::kind_of;
-use pb_core::Step;
+use pb_steps::Step;
 
 /// The first call of a run that was refused, and whether a second one was. One request for memory is refused in a run, and so no
 /// second call.

@@ -7,8 +7,9 @@ use crate::refusals::Refusals;
 use crate::steps::{batch, cell_of, declares, three_cells};
 use crate::twins::{all_called, close, opened_twice};
 use pb_base::{NoMemory, Sink, Ts};
-use pb_core::{Shared, Step, Work};
+use pb_core::Shared;
 use pb_script::report;
+use pb_steps::{Step, Work};
 use pb_store::Tablet;
 use std::alloc::Global;
 

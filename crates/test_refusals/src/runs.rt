@@ -7,9 +7,10 @@ use crate::same::are_observers_same;
 use crate::steps::column_of;
 use crate::twins::SORTS;
 use pb_base::{Batch, Cell, Content, NoMemory, Row, Ts};
-use pb_core::{Observer, OpenRefused, Seat, Shared};
+use pb_core::{OpenRefused, Seat, Shared};
 use pb_memtablet::EitherTablet;
-use pb_script::parse_script;
+use pb_parse::parse_script;
+use pb_verify::Observer;
 use std::alloc::Global;
 use test_fixtures::table_of;
 

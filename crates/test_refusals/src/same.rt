@@ -1,8 +1,10 @@
 //! Whether two tables are the same, entry by entry. No memory is needed for it.
 use pb_base::{Batch, Ts};
-use pb_core::{Entry, Observer, Received, Seat, Shared};
+use pb_core::{Seat, Shared};
+use pb_history::{Entry, Received};
 use pb_state::State;
 use pb_store::{Table, Tablet};
+use pb_verify::Observer;
 
 // More than any table here has.
 const MOST: usize = 100;

@@ -1,6 +1,6 @@
 //! Steps of each kind, and what they declare.
 use pb_base::{Batch, Cell, Column, Content, NoMemory, Row, Ts};
-use pb_core::{Declaration, Declared, Step, Work};
+use pb_steps::{Declaration, Declared, Step, Work};
 use std::alloc::Global;
 
 /// Column 0.

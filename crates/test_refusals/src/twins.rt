@@ -6,9 +6,11 @@ ghost use Rattle.pb_store.specs.Contents.{nothing};
 use crate::refusals::Refusals;
 use crate::same::{are_seats_same, are_shared_same};
 use pb_base::{NoMemory, Ts};
-use pb_core::{Answer, Observer, Seat, Shared, Step};
+use pb_core::{Seat, Shared};
 use pb_memtablet::EitherTablet;
+use pb_steps::{Answer, Step};
 use pb_store::Table;
+use pb_verify::Observer;
 use std::alloc::Global;
 use test_fixtures::{opened_over, table_of};
 

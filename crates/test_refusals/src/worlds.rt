@@ -14,7 +14,7 @@ use law_worlds::opened_worlds_are_sound;
 use pb_base::{Batch, NoMemory, Ts};
 use pb_core::{Seat, Shared};
 use pb_memtablet::EitherTablet;
-use pb_script::{Event, parse_schedule};
+use pb_parse::{Event, parse_schedule};
 use pb_world::{World, worlds_stay_sound};
 use std::alloc::Global;
 use test_fixtures::{opened_over, table_of};

@@ -2,7 +2,8 @@
 use crate::fault::Fault;
 use crate::history::{Commits, declared_at};
 use pb_base::{Cell, Content};
-use pb_core::{Declared, Entry};
+use pb_history::Entry;
+use pb_steps::Declared;
 use std::alloc::{AllocError, Global};
 use std::collections::BTreeMap;
 

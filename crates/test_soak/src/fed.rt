@@ -3,7 +3,8 @@ use crate::cells::Cells;
 use crate::history::{Commits, declared_at};
 use crate::script::ROWS;
 use pb_base::{Cell, Column, Content, Row, Value};
-use pb_core::{Declared, Entry};
+use pb_history::Entry;
+use pb_steps::Declared;
 
 // What a cell of this row holds, if anything was committed there.
 fn content_at(cells: &Cells, row: u64, column: u8) -> Option<Content> {

@@ -1,6 +1,7 @@
 //! The committed transactions of a journal.
 use crate::fault::Fault;
-use pb_core::{Answer, Declared, Entry, Step};
+use pb_history::Entry;
+use pb_steps::{Answer, Declared, Step};
 use std::alloc::Global;
 use std::collections::BTreeMap;
 

@@ -2,7 +2,8 @@
 use crate::cells::{Cells, Version};
 use crate::history::{Commits, runs_of};
 use pb_base::{Cell, Content, Value};
-use pb_core::{Entry, Observer};
+use pb_history::Entry;
+use pb_verify::Observer;
 use std::alloc::{AllocError, Global};
 
 // How many bytes of a value are told: those up to the last that isn't zero, and one at least.

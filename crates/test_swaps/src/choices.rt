@@ -3,8 +3,9 @@ ghost use Rattle.std.specs.Prelude.{◌≡◌};
 ghost use Rattle.pb_base.specs.Cell.{row_of};
 
 use pb_base::{Batch, Cell, Column, Content, NoMemory, Row, Ts};
-use pb_core::{Answer, Declaration, Declared, Seat, Shared, Step, Work};
+use pb_core::{Seat, Shared};
 use pb_memtablet::{EitherTablet, ListTablet, SlabTablet};
+use pb_steps::{Answer, Declaration, Declared, Step, Work};
 use pb_store::{Edit, Item, Slot, Sort, Table, Tablet};
 use std::alloc::Global;
 use std::process::Abort;

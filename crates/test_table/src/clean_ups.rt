@@ -3,8 +3,10 @@ ghost use Rattle.std.specs.Prelude.{◌≡◌, ◌≤◌, length};
 
 use crate::tables::{cell, deletes};
 use pb_base::{Content, NoMemory, Ts};
-use pb_core::{Answer, Observer, Seat, Shared, Step, Work};
+use pb_core::{Seat, Shared};
+use pb_steps::{Answer, Step, Work};
 use pb_store::Tablet;
+use pb_verify::Observer;
 use std::alloc::Global;
 use std::rt::HostRuntime;
 use test_fixtures::opened;

@@ -2,7 +2,7 @@
 use crate::clean_ups::{Told, are_told_in};
 use crate::tables::{batch_of, cell, deletes};
 use pb_base::{Cell, Content, NoMemory, Ts};
-use pb_core::{Answer, Declaration, Declared, Step, Work};
+use pb_steps::{Answer, Declaration, Declared, Step, Work};
 use std::alloc::Global;
 use std::process::Abort;
 use std::rt::HostRuntime;

@@ -2,8 +2,9 @@
 use crate::clean_ups::{Told, are_told_on};
 use crate::tables::{WATCH, acknowledgment, cell, deletes, first, observer_of, observers_of};
 use pb_base::{Content, NoMemory, Revision, Row, Ts};
-use pb_core::{Answer, Declaration, Declared, EndedRun, Observer, Step, Work};
 use pb_helpers::{Record, Reply};
+use pb_steps::{Answer, Declaration, Declared, EndedRun, Step, Work};
+use pb_verify::Observer;
 use pb_vm::{Finished, Phase, Vm};
 use std::alloc::Global;
 use std::process::Abort;

@@ -2,8 +2,9 @@
 ghost use Rattle.std.specs.Prelude.{◌≤◌};
 
 use pb_base::{Batch, Cell, Column, Content, NoMemory, Row, Ts};
-use pb_core::{Declaration, Declared, Seat, Shared, Step, Work};
+use pb_core::{Seat, Shared};
 use pb_memtablet::ListTablet;
+use pb_steps::{Declaration, Declared, Step, Work};
 use pb_store::{Edit, Table, Tablet};
 use std::alloc::Global;
 use std::process::Abort;

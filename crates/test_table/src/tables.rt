@@ -2,10 +2,11 @@
 ghost use Rattle.std.specs.Prelude.{◌≤◌, length, IfOk};
 
 use pb_base::{Batch, Cell, Column, Content, NoMemory, ObserverNo, Row};
-use pb_core::{Declaration, Declared, Observer};
 use pb_helpers::{HelperTable, Version};
 use pb_isa::Profile;
 use pb_registry::accept_in;
+use pb_steps::{Declaration, Declared};
+use pb_verify::Observer;
 use std::alloc::Global;
 use std::process::Abort;
 use std::sync::Arc;

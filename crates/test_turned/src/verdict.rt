@@ -1,10 +1,10 @@
 //! One program: it is refused at one of its slots, or accepted and run to its end.
 use pb_base::{Cell, Column, Content, Refused, Revision, Row, Ts, Value};
-use pb_helpers::{HelperTable, Version};
+use pb_helpers::{HelperTable, Record, Reply, Version};
 use pb_isa::Profile;
 use pb_registry::accept_in;
 use pb_verify::{Accepted, VerifyFault};
-use pb_vm::{Phase, Record, Reply, Vm};
+use pb_vm::{Phase, Vm};
 use std::alloc::Global;
 use std::sync::Arc;
 use thiserror::Error;

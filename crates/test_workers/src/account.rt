@@ -1,8 +1,10 @@
 //! What is told of workers.
 use crate::clearing::is_clearing_told;
 use pb_base::{Batch, Content, Out, Refusal};
-use pb_core::{Answer, Declared, Entry, Received, Seat, Shared, Step, Work};
+use pb_core::{Seat, Shared};
+use pb_history::{Entry, Received};
 use pb_script::report;
+use pb_steps::{Answer, Declared, Step, Work};
 use pb_store::Tablet;
 use pb_worker::{Worked, finish};
 use std::io;

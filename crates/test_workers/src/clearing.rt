@@ -1,6 +1,7 @@
 //! What the main seat makes of what workers left.
 use pb_base::{Cell, Column, ObserverNo, Row};
-use pb_core::{Seat, Shared, Step};
+use pb_core::{Seat, Shared};
+use pb_steps::Step;
 use pb_store::Tablet;
 
 // The number that a step of the main seat is refused with, or 0 where it is answered.

@@ -1,5 +1,5 @@
 //! The turns that workers take: a gate holds a seat until another has come somewhere.
-use pb_core::Step;
+use pb_steps::Step;
 use pb_worker::Gate;
 use std::sync::atomic::{AtomicU64, Ordering};
 use std::thread;

@@ -3,8 +3,8 @@ ghost use Rattle.std.specs.Prelude.{◌≡◌, ◌≤◌};
 
 use crate::worlds::{Texts, Told, WATCH, each};
 use pb_base::{NoMemory, ObserverNo, Row, Ts};
-use pb_core::Answer;
 use pb_parse::{Event, Job};
+use pb_steps::Answer;
 use pb_world::Note;
 use std::alloc::Global;
 use std::rt::HostRuntime;

@@ -3,7 +3,7 @@ ghost use Rattle.std.specs.Prelude.{◌≡◌, ◌≤◌};
 
 use crate::worlds::{COPY, Texts, Told, WATCH, replayed};
 use pb_base::{Cell, Column, Content, Row, Ts, Value};
-use pb_core::Answer;
+use pb_steps::Answer;
 use pb_world::Note;
 use std::alloc::Global;
 use std::process::Abort;

@@ -4,11 +4,12 @@ ghost use Rattle.pb_core.specs.Calls.{AreSeats};
 ghost use Rattle.pb_base.specs.declared.limits.TheConstants.{MAX_OBSERVERS};
 
 use pb_base::{Batch, NoMemory, Out, Ts};
-use pb_core::{Observer, Seat, Shared};
+use pb_core::{Seat, Shared};
 use pb_memtablet::ListTablet;
 use pb_parse::{Event, parse_schedule, parse_script};
 use pb_registry::Registry;
 use pb_script::report;
+use pb_verify::Observer;
 use pb_world::{Note, World};
 use std::alloc::Global;
 use test_fixtures::opened;

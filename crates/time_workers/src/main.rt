@@ -8,11 +8,13 @@ ghost use Rattle.std.specs.Prelude.{◌≤◌, ◌<◌, length, IfOk};
 ghost use Rattle.pb_base.specs.declared.limits.TheConstants.{MAX_OBSERVERS};
 
 use pb_base::{MAX_ENTRIES, NoMemory, Out, Ts};
-use pb_core::{Answer, Observer, Seat};
+use pb_core::Seat;
 use pb_memtablet::EitherTablet;
 use pb_parse::parse_script;
 use pb_registry::Registry;
 use pb_script::report;
+use pb_steps::Answer;
+use pb_verify::Observer;
 use pb_worker::{NotRun, Open, Worked, run_workers};
 use std::alloc::{AllocError, Global};
 use std::env;

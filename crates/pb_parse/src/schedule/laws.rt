@@ -1,7 +1,7 @@
 //! What a schedule is read as, and where it is at fault, in the words of its format.
 ghost use Rattle.std.specs.Prelude.{◌≡◌, ◌⊎◌, ◌↔◌, ℕ, List, Ok, Err};
 ghost use Rattle.pb_base.specs.Reading.{words_of};
-ghost use Rattle.pb_steps.specs.Observers.{ObserverOf};
+ghost use Rattle.pb_verify.specs.Observers.{ObserverOf};
 ghost use Rattle.pb_parse.specs.declared.event.Event.{Event};
 ghost use Rattle.pb_parse.specs.declared.schedule.words.Order.{Order};
 ghost use Rattle.pb_parse.specs.declared.schedule.fault.Code.{Code};

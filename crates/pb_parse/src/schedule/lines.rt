@@ -10,7 +10,7 @@ use crate::reading::{first_line, is_skipped};
 use crate::schedule::fault::{Code, ScheduleFault};
 use crate::schedule::words::{Order, order_of};
 use pb_base::{MAX_EVENTS, MAX_OBSERVERS};
-use pb_steps::Observer;
+use pb_verify::Observer;
 use std::alloc::Global;
 
 // Adds what an order asks for.

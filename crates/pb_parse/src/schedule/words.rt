@@ -2,7 +2,7 @@
 ghost use Rattle.std.specs.Prelude.{◌≡◌, ◌≤◌, ◌-◌, ◌^◌, IfOk, MatchOption, length, Ok, Err};
 ghost use Rattle.pb_base.specs.declared.limits.TheConstants.{MAX_OBSERVERS};
 ghost use Rattle.pb_base.specs.Reading.{Gives, next_word, no_word};
-ghost use Rattle.pb_steps.specs.Observers.{observed_column};
+ghost use Rattle.pb_verify.specs.Observers.{observed_column};
 ghost use Rattle.pb_parse.specs.declared.schedule.fault.Code.TheVariants as code;
 ghost use Rattle.pb_parse.specs.declared.event.Event.TheVariants as event;
 ghost use Rattle.pb_parse.specs.Left.{words_left};
@@ -15,7 +15,7 @@ use crate::schedule::fault::Code;
 use pb_base::{
     COLUMNS, Cell, Column, MAX_CHANGES, MAX_EVENTS, MAX_OBSERVERS, MAX_SEATS, ObserverNo, Row,
 };
-use pb_steps::Observer;
+use pb_verify::Observer;
 
 /// What a line asks for: an event, so many times.
 #[derive(Clone, Copy)]

@@ -33,6 +33,7 @@ const SEE_CODES: &str = "Codes and exit statuses: docs/CODES.md";
 
 // What the help says of the operands that two subcommands take.
 const MANIFEST: &str = "A JSON file with the observers and their programs";
+
 const SCRIPT: &str = "A text file with the changes, one a line";
 
 // A command without operands and options: its name, and what its help says of it.
@@ -79,7 +80,8 @@ fn run_command<'a>(alloc: Global) -> Result<Command<'a>, AllocError>
         "Makes a script's changes, runs the observers on them, and prints the report",
     );
     let workers = "How many threads make the changes, 1 to 63; 1 where none is named";
-    let swaps = "How many tablets are replaced beside the workers, 0 to 1000; 0 where none is named";
+    let swaps =
+        "How many tablets are replaced beside the workers, 0 to 1000; 0 where none is named";
     bare.arg(operand(alloc, "MANIFEST", MANIFEST))?
         .arg(operand(alloc, "SCRIPT", SCRIPT))?
         .arg(number_option(alloc, "workers", "N", 1, MAX_WORKERS, workers))?

@@ -1,7 +1,7 @@
 //! Replies and writes at both ends of the stack.
 use crate::vm::{VALUE, assembled, change, data, run};
 use pb_base::Content;
-use pb_vm::Reply;
+use pb_helpers::Reply;
 use std::rt::HostRuntime;
 use std::test::*;
 

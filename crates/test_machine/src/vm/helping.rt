@@ -1,7 +1,9 @@
 //! What the helpers do.
 use crate::vm::{VALUE, assembled, change, data, run, start_on};
 use pb_base::{Content, Row};
-use pb_vm::{Accepted, Finished, Phase, Reply, Vm};
+use pb_helpers::Reply;
+use pb_verify::Accepted;
+use pb_vm::{Finished, Phase, Vm};
 use std::alloc::Global;
 use std::process::Abort;
 use std::rt::HostRuntime;

@@ -3,7 +3,8 @@ ghost use Rattle.std.specs.Prelude.{◌<◌};
 
 use crate::vm::{assembled, change, start_on};
 use pb_base::{Column, Content, Row};
-use pb_vm::{Ask, Moved, Phase, Reply, Vm};
+use pb_helpers::{Ask, Reply};
+use pb_vm::{Moved, Phase, Vm};
 use std::alloc::Global;
 use std::process::Abort;
 use std::rt::HostRuntime;

@@ -4,8 +4,8 @@ mod bytes;
 use crate::vm::observers::bytes::COPIER;
 use crate::vm::{VALUE, change_in, coded, data, run};
 use pb_base::Content;
+use pb_helpers::Reply;
 use pb_isa::Profile;
-use pb_vm::Reply;
 use std::rt::HostRuntime;
 use std::test::*;
 

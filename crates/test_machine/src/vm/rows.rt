@@ -1,11 +1,11 @@
 //! Worked programs: their verdicts, and what they end with.
 use crate::vm::{VALUE, bytes_of, change, coded, data, run, start_on};
 use pb_base::{Content, Refused, Row, Ts};
-use pb_helpers::{HelperTable, Version};
+use pb_helpers::{Ask, HelperTable, Reply, Version};
 use pb_isa::Profile;
 use pb_registry::accept_in;
 use pb_verify::VerifyFault;
-use pb_vm::{Ask, Moved, Phase, Reply};
+use pb_vm::{Moved, Phase};
 use std::alloc::Global;
 use std::process::Abort;
 use std::rt::HostRuntime;

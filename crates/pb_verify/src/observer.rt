@@ -1,6 +1,6 @@
 //! Observers.
+use crate::accepted::Accepted;
 use pb_base::Column;
-use pb_verify::Accepted;
 use std::marker::Model;
 use std::sync::Arc;
 
@@ -14,7 +14,7 @@ pub struct Observer {
 }
 
 impl Model for Observer {
-    ghost use Rattle.pb_steps.specs.Observers.{ObserverOf, observer_code};
+    ghost use Rattle.pb_verify.specs.Observers.{ObserverOf, observer_code};
     ghost use Rattle.std.specs.Prelude.{string_bytes};
 
     ghost Value = { ObserverOf };

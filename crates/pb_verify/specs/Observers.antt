@@ -5,8 +5,6 @@ use Rattle.pb_base.specs.declared.cell.Cell.{Cell}
 use Rattle.pb_base.specs.declared.cell.Cell.TheVariants.{Data, Ack}
 use Rattle.pb_base.specs.declared.names.Row.{Row}
 use Rattle.pb_isa.specs.Programs.{JudgedOf, judged_code}
-use Rattle.pb_steps.specs.declared.step.Work.{Work}
-use Rattle.pb_steps.specs.declared.step.Work.TheVariants.{Script, Run}
 
 -- an observer: its name, the column that it observes, and its accepted program
 pub record ObserverOf : Type 0 where
@@ -39,8 +37,3 @@ acknowledgment observers o row = Ack o row (observed_column observers o)
 abbrev pub acknowledgment_at : Option ObserverOf → ℕ → Row → Option Cell
 acknowledgment_at None o row = None
 acknowledgment_at (Some observer) o row = Some (Ack o row observer.column)
-
--- the acknowledgment of a run, where there is its observer
-abbrev pub acknowledgment_by : List ObserverOf → Work → Option Cell
-acknowledgment_by observers Script = None
-acknowledgment_by observers (Run o row) = acknowledgment_at (slice_get observers o) o row
