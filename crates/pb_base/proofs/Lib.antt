@@ -1,1 +1,2 @@
 mod SameBatches
+pub mod Parts

@@ -1,7 +1,7 @@
 //! Where bytes are written.
-ghost use Rattle.std.specs.Prelude.{◌≡◌, ◌≤◌, ◌||◌, ◌&&◌, nat_lt, length, List, ℕ, Bool, Option, IfOk};
-ghost use Rattle.std.specs.Io.KnownBytes.{WriteAppends};
-ghost use Rattle.pb_base.specs.Sink.{took_none};
+ghost use Rattle.std.specs.Prelude.{◌≡◌, ◌≤◌, ◌||◌, ◌&&◌, nat_lt, length, true, List, ℕ, Bool, Option, IfOk, OnOk, OnErr};
+ghost use Rattle.std.specs.Io.KnownBytes.{Appends, WriteAppends};
+ghost use Rattle.pb_base.specs.Sink.{took_none, AppendsPart};
 
 use std::io::Write;
 use thiserror::Error;
@@ -27,6 +27,24 @@ pub trait Sink {
     /// Whether a write of a piece that isn't empty has failed or taken no byte.
     fn has_failed(&self) -> bool
         ensures { result ≡ failed self.now };
+
+    /// Writes all of the bytes, or a beginning of them where a write fails or takes none.
+    fn write_all(&mut self, bytes: &[u8]) -> Result<(), SinkFault>
+        ensures taken { OnOk result (Appends (taken self.old) (taken self.new) bytes.now) }
+        ensures quiet { OnOk result (failed self.new ≡ failed self.old) }
+        ensures part { OnErr result (AppendsPart (taken self.old) (taken self.new) bytes.now) }
+        ensures fails { OnErr result (failed self.new ≡ true) }
+    {
+        let mut rest = bytes;
+        while !rest.is_empty() {
+            let count = self.write(rest)?;
+            if count == 0 {
+                return Err(SinkFault);
+            }
+            rest = &rest[count..];
+        }
+        Ok(())
+    }
 }
 
 /// The sink over a writer. It tells what the writer tells.

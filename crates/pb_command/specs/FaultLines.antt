@@ -5,7 +5,7 @@ use Rattle.std.specs.Fmt.{decimal}
 use Rattle.std.specs.Io.KnownBytes.{Appends}
 use Rattle.pb_base.specs.declared.refusal.Refusal.{Refusal}
 use Rattle.pb_registry.specs.FaultTexts.{fault_text}
-use Rattle.pb_texts.specs.Sinks.{AppendsPart}
+use Rattle.pb_base.specs.Sink.{AppendsPart}
 use Rattle.pb_driver.specs.declared.fault.RunFault.{RunFault}
 use Rattle.pb_driver.specs.declared.fault.RunFault.TheVariants as runs
 use Rattle.pb_driver.specs.declared.run.Ran.{Ran}

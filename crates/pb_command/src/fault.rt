@@ -7,7 +7,6 @@ use pb_asm::AsmFault;
 use pb_base::{NoMemory, Refusal, Sink};
 use pb_driver::{Ran, RunFault};
 use pb_parse::{ScheduleFault, ScriptFault};
-use pb_texts::write_all;
 use pb_world::WorldFault;
 use std::alloc::{AllocError, Global};
 
@@ -167,7 +166,7 @@ pub fn tell<E: Sink>(alloc: Global, fault: &Fault, err: &mut E)
     ensures { Tells fault.now (E.taken err.old) (E.taken err.new) (E.failed err.new) }
 {
     let _ = match lines_of(alloc, fault) {
-        Ok(lines) => write_all(err, lines.as_bytes()),
-        Err(_) => write_all(err, b"no memory\n"),
+        Ok(lines) => err.write_all(lines.as_bytes()),
+        Err(_) => err.write_all(b"no memory\n"),
     };
 }

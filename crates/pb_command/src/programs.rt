@@ -1,7 +1,7 @@
 //! Programs assembled, listed and checked.
 ghost use Rattle.std.specs.Io.KnownBytes.{Appends};
 ghost use Rattle.std.specs.Prelude.{◌≡◌, true, false, IfOk, IfErr, string_bytes};
-ghost use Rattle.pb_texts.specs.Sinks.{AppendsPart};
+ghost use Rattle.pb_base.specs.Sink.{AppendsPart};
 ghost use Rattle.pb_command.specs.declared.fault.Fault.TheVariants as faults;
 ghost use Rattle.pb_command.specs.PathFaults.{IsUnreadAt};
 ghost use Rattle.pb_command.specs.Programs.{IsNoProgramText, IsTextFault, IsMemoryFault};
@@ -18,7 +18,6 @@ use pb_decode::{DecodeFault, decode_in, encode};
 use pb_helpers::{HelperTable, Version};
 use pb_isa::Profile;
 use pb_registry::accept_in;
-use pb_texts::write_all;
 use pb_verify::VerifyFault;
 use std::alloc::{AllocError, Global};
 
@@ -149,7 +148,7 @@ pub fn write_answer<'a, O: Sink>(answer: &Answer, out: &mut O) -> Result<Verdict
     ensures err { IfErr result (λ f. (f ≡ faults.Output) × (O.failed out.new ≡ true)
         × AppendsPart (O.taken out.old) (O.taken out.new) (string_bytes answer.now.text)) }
 {
-    match write_all(out, answer.text.as_bytes()) {
+    match out.write_all(answer.text.as_bytes()) {
         Ok(()) => Ok(answer.verdict),
         Err(_) => Err(Fault::Output),
     }

@@ -14,7 +14,6 @@ use pb_core::Shared;
 use pb_history::Entry;
 use pb_steps::{Answer, Declared, Phase, Step};
 use pb_store::Tablet;
-use pb_texts::write_all;
 use std::alloc::Global;
 use std::collections::BTreeMap;
 
@@ -120,7 +119,7 @@ pub fn report<T: Tablet, S: Sink>(
     ensures { Reports shared.now (S.taken sink.old) (S.taken sink.new) (S.failed sink.new) result }
 {
     let text = text_of(alloc, shared)?;
-    match write_all(sink, text.as_bytes()) {
+    match sink.write_all(text.as_bytes()) {
         Ok(()) => Ok(()),
         Err(_) => Err(ReportFault::Output),
     }

@@ -9,7 +9,6 @@ use pb_base::{Reason, Sink};
 use pb_parse::Event;
 use pb_script::{ReportFault, report};
 use pb_store::Tablet;
-use pb_texts::write_all;
 use pb_world::{Note, World, WorldFault};
 use std::alloc::Global;
 use std::slice;
@@ -54,7 +53,7 @@ fn tell_event<T: Tablet, S: Sink>(
     let mut line = open_line(alloc, world, number, event)?;
     let note = happen(alloc, world, number, event)?;
     end_line(&mut line, world.shared().observers(), &note)?;
-    match write_all(sink, line.as_bytes()) {
+    match sink.write_all(line.as_bytes()) {
         Ok(()) => Ok(()),
         Err(_) => Err(StoryFault::Output),
     }

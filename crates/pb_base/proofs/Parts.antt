@@ -3,9 +3,8 @@ use Rattle.std.specs.Io.KnownBytes.{Appends, Keeps}
 use Rattle.std.proofs.KnownBytes.{Appends-nil, Appends-trans, Appends-kept}
 use Rattle.std.proofs.lemmas.List.{take-append-drop, append-nil}
 use Rattle.std.specs.Prelude.{◌||◌, ◌&&◌}
-use Rattle.pb_base.specs.Sink.{took_none}
 use Rattle.pb_base.specs.declared.sink.SinkFault.{SinkFault}
-use Rattle.pb_texts.specs.Sinks.{IsPart, AppendsPart}
+use Rattle.pb_base.specs.Sink.{took_none, IsPart, AppendsPart}
 
 pub begins : (old : Option (List ℕ)) (bytes : List ℕ) → IsPart old old bytes bytes
 begins old bytes = ([], refl, Appends-nil old)
