@@ -42,6 +42,7 @@ Tells (Err code.Range) = Unit {0}
 Tells (Err code.TooLong) = ⊥
 Tells (Err code.Nothing) = ⊥
 
+-- of two readings one after the other the fault is one of these where it is of each
 then_tells : {A B : Type 0} (r : Result A Code) (f : A → Result B Code) → Tells r → ((x : A) → Tells (f x)) → Tells (r >>= f)
 then_tells (Ok x) f h k = k x
 then_tells (Err code.Memory) f h k = h
@@ -51,14 +52,17 @@ then_tells (Err code.Range) f h k = h
 then_tells (Err code.TooLong) f h k = h
 then_tells (Err code.Nothing) f h k = h
 
+-- a test changes nothing of that
 if_tells : {A : Type 0} (b : Bool) (r s : Result A Code) → Tells r → Tells s → Tells (cond b r s)
 if_tells true r s h k = h
 if_tells false r s h k = k
 
+-- nor does a fault of these in place of what isn't there
 there_tells : {A : Type 0} (c : Code) (o : Option A) → Tells {A = A} (Err c) → Tells (ok_or o c)
 there_tells c None h = h
 there_tells c (Some x) h = tt
 
+-- a number is told as of another form or out of range, and so is all that is made of numbers below
 number_tells : (greatest : ℕ) (text : List ℕ) → Tells (numeral_upto code.Form code.Range greatest text)
 number_tells greatest text = if_tells (is_numeral text) _ (Err code.Form) (if_tells (nat_le (digits_value 10 text) greatest) (Ok (digits_value 10 text)) (Err code.Range) tt tt) tt
 
@@ -107,6 +111,7 @@ at_plus_tells : (text : List ℕ) (o : Option (List ℕ × List ℕ)) → Tells 
 at_plus_tells text None = at_minus_tells (split_once 45 text)
 at_plus_tells text (Some sides) = based_tells sides.0 (plus (2 ^ 15) sides.1) (plus_tells (2 ^ 15) sides.1)
 
+-- a place is, too
 place_tells : (text : List ℕ) → Tells (place_of_text text)
 unfolding place_of_text
 place_tells text = then_tells (ok_or (strip_prefix 91 text) code.Form) _ (there_tells _ (strip_prefix 91 text) tt) (λ front. then_tells (ok_or (strip_suffix 93 front) code.Form) _ (there_tells _ (strip_suffix 93 front) tt) (λ inner. at_plus_tells inner (split_once 43 inner)))
@@ -119,10 +124,12 @@ ended_tells : (texts : List (List ℕ)) → Tells (no_word code.Form texts)
 ended_tells [] = tt
 ended_tells (text ∷ texts) = tt
 
+-- and a word that lacks its comma
 comma_tells : (texts : List (List ℕ)) → Tells (comma texts)
 unfolding comma
 comma_tells texts = then_tells (next_word code.Form texts) _ (field_tells texts) (λ first. then_tells (ok_or (strip_suffix 44 first.0) code.Form) _ (there_tells _ (strip_suffix 44 first.0) tt) (λ text. tt))
 
+-- a last word, where its reading is
 last_tells : {A : Type 0} (read : List ℕ → Result A Code) (texts : List (List ℕ)) → ((text : List ℕ) → Tells (read text)) → Tells (last read texts)
 unfolding last
 last_tells read texts h = then_tells (next_word code.Form texts) _ (field_tells texts) (λ first. then_tells (read first.0) _ (h first.0) (λ x. then_tells (no_word code.Form first.1) _ (ended_tells first.1) (λ end. tt)))
@@ -155,6 +162,7 @@ jump_if_tells : (make : Reg → Operand → ℤ → Insn) (texts : List (List �
 unfolding jump_if_operands
 jump_if_tells make texts = then_tells (comma texts) _ (comma_tells texts) (λ first. then_tells (reg_of_text first.0) _ (reg_tells first.0) (λ r. then_tells (comma first.1) _ (comma_tells first.1) (λ second. then_tells (operand_of_text second.0) _ (operand_tells second.0) (λ a. then_tells (last offset_of_text second.1) _ (last_tells offset_of_text second.1 offset_tells) (λ o. tt)))))
 
+-- so the operands of any word are told as of another form or out of range, and never as an unknown word
 operands_tell : (w : Word) (texts : List (List ℕ)) → Tells (operands w texts)
 operands_tell (word.Alu op w) texts = alu_tells (insn.Alu op w) texts
 operands_tell (word.MovSx w) texts = mov_sx_tells w texts
@@ -180,6 +188,7 @@ first_step b bs rest false is h =
     let next : suc (position_or_len blank bs) ≡ 1 + position_or_len blank bs = omega arith in
     (rest, rw (is, h) (ap (λ (k : ℕ). take k (b ∷ bs) ∷ rest) next))
 
+-- the first of a line's words is what stands before its first blank
 first_word : (line : List ℕ) → (others : List (List ℕ)) × (slice_split blank line ≡ before_first blank line ∷ others)
 first_word [] = ([], refl)
 first_word (b ∷ bs) = let h = first_word bs in first_step b bs h.0 (blank b) refl h.1
@@ -188,18 +197,22 @@ first_word (b ∷ bs) = let h = first_word bs in first_step b bs h.0 (blank b) r
 abbrev Unnamed : Profile → List ℕ → Type 0
 Unnamed q text = (w : Word) → IsWordOf q w → text ≢ name w
 
+-- where 80 is told, the first word is no name of the profile's, since operands don't tell 80
 named_cases : (q : Profile) (text : List ℕ) (texts : List (List ℕ)) (o : Option Word) → word_named q text ≡ o → (ok_or o code.Word >>= λ w. operands w texts) ≡ Err code.Word → Unnamed q text
 named_cases q text texts None is h w has same = let no : None ≡ Some w = sym is ∙ ap (word_named q) same ∙ word_back q w has in absurd cc
 named_cases q text texts (Some v) is h w has same = absurd (subst Tells h (operands_tell v texts))
 
+-- and where it is none, no word is found
 unnamed : (q : Profile) (text : List ℕ) (o : Option Word) → word_named q text ≡ o → Unnamed q text → word_named q text ≡ None
 unnamed q text None is none = is
 unnamed q text (Some w) is none = let n = named_is q (word_in text words) w is in absurd (none w n.1 (word_among text words w n.0))
 
+-- 80 is told of a line's words exactly where the first is no name of the profile's
 words_word : (q : Profile) (text : List ℕ) (texts : List (List ℕ)) → (insn_of_words q (text ∷ texts) ≡ Err code.Word) ↔ Unnamed q text
 unfolding insn_of_words
 words_word q text texts = (named_cases q text texts (word_named q text) refl, λ none. ap (λ (o : Option Word). ok_or o code.Word >>= λ w. operands w texts) (unnamed q text (word_named q text) refl none))
 
+-- 80 is told of a line exactly where what stands before its first blank is no name
 pub word_told : (q : Profile) (line : List ℕ) → (line_of q line ≡ Err code.Word) ↔ ((w : Word) → IsWordOf q w → before_first (λ b. b == 32) line ≢ name w)
 word_told q line =
     let f = first_word line in
@@ -208,15 +221,18 @@ word_told q line =
 
 -- ---- the slots
 
+-- operands don't tell 83
 words_short : (texts : List (List ℕ)) (o : Option Word) → (ok_or o code.Word >>= λ w. operands w texts) ≡ Err code.TooLong → ⊥
 words_short texts None h = absurd cc
 words_short texts (Some w) h = subst Tells h (operands_tell w texts)
 
+-- nor does a line by itself
 line_short : (q : Profile) (texts : List (List ℕ)) → insn_of_words q texts ≡ Err code.TooLong → ⊥
 unfolding insn_of_words
 line_short q [] h = absurd cc
 line_short q (text ∷ texts) h = words_short texts (word_named q text) h
 
+-- the line is an instruction's that ends past the profile's last slot
 abbrev PastEnd : Profile → List Insn → List ℕ → Type 0
 PastEnd q front line = (i : Insn) × (line ≡ insn_text i) × Fits i × IsOf q i × (max_slots q < slots (front ++ i ∷ []))
 
@@ -224,12 +240,14 @@ slots_past : (front p : List Insn) (b : Bool) → cond b (Err code.TooLong) (Ok 
 slots_past front p true h = refl
 slots_past front p false h = absurd cc
 
+-- a fault, as the answer of a reading that would give an A
 abbrev pub failed : (A : Type 0) → Code → Result A Code
 failed A c = Err c
 
 same_code : (A : Type 0) (c d : Code) → failed A c ≡ failed A d → c ≡ d
 same_code A c d h = cc
 
+-- a fault is the same whatever the reading would have given
 pub moved : (A B : Type 0) (c d : Code) → failed A c ≡ failed A d → failed B c ≡ failed B d
 moved A B c d h = ap (failed B) (same_code A c d h)
 
@@ -243,10 +261,12 @@ shown_past : (q : Profile) (front : List Insn) (line : List ℕ) (b : Bool) → 
 shown_past q front line true h = absurd cc
 shown_past q front line false h = read_past q front line (line_of q line) refl h
 
+-- a line that is such an instruction's is told as 83
 past_told : (q : Profile) (front : List Insn) (line : List ℕ) → PastEnd q front line → with_insn_line q front line ≡ Err code.TooLong
 unfolding with_insn_line
 past_told q front line h = ap (with_insn_line q front) h.1 ∙ rw (insn_shown h.0, line_back q h.0 h.2 h.3, lt-ltb _ _ h.4) refl
 
+-- and 83 is told of no other line
 pub too_long_told : (q : Profile) (front : List Insn) (line : List ℕ) → (with_insn_line q front line ≡ Err code.TooLong) ↔ ((i : Insn) × (line ≡ insn_text i) × Fits i × IsOf q i × (max_slots q < slots (front ++ i ∷ [])))
 unfolding with_insn_line
 too_long_told q front line = (shown_past q front line (is_skipped line), past_told q front line)
@@ -265,10 +285,12 @@ shown_own : (q : Profile) (front : List Insn) (line : List ℕ) (c : Code) (b : 
 shown_own q front line c true h = absurd cc
 shown_own q front line c false h = read_own q front line c (line_of q line) refl h
 
+-- after lines before it a line tells its own fault, or 83
 pub own_told : (q : Profile) (front : List Insn) (line : List ℕ) (c : Code) → with_insn_line q front line ≡ Err c → (c ≡ code.TooLong) ⊎ (line_of q line ≡ Err c)
 unfolding with_insn_line
 own_told q front line c h = shown_own q front line c (is_skipped line) h
 
+-- what operands tell is 81 or 82
 told_so : (c : Code) → Tells (failed Insn c) → (c ≡ code.Word) ⊎ (c ≡ code.Form) ⊎ (c ≡ code.Range)
 told_so code.Memory h = absurd h
 told_so code.Word h = absurd h
@@ -286,17 +308,21 @@ unfolding insn_of_words
 fields_told q [] c h = inr (inl (sym (same_code Insn code.Form c h)))
 fields_told q (text ∷ texts) c h = words_told texts (word_named q text) c h
 
+-- a line by itself tells 80, 81 or 82
 pub line_told : (q : Profile) (line : List ℕ) (c : Code) → line_of q line ≡ Err c → (c ≡ code.Word) ⊎ (c ≡ code.Form) ⊎ (c ≡ code.Range)
 line_told q line c h = fields_told q (slice_split blank line) c h
 
 -- ---- no instruction
 
+-- where 84 is told, no line has an instruction, since a line's fault has a number from 1
 has_none : (q : Profile) (text : List ℕ) → IsFirstFault q text 0 84 ⊎ HasNone q text 0 84 → instruction_lines text ≡ []
 has_none q text (inl f) = let k = f.number in let no : ⊥ = omega (arith, k) in absurd no
 has_none q text (inr f) = let r = read q 0 [] [] (slice_split (λ b. b == 10) text) f.read (omega arith) in r.lines ∙ ap (map insn_text) (sym r.whole)
 
+-- where no line has one, 84 is told
 none_told : (q : Profile) (text : List ℕ) → instruction_lines text ≡ [] → program_of_text q text ≡ Err (0, 84)
 none_told q text h = ap (λ (r : Result (List Insn) (ℕ × ℕ)). r >>= some_of q) (back q 0 (slice_split (λ b. b == 10) text) [] [] h tt tt (omega arith))
 
+-- 84 is told exactly where each line is empty or a remark
 pub nothing_told : (q : Profile) (text : List ℕ) → (program_of_text q text ≡ Err (0, 84)) ↔ (instruction_lines text ≡ [])
 nothing_told q text = (λ h. has_none q text (first q text 0 84 h), none_told q text)

@@ -50,6 +50,7 @@ use Rattle.pb_asm.proofs.NamesAndDigits.{above, above_append, above_less, cut_th
 not_empty : (n : ℕ) → 0 < n → (n == 0) ≡ false
 not_empty n h = grind arith
 
+-- a numeral's three tests, of a text that has digits, no zero in front and nothing else
 tests : (a b c d : Bool) → a ≡ false → (b && c) ≡ false → d ≡ true → cond a false (cond (b && c) false d) ≡ true
 tests a b c d p q r = rw (p, q, r) refl
 
@@ -61,15 +62,18 @@ no_zero (suc n) lt =
     let e : (slice_index (decimal (suc n)) 0 == 48) ≡ false = grind (arith, f) in
     rw e refl
 
+-- a decimal is a numeral
 number_is : (n : ℕ) → n < 2 ^ 64 → is_numeral (decimal n) ≡ true
 number_is n lt = tests (length (decimal n) == 0) (slice_index (decimal n) 0 == 48) (nat_lt 1 (length (decimal n))) (list_all is_ascii_digit (decimal n)) (not_empty _ (decimal_nonempty n lt)) (no_zero n lt) (digits_decimal own n lt)
 
+-- a number is read from its decimal
 pub number_back : (greatest n : ℕ) → n ≤ greatest → n < 2 ^ 64 → numeral_upto code.Form code.Range greatest (decimal n) ≡ Ok n
 number_back greatest n le lt =
     let v : digits_value 10 (decimal n) ≡ n = digits_value-decimal own n lt in
     let e : nat_le (digits_value 10 (decimal n)) greatest ≡ true = le-leb _ _ (omega (arith, v, le)) in
     rw (number_is n lt, e) (ap Ok v)
 
+-- a negative number is read from its digits, and one that isn't from its own
 minus_back : (greatest n : ℕ) → suc n ≤ greatest → suc n < 2 ^ 64 → minus greatest (decimal (suc n)) ≡ Ok (negsuc n)
 unfolding minus
 minus_back greatest n le lt = let e : (suc n == 0) ≡ false = grind arith in rw (number_back greatest (suc n) le lt, e) refl
@@ -82,10 +86,12 @@ front_cases : (c x : ℕ) (xs : List ℕ) → c < 48 → (b : Bool) → nat_le 4
 front_cases c x xs lt true is h = let q = leb-true 48 x is in let e : (x == c) ≡ false = grind (arith, q, lt) in rw e refl
 front_cases c x xs lt false is h = absurd cc
 
+-- digits and letters don't begin with a sign
 pub no_front : (c : ℕ) (xs : List ℕ) → c < 48 → above 48 xs ≡ true → strip_prefix c xs ≡ None
 no_front c [] lt h = refl
 no_front c (x ∷ xs) lt h = front_cases c x xs lt (nat_le 48 x) refl h
 
+-- an immediate is read from its text, and so is an offset
 imm_back : (k : ℤ) → FitsSigned w32 k → imm_of_text (signed_decimal k) ≡ Ok k
 imm_back (pos n) fits =
     let lt : n < 2 ^ 31 = fits.sfits in
@@ -105,6 +111,7 @@ offset_back (negsuc n) fits =
 
 -- ---- bits
 
+-- a size narrower than the width is found by its bits
 pub size_there : (w : Width) (z : Size) → is_narrower z w ≡ true → size_in w (size_bits z) sizes ≡ Some z
 size_there Bits32 B h = refl
 size_there Bits64 B h = refl
@@ -114,21 +121,25 @@ size_there Bits32 W h = absurd cc
 size_there Bits64 W h = refl
 size_there w Dw h = absurd cc
 
+-- a size's bits are a number that the text can have
 pub few_bits : (z : Size) → size_bits z < 2 ^ 64
 few_bits B = omega arith
 few_bits H = omega arith
 few_bits W = omega arith
 few_bits Dw = omega arith
 
+-- a move's bits are read from their decimal
 bits_back : (w : Width) (z : Size) → is_narrower z w ≡ true → bits_of_text w (decimal (size_bits z)) ≡ Ok z
 unfolding bits_of_text
 bits_back w z h = let lt = few_bits z in rw (number_back (2 ^ 64 - 1) (size_bits z) (omega (arith, lt)) lt, size_there w z h) refl
 
 -- ---- registers, operands, places
 
+-- a register is read from its name
 pub reg_read : (r : Reg) → reg_of_text (reg_name r) ≡ Ok r
 reg_read r = rw (reg_back r) refl
 
+-- a register's name begins with an r
 first_letter : (r : Reg) → (slice_index (reg_name r) 0 == 114) ≡ true
 first_letter R0 = refl
 first_letter R1 = refl
@@ -145,6 +156,7 @@ first_letter R10 = refl
 is_r : (r : Reg) → (slice_index (reg_name r) 0 == 114) ≡ true
 is_r r = first_letter r
 
+-- an immediate's text doesn't
 not_r : (k : ℤ) → FitsSigned w32 k → (slice_index (signed_decimal k) 0 == 114) ≡ false
 not_r (pos n) fits =
     let lt : n < 2 ^ 31 = fits.sfits in
@@ -153,6 +165,7 @@ not_r (pos n) fits =
     grind (arith, g)
 not_r (negsuc n) fits = refl
 
+-- so an operand is read as what it is
 pub operand_back : (a : Operand) → OperandFits a → operand_of_text (operand_text a) ≡ Ok a
 unfolding operand_of_text
 operand_back (operand.Imm k) fits = rw (not_r k fits, imm_back k fits) refl
@@ -176,6 +189,7 @@ inside b (negsuc n) fits =
     ∙ ap at_minus (around_there 45 48 (reg_name b) (decimal (suc n)) (omega arith) (reg_above b))
     ∙ based_back b (negsuc n) (minus (2 ^ 15) (decimal (suc n))) (minus_back (2 ^ 15) n (omega (arith, lt)) big)
 
+-- a place is read from its text
 pub place_back : (b : Reg) (o : ℤ) → FitsSigned w16 o → place_of_text (place_text b o) ≡ Ok (b, o)
 unfolding place_of_text
 place_back b o fits =
@@ -185,6 +199,7 @@ place_back b o fits =
 
 -- ---- the words of a line
 
+-- no blank in a register's name, nor in the texts of numbers, operands and places
 pub reg_line : (r : Reg) → above 33 (reg_name r) ≡ true
 reg_line r = above_less 33 48 (reg_name r) (omega arith) (reg_above r)
 
@@ -206,17 +221,21 @@ operand_line (operand.Reg r) fits = reg_line r
 pub place_line : (b : Reg) (o : ℤ) → FitsSigned w16 o → above 33 (place_text b o) ≡ true
 place_line b o fits = above_append 33 (reg_name b) (offset_text o ++ 93 ∷ []) (reg_line b) (above_append 33 (offset_text o) (93 ∷ []) (offset_line o fits) refl)
 
+-- a line's words
 abbrev pub blanks : List ℕ → List (List ℕ)
 blanks text = slice_split (λ b. b == 32) text
 
+-- a line of operands is cut behind the first comma
 pub comma_cut : (x y : List ℕ) → above 33 x ≡ true → blanks (x ++ (codes ", " ++ y)) ≡ (x ++ 44 ∷ []) ∷ blanks y
 comma_cut x y h =
     let grouped : x ++ (codes ", " ++ y) ≡ (x ++ 44 ∷ []) ++ 32 ∷ y = sym (append_assoc x (44 ∷ []) (32 ∷ y)) in
     ap blanks grouped ∙ cut_there 32 33 (x ++ 44 ∷ []) y (omega arith) (above_append 33 x (44 ∷ []) h refl)
 
+-- and behind the first word
 pub name_cut : (w : Word) (y : List ℕ) → blanks (name w ++ (codes " " ++ y)) ≡ name w ∷ blanks y
 name_cut w y = cut_there 32 48 (name w) y (omega arith) (name_above w)
 
+-- a text without a blank is one word
 pub last_cut : (x : List ℕ) → above 33 x ≡ true → blanks x ≡ x ∷ []
 last_cut x h = cut_none 32 33 x (omega arith) h
 
@@ -234,14 +253,17 @@ three_words w x y z h k l =
     name_cut w (x ++ (codes ", " ++ (y ++ (codes ", " ++ z)))) ∙ ap (λ (ws : List (List ℕ)). name w ∷ ws) (comma_cut x (y ++ (codes ", " ++ z)) h
     ∙ ap (λ (ws : List (List ℕ)). (x ++ 44 ∷ []) ∷ ws) (comma_cut y z k ∙ ap (λ (ws : List (List ℕ)). (y ++ 44 ∷ []) ∷ ws) (last_cut z l)))
 
+-- a line that begins with a word is read by its operands
 pub first_read : (q : Profile) (w : Word) (texts : List (List ℕ)) → IsWordOf q w → insn_of_words q (name w ∷ texts) ≡ operands w texts
 unfolding insn_of_words
 first_read q w texts is = rw (word_back q w is) refl
 
+-- a word is read without its comma
 pub comma_read : (x : List ℕ) (texts : List (List ℕ)) → comma ((x ++ 44 ∷ []) ∷ texts) ≡ Ok (x, texts)
 unfolding comma
 comma_read x texts = rw (before_there 44 x) refl
 
+-- a last word is read where it alone is left
 last_read : {A : Type 0} (read : List ℕ → Result A Code) (x : List ℕ) (a : A) → read x ≡ Ok a → last read (x ∷ []) ≡ Ok a
 unfolding last
 last_read read x a h = rw h refl
@@ -260,10 +282,12 @@ first_of (insn.JumpIf c w d a o) = word.JumpIf c w
 first_of (insn.Call k) = word.Call
 first_of insn.Exit = word.Exit
 
+-- a word that either profile has is in any
 has_both : (w : Word) → IsWordOf One w → IsWordOf Two w → (q : Profile) → IsWordOf q w
 has_both w one two One = one
 has_both w one two Two = two
 
+-- a profile that has an extending move has its word, and so of loads
 has_move : (q : Profile) (w : Width) (z : Size) (d s : Reg) → IsOf q (insn.MovSx w z d s) → IsWordOf q (word.MovSx w)
 has_move One w z d s is = is
 has_move Two w z d s is = refl
@@ -292,6 +316,7 @@ takes_narrower : (q : Profile) (w : Width) (z : Size) (d s : Reg) → IsOf q (in
 takes_narrower One w z d s is = absurd cc
 takes_narrower Two w z d s is = is
 
+-- each instruction is read from its line: a case for each
 pub line_back : (q : Profile) (i : Insn) → Fits i → IsOf q i → line_of q (insn_text i) ≡ Ok i
 unfolding alu_operands mov_sx_operands load_imm_operands load_operands store_imm_operands store_operands jump_if_operands
 line_back q (insn.Alu op w d a) fits is =
@@ -328,6 +353,7 @@ line_back q insn.Exit fits is = ap (insn_of_words q) (cut_none 32 48 (name word.
 
 -- ---- the lines of a listing
 
+-- no word has an empty name, since none is found by it
 name_nil : (w : Word) (xs : List ℕ) → name w ≡ xs → 0 < length xs
 unfolding words
 name_nil w [] e = let h : word_in [] words ≡ Some w = sym (ap (λ (t : List ℕ). word_in t words) e) ∙ word_there w in absurd cc
@@ -337,6 +363,7 @@ shown_cases : (x : ℕ) (xs ys : List ℕ) (b : Bool) → nat_le 48 x ≡ b → 
 shown_cases x xs ys true is h = let q = leb-true 48 x is in let e : (x == 35) ≡ false = grind (arith, q) in let f : (length (x ∷ (xs ++ ys)) == 0) ≡ false = grind arith in rw (f, e) refl
 shown_cases x xs ys false is h = absurd cc
 
+-- a line that begins with a letter or a digit isn't skipped
 shown : (xs ys : List ℕ) → 0 < length xs → above 48 xs ≡ true → is_skipped (xs ++ ys) ≡ false
 shown [] ys some h = let no : ⊥ = omega (arith, some) in absurd no
 shown (x ∷ xs) ys some h = shown_cases x xs ys (nat_le 48 x) refl h
@@ -344,6 +371,7 @@ shown (x ∷ xs) ys some h = shown_cases x xs ys (nat_le 48 x) refl h
 pub name_shown : (w : Word) (ys : List ℕ) → is_skipped (name w ++ ys) ≡ false
 name_shown w ys = shown (name w) ys (name_nil w (name w) refl) (name_above w)
 
+-- so an instruction's line isn't skipped
 pub insn_shown : (i : Insn) → is_skipped (insn_text i) ≡ false
 insn_shown (insn.Alu op w d a) = name_shown (word.Alu op w) (codes " " ++ (reg_name d ++ (codes ", " ++ operand_text a)))
 insn_shown (insn.MovSx w z d s) = name_shown (word.MovSx w) (codes " " ++ (reg_name d ++ (codes ", " ++ (reg_name s ++ (codes ", " ++ decimal (size_bits z))))))
@@ -367,6 +395,7 @@ less x h = above_less 32 33 x (omega arith) h
 with_comma : (x y : List ℕ) → above 33 x ≡ true → above 32 y ≡ true → above 32 (x ++ (codes ", " ++ y)) ≡ true
 with_comma x y h k = above_append 32 x (codes ", " ++ y) (less x h) k
 
+-- no newline in an instruction's line: a case for each
 insn_above : (i : Insn) → Fits i → above 32 (insn_text i) ≡ true
 insn_above (insn.Alu op w d a) fits = with_name (word.Alu op w) (reg_name d ++ (codes ", " ++ operand_text a)) (with_comma (reg_name d) (operand_text a) (reg_line d) (less (operand_text a) (operand_line a fits)))
 insn_above (insn.MovSx w z d s) fits = with_name (word.MovSx w) (reg_name d ++ (codes ", " ++ (reg_name s ++ (codes ", " ++ decimal (size_bits z))))) (with_comma (reg_name d) (reg_name s ++ (codes ", " ++ decimal (size_bits z))) (reg_line d) (with_comma (reg_name s) (decimal (size_bits z)) (reg_line s) (less (decimal (size_bits z)) (decimal_line (size_bits z) (few_bits z)))))
@@ -380,9 +409,11 @@ insn_above (insn.JumpIf c w d a o) fits = with_name (word.JumpIf c w) (reg_name 
 insn_above (insn.Call k) fits = with_name word.Call (signed_decimal k) (less (signed_decimal k) (signed_line k fits))
 insn_above insn.Exit fits = above_less 32 48 (name word.Exit) (omega arith) (name_above word.Exit)
 
+-- a text's lines
 abbrev newlines : List ℕ → List (List ℕ)
 newlines text = slice_split (λ b. b == 10) text
 
+-- the lines of a listing are those of its instructions, and an empty one behind the last newline
 lines_cut : (p : List Insn) → AllByRecursion Fits p → newlines (listing p) ≡ map insn_text p ++ [] ∷ []
 lines_cut [] fits = refl
 lines_cut (i ∷ p) fits =
@@ -391,16 +422,19 @@ lines_cut (i ∷ p) fits =
 
 -- ---- and of a text
 
+-- two lists of instructions take the slots of both
 pub slots_append : (p q : List Insn) → slots (p ++ q) ≡ slots p + slots q
 slots_append [] q = omega arith
 slots_append (i ∷ p) q =
     let a = length-append (places_of i) (layout (p ++ q)) in let b = length-append (places_of i) (layout p) in let h = slots_append p q in
     omega (arith, a, b, h)
 
+-- the line of one more instruction is read, where the slots suffice
 pub added : (q : Profile) (before : List Insn) (i : Insn) → Fits i → IsOf q i → slots (before ++ i ∷ []) ≤ max_slots q → with_insn_line q before (insn_text i) ≡ Ok (before ++ i ∷ [])
 unfolding with_insn_line
 added q before i fits is most = rw (insn_shown i, line_back q i fits is, le-ltb (max_slots q) (slots (before ++ i ∷ [])) most) refl
 
+-- and so are the lines of several, one after the other
 read_on : (q : Profile) (n : ℕ) (before p : List Insn) → AllByRecursion Fits p → AllByRecursion (IsOf q) p → slots (before ++ p) ≤ max_slots q → insns_of_lines q n before (map insn_text p ++ [] ∷ []) ≡ Ok (before ++ p)
 unfolding with_insn_line
 read_on q n before [] fits is most = ap Ok (sym (append-nil before))
@@ -412,10 +446,12 @@ read_on q n before (i ∷ p) fits is most =
     ap (λ (r : Result (List Insn) Code). (numbered asm_code n r >>= λ is. insns_of_lines q (n + 1) is (map insn_text p ++ [] ∷ []))) (added q before i fits.0 is.0 one_more)
     ∙ read_on q (n + 1) (before ++ i ∷ []) p fits.1 is.1 whole ∙ ap Ok grouped
 
+-- instructions that take some slots are a program
 pub some_there : (q : Profile) (is : List Insn) → 0 < slots is → some_of q is ≡ Ok (record { profile = q; insns = is })
 some_there q [] some = let no : ⊥ = omega (arith, some) in absurd no
 some_there q (i ∷ p) some = refl
 
+-- a listing is read as its program
 pub listing_back : (p : ProgramOf) → IsProgram p → AllByRecursion Fits p.insns → program_of_text p.profile (listing p.insns) ≡ Ok p
 listing_back p is fits =
     ap (λ (ls : List (List ℕ)). insns_of_lines p.profile 0 [] ls >>= some_of p.profile) (lines_cut p.insns fits)

@@ -29,14 +29,17 @@ abbrev pub above : ℕ → List ℕ → Bool
 above n [] = true
 above n (b ∷ bs) = cond (nat_le n b) (above n bs) false
 
+-- two tests that both have to hold
 both : (a : Bool) (x : Bool) → cond a x false ≡ true → (a ≡ true) × (x ≡ true)
 both true x h = (refl, h)
 both false x h = absurd cc
 
+-- it holds of two texts together where it holds of each
 pub above_append : (n : ℕ) (xs ys : List ℕ) → above n xs ≡ true → above n ys ≡ true → above n (xs ++ ys) ≡ true
 above_append n [] ys h k = k
 above_append n (x ∷ xs) ys h k = let p = both (nat_le n x) (above n xs) h in rw (p.0, above_append n xs ys p.1 k) refl
 
+-- what is above a number is above each lower one
 pub above_less : (m n : ℕ) (xs : List ℕ) → m ≤ n → above n xs ≡ true → above m xs ≡ true
 above_less m n [] le h = refl
 above_less m n (x ∷ xs) le h =
@@ -53,18 +56,21 @@ same_number c = grind arith
 
 -- ---- cuts
 
+-- a text is cut at a byte that is below all before it
 pub cut_there : (c n : ℕ) (xs ys : List ℕ) → c < n → above n xs ≡ true → slice_split (λ b. b == c) (xs ++ c ∷ ys) ≡ xs ∷ slice_split (λ b. b == c) ys
 cut_there c n [] ys lt h = rw (same_number c) refl
 cut_there c n (x ∷ xs) ys lt h =
     let p = both (nat_le n x) (above n xs) h in
     rw (not_this c n x lt p.0, cut_there c n xs ys lt p.1) refl
 
+-- a text without the byte isn't cut
 pub cut_none : (c n : ℕ) (xs : List ℕ) → c < n → above n xs ≡ true → slice_split (λ b. b == c) xs ≡ xs ∷ []
 cut_none c n [] lt h = refl
 cut_none c n (x ∷ xs) lt h =
     let p = both (nat_le n x) (above n xs) h in
     rw (not_this c n x lt p.0, cut_none c n xs lt p.1) refl
 
+-- the first such byte is the one behind a text without it
 place_there : (c n : ℕ) (xs ys : List ℕ) → c < n → above n xs ≡ true → position_or_len (λ b. b == c) (xs ++ c ∷ ys) ≡ length xs
 place_there c n [] ys lt h = rw (same_number c) refl
 place_there c n (x ∷ xs) ys lt h =
@@ -85,6 +91,7 @@ drop_front : (c : ℕ) (xs ys : List ℕ) → drop (suc (length xs)) (xs ++ c �
 drop_front c [] ys = refl
 drop_front c (x ∷ xs) ys = drop_front c xs ys
 
+-- what stands on both sides of such a byte is found
 pub around_there : (c n : ℕ) (xs ys : List ℕ) → c < n → above n xs ≡ true → split_once c (xs ++ c ∷ ys) ≡ Some (xs, ys)
 around_there c n xs ys lt h =
     let p = place_there c n xs ys lt h in
@@ -96,6 +103,7 @@ around_there c n xs ys lt h =
     ap (λ (b : Bool). cond b (Some (before_first (λ b. b == c) (xs ++ c ∷ ys), after_first (λ b. b == c) (xs ++ c ∷ ys))) None) e
     ∙ ap (λ (y : List ℕ). Some (y, after_first (λ b. b == c) (xs ++ c ∷ ys))) f ∙ ap (λ (y : List ℕ). Some (xs, y)) g
 
+-- and nothing, where there is none
 pub around_none : (c n : ℕ) (xs : List ℕ) → c < n → above n xs ≡ true → split_once c xs ≡ None
 around_none c n xs lt h =
     let p = place_none c n xs lt h in
@@ -104,6 +112,7 @@ around_none c n xs lt h =
 
 -- ---- names
 
+-- names have digits and letters alone, which are from 48 on: no blank, no comma, no sign and no newline
 pub reg_above : (r : Reg) → above 48 (reg_name r) ≡ true
 reg_above R0 = refl
 reg_above R1 = refl
@@ -158,6 +167,7 @@ extension_above : (x : Extension) → above 48 (extension_name x) ≡ true
 extension_above Zeros = refl
 extension_above Sign = refl
 
+-- so the name of a word has them alone
 pub name_above : (w : Word) → above 48 (name w) ≡ true
 name_above (Alu op w) = above_append 48 (op_name op) (width_name w) (op_above op) (width_above w)
 name_above (MovSx w) = above_append 48 (codes "movsx") (width_name w) refl (width_above w)
@@ -226,9 +236,11 @@ word_there Jump = refl
 word_there Call = refl
 word_there Exit = refl
 
+-- a profile's word is found by its name
 pub word_back : (q : Profile) (w : Word) → IsWordOf q w → word_named q (name w) ≡ Some w
 word_back q w is = rw (word_there w, is) refl
 
+-- each register is found by its name
 pub reg_back : (r : Reg) → reg_named (reg_name r) ≡ Some r
 unfolding registers
 reg_back R0 = refl
@@ -251,6 +263,7 @@ one_digit n lt = let e : nat_le 48 (48 + n) ≡ true = grind arith in rw e refl
 more_digits : (n : ℕ) (ds : List ℕ) → 10 ≤ n → above 48 ds ≡ true → above 48 (ds ++ ((48 + n % 10) ∷ [])) ≡ true
 more_digits n ds le h = above_append 48 ds ((48 + n % 10) ∷ []) h (one_digit (n % 10) (omega arith))
 
+-- a decimal has digits alone
 pub decimal_above : (n : ℕ) → n < 2 ^ 64 → above 48 (decimal n) ≡ true
 decimal_above n lt = decimal_by_steps (λ n ds. above 48 ds ≡ true) one_digit more_digits n lt
 

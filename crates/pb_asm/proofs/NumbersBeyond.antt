@@ -31,6 +31,7 @@ use Rattle.pb_asm.proofs.ListingsReadBack.{no_front, reg_read, reg_line, operand
 
 -- ---- numbers
 
+-- digits are from 48 on, so that no blank cuts them
 digits_above : (ds : List ℕ) → list_all is_ascii_digit ds ≡ true → above 48 ds ≡ true
 digits_above [] h = refl
 digits_above (d ∷ ds) h =
@@ -41,6 +42,7 @@ digits_above (d ∷ ds) h =
 number_above : (most : ℕ) (text : List ℕ) → IsAbove most text → above 48 text ≡ true
 number_above most text h = digits_above text (digits_in text h.numeral).0
 
+-- digits don't begin with an r, so that they are no register
 first_not_r : (ds : List ℕ) → list_all is_ascii_digit ds ≡ true → (slice_index ds 0 == 114) ≡ false
 first_not_r [] h = refl
 first_not_r (d ∷ ds) h =
@@ -48,6 +50,7 @@ first_not_r (d ∷ ds) h =
     let high : nat_le d 57 ≡ true = (and_parts (nat_le 48 d) (nat_le d 57) p.0).1 in
     grind (arith, nat_tests)
 
+-- a numeral above the greatest number is out of range
 numeral_over : (most : ℕ) (text : List ℕ) → IsAbove most text → numeral_upto code.Form code.Range most text ≡ Err code.Range
 numeral_over most text h =
     let n = h.numeral in
@@ -62,10 +65,12 @@ plus_over : (limit : ℕ) (digits : List ℕ) → IsAbove (limit - 1) digits →
 unfolding plus
 plus_over limit digits h = rw (numeral_over (limit - 1) digits h) refl
 
+-- an immediate beyond its field is out of range
 imm_over : (text : List ℕ) → IsImmBeyond text → imm_of_text text ≡ Err code.Range
 imm_over text (inl h) = rw (no_front 45 text (omega arith) (number_above (2 ^ 31 - 1) text h)) (plus_over (2 ^ 31) text h)
 imm_over text (inr h) = ap imm_of_text h.1 ∙ minus_over (2 ^ 31) h.0 h.2
 
+-- its text has no blank, so that it is one word
 imm_line : (text : List ℕ) → IsImmBeyond text → above 33 text ≡ true
 imm_line text (inl h) = above_less 33 48 text (omega arith) (number_above (2 ^ 31 - 1) text h)
 imm_line text (inr h) = ap (above 33) h.1 ∙ above_less 33 48 h.0 (omega arith) (number_above (2 ^ 31) h.0 h.2)
@@ -74,10 +79,12 @@ imm_not_r : (text : List ℕ) → IsImmBeyond text → (slice_index text 0 == 11
 imm_not_r text (inl h) = first_not_r text (digits_in text h.numeral).0
 imm_not_r text (inr h) = ap (λ (t : List ℕ). slice_index t 0 == 114) h.1
 
+-- so is an operand that is such an immediate
 operand_over : (text : List ℕ) → IsImmBeyond text → operand_of_text text ≡ Err code.Range
 unfolding operand_of_text
 operand_over text h = rw (imm_not_r text h, imm_over text h) refl
 
+-- an offset beyond its field is out of range
 offset_over : (text : List ℕ) → IsOffsetBeyond text → offset_of_text text ≡ Err code.Range
 offset_over text (inl h) = ap offset_of_text h.1 ∙ plus_over (2 ^ 15) h.0 h.2
 offset_over text (inr h) = ap offset_of_text h.1 ∙ minus_over (2 ^ 15) h.0 h.2
@@ -101,6 +108,7 @@ none_sized w n (z ∷ zs) none = rw (not_sized (is_narrower z w) refl (size_bits
 numeral_cases : (most : ℕ) (text : List ℕ) → is_numeral text ≡ true → (b : Bool) → nat_le (digits_value 10 text) most ≡ b → numeral_upto code.Form code.Range most text ≡ cond b (Ok (digits_value 10 text)) (Err code.Range)
 numeral_cases most text is b le = rw (is, le) refl
 
+-- bits that no narrower size has are out of range, also those of a number beyond 64 bits
 bits_over : (w : Width) (text : List ℕ) → IsUnlisted w text → bits_of_text w text ≡ Err code.Range
 unfolding bits_of_text
 bits_over w text h = cases (nat_le (digits_value 10 text) (2 ^ 64 - 1)) refl
@@ -124,6 +132,7 @@ based_over b read h = rw (reg_read b, h) refl
 abbrev inside : Reg → List ℕ → Result (Reg × ℤ) Code
 inside b text = at_plus (reg_name b ++ text) (split_once 43 (reg_name b ++ text))
 
+-- the offset of a place is, with either sign
 inside_over : (b : Reg) (text : List ℕ) → IsOffsetBeyond text → inside b text ≡ Err code.Range
 inside_over b text (inl h) =
     ap (inside b) h.1 ∙ ap (at_plus (reg_name b ++ 43 ∷ h.0)) (around_there 43 48 (reg_name b) h.0 (omega arith) (reg_above b))
@@ -134,6 +143,7 @@ inside_over b text (inr h) =
     ∙ ap at_minus (around_there 45 48 (reg_name b) h.0 (omega arith) (reg_above b))
     ∙ based_over b (minus (2 ^ 15) h.0) (minus_over (2 ^ 15) h.0 h.2)
 
+-- and so is the place
 place_over : (b : Reg) (text : List ℕ) → IsOffsetBeyond text → place_of_text (place_with b text) ≡ Err code.Range
 unfolding place_of_text
 place_over b text h =
@@ -151,12 +161,14 @@ word_cut : (x rest : List ℕ) → above 33 x ≡ true → EndsWord rest → (ot
 word_cut x rest h (inl e) = ([], ap (λ (t : List ℕ). blanks (x ++ t)) e ∙ ap blanks (append-nil x) ∙ last_cut x h)
 word_cut x rest h (inr e) = (blanks e.0, ap (λ (t : List ℕ). blanks (x ++ t)) e.1 ∙ cut_there 32 33 x e.0 (omega arith) h)
 
+-- a line is told as its operands are
 after_name : (q : Profile) (w : Word) (y : List ℕ) (ys : List (List ℕ)) → IsWordOf q w → blanks y ≡ ys → line_of q (name w ++ (codes " " ++ y)) ≡ operands w ys
 after_name q w y ys has e = ap (insn_of_words q) (name_cut w y ∙ ap (λ (ws : List (List ℕ)). name w ∷ ws) e) ∙ first_read q w ys has
 
 then_cut : (x y : List ℕ) (ys : List (List ℕ)) → above 33 x ≡ true → blanks y ≡ ys → blanks (x ++ (codes ", " ++ y)) ≡ (x ++ 44 ∷ []) ∷ ys
 then_cut x y ys h e = comma_cut x y h ∙ ap (λ (ws : List (List ℕ)). (x ++ 44 ∷ []) ∷ ws) e
 
+-- a last word out of range is told before a word too many
 last_over : {A : Type 0} (read : List ℕ → Result A Code) (x : List ℕ) (others : List (List ℕ)) → read x ≡ Err code.Range → last read (x ∷ others) ≡ Err code.Range
 unfolding last
 last_over read x others h = rw h refl
@@ -164,6 +176,7 @@ last_over read x others h = rw h refl
 with_comma : (x : List ℕ) → above 33 x ≡ true → above 33 (x ++ 44 ∷ []) ≡ true
 with_comma x h = above_append 33 x (44 ∷ []) h refl
 
+-- a line whose number is beyond its field is out of range: a case for each place of a number
 pub range_told : (q : Profile) (f : NumberPlace) (number rest : List ℕ) → IsWordOf q (place_word f) → FitsBefore f → IsBeyond f number → EndsWord rest → line_of q (line_with f number rest) ≡ Err code.Range
 unfolding alu_operands mov_sx_operands load_imm_operands load_operands store_imm_operands store_operands jump_if_operands
 range_told q (AluImm op w d) number rest has fits beyond ends =
@@ -207,9 +220,11 @@ range_told q CallImm number rest has fits beyond ends =
     let c = word_cut number rest (imm_line number beyond) ends in
     after_name q word.Call (number ++ rest) _ has c.1 ∙ rw (last_over imm_of_text number c.0 (imm_over number beyond)) refl
 
+-- such a line isn't skipped
 line_shown : (f : NumberPlace) (number rest : List ℕ) → is_skipped (line_with f number rest) ≡ false
 line_shown f number rest = name_shown (place_word f) (codes " " ++ operands_with f number rest)
 
+-- so 82 is told of it at its number, after whatever lines
 pub line_told : (q : Profile) (n : ℕ) (before : List Insn) (f : NumberPlace) (number rest : List ℕ) → IsWordOf q (place_word f) → FitsBefore f → IsBeyond f number → EndsWord rest → numbered asm_code n (with_insn_line q before (line_with f number rest)) ≡ Err (n + 1, 82)
 unfolding with_insn_line
 line_told q n before f number rest has fits beyond ends = rw (line_shown f number rest, range_told q f number rest has fits beyond ends) refl

@@ -43,6 +43,7 @@ use Rattle.pb_asm.proofs.ListingsReadBack.{line_back}
 
 -- ---- what a reading that ended well has read
 
+-- where two readings one after the other end well, each has
 pub then_ok : {A B : Type 0} (r : Result A Code) (f : A → Result B Code) (y : B) → r >>= f ≡ Ok y → (x : A) × (r ≡ Ok x) × (f x ≡ Ok y)
 then_ok (Ok x) f y h = (x, refl, h)
 then_ok (Err e) f y h = absurd cc
@@ -53,6 +54,7 @@ ok_is x y r g h = cc
 some_is : {A : Type 0} (x y : A) (o : Option A) → o ≡ Some x → o ≡ Some y → x ≡ y
 some_is x y o g h = cc
 
+-- a test whose reading ended well held; and so where the fault is the other way
 pub if_ok : {A : Type 0} (b : Bool) (r : Result A Code) (e : Code) (x : A) → cond b r (Err e) ≡ Ok x → (b ≡ true) × (r ≡ Ok x)
 if_ok true r e x h = (refl, h)
 if_ok false r e x h = absurd cc
@@ -71,18 +73,22 @@ if_some false x y h = absurd cc
 
 -- ---- cuts
 
+-- a list with this head and this rest
 behind_if : (c b : ℕ) (bs rest : List ℕ) → (b ≡ c) × (bs ≡ rest) → b ∷ bs ≡ c ∷ rest
 behind_if c b bs rest h = ap (λ (x : ℕ). x ∷ bs) h.0 ∙ ap (λ (xs : List ℕ). c ∷ xs) h.1
 
+-- a text that was cut behind its first character begins with it
 pub behind_whole : (c : ℕ) (text rest : List ℕ) → strip_prefix c text ≡ Some rest → text ≡ c ∷ rest
 behind_whole c [] rest h = absurd cc
 behind_whole c (b ∷ bs) rest h = let p = if_some (b == c) bs rest h in behind_if c b bs rest (eqb-true b c p.0, p.1)
 
+-- one that was cut before its last ends with it
 pub before_whole : (c : ℕ) (text front : List ℕ) → 0 < c → strip_suffix c text ≡ Some front → text ≡ front ++ c ∷ []
 before_whole c text front some h =
     let p = if_some (slice_index text (length text - 1) == c) _ front h in
     split_end c text some (eqb-true _ c p.0) ∙ ap (λ (xs : List ℕ). xs ++ c ∷ []) p.1
 
+-- one that was cut in two has it between both sides
 pub around_whole : (c : ℕ) (text : List ℕ) (sides : List ℕ × List ℕ) → split_once c text ≡ Some sides → text ≡ sides.0 ++ c ∷ sides.1
 around_whole c text sides h =
     let p = if_some (nat_lt (position_or_len (λ b. b == c) text) (length text)) (before_first (λ b. b == c) text, after_first (λ b. b == c) text) sides h in
@@ -93,6 +99,7 @@ around_whole c text sides h =
 
 -- ---- numbers
 
+-- a numeral that begins with a zero is that zero
 zero_alone : (x m : ℕ) → ((x == 48) && nat_lt 1 m) ≡ false → 0 < m → x ≡ 48 → m ≡ 1
 zero_alone x m h some e =
     elim (cases_lt 1 m) [
@@ -100,6 +107,7 @@ zero_alone x m h some e =
       | inr few ↦ omega (arith, few, some)
     ]
 
+-- what is read as a number is its decimal
 number_is : (greatest n : ℕ) (text : List ℕ) → greatest < 2 ^ 64 → numeral_upto code.Form code.Range greatest text ≡ Ok n → (text ≡ decimal n) × (n ≤ greatest)
 number_is greatest n text lt h =
     let p = if_ok (is_numeral text) _ code.Form n h in
@@ -110,6 +118,7 @@ number_is greatest n text lt h =
     let s : decimal (digits_value 10 text) ≡ text = decimal-digits_value own text d.0 d.2 (zero_alone (slice_index text 0) (length text) d.1 d.2) (omega (arith, le, lt)) in
     (sym s ∙ ap decimal e, omega (arith, le, e))
 
+-- what is read behind a minus is a negative number's digits, and zero isn't
 minus_is : (greatest : ℕ) (text : List ℕ) (z : ℤ) → greatest < 2 ^ 64 → minus greatest text ≡ Ok z → (n : ℕ) × (z ≡ negsuc n) × (text ≡ decimal (suc n)) × (n < greatest)
 unfolding minus
 minus_is greatest text z lt h =
@@ -133,6 +142,7 @@ plus_is limit text z lt h =
 
 -- ---- signed numbers
 
+-- the text is the immediate's, which fits its field
 abbrev Immediate : List ℕ → ℤ → Type 0
 Immediate text k = (text ≡ signed_decimal k) × FitsSigned w32 k
 
@@ -150,9 +160,11 @@ imm_cases text k None is h =
     let m = plus_is (2 ^ 31) text k (omega arith) h in
     natural_imm text k m.0 (m.1, m.2, m.3)
 
+-- what is read as an immediate is its text
 imm_is : (text : List ℕ) (k : ℤ) → imm_of_text text ≡ Ok k → Immediate text k
 imm_is text k h = imm_cases text k (strip_prefix 45 text) refl h
 
+-- the text is the offset's, which fits its field
 abbrev Offset : List ℕ → ℤ → Type 0
 Offset text o = (text ≡ offset_text o) × FitsSigned w16 o
 
@@ -176,11 +188,13 @@ offset_cases : (text : List ℕ) (o : ℤ) (p : Option (List ℕ)) → strip_pre
 offset_cases text o (Some digits) is h = subst (λ (t : List ℕ). Offset t o) (sym (behind_whole 45 text digits is)) (minus_offset digits o h)
 offset_cases text o None is h = sign_cases text o (strip_prefix 43 text) refl h
 
+-- what is read as an offset is its text
 offset_is : (text : List ℕ) (o : ℤ) → offset_of_text text ≡ Ok o → Offset text o
 offset_is text o h = offset_cases text o (strip_prefix 45 text) refl h
 
 -- ---- names
 
+-- what is found in a list by its name has that name
 found : {A : Type 0} (text : List ℕ) (called : A → List ℕ) (x y : A) (rest : Option A) (b : Bool) → bytes_eq text (called x) ≡ b → cond b (Some x) rest ≡ Some y → (rest ≡ Some y → text ≡ called y) → text ≡ called y
 found text called x y rest true is h others = (bytes_eq-Decides text (called x)).0 is ∙ ap called (some_is x y (Some x) refl h)
 found text called x y rest false is h others = others h
@@ -189,6 +203,7 @@ reg_among : (text : List ℕ) (rs : List Reg) (r : Reg) → reg_spelled text rs 
 reg_among text [] r h = absurd cc
 reg_among text (s ∷ rs) r h = found text reg_name s r (reg_spelled text rs) (bytes_eq text (reg_name s)) refl h (reg_among text rs r)
 
+-- what is read as a register is its name
 pub reg_is : (text : List ℕ) (r : Reg) → reg_of_text text ≡ Ok r → text ≡ reg_name r
 reg_is text r h = reg_among text registers r (there_ok (reg_named text) _ r h)
 
@@ -202,6 +217,7 @@ named_is q (Some v) w h =
     let p = if_some (is_word_of q v) v w h in
     (ap Some p.1, subst (IsWordOf q) p.1 p.0)
 
+-- what is read as a word is its name, and the profile has it
 pub word_is : (q : Profile) (text : List ℕ) (c : Code) (w : Word) → ok_or (word_named q text) c ≡ Ok w → (text ≡ name w) × IsWordOf q w
 word_is q text c w h =
     let n = named_is q (word_in text words) w (there_ok (word_named q text) c w h) in
@@ -219,10 +235,12 @@ sized w n z x rest true is h others =
     subst (Narrower w n) (some_is z x (Some z) refl h) (sym (eqb-true _ _ p.1), p.0)
 sized w n z x rest false is h others = others h
 
+-- a size that is found has the bits, and is narrower
 size_is : (w : Width) (n : ℕ) (zs : List Size) (x : Size) → size_in w n zs ≡ Some x → Narrower w n x
 size_is w n [] x h = absurd cc
 size_is w n (z ∷ zs) x h = sized w n z x (size_in w n zs) (is_narrower z w && (size_bits z == n)) refl h (size_is w n zs x)
 
+-- what is read as a move's bits is their decimal
 bits_are : (w : Width) (text : List ℕ) (z : Size) → bits_of_text w text ≡ Ok z → (text ≡ decimal (size_bits z)) × (is_narrower z w ≡ true)
 unfolding bits_of_text
 bits_are w text z h =
@@ -233,9 +251,11 @@ bits_are w text z h =
 
 -- ---- operands and places
 
+-- the text is the operand's, whose number fits its field
 abbrev pub Either : List ℕ → Operand → Type 0
 Either text a = (text ≡ operand_text a) × OperandFits a
 
+-- what is read as an operand is its text
 pub operand_is : (text : List ℕ) (a : Operand) → operand_of_text text ≡ Ok a → Either text a
 unfolding operand_of_text
 operand_is text a h = sort (slice_index text 0 == 114) h
@@ -248,6 +268,7 @@ operand_is text a h = sort (slice_index text 0 == 114) h
         let p = then_ok (imm_of_text text) (λ k. Ok (operand.Imm k)) a h in
         subst (Either text) (ok_is (operand.Imm p.0) a (Ok (operand.Imm p.0)) refl p.2) (imm_is text p.0 p.1)
 
+-- the text between brackets is the place's
 abbrev Place : List ℕ → Reg × ℤ → Type 0
 Place text p = (text ≡ reg_name p.0 ++ offset_text p.1) × FitsSigned w16 p.1
 
@@ -268,6 +289,7 @@ plus_cases : (text : List ℕ) (p : Reg × ℤ) (o : Option (List ℕ × List �
 plus_cases text p (Some sides) is h = subst (λ (t : List ℕ). Place t p) (sym (around_whole 43 text sides is)) (based_is sides.0 sides.1 43 (plus (2 ^ 15) sides.1) p h (plus_offset sides.1))
 plus_cases text p None is h = minus_cases text p (split_once 45 text) refl h
 
+-- what is read as a place is its text
 pub place_is : (text : List ℕ) (p : Reg × ℤ) → place_of_text text ≡ Ok p → (text ≡ place_text p.0 p.1) × FitsSigned w16 p.1
 unfolding place_of_text
 place_is text p h =
@@ -281,6 +303,7 @@ place_is text p h =
 
 -- ---- the words of a line
 
+-- a word that was read up to its comma had it
 pub comma_is : (texts : List (List ℕ)) (p : List ℕ × List (List ℕ)) → comma texts ≡ Ok p → texts ≡ (p.0 ++ 44 ∷ []) ∷ p.1
 unfolding comma
 comma_is [] p h = absurd cc
@@ -289,6 +312,7 @@ comma_is (text ∷ texts) p h =
     ap (λ (t : List ℕ). t ∷ texts) (before_whole 44 text a.0 (omega arith) (there_ok _ code.Form a.0 a.1))
     ∙ ap (λ (q : List ℕ × List (List ℕ)). (q.0 ++ 44 ∷ []) ∷ q.1) (ok_is (a.0, texts) p (Ok (a.0, texts)) refl a.2)
 
+-- where a last word was read, no word stood behind it
 last_is : {A : Type 0} (read : List ℕ → Result A Code) (texts : List (List ℕ)) (x : A) → last read texts ≡ Ok x → (text : List ℕ) × (texts ≡ text ∷ []) × (read text ≡ Ok x)
 unfolding last
 last_is read [] x h = absurd cc
@@ -329,6 +353,7 @@ of_any w i one two Two is = two
 abbrev Written : Word → List (List ℕ) → Insn → Type 0
 Written w texts i = (join_with_byte 32 (name w ∷ texts) ≡ insn_text i) × Fits i × OfWord w i
 
+-- operands that are read are written so, behind each first word: this one and those below
 alu_is : (op : AluOp) (w : Width) (texts : List (List ℕ)) (i : Insn) → alu_operands (insn.Alu op w) texts ≡ Ok i → Written (word.Alu op w) texts i
 unfolding alu_operands
 alu_is op w texts i h =
@@ -450,6 +475,7 @@ exit_is : (texts : List (List ℕ)) (i : Insn) → map_insn (λ _. insn.Exit) (n
 exit_is [] i h = subst (Written word.Exit []) (ok_is insn.Exit i (Ok insn.Exit) refl h) (refl, tt, of_any word.Exit insn.Exit refl refl)
 exit_is (text ∷ texts) i h = absurd cc
 
+-- so whatever the first word is, the line is the instruction's
 operands_are : (w : Word) (texts : List (List ℕ)) (i : Insn) → operands w texts ≡ Ok i → Written w texts i
 operands_are (word.Alu op w) texts i h = alu_is op w texts i h
 operands_are (word.MovSx w) texts i h = mov_sx_is w texts i h
@@ -463,6 +489,7 @@ operands_are (word.JumpIf c w) texts i h = jump_if_is c w texts i h
 operands_are word.Call texts i h = call_is texts i h
 operands_are word.Exit texts i h = exit_is texts i h
 
+-- words that are read as an instruction are those of its line
 words_are : (q : Profile) (texts : List (List ℕ)) (i : Insn) → insn_of_words q texts ≡ Ok i → (join_with_byte 32 texts ≡ insn_text i) × Fits i × IsOf q i
 unfolding insn_of_words
 words_are q [] i h = absurd cc
@@ -472,6 +499,7 @@ words_are q (text ∷ texts) i h =
     let n = word_is q text _ a.0 a.1 in
     (ap (λ (t : List ℕ). join_with_byte 32 (t ∷ texts)) n.0 ∙ b.0, b.1, b.2 q n.1)
 
+-- a line that is read is the instruction's own, which the profile has
 pub line_spelled : (q : Profile) (line : List ℕ) (i : Insn) → line_of q line ≡ Ok i → (line ≡ insn_text i) × Fits i × IsOf q i
 line_spelled q line i h =
     let a = words_are q (slice_split (λ b. b == 32) line) i h in
@@ -481,5 +509,6 @@ pub read_of : (q : Profile) (texts : List (List ℕ)) (r : Result Insn Code) →
 read_of q texts (Ok i) h = (words_are q texts i h).2
 read_of q texts (Err c) h = tt
 
+-- a line is read as an instruction exactly where it is its line
 pub line_is : (q : Profile) (line : List ℕ) (i : Insn) → (line_of q line ≡ Ok i) ↔ ((line ≡ insn_text i) × Fits i × IsOf q i)
 line_is q line i = (line_spelled q line i, λ h. ap (line_of q) h.0 ∙ line_back q i h.1 h.2)

@@ -22,6 +22,7 @@ use Rattle.pb_asm.proofs.SlotCounts.{some_place}
 use Rattle.pb_asm.proofs.OneSpelling.{then_ok, ok_is, else_ok, line_spelled}
 use Rattle.pb_asm.proofs.ListingsReadBack.{added, slots_append, some_there}
 
+-- the lines that aren't skipped
 abbrev kept : List (List ℕ) → List (List ℕ)
 kept ls = filter (λ l. not (is_skipped l)) ls
 
@@ -33,10 +34,12 @@ kept_one l ls is = ap (λ (b : Bool). cond (not b) (l ∷ kept ls) (kept ls)) is
 
 -- ---- what has been read
 
+-- a skipped line changes nothing
 skip_line : (k : Profile) (before : List Insn) (l : List ℕ) → is_skipped l ≡ true → with_insn_line k before l ≡ Ok before
 unfolding with_insn_line
 skip_line k before l is = rw is refl
 
+-- a line that gave one more instruction: it is its line, and the slots suffice
 record Taken (k : Profile) (before q : List Insn) (l : List ℕ) : Type 0 where
   one : Insn
   text : l ≡ insn_text one
@@ -51,6 +54,7 @@ short_line k before q l i is h =
     let p = else_ok (nat_lt (max_slots k) (slots (before ++ i ∷ []))) (Ok (before ++ i ∷ [])) code.TooLong q h in
     record { one = i; text = s.0; fits = s.1; of_profile = s.2; most = ltb-false _ _ p.0; whole = ok_is (before ++ i ∷ []) q (Ok (before ++ i ∷ [])) refl p.1 }
 
+-- a line that isn't skipped and is read gave one
 take_line : (k : Profile) (before q : List Insn) (l : List ℕ) → is_skipped l ≡ false → with_insn_line k before l ≡ Ok q → Taken k before q l
 unfolding with_insn_line
 take_line k before q l is h =
@@ -58,6 +62,7 @@ take_line k before q l is h =
     let a = then_ok (line_of k l) _ q g in
     short_line k before q l a.0 a.1 a.2
 
+-- what lines have given: the instructions of those that aren't skipped, behind those before
 pub record Reading (k : Profile) (before q : List Insn) (ls : List (List ℕ)) : Type 0 where
   pub rest : List Insn
   pub whole : q ≡ before ++ rest
@@ -66,6 +71,7 @@ pub record Reading (k : Profile) (before q : List Insn) (ls : List (List ℕ)) :
   pub of_profile : AllByRecursion (IsOf k) rest
   pub most : slots q ≤ max_slots k
 
+-- one more line in front
 one_more : (k : Profile) (before p q : List Insn) (l : List ℕ) (ls : List (List ℕ)) (b : Bool) → is_skipped l ≡ b → with_insn_line k before l ≡ Ok p → slots before ≤ max_slots k → (slots p ≤ max_slots k → Reading k p q ls) → Reading k before q (l ∷ ls)
 one_more k before p q l ls true is h most others =
     let same : before ≡ p = ok_is before p (with_insn_line k before l) (skip_line k before l is) h in
@@ -81,6 +87,7 @@ step : (k : Profile) (n : ℕ) (before q : List Insn) (l : List ℕ) (ls : List 
 step k n before q l ls (Err e) is h most others = absurd cc
 step k n before q l ls (Ok p) is h most others = one_more k before p q l ls (is_skipped l) refl is most (others p h)
 
+-- lines that are read are those of their instructions
 pub read : (k : Profile) (n : ℕ) (before q : List Insn) (ls : List (List ℕ)) → insns_of_lines k n before ls ≡ Ok q → slots before ≤ max_slots k → Reading k before q ls
 read k n before q [] h most =
     let same : before ≡ q = lines_same before q h in
@@ -90,6 +97,7 @@ read k n before q [] h most =
     lines_same p q h = cc
 read k n before q (l ∷ ls) h most = step k n before q l ls (with_insn_line k before l) refl h most (λ p g. read k (n + 1) p q ls g)
 
+-- a program's instructions take some slots
 some_slots : (k : Profile) (is : List Insn) (p : ProgramOf) → some_of k is ≡ Ok p → 0 < slots is
 some_slots k [] p h = absurd cc
 some_slots k (i ∷ is) p h = let a = length-append (places_of i) (layout is) in let s = some_place i in omega (arith, a, s)
@@ -108,6 +116,7 @@ some_same k (i ∷ is) p h = program_is (record { profile = k; insns = i ∷ is 
 abbrev Whole : Profile → List ℕ → ProgramOf → Type 0
 Whole k text p = (instruction_lines text ≡ map insn_text p.insns) × (p.profile ≡ k) × IsProgram p × AllByRecursion Fits p.insns
 
+-- a text that is read is a listing with empty lines and remarks in it
 read_whole : (k : Profile) (text : List ℕ) (p : ProgramOf) (r : Result (List Insn) (ℕ × ℕ)) → insns_of_lines k 0 [] (slice_split (λ b. b == 10) text) ≡ r → (r >>= some_of k) ≡ Ok p → Whole k text p
 read_whole k text p (Err e) is h = absurd cc
 read_whole k text p (Ok q) is h =
@@ -128,6 +137,7 @@ ReadOn k n ls = (before p : List Insn) → kept ls ≡ map insn_text p → AllBy
 go_on : (k : Profile) (n : ℕ) (before p q : List Insn) (l : List ℕ) (ls : List (List ℕ)) → with_insn_line k before l ≡ Ok p → insns_of_lines k (n + 1) p ls ≡ Ok q → insns_of_lines k n before (l ∷ ls) ≡ Ok q
 go_on k n before p q l ls is h = ap (λ (r : Result (List Insn) Code). numbered asm_code n r >>= λ x. insns_of_lines k (n + 1) x ls) is ∙ h
 
+-- one more line in front is read, if it is skipped or an instruction's
 back_line : (k : Profile) (n : ℕ) (before p : List Insn) (l : List ℕ) (ls : List (List ℕ)) (b : Bool) → is_skipped l ≡ b → kept (l ∷ ls) ≡ map insn_text p → AllByRecursion Fits p → AllByRecursion (IsOf k) p → slots (before ++ p) ≤ max_slots k → ReadOn k (n + 1) ls → insns_of_lines k n before (l ∷ ls) ≡ Ok (before ++ p)
 back_line k n before p l ls true is lines fits have most others = go_on k n before before (before ++ p) l ls (skip_line k before l is) (others before p (sym (kept_not l ls is) ∙ lines) fits have most)
 back_line k n before [] l ls false is lines fits have most others = let no : l ∷ kept ls ≡ [] = sym (kept_one l ls is) ∙ lines in absurd cc
@@ -139,6 +149,7 @@ back_line k n before (i ∷ p) l ls false is lines fits have most others =
     go_on k n before (before ++ i ∷ []) (before ++ i ∷ p) l ls (ap (with_insn_line k before) h.0 ∙ added k before i fits.0 have.0 (omega (arith, a, whole)))
     (others (before ++ i ∷ []) p h.1 fits.1 have.1 whole ∙ ap Ok grouped)
 
+-- lines whose kept ones are a listing are read as it
 pub back : (k : Profile) (n : ℕ) (ls : List (List ℕ)) → ReadOn k n ls
 back k n [] before [] lines fits have most = ap Ok (sym (append-nil before))
 back k n [] before (i ∷ p) lines fits have most = absurd cc
@@ -147,6 +158,7 @@ back k n (l ∷ ls) before p lines fits have most = back_line k n before p l ls 
 read_back : (text : List ℕ) (p : ProgramOf) → (instruction_lines text ≡ map insn_text p.insns) × IsProgram p × AllByRecursion Fits p.insns → program_of_text p.profile text ≡ Ok p
 read_back text p h = ap (λ (r : Result (List Insn) (ℕ × ℕ)). r >>= some_of p.profile) (back p.profile 0 (slice_split (λ b. b == 10) text) [] p.insns h.0 h.2 h.1.of_profile h.1.most) ∙ some_there p.profile p.insns h.1.some
 
+-- a text is read as a program exactly where its kept lines are the program's listing
 pub text_is : (k : Profile) (text : List ℕ) (p : ProgramOf) → (program_of_text k text ≡ Ok p) ↔ Whole k text p
 text_is k text p = (read_whole k text p (insns_of_lines k 0 [] (slice_split (λ b. b == 10) text)) refl, whole)
   where

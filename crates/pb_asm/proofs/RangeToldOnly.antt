@@ -35,9 +35,11 @@ use Rattle.pb_asm.proofs.NumbersBeyond.{range_told}
 
 -- ---- what a reading that ended out of range has read
 
+-- a reading ended out of range
 abbrev IsOver : {A : Type 0} → Result A Code → Type 0
 IsOver r = r ≡ Err code.Range
 
+-- of two readings one after the other, the first did, or the second
 then_over : {A B P : Type 0} (r : Result A Code) (f : A → Result B Code) → IsOver (r >>= f) → (IsOver r → P) → ((x : A) → r ≡ Ok x → IsOver (f x) → P) → P
 then_over (Ok x) f h first later = later x refl h
 then_over {A = A} {B = B} (Err c) f h first later = first (moved B A c code.Range h)
@@ -49,6 +51,7 @@ if_over false r h = absurd cc
 ok_never : {A P : Type 0} (x : A) → IsOver (Ok x) → P
 ok_never x h = absurd cc
 
+-- what isn't there is of another form, and never out of range
 there_never : {A P : Type 0} (o : Option A) → IsOver (ok_or o code.Form) → P
 there_never None h = absurd cc
 there_never (Some x) h = absurd cc
@@ -62,6 +65,7 @@ above_most : (b : Bool) (n : ℕ) → IsOver (cond b (Ok n) (Err code.Range)) �
 above_most true n h = absurd cc
 above_most false n h = refl
 
+-- a number out of range is a numeral above the greatest
 number_beyond : (most : ℕ) (text : List ℕ) → IsOver (numeral_upto code.Form code.Range most text) → IsAbove most text
 number_beyond most text h =
     let p = if_over (is_numeral text) _ h in
@@ -71,6 +75,7 @@ not_zero_never : {P : Type 0} (b : Bool) (z : ℤ) → IsOver (cond b (Err code.
 not_zero_never true z h = absurd cc
 not_zero_never false z h = absurd cc
 
+-- so is one behind a minus, and one without
 minus_beyond : (most : ℕ) (digits : List ℕ) → IsOver (minus most digits) → IsAbove most digits
 unfolding minus
 minus_beyond most digits h = then_over (numeral_upto code.Form code.Range most digits) _ h (number_beyond most digits) (λ n is over. not_zero_never (n == 0) _ over)
@@ -83,6 +88,7 @@ imm_signs_beyond : (text : List ℕ) (o : Option (List ℕ)) → strip_prefix 45
 imm_signs_beyond text (Some digits) is h = inr (digits, behind_whole 45 text digits is, minus_beyond (2 ^ 31) digits h)
 imm_signs_beyond text None is h = inl (plus_beyond (2 ^ 31) text h)
 
+-- an immediate out of range is beyond its field
 imm_beyond : (text : List ℕ) → IsOver (imm_of_text text) → IsImmBeyond text
 imm_beyond text h = imm_signs_beyond text (strip_prefix 45 text) refl h
 
@@ -94,6 +100,7 @@ offset_signs_beyond : (text : List ℕ) (o : Option (List ℕ)) → strip_prefix
 offset_signs_beyond text (Some digits) is h = inr (digits, behind_whole 45 text digits is, minus_beyond (2 ^ 15) digits h)
 offset_signs_beyond text None is h = plus_sign_beyond text (strip_prefix 43 text) refl h
 
+-- and so is an offset
 offset_beyond : (text : List ℕ) → IsOver (offset_of_text text) → IsOffsetBeyond text
 offset_beyond text h = offset_signs_beyond text (strip_prefix 45 text) refl h
 
@@ -101,6 +108,7 @@ operand_kinds_beyond : (text : List ℕ) (b : Bool) → IsOver (cond b (reg_of_t
 operand_kinds_beyond text true h = then_over (reg_of_text text) (λ r. Ok (operand.Reg r)) h (reg_never text) (λ r is over. ok_never _ over)
 operand_kinds_beyond text false h = then_over (imm_of_text text) (λ k. Ok (operand.Imm k)) h (imm_beyond text) (λ k is over. ok_never _ over)
 
+-- an operand out of range is such an immediate, since a register never is
 operand_beyond : (text : List ℕ) → IsOver (operand_of_text text) → IsImmBeyond text
 unfolding operand_of_text
 operand_beyond text h = operand_kinds_beyond text (slice_index text 0 == 114) h
@@ -111,6 +119,7 @@ operand_beyond text h = operand_kinds_beyond text (slice_index text 0 == 114) h
 abbrev Unlisted : Width → ℕ → Type 0
 Unlisted w n = (z : Size) → is_narrower z w ≡ true → n ≢ size_bits z
 
+-- bits that no size was found for are no size's, nor are those beyond 64 bits
 not_found : (w : Width) (n : ℕ) → size_in w n sizes ≡ None → Unlisted w n
 not_found w n none z narrow same = let no : None ≡ Some z = sym none ∙ ap (λ (m : ℕ). size_in w m sizes) same ∙ size_there w z narrow in absurd cc
 
@@ -135,6 +144,7 @@ unlisted_beyond w text n is none =
     let p = numeral_read (2 ^ 64 - 1) n text is in
     record { numeral = p.0; unlisted = subst (Unlisted w) p.1 (not_found w n none) }
 
+-- a move's bits out of range are those of no narrower size
 bits_beyond : (w : Width) (text : List ℕ) → IsOver (bits_of_text w text) → IsUnlisted w text
 unfolding bits_of_text
 bits_beyond w text h = then_over (numeral_upto code.Form code.Range (2 ^ 64 - 1) text) _ h (λ over. many_beyond w text (number_beyond (2 ^ 64 - 1) text over)) (λ n is over. unlisted_beyond w text n is (never_found (size_in w n sizes) over))
@@ -165,6 +175,7 @@ at_plus_beyond text None is h = at_minus_beyond text (split_once 45 text) refl h
 bracketed : (text front inner : List ℕ) → text ≡ 91 ∷ front → front ≡ inner ++ 93 ∷ [] → Inside inner → (base : Reg) × (number : List ℕ) × (text ≡ place_with base number) × IsOffsetBeyond number
 bracketed text front inner begins ends p = (p.0, p.1, begins ∙ ap (λ (t : List ℕ). 91 ∷ t) (ends ∙ ap (λ (t : List ℕ). t ++ 93 ∷ []) p.2 ∙ append_assoc (reg_name p.0) p.1 (93 ∷ [])), p.3)
 
+-- a place out of range has an offset beyond its field
 place_beyond : (text : List ℕ) → IsOver (place_of_text text) → (base : Reg) × (number : List ℕ) × (text ≡ place_with base number) × IsOffsetBeyond number
 unfolding place_of_text
 place_beyond text h =
@@ -174,6 +185,7 @@ place_beyond text h =
 
 -- ---- the words of a line
 
+-- a missing comma is of another form, and so is a word too many
 comma_never : {P : Type 0} (texts : List (List ℕ)) → IsOver (comma texts) → P
 unfolding comma
 comma_never [] h = absurd cc
@@ -187,6 +199,7 @@ ended_never (text ∷ texts) h = absurd cc
 abbrev Next : {A : Type 0} → (List ℕ → Result A Code) → List (List ℕ) → Type 0
 Next read texts = (text : List ℕ) × (others : List (List ℕ)) × (texts ≡ text ∷ others) × IsOver (read text)
 
+-- a last word out of range is the next one, whatever stands behind it
 last_beyond : {A : Type 0} (read : List ℕ → Result A Code) (texts : List (List ℕ)) → IsOver (last read texts) → Next read texts
 unfolding last
 last_beyond read [] h = absurd cc
@@ -200,10 +213,12 @@ abbrev rest_of : List (List ℕ) → List ℕ
 rest_of [] = []
 rest_of (text ∷ texts) = 32 ∷ join_with_byte 32 (text ∷ texts)
 
+-- behind a word the line ends, or a blank comes
 rest_ends : (texts : List (List ℕ)) → EndsWord (rest_of texts)
 rest_ends [] = inl refl
 rest_ends (text ∷ texts) = inr (join_with_byte 32 (text ∷ texts), refl)
 
+-- words joined are the first one and what stands behind it
 joined : (text : List ℕ) (texts : List (List ℕ)) → join_with_byte 32 (text ∷ texts) ≡ text ++ rest_of texts
 joined text [] = sym (append-nil text)
 joined text (next ∷ texts) = refl
@@ -234,9 +249,11 @@ third_there w texts others first second t u y begins goes same_t same_u ends =
 abbrev Beyond : Word → List (List ℕ) → Type 0
 Beyond w texts = (q : Profile) → IsWordOf q w → IsOutOfRange q (join_with_byte 32 (name w ∷ texts))
 
+-- a line with a number beyond its field at this place is out of range
 beyond_there : (w : Word) (texts : List (List ℕ)) (f : NumberPlace) (number : List ℕ) (others : List (List ℕ)) → place_word f ≡ w → FitsBefore f → IsBeyond f number → join_with_byte 32 (name w ∷ texts) ≡ line_with f number (rest_of others) → Beyond w texts
 beyond_there w texts f number others of fits beyond is q has = record { place = f; number = number; rest = rest_of others; of_profile = subst (IsWordOf q) (sym of) has; fits = fits; beyond = beyond; ends = rest_ends others; parts = is }
 
+-- operands out of range make such a line, behind each first word: this one and those below
 alu_beyond : (op : AluOp) (w : Width) (texts : List (List ℕ)) → IsOver (alu_operands (insn.Alu op w) texts) → Beyond (word.Alu op w) texts
 unfolding alu_operands
 alu_beyond op w texts h =
@@ -343,6 +360,7 @@ call_beyond texts h =
 exit_never : {P : Type 0} (texts : List (List ℕ)) → IsOver (map_insn (λ _. insn.Exit) (no_word code.Form texts)) → P
 exit_never texts h = then_over (no_word code.Form texts) _ h (ended_never texts) (λ x is over. ok_never _ over)
 
+-- so whatever the first word is, the line is out of range as the definition says
 operands_beyond : (w : Word) (texts : List (List ℕ)) → IsOver (operands w texts) → Beyond w texts
 operands_beyond (word.Alu op w) texts h = alu_beyond op w texts h
 operands_beyond (word.MovSx w) texts h = mov_sx_beyond w texts h
@@ -360,6 +378,7 @@ unnamed_never : {P : Type 0} (o : Option Word) → IsOver (ok_or o code.Word) �
 unnamed_never None h = absurd cc
 unnamed_never (Some w) h = absurd cc
 
+-- words out of range are those of such a line
 words_beyond : (q : Profile) (texts : List (List ℕ)) → IsOver (insn_of_words q texts) → IsOutOfRange q (join_with_byte 32 texts)
 unfolding insn_of_words
 words_beyond q [] h = absurd cc
@@ -368,14 +387,17 @@ words_beyond q (text ∷ texts) h =
     let n = word_is q text code.Word w is in
     subst (λ (t : List ℕ). IsOutOfRange q (join_with_byte 32 (t ∷ texts))) (sym n.0) (operands_beyond w texts over q n.1))
 
+-- and so is a line
 line_beyond : (q : Profile) (line : List ℕ) → IsOver (line_of q line) → IsOutOfRange q line
 line_beyond q line h = subst (IsOutOfRange q) (join_with_byte-slice_split 32 line) (words_beyond q (slice_split (λ b. b == 32) line) h)
 
+-- 82 is told of a line exactly where it is out of range
 pub range_is : (q : Profile) (line : List ℕ) → (line_of q line ≡ Err code.Range) ↔ IsOutOfRange q line
 range_is q line = (line_beyond q line, λ h. ap (line_of q) h.parts ∙ range_told q h.place h.number h.rest h.of_profile h.fits h.beyond h.ends)
 
 -- ---- the code as it is told
 
+-- no other code has the number 82
 range_number : (c : Code) → asm_code c ≡ 82 → c ≡ code.Range
 range_number code.Memory h = let no : ⊥ = omega (arith, h) in absurd no
 range_number code.Word h = let no : ⊥ = omega (arith, h) in absurd no
@@ -390,13 +412,16 @@ told_as A fault = Err fault
 same_fault : (A : Type 0) (f g : ℕ × ℕ) → told_as A f ≡ told_as A g → f ≡ g
 same_fault A f g h = cc
 
+-- where 82 is told at a number, its line ended out of range
 told_range : (n : ℕ) (r : Result (List Insn) Code) → numbered asm_code n r ≡ Err (n + 1, 82) → IsOver r
 told_range n (Ok is) h = absurd cc
 told_range n (Err c) h = ap (failed (List Insn)) (range_number c (ap (λ (f : ℕ × ℕ). f.1) (same_fault (List Insn) (n + 1, asm_code c) (n + 1, 82) h)))
 
+-- that line is out of range by itself, since 83 is another code
 own_beyond : (q : Profile) (line : List ℕ) → (code.Range ≡ code.TooLong) ⊎ IsOver (line_of q line) → IsOutOfRange q line
 own_beyond q line (inl h) = absurd cc
 own_beyond q line (inr h) = line_beyond q line h
 
+-- so 82 is told of no other line
 pub told_only : (q : Profile) (n : ℕ) (before : List Insn) (line : List ℕ) → numbered asm_code n (with_insn_line q before line) ≡ Err (n + 1, 82) → IsOutOfRange q line
 told_only q n before line h = own_beyond q line (own_told q before line code.Range (told_range n (with_insn_line q before line) h))

@@ -9,12 +9,14 @@ use Rattle.pb_isa.specs.Slots.{places_of, layout, slots}
 use Rattle.pb_isa.specs.declared.profile.Profile.{Profile}
 use Rattle.pb_isa.specs.Profiles.{max_slots, IsOf}
 
+-- one more instruction takes its own slots besides
 pub slots_push : (p : List Insn) (i : Insn) → slots (p ++ i ∷ []) ≡ slots p + slots (i ∷ [])
 slots_push [] i = omega arith
 slots_push (j ∷ p) i =
     let a = length-append (places_of j) (layout (p ++ i ∷ [])) in let b = length-append (places_of j) (layout p) in let h = slots_push p i in
     omega (arith, a, b, h)
 
+-- each takes one at least
 pub some_place : (i : Insn) → 0 < length (places_of i)
 some_place (Alu op w d a) = omega arith
 some_place (MovSx w z d s) = omega arith
@@ -33,9 +35,11 @@ all_push : (P : Insn → Type 0) (p : List Insn) (i : Insn) → AllByRecursion P
 all_push P [] i h f = (f, tt)
 all_push P (j ∷ p) i h f = (h.0, all_push P p i h.1 f)
 
+-- the numbers of all fit where those before and the new ones do
 pub fit_push : (p : List Insn) (i : Insn) → AllByRecursion Fits p → Fits i → AllByRecursion Fits (p ++ i ∷ [])
 fit_push p i h f = all_push Fits p i h f
 
+-- and all are of the profile where they are
 pub of_push : (q : Profile) (p : List Insn) (i : Insn) → AllByRecursion (IsOf q) p → IsOf q i → AllByRecursion (IsOf q) (p ++ i ∷ [])
 of_push q p i h f = all_push (IsOf q) p i h f
 

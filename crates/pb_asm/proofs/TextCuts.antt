@@ -9,6 +9,7 @@ use Rattle.std.proofs.lemmas.List.{get_or_at, take_at, length-append}
 use Rattle.std.proofs.lemmas.Str.Pattern.{strip_prefix_char, strip_suffix_char, split_once_first, IsSplitOnceResult}
 use Rattle.pb_asm.specs.Cuts.{strip_prefix, strip_suffix, split_once}
 
+-- nothing is cut off a text that doesn't begin with the character
 front_none : (c : ℕ) (bs : List ℕ) → ((rest : List ℕ) → bs ≢ c ∷ rest) → strip_prefix c bs ≡ None
 front_none c [] none = refl
 front_none c (b ∷ bs) none =
@@ -17,6 +18,7 @@ front_none c (b ∷ bs) none =
       | inr other ↦ rw other refl
     ]
 
+-- the character is cut off a text that begins with it
 pub behind_there : (c : ℕ) (bs : List ℕ) → strip_prefix c (c ∷ bs) ≡ Some bs
 behind_there c bs = let e : (c == c) ≡ true = grind arith in rw e refl
 
@@ -24,11 +26,13 @@ behind_match : (c : ℕ) (bs : List ℕ) (r : Option (Bor (List ℕ))) → Match
 behind_match c bs None h = front_none c bs h
 behind_match c bs (Some x) h = ap (strip_prefix c) h ∙ behind_there c x.now
 
+-- the library's cut is the definition's
 pub behind_is : (c : ℕ) (bs : List ℕ) (r : Option (Bor (List ℕ))) → MatchOption r (FindsCharPrefix c bs None) (λ x. (n : ℕ) × FindsCharPrefix c bs (Some n) × (x.now ≡ drop n bs) × (length x.now + n ≡ length bs)) → c < 128 → MatchOption r (strip_prefix c bs ≡ None) (λ x. strip_prefix c bs ≡ Some x.now)
 behind_is c bs r h lt = behind_match c bs r (strip_prefix_char c bs r h lt)
 
 -- ---- the end
 
+-- the character is cut off the end of a text that ends with it
 pub before_there : (c : ℕ) (front : List ℕ) → strip_suffix c (front ++ c ∷ []) ≡ Some front
 before_there c front =
     let l : length (front ++ c ∷ []) - 1 ≡ length front = let k = length-append front (c ∷ []) in omega (arith, k) in
@@ -46,6 +50,7 @@ split_end c (b ∷ d ∷ bs) some e =
     let l : slice_index (d ∷ bs) (length (d ∷ bs) - 1) ≡ c = sym (ap (slice_index (b ∷ d ∷ bs)) k) ∙ e in
     ap (λ (xs : List ℕ). b ∷ xs) (split_end c (d ∷ bs) some l) ∙ ap (λ (n : ℕ). take n (b ∷ d ∷ bs) ++ c ∷ []) (sym k)
 
+-- nothing is cut off a text that doesn't end with the character
 end_none : (c : ℕ) (bs : List ℕ) → 0 < c → ((front : List ℕ) → bs ≢ front ++ c ∷ []) → strip_suffix c bs ≡ None
 end_none c bs some none =
     elim (cases_Bool (slice_index bs (length bs - 1) == c)) [
@@ -57,6 +62,7 @@ before_match : (c : ℕ) (bs : List ℕ) (r : Option (Bor (List ℕ))) → 0 < c
 before_match c bs None some h = end_none c bs some h
 before_match c bs (Some x) some h = ap (strip_suffix c) h ∙ before_there c x.now
 
+-- the library's cut at the end is the definition's
 pub before_is : (c : ℕ) (bs : List ℕ) (r : Option (Bor (List ℕ))) → MatchOption r (FindsCharSuffix c bs None) (λ x. (n : ℕ) × FindsCharSuffix c bs (Some n) × (x.now ≡ take (length bs - n) bs) × (length x.now + n ≡ length bs)) → 0 < c → c < 128 → MatchOption r (strip_suffix c bs ≡ None) (λ x. strip_suffix c bs ≡ Some x.now)
 before_is c bs r h some lt = before_match c bs r some (strip_suffix_char c bs r h lt)
 
@@ -71,5 +77,6 @@ around_match c bs (Some x) h =
     let e : nat_lt (position_or_len (λ b. b == c) bs) (length bs) ≡ true = grind (arith, h.0) in
     ap (λ (b : Bool). cond b (Some (before_first (λ b. b == c) bs, after_first (λ b. b == c) bs)) None) e ∙ ap (λ (y : List ℕ). Some (y, after_first (λ b. b == c) bs)) (sym h.1) ∙ ap (λ (y : List ℕ). Some (x.0.now, y)) (sym h.2)
 
+-- the library's cut in two is the definition's
 pub around_is : (c : ℕ) (bs : List ℕ) (r : Option (Bor (List ℕ) × Bor (List ℕ))) → IsSplitOnceResult c bs r → c < 128 → MatchOption r (split_once c bs ≡ None) (λ x. split_once c bs ≡ Some (x.0.now, x.1.now))
 around_is c bs r h lt = around_match c bs r (split_once_first c bs r h lt)

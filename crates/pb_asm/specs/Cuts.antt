@@ -1,4 +1,4 @@
--- Texts cut at one character.
+-- Texts cut at one character, as functions of bytes. The readers of operands are said by them.
 use Rattle.std.specs.Prelude.{ℕ, ◌-◌, ◌==◌, nat_lt, if◌then◌else◌, List, [], ◌∷◌, length, take, slice_index, Option, Some, None}
 use Rattle.std.specs.List.{before_first, after_first, position_or_len}
 

@@ -1,4 +1,5 @@
--- The listing of a program: a line for each instruction.
+-- The listing of a program: a line for each instruction. Reading is held against it: a line is an instruction's exactly
+-- where it is this text, so that whatever reading lets through shows here.
 use Rattle.std.specs.Prelude.{ℕ, suc, ℤ, pos, negsuc, List, [], ◌∷◌, ◌++◌, codes}
 use Rattle.std.specs.Fmt.{decimal, signed_decimal}
 use Rattle.std.specs.List.{flat_map}
@@ -10,6 +11,7 @@ use Rattle.pb_isa.specs.declared.insn.Reg as register
 use Rattle.pb_asm.specs.declared.names.Word.TheVariants as word
 use Rattle.pb_asm.specs.Names.{name, reg_name, size_bits}
 
+-- an immediate with a minus where it is negative, or the name of a register
 abbrev pub operand_text : Operand → List ℕ
 operand_text (Imm imm) = signed_decimal imm
 operand_text (Reg src) = reg_name src
@@ -23,6 +25,7 @@ offset_text (negsuc n) = 45 ∷ decimal (suc n)
 abbrev pub place_text : register.Reg → ℤ → List ℕ
 place_text base offset = 91 ∷ (reg_name base ++ (offset_text offset ++ codes "]"))
 
+-- the instruction's word, and its operands with a comma and a blank between them
 abbrev pub insn_text : Insn → List ℕ
 insn_text (Alu op w dst src) = name (word.Alu op w) ++ (codes " " ++ (reg_name dst ++ (codes ", " ++ operand_text src)))
 insn_text (MovSx w z dst src) = name (word.MovSx w) ++ (codes " " ++ (reg_name dst ++ (codes ", " ++ (reg_name src ++ (codes ", " ++ decimal (size_bits z))))))

@@ -1,4 +1,5 @@
--- The words of the assembler text.
+-- The words of the assembler text. RFC 9669 has none: these are the project's own. Each has one name and no two the
+-- same, so that looking through the list finds a word by its name.
 use Rattle.std.specs.Prelude.{ℕ, Bool, true, false, IsTrue, if◌then◌else◌, List, [], ◌∷◌, ◌++◌, map, codes, Option, Some, None}
 use Rattle.std.specs.List.{flat_map}
 use Rattle.std.specs.Str.{bytes_eq}
@@ -22,6 +23,7 @@ use Rattle.pb_isa.specs.Machine.{width}
 use Rattle.pb_asm.specs.declared.names.Word.{Word}
 use Rattle.pb_asm.specs.declared.names.Word.TheVariants.{Alu, MovSx, Neg, LoadImm, Load, StoreImm, Store, Jump, JumpIf, Call, Exit}
 
+-- the name of an operation, as RFC 9669 has it in small letters
 abbrev pub op_name : AluOp → List ℕ
 op_name Add = codes "add"
 op_name Sub = codes "sub"
@@ -36,6 +38,7 @@ op_name Xor = codes "xor"
 op_name Mov = codes "mov"
 op_name Arsh = codes "arsh"
 
+-- that of a conditional jump
 abbrev pub cmp_name : Cmp → List ℕ
 cmp_name Eq = codes "jeq"
 cmp_name Gt = codes "jgt"
@@ -49,16 +52,19 @@ cmp_name Le = codes "jle"
 cmp_name Slt = codes "jslt"
 cmp_name Sle = codes "jsle"
 
+-- a byte, a half word, a word, and a double word
 abbrev pub size_name : Size → List ℕ
 size_name B = codes "b"
 size_name H = codes "h"
 size_name W = codes "w"
 size_name Dw = codes "dw"
 
+-- on how many bits the instruction works
 abbrev pub width_name : Width → List ℕ
 width_name Bits32 = codes "32"
 width_name Bits64 = codes "64"
 
+-- a load that extends the sign has an s before its size
 abbrev pub extension_name : Extension → List ℕ
 extension_name Zeros = []
 extension_name Sign = codes "s"
@@ -77,6 +83,7 @@ name (JumpIf c w) = cmp_name c ++ width_name w
 name Call = codes "call"
 name Exit = codes "exit"
 
+-- every size
 abbrev pub sizes : List Size
 sizes = B ∷ H ∷ W ∷ Dw ∷ []
 
@@ -100,13 +107,16 @@ is_word_of One (Load z Sign) = false
 is_word_of Two (Load z Sign) = is_narrower z Bits64
 is_word_of p w = true
 
+-- the profile has instructions with this word
 abbrev pub IsWordOf : Profile → Word → Type 0
 IsWordOf p w = IsTrue (is_word_of p w)
 
+-- the first of these words whose name is the text
 abbrev pub word_in : List ℕ → List Word → Option Word
 word_in text [] = None
 word_in text (w ∷ ws) = if bytes_eq text (name w) then Some w else word_in text ws
 
+-- a word that the profile doesn't have is as none
 abbrev pub if_word_of : Profile → Option Word → Option Word
 if_word_of p None = None
 if_word_of p (Some w) = if is_word_of p w then Some w else None
@@ -115,6 +125,7 @@ if_word_of p (Some w) = if is_word_of p w then Some w else None
 abbrev pub word_named : Profile → List ℕ → Option Word
 word_named p text = if_word_of p (word_in text words)
 
+-- the name of a register, its number behind an r
 abbrev pub reg_name : Reg → List ℕ
 reg_name R0 = codes "r0"
 reg_name R1 = codes "r1"
@@ -132,9 +143,11 @@ reg_name R10 = codes "r10"
 unfoldable pub registers : List Reg
 registers = R0 ∷ R1 ∷ R2 ∷ R3 ∷ R4 ∷ R5 ∷ R6 ∷ R7 ∷ R8 ∷ R9 ∷ R10 ∷ []
 
+-- the first of these registers whose name is the text
 abbrev pub reg_spelled : List ℕ → List Reg → Option Reg
 reg_spelled text [] = None
 reg_spelled text (r ∷ rs) = if bytes_eq text (reg_name r) then Some r else reg_spelled text rs
 
+-- the register of this name, if there is one
 abbrev pub reg_named : List ℕ → Option Reg
 reg_named text = reg_spelled text registers

@@ -1,4 +1,5 @@
--- The operands of a line, read from left to right.
+-- The operands of a line, read from left to right. It is a function and no relation, since which fault is told depends
+-- on the order; what is read is said without it, by the listing alone (`one_spelling`).
 use Rattle.std.specs.Prelude.{ℕ, ◌-◌, ◌^◌, ℤ, pos, neg_ℤ, ◌==◌, ◌&&◌, if◌then◌else◌, List, [], ◌∷◌, slice_index, Option, Some, None, ok_or, Result, Ok, Err}
 use Rattle.pb_isa.specs.declared.insn.Insn.{Insn}
 use Rattle.pb_isa.specs.declared.insn.Insn.TheVariants as insn
@@ -17,7 +18,7 @@ use Rattle.pb_asm.specs.Names.{sizes, size_bits, word_named, reg_named}
 use Rattle.pb_base.specs.Reading.{◌>>=◌, words_of, next_word, no_word, numeral_upto}
 use Rattle.pb_asm.specs.Cuts.{strip_prefix, strip_suffix, split_once}
 
--- the digits behind a minus: at most this, and not zero
+-- the digits behind a minus: at most this, and not zero, so that 0 has one spelling
 unfoldable pub minus : ℕ → List ℕ → Result ℤ Code
 minus greatest text = do
   n ← numeral_upto code.Form code.Range greatest text
@@ -29,6 +30,7 @@ plus limit text = do
   n ← numeral_upto code.Form code.Range (limit - 1) text
   Ok (pos n)
 
+-- behind a minus the digits of a negative number, and else what was read without one
 abbrev pub signed_or : Result ℤ Code → ℕ → Option (List ℕ) → Result ℤ Code
 signed_or unsigned limit (Some digits) = minus limit digits
 signed_or unsigned limit None = unsigned
@@ -37,6 +39,7 @@ signed_or unsigned limit None = unsigned
 abbrev pub imm_of_text : List ℕ → Result ℤ Code
 imm_of_text text = signed_or (plus (2 ^ 31) text) (2 ^ 31) (strip_prefix 45 text)
 
+-- behind a plus the digits of an offset; without one it has no sign, and is of another form
 abbrev pub plus_or_fault : Option (List ℕ) → Result ℤ Code
 plus_or_fault (Some digits) = plus (2 ^ 15) digits
 plus_or_fault None = Err code.Form
@@ -60,10 +63,12 @@ base_and_offset register offset = do
   o ← offset
   Ok (r, o)
 
+-- the place inside of brackets, cut at a minus
 abbrev pub at_minus : Option (List ℕ × List ℕ) → Result (Reg × ℤ) Code
 at_minus (Some sides) = base_and_offset sides.0 (minus (2 ^ 15) sides.1)
 at_minus None = Err code.Form
 
+-- cut at a plus, and where there is none, at a minus
 abbrev pub at_plus : List ℕ → Option (List ℕ × List ℕ) → Result (Reg × ℤ) Code
 at_plus text (Some sides) = base_and_offset sides.0 (plus (2 ^ 15) sides.1)
 at_plus text None = at_minus (split_once 45 text)
@@ -73,7 +78,8 @@ abbrev pub size_in : Width → ℕ → List Size → Option Size
 size_in w n [] = None
 size_in w n (z ∷ zs) = if is_narrower z w && (size_bits z == n) then Some z else size_in w n zs
 
--- how many bits a sign-extending move of this width takes from its source: those of a narrower size (RFC 9669, section 4.1)
+-- how many bits a sign-extending move of this width takes from its source: those of a narrower size (RFC 9669, section
+-- 4.1); a numeral of any length has the form, so that any other number is out of range
 unfoldable pub bits_of_text : Width → List ℕ → Result Size Code
 bits_of_text w text = do
   n ← numeral_upto code.Form code.Range (2 ^ 64 - 1) text
@@ -93,7 +99,7 @@ comma texts = do
   text ← ok_or (strip_suffix 44 first.0) code.Form
   Ok (text, first.1)
 
--- the last word
+-- the last word: it is read before a word too many is told
 unfoldable pub last : {A : Type 0} → (List ℕ → Result A Code) → List (List ℕ) → Result A Code
 last read texts = do
   first ← next_word code.Form texts
@@ -101,6 +107,7 @@ last read texts = do
   end ← no_word code.Form first.1
   Ok x
 
+-- `r1, -32` or `r1, r2`
 unfoldable pub alu_operands : (Reg → Operand → Insn) → List (List ℕ) → Result Insn Code
 alu_operands make texts = do
   first ← comma texts
@@ -108,6 +115,7 @@ alu_operands make texts = do
   a ← last operand_of_text first.1
   Ok (make r a)
 
+-- `r0, r1, 8`
 unfoldable pub mov_sx_operands : Width → List (List ℕ) → Result Insn Code
 mov_sx_operands w texts = do
   first ← comma texts
@@ -117,6 +125,7 @@ mov_sx_operands w texts = do
   z ← last (bits_of_text w) second.1
   Ok (insn.MovSx w z d s)
 
+-- `r0, 4294967303`
 unfoldable pub load_imm_operands : List (List ℕ) → Result Insn Code
 load_imm_operands texts = do
   first ← comma texts
@@ -124,6 +133,7 @@ load_imm_operands texts = do
   n ← last (numeral_upto code.Form code.Range (2 ^ 64 - 1)) first.1
   Ok (insn.LoadImm r n)
 
+-- `r0, [r1+8]`
 unfoldable pub load_operands : (Reg → Reg → ℤ → Insn) → List (List ℕ) → Result Insn Code
 load_operands make texts = do
   first ← comma texts
@@ -131,6 +141,7 @@ load_operands make texts = do
   p ← last place_of_text first.1
   Ok (make r p.0 p.1)
 
+-- `[r10-8], 5`
 unfoldable pub store_imm_operands : (Reg → ℤ → ℤ → Insn) → List (List ℕ) → Result Insn Code
 store_imm_operands make texts = do
   first ← comma texts
@@ -138,6 +149,7 @@ store_imm_operands make texts = do
   k ← last imm_of_text first.1
   Ok (make p.0 p.1 k)
 
+-- `[r10-8], r2`
 unfoldable pub store_operands : (Reg → Reg → ℤ → Insn) → List (List ℕ) → Result Insn Code
 store_operands make texts = do
   first ← comma texts
@@ -145,6 +157,7 @@ store_operands make texts = do
   r ← last reg_of_text first.1
   Ok (make p.0 r p.1)
 
+-- `r1, 5, +2` or `r1, r2, +2`
 unfoldable pub jump_if_operands : (Reg → Operand → ℤ → Insn) → List (List ℕ) → Result Insn Code
 jump_if_operands make texts = do
   first ← comma texts
@@ -172,6 +185,7 @@ operands (word.JumpIf c w) texts = jump_if_operands (insn.JumpIf c w) texts
 operands word.Call texts = map_insn insn.Call (last imm_of_text texts)
 operands word.Exit texts = map_insn (λ _. insn.Exit) (no_word code.Form texts)
 
+-- the instruction of a line's words: the first says which it is, and is looked at before all operands
 unfoldable pub insn_of_words : Profile → List (List ℕ) → Result Insn Code
 insn_of_words p texts = do
   first ← next_word code.Form texts

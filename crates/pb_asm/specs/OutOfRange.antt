@@ -1,4 +1,6 @@
--- Lines that are an instruction's, but that one number goes beyond its field or isn't in its list.
+-- Lines that are an instruction's, but that one number goes beyond its field or isn't in its list. Code 82 is told of
+-- these and of no others: they are said by the listing with a number in it, and not by a reader, which would let a
+-- looseness pass.
 use Rattle.std.specs.Prelude.{◌≡◌, ◌≢◌, ◌⊎◌, ◌<◌, ℕ, ◌-◌, ◌^◌, ℤ, List, [], ◌∷◌, ◌++◌, codes, true, IsTrue, FitsSigned}
 use Rattle.std.specs.Int.{w16}
 use Rattle.std.specs.Str.Parse.{digits_value}
@@ -23,7 +25,7 @@ pub record IsAbove (most : ℕ) (digits : List ℕ) : Type 0 where
   pub numeral : is_numeral digits ≡ true
   pub above : most < digits_value 10 digits
 
--- the same behind this sign
+-- this sign, and behind it such digits
 abbrev pub IsSignedAbove : ℕ → ℕ → List ℕ → Type 0
 IsSignedAbove sign most text = (digits : List ℕ) × (text ≡ sign ∷ digits) × IsAbove most digits
 
@@ -86,6 +88,7 @@ operands_with (JumpIfImm c w dst) number rest = reg_name dst ++ (codes ", " ++ (
 operands_with (JumpIfOffset c w dst src) number rest = reg_name dst ++ (codes ", " ++ (operand_text src ++ (codes ", " ++ (number ++ rest))))
 operands_with CallImm number rest = number ++ rest
 
+-- the line of an instruction up to this number, and then the rest
 abbrev pub line_with : NumberPlace → List ℕ → List ℕ → List ℕ
 line_with place number rest = name (place_word place) ++ (codes " " ++ operands_with place number rest)
 
@@ -109,7 +112,7 @@ IsBeyond (JumpIfImm c w dst) number = IsImmBeyond number
 IsBeyond (JumpIfOffset c w dst src) number = IsOffsetBeyond number
 IsBeyond CallImm number = IsImmBeyond number
 
--- the line ends here, or a blank comes and then anything
+-- the line ends here, or a blank comes and then anything, since what stands behind the fault isn't looked at
 abbrev pub EndsWord : List ℕ → Type 0
 EndsWord rest = (rest ≡ []) ⊎ ((more : List ℕ) × (rest ≡ 32 ∷ more))
 

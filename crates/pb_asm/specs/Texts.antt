@@ -1,4 +1,5 @@
--- A text of lines, each an instruction.
+-- A text of lines, each an instruction. It is the whole reading, with line numbers, as contracts of `assemble_in` and
+-- the laws cite it.
 use Rattle.std.specs.Prelude.{◌≡◌, ◌⊎◌, ℕ, ◌+◌, not, nat_lt, if◌then◌else◌, List, [], ◌∷◌, ◌++◌, length, Result, Ok, Err}
 use Rattle.std.specs.List.{filter}
 use Rattle.pb_isa.specs.declared.insn.Insn.{Insn}
@@ -38,6 +39,7 @@ some_of p (i ∷ is) = Ok (record { profile = p; insns = i ∷ is })
 abbrev pub program_of_text : Profile → List ℕ → Result ProgramOf (ℕ × ℕ)
 program_of_text p text = insns_of_lines p 0 [] (lines_of text) >>= some_of p
 
+-- how want of memory is told: of no line
 abbrev pub no_memory_fault : AsmFault
 no_memory_fault = record { line = 0; code = 1 }
 
@@ -46,6 +48,7 @@ abbrev pub ReadsProgram : Result ProgramOf AsmFault → Result ProgramOf (ℕ ×
 ReadsProgram (Ok p) read = read ≡ Ok p
 ReadsProgram (Err f) read = (f ≡ no_memory_fault) ⊎ (read ≡ Err (f.line, f.code))
 
+-- what was returned are the instructions that the lines give, unless memory ran out; there may be none
 abbrev pub ReadsLines : Result Lines AsmFault → Result (List Insn) (ℕ × ℕ) → Type 0
 ReadsLines (Ok l) read = read ≡ Ok l.insns.items
 ReadsLines (Err f) read = (f ≡ no_memory_fault) ⊎ (read ≡ Err (f.line, f.code))

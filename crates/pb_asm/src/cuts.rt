@@ -1,8 +1,10 @@
-//! Texts cut at one character.
+//! Texts cut at one character. These are the library's own calls, said by functions of bytes, so that the readers'
+//! proofs know nothing of patterns.
 ghost use Rattle.std.specs.Prelude.{◌≡◌, ◌<◌, MatchOption, Some, None};
 ghost use Rattle.pb_asm.specs.Cuts.{strip_prefix, strip_suffix, split_once};
 
-/// What stands behind this character, if the text begins with it.
+/// What stands behind this character, if the text begins with it. It has to be ASCII, since a character beyond is
+/// several bytes of the text; so in all three.
 pub fn strip_prefix(text: &str, c: char) -> Option<&str>
     requires some { 0 < c }
     requires ascii { c < 128 }
@@ -11,7 +13,8 @@ pub fn strip_prefix(text: &str, c: char) -> Option<&str>
     text.strip_prefix(c)
 }
 
-/// What stands before this character, if the text ends with it.
+/// What stands before this character, if the text ends with it. It isn't 0, since the definition reads a 0 behind the
+/// end.
 pub fn strip_suffix(text: &str, c: char) -> Option<&str>
     requires some { 0 < c }
     requires ascii { c < 128 }

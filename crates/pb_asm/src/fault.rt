@@ -1,4 +1,4 @@
-//! Why a text is no program.
+//! Why a text is no program. Which rule a code tells, `AsmFault` says.
 ghost use Rattle.std.specs.Prelude.{◌≡◌, ◌≢◌, ◌<◌, ◌+◌};
 ghost use Rattle.pb_asm.specs.Codes.{asm_code};
 ghost use Rattle.pb_asm.specs.declared.fault.Code.TheVariants.{Memory};
@@ -9,11 +9,11 @@ use thiserror::Error;
 /// What is wrong with a line, or with the text.
 #[derive(Clone, Copy, Debug, PartialEq, Eq, Drop)]
 pub enum Code {
-    /// No memory.
+    /// No memory. It is one of the codes, so that `?` ends a line at a refused growth as at a fault.
     Memory,
     /// A first word that is none of the profile's instructions'.
     Word,
-    /// Operands that are not of the form.
+    /// Operands that are not of the form: of a word this is tested before the range.
     Form,
     /// A number out of range, or none of those that may stand there.
     Range,
@@ -57,8 +57,8 @@ impl<T: Drop> From<AllocFailed<T>> for Code {
 
 /// The line at which a text is at fault, from 1, and the code: 80 a first word that is none of the profile's
 /// instructions', 81 operands that are not of the form, 82 a number out of range or none of those that may stand there,
-/// 83 an instruction that ends past the last slot that a program of the profile may have, 84 no instruction at all, which
-/// has line 0. Where memory ran out it is line 0 with code 1.
+/// 83 an instruction that ends past the last slot that a program of the profile may have, 84 no instruction at all,
+/// which has line 0, since it is no line's. Where memory ran out it is line 0 with code 1, whichever line was read.
 #[derive(Clone, Copy, Debug, PartialEq, Eq, Drop, Error)]
 #[error("line {line} code {code}")]
 pub struct AsmFault {
@@ -67,7 +67,7 @@ pub struct AsmFault {
 }
 
 impl AsmFault {
-    /// At the line of this index.
+    /// At the line of this index, which is counted from 0, where lines are told from 1.
     pub fn at(index: usize, code: Code) -> AsmFault
         requires { index < usize.MAX }
         ensures memory { code ≡ Memory → result ≡ record { line = 0; code = 1 } }

@@ -1,4 +1,5 @@
-//! The words of a line, read from left to right.
+//! The words of a line, read from left to right, up to the first fault. Each reader takes words off the front and hands
+//! back those behind, in a pair with what it read.
 ghost use Rattle.std.specs.Prelude.{◌≡◌, IfOk, ◌==◌, false};
 ghost use Rattle.pb_isa.specs.Profiles.{IsOf};
 ghost use Rattle.std.specs.List.{slice_split};
@@ -15,7 +16,8 @@ use crate::operands::{bits_of, imm_of, numeral_upto, offset_of, operand_of, plac
 use pb_isa::{AluOp, Cmp, Extension, Insn, Profile, Reg, Size, Width};
 use std::alloc::{AllocError, Global};
 
-// What is left of a line's words.
+// What is left of a line's words. It can stand in a pair with what was read, since nothing that is read here has a
+// model of its own: a pair with one is beyond the borrow checker.
 #[derive(Clone, Copy)]
 struct Words<'a, 'b> {
     rest: &'b [&'a str],
@@ -33,7 +35,8 @@ impl<'a, 'b> Words<'a, 'b> {
         }
     }
 
-    // No word is left.
+    // No word is left. It is the last test of each line, so that a word too many is told only where all before it are
+    // read.
     fn no_word(self) -> Result<(), Code>
         ensures { Gives (λ _. false) (λ x. x) result (no_word code.Form (texts_of self.entry.rest.now)) }
     {
@@ -44,7 +47,8 @@ impl<'a, 'b> Words<'a, 'b> {
         }
     }
 
-    // The next word, which has a comma at its end, and those after it.
+    // The next word, which has a comma at its end, and those after it. The comma is cut off before the word is read, so
+    // that a word without one is told as 81 whatever it says.
     #[tactic(auto, unfolding(crate::specs::Operands::comma))]
     fn comma(self) -> Result<(&'a str, Words<'a, 'b>), Code>
         ensures { Gives (λ _. false) (λ x. (x.0.now, texts_of x.1.rest.now)) result
@@ -57,6 +61,7 @@ impl<'a, 'b> Words<'a, 'b> {
         }
     }
 
+    // Behind `add64`: `r1, -32` or `r1, r2`.
     #[tactic(auto, unfolding(crate::specs::Operands::alu_operands, crate::specs::Operands::last))]
     fn alu(self, op: AluOp, width: Width) -> Result<Insn, Code>
         ensures { Gives (λ _. false) (λ i. i) result (alu_operands (insn.Alu op width) (texts_of self.entry.rest.now)) }
@@ -74,6 +79,7 @@ impl<'a, 'b> Words<'a, 'b> {
         })
     }
 
+    // Behind `movsx64`: `r0, r1, 8`.
     #[tactic(auto, unfolding(crate::specs::Operands::mov_sx_operands, crate::specs::Operands::last))]
     fn mov_sx(self, width: Width) -> Result<Insn, Code>
         ensures { Gives (λ _. false) (λ i. i) result (mov_sx_operands width (texts_of self.entry.rest.now)) }
@@ -93,6 +99,7 @@ impl<'a, 'b> Words<'a, 'b> {
         })
     }
 
+    // Behind `lddw`: `r0, 4294967303`. Its number has no sign, since it is a whole word.
     #[tactic(auto, unfolding(crate::specs::Operands::load_imm_operands, crate::specs::Operands::last))]
     fn wide(self) -> Result<Insn, Code>
         ensures { Gives (λ _. false) (λ i. i) result (load_imm_operands (texts_of self.entry.rest.now)) }
@@ -105,6 +112,7 @@ impl<'a, 'b> Words<'a, 'b> {
         Ok(Insn::LoadImm { dst, imm })
     }
 
+    // Behind `ldxdw`: `r0, [r1+8]`.
     #[tactic(auto, unfolding(crate::specs::Operands::load_operands, crate::specs::Operands::last))]
     fn load(self, size: Size, extension: Extension) -> Result<Insn, Code>
         ensures { Gives (λ _. false) (λ i. i) result
@@ -124,6 +132,7 @@ impl<'a, 'b> Words<'a, 'b> {
         })
     }
 
+    // Behind `stdw`: `[r10-8], 5`.
     #[tactic(auto, unfolding(crate::specs::Operands::store_imm_operands, crate::specs::Operands::last))]
     fn store_imm(self, size: Size) -> Result<Insn, Code>
         ensures { Gives (λ _. false) (λ i. i) result
@@ -142,6 +151,7 @@ impl<'a, 'b> Words<'a, 'b> {
         })
     }
 
+    // Behind `stxdw`: `[r10-8], r2`.
     #[tactic(auto, unfolding(crate::specs::Operands::store_operands, crate::specs::Operands::last))]
     fn store(self, size: Size) -> Result<Insn, Code>
         ensures { Gives (λ _. false) (λ i. i) result (store_operands (insn.Store size) (texts_of self.entry.rest.now)) }
@@ -159,6 +169,7 @@ impl<'a, 'b> Words<'a, 'b> {
         })
     }
 
+    // Behind `jeq64`: `r1, 5, +2` or `r1, r2, +2`.
     #[tactic(auto, unfolding(crate::specs::Operands::jump_if_operands, crate::specs::Operands::last))]
     fn jump_if(self, cmp: Cmp, width: Width) -> Result<Insn, Code>
         ensures { Gives (λ _. false) (λ i. i) result
@@ -180,6 +191,7 @@ impl<'a, 'b> Words<'a, 'b> {
         })
     }
 
+    // One register and nothing behind it, as `neg64` has it.
     #[tactic(auto, unfolding(crate::specs::Operands::last))]
     fn last_reg(self) -> Result<Reg, Code>
         ensures { Gives (λ _. false) (λ r. r) result (last reg_of_text (texts_of self.entry.rest.now)) }
@@ -190,6 +202,7 @@ impl<'a, 'b> Words<'a, 'b> {
         Ok(reg)
     }
 
+    // One offset and nothing behind it, as `ja` has it.
     #[tactic(auto, unfolding(crate::specs::Operands::last))]
     fn last_offset(self) -> Result<i16, Code>
         ensures { Gives (λ _. false) (λ o. o) result (last offset_of_text (texts_of self.entry.rest.now)) }
@@ -200,6 +213,7 @@ impl<'a, 'b> Words<'a, 'b> {
         Ok(offset)
     }
 
+    // One immediate and nothing behind it, as `call` has it.
     #[tactic(auto, unfolding(crate::specs::Operands::last))]
     fn last_imm(self) -> Result<i32, Code>
         ensures { Gives (λ _. false) (λ k. k) result (last imm_of_text (texts_of self.entry.rest.now)) }
@@ -239,7 +253,8 @@ impl<'a, 'b> Words<'a, 'b> {
         }
     }
 
-    // One instruction of a profile.
+    // One instruction of a profile. The first word is looked at first, so that an unknown one is told whatever comes
+    // behind it.
     #[tactic(auto, unfolding(crate::specs::Operands::insn_of_words))]
     fn insn(self, profile: Profile) -> Result<Insn, Code>
         ensures { Gives (λ _. false) (λ i. i) result (insn_of_words profile (texts_of self.entry.rest.now)) }
@@ -252,14 +267,14 @@ impl<'a, 'b> Words<'a, 'b> {
     }
 }
 
-// The words of a text.
+// The words of a text. This alone takes memory, so that no reader of operands has to tell that there was none.
 fn words_of(alloc: Global, text: &str) -> Result<Vec<&str>, AllocError>
     ensures { IfOk result (λ v. texts_of v.items ≡ words_of text.now) }
 {
     text.split(' ').collect(alloc)
 }
 
-/// The instruction of a line.
+/// The instruction of a line, which isn't empty and no remark.
 pub fn line_of(alloc: Global, profile: Profile, text: &str) -> Result<Insn, Code>
     ensures read { Gives is_memory (λ i. i) result (line_of profile text.now) }
     ensures of_profile { IfOk result (IsOf profile) }

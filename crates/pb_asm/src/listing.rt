@@ -1,4 +1,4 @@
-//! Programs to texts.
+//! Programs to texts: one line for each instruction, in the one spelling that is read back.
 ghost use Rattle.std.specs.Prelude.{◌≡◌, ◌++◌, IfOk, string_bytes, codes};
 ghost use Rattle.pb_asm.specs.Names.{name};
 ghost use Rattle.pb_asm.specs.Listing.{operand_text, offset_text, place_text, insn_text, listing};
@@ -8,6 +8,7 @@ use pb_base::NoMemory;
 use pb_isa::{Insn, Operand, Program, Reg};
 use std::alloc::{AllocError, Global};
 
+// An immediate begins with a digit or a minus and a register with an r, so that the first letter tells them apart.
 fn operand_text(alloc: Global, operand: Operand) -> Result<String, AllocError>
     ensures { IfOk result (λ s. string_bytes s ≡ operand_text operand) }
 {
@@ -17,7 +18,7 @@ fn operand_text(alloc: Global, operand: Operand) -> Result<String, AllocError>
     }
 }
 
-// An offset has its sign always.
+// An offset has its sign always, so that in a place it can be told from the register's number: `[r1+8]`.
 fn offset_text(alloc: Global, offset: i16) -> Result<String, AllocError>
     ensures { IfOk result (λ s. string_bytes s ≡ offset_text offset) }
 {
@@ -28,6 +29,7 @@ fn offset_text(alloc: Global, offset: i16) -> Result<String, AllocError>
     }
 }
 
+// A register and an offset in brackets.
 fn place_text(alloc: Global, base: Reg, offset: i16) -> Result<String, AllocError>
     ensures { IfOk result (λ s. string_bytes s ≡ place_text base offset) }
 {
@@ -68,6 +70,7 @@ fn two(alloc: Global, word: Word, first: &str, second: &str) -> Result<String, A
     format!(in alloc; "{name} {first}, {second}")
 }
 
+// The line of an instruction, without its newline. The match has no rest, so that each instruction has a line.
 fn insn_text(alloc: Global, insn: Insn) -> Result<String, AllocError>
     ensures { IfOk result (λ s. string_bytes s ≡ insn_text insn) }
 {

@@ -1,10 +1,11 @@
-//! The words of the text.
+//! The words of the text: the first word of each line, and the names of registers.
 ghost use Rattle.std.specs.Prelude.{◌≡◌};
 ghost use Rattle.pb_asm.specs.Names.{name, is_word_of, size_bits, word_in, word_named, reg_name, reg_spelled, reg_named};
 
 use pb_isa::{AluOp, Cmp, Extension, Profile, Reg, Size, Width};
 
-/// The first word of a line: which instruction it is.
+/// The first word of a line: which instruction it is, and on how many bits or bytes. A load of 64 bits with a sign has
+/// one though no profile has the instruction, so that each load has a name.
 #[derive(Clone, Copy, Debug, PartialEq, Eq)]
 pub enum Word {
     Alu(AluOp, Width),
@@ -99,7 +100,8 @@ impl Word {
         }
     }
 
-    // Whether a profile has instructions with this word.
+    // Whether a profile has instructions with this word. The load of 64 bits with a sign is in none, since nothing is
+    // extended.
     fn is_of(self, profile: Profile) -> bool
         ensures { result ≡ is_word_of profile self }
     {
@@ -110,7 +112,7 @@ impl Word {
         }
     }
 
-    /// The profile's word that is written so.
+    /// The profile's word that is written so. A word of another profile is as unknown as any text.
     #[tactic(auto, unfolding(crate::specs::Names::words))]
     pub fn named(profile: Profile, text: &str) -> Option<Word>
         ensures { result ≡ word_named profile text.now }
@@ -124,6 +126,7 @@ impl Word {
     }
 }
 
+// The first of these words that is written so; there is one at most, since no two are written alike.
 fn word_in(words: &[Word], text: &str) -> Option<Word>
     ensures { result ≡ word_in text.now words.now }
 {
@@ -166,6 +169,7 @@ pub fn reg_name(reg: Reg) -> &'static str
     }
 }
 
+// The first of these registers that is written so. They are compared whole, so that `r01` and `r11` are none.
 fn reg_spelled(registers: &[Reg], text: &str) -> Option<Reg>
     ensures { result ≡ reg_spelled text.now registers.now }
 {
@@ -185,6 +189,7 @@ pub fn reg_named(text: &str) -> Option<Reg>
     reg_spelled(&REGISTERS, text)
 }
 
+// Each register, in the order of the definition, which goes through them one by one.
 const REGISTERS: [Reg; 11] = [
     Reg::R0,
     Reg::R1,
@@ -199,6 +204,7 @@ const REGISTERS: [Reg; 11] = [
     Reg::R10,
 ];
 
+// Each word, in the order of the definition, so that both lists are one.
 const WORDS: [Word; 70] = [
     Word::Alu(AluOp::Add, Width::Bits32),
     Word::Alu(AluOp::Add, Width::Bits64),

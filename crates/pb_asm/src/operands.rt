@@ -12,13 +12,14 @@ use crate::fault::Code;
 use crate::names::reg_named;
 use pb_isa::{Operand, Reg, Size, Width};
 
+// Whether it is digits alone; so is an empty text.
 fn all_digits(digits: &[u8]) -> bool
     ensures { result ≡ list_all is_ascii_digit digits.now }
 {
     digits.iter().all(|b| b.is_ascii_digit())
 }
 
-// Digits without a leading zero.
+// Digits without a leading zero, so that each number has one spelling.
 fn is_numeral(text: &str) -> bool
     ensures { result ≡ is_numeral text.now }
 {
@@ -32,7 +33,7 @@ fn is_numeral(text: &str) -> bool
     all_digits(digits)
 }
 
-/// A number, at most this.
+/// A number, at most this. Its form is tested first, and then its range.
 pub fn numeral_upto(greatest: u64, text: &str) -> Result<u64, Code>
     ensures value { Gives (λ _. false) (λ n. n) result (numeral_upto code.Form code.Range greatest text.now) }
     ensures bound { IfOk result (λ n. n ≤ greatest) }
@@ -40,6 +41,7 @@ pub fn numeral_upto(greatest: u64, text: &str) -> Result<u64, Code>
     if !is_numeral(text) {
         return Err(Code::Form);
     }
+    // What has the form and can't be parsed is beyond 64 bits, so that it is out of range whatever may stand there.
     let Ok(number) = text.parse::<u64>() else {
         return Err(Code::Range);
     };
@@ -50,7 +52,7 @@ pub fn numeral_upto(greatest: u64, text: &str) -> Result<u64, Code>
     }
 }
 
-// The digits behind a minus: at most this, and not zero.
+// The digits behind a minus: at most this, and not zero, since `-0` would be a second spelling of `0`.
 #[tactic(auto, unfolding(crate::specs::Operands::minus))]
 fn minus(greatest: u32, text: &str) -> Result<i64, Code>
     ensures value { Gives (λ _. false) (λ z. z) result (minus greatest text.now) }
@@ -64,7 +66,8 @@ fn minus(greatest: u32, text: &str) -> Result<i64, Code>
     Ok(-(number as i64))
 }
 
-// Digits without a minus: below this.
+// Digits without a minus: below this. The limit and not the greatest is taken, so that one number says the range of
+// either sign.
 #[tactic(auto, unfolding(crate::specs::Operands::plus))]
 fn plus(limit: u32, text: &str) -> Result<i64, Code>
     requires { 0 < limit }
@@ -76,7 +79,7 @@ fn plus(limit: u32, text: &str) -> Result<i64, Code>
     Ok(number as i64)
 }
 
-/// An immediate, which has a sign only where it is negative.
+/// An immediate, which has a sign only where it is negative: -2147483648 to 2147483647.
 pub fn imm_of(text: &str) -> Result<i32, Code>
     ensures { Gives (λ _. false) (λ z. z) result (imm_of_text text.now) }
 {
@@ -87,7 +90,7 @@ pub fn imm_of(text: &str) -> Result<i32, Code>
     Ok(number as i32)
 }
 
-/// An offset, which always has a sign.
+/// An offset, which always has a sign: -32768 to +32767.
 pub fn offset_of(text: &str) -> Result<i16, Code>
     ensures { Gives (λ _. false) (λ z. z) result (offset_of_text text.now) }
 {
@@ -110,7 +113,8 @@ pub fn reg_of(text: &str) -> Result<Reg, Code>
     }
 }
 
-/// An operand that may be a register or an immediate.
+/// An operand that may be a register or an immediate. Its first letter says which, so that what begins with an `r` is
+/// told as no register and not as no number.
 #[tactic(auto, unfolding(crate::specs::Operands::operand_of_text))]
 pub fn operand_of(text: &str) -> Result<Operand, Code>
     ensures { Gives (λ _. false) (λ a. a) result (operand_of_text text.now) }
@@ -135,7 +139,8 @@ fn narrower_size(width: Width, bits: u64) -> Option<Size>
     }
 }
 
-/// How many bits a sign-extending move of this width takes from its source: 8 or 16, and to 64 bits also 32.
+/// How many bits a sign-extending move of this width takes from its source: 8 or 16, and to 64 bits also 32. Any other
+/// number, of any length, is told as 82, since it has the form.
 #[tactic(auto, unfolding(crate::specs::Operands::bits_of_text))]
 pub fn bits_of(width: Width, text: &str) -> Result<Size, Code>
     ensures { Gives (λ _. false) (λ z. z) result (bits_of_text width text.now) }
@@ -147,7 +152,7 @@ pub fn bits_of(width: Width, text: &str) -> Result<Size, Code>
     }
 }
 
-/// A place in memory: a register and an offset in brackets.
+/// A place in memory: a register and an offset in brackets. It is cut at the sign, since a register's name has none.
 #[tactic(auto, unfolding(crate::specs::Operands::place_of_text, crate::specs::Operands::base_and_offset))]
 pub fn place_of(text: &str) -> Result<(Reg, i16), Code>
     ensures { Gives (λ _. false) (λ p. p) result (place_of_text text.now) }

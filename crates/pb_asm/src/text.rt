@@ -1,4 +1,4 @@
-//! Texts to programs.
+//! Texts to programs, and the laws of what is read and which faults are told.
 ghost use Rattle.std.specs.Prelude.{◌≡◌, ◌≢◌, ◌⊎◌, ◌↔◌, ℕ, ◌+◌, ◌==◌, ◌<◌, ◌≤◌, IfOk, Ok, Err, List, [], ◌∷◌, ◌++◌, map};
 ghost use Rattle.std.specs.List.{slice_split, before_first, AllByRecursion};
 ghost use Rattle.pb_isa.specs.Bounds.{Fits};
@@ -25,7 +25,7 @@ use crate::lines::Lines;
 use pb_isa::{Insn, NoProgram, Profile, Program};
 use std::alloc::{AllocError, Global};
 
-// Empty, or a remark.
+// Empty, or a remark. It is counted as a line all the same, so that a fault is told at the line that an editor shows.
 fn is_skipped(line: &str) -> bool
     ensures { result ≡ is_skipped line.now }
 {
@@ -34,7 +34,8 @@ fn is_skipped(line: &str) -> bool
 }
 
 impl Lines {
-    // Adds what one line says in a profile.
+    // Adds what one line says in a profile. That it ends past the last slot is told last, since 83 is told where a line
+    // has no other fault.
     #[tactic(auto, using(crate::proofs::SlotCounts::slots_push, crate::proofs::SlotCounts::fit_push, crate::proofs::SlotCounts::of_push), unfolding(crate::specs::Texts::with_insn_line))]
     fn add(&mut self, alloc: Global, profile: Profile, line: &str) -> Result<(), Code>
         requires most { self.old.taken ≤ max_slots profile }
@@ -55,13 +56,15 @@ impl Lines {
         if slots > most {
             return Err(Code::TooLong);
         }
+        // After the test, so that the instructions are within the profile's slots after every line.
         self.insns.push(insn)?;
         self.taken = slots;
         Ok(())
     }
 }
 
-// How many slots an instruction takes. Its numbers fit by their types.
+// How many slots an instruction takes. It also says that its numbers fit, which they do by their types, so that this
+// can be said of all lines together.
 fn slots_of(insn: Insn) -> usize
     ensures slots { result ≡ slots (insn ∷ []) }
     ensures fits { Fits insn }
@@ -72,13 +75,14 @@ fn slots_of(insn: Insn) -> usize
     }
 }
 
+// The lines of a text; the one behind a last newline is empty, and skipped.
 fn lines_of(alloc: Global, text: &str) -> Result<Vec<&str>, AllocError>
     ensures { IfOk result (λ v. texts_of v.items ≡ lines_of text.now) }
 {
     text.split('\n').collect(alloc)
 }
 
-// The instructions of all lines.
+// The instructions of all lines, up to the first fault. Later lines aren't looked at, since the first is told.
 fn lines_in(alloc: Global, profile: Profile, text: &str) -> Result<Lines, AsmFault>
     ensures read { ReadsLines result (insns_of_lines profile 0 [] (lines_of text.now)) }
     ensures most { IfOk result (λ l. l.taken ≤ max_slots profile) }
@@ -125,11 +129,13 @@ pub fn assemble_in(alloc: Global, profile: Profile, text: &str) -> Result<Progra
     match Program::new(alloc, profile, lines.insns) {
         Ok(program) => Ok(program),
         Err(NoProgram::NoMemory) => Err(AsmFault { line: 0, code: 1 }),
+        // There is an instruction, and each line was tested, so that they take some slots and no more than the profile
+        // has.
         Err(NoProgram::NotInRange(_)) => unreachable!(),
     }
 }
 
-/// Each listing is a text with one reading in its program's profile, its program.
+/// Each listing is a text with one reading in its program's profile, its program. So `dis` loses nothing of a program.
 pub fn listings_read_back()
     ensures { (p : ProgramOf) → IsProgram p → AllByRecursion Fits p.insns
         → program_of_text p.profile (listing p.insns) ≡ Ok p }

@@ -1,4 +1,5 @@
--- Cells have one total order: by row, by column, data before acknowledgments, and these by observer.
+-- Cells have one total order: by row, by column, data before acknowledgments, and these by observer. The order's laws
+-- stand here and not among the proofs, since maps over cells and the `Ord` of `Cell` cite them.
 use Rattle.std.specs.Prelude.{◌≡◌, ℕ, ◌+◌, Bool, true, false, refl}
 use Rattle.std.proofs.Common.{sym, arith}
 use Rattle.std.specs.FinMap.{IsAntisymmetric, nat_cmp-IsAntisymmetric}
@@ -11,10 +12,12 @@ use Rattle.pb_base.specs.declared.names.Row.{Row}
 use Rattle.pb_base.specs.declared.cell.Cell.{Cell}
 use Rattle.pb_base.specs.declared.cell.Cell.TheVariants.{Data, Ack}
 
+-- the row, of an acknowledgment too: it stands in the row of the changes that it acknowledges
 abbrev pub row_of : Cell → Row
 row_of (Data row column) = row
 row_of (Ack observer row column) = row
 
+-- the column, of an acknowledgment that of the observed cell
 abbrev pub column_of : Cell → ℕ
 column_of (Data row column) = column
 column_of (Ack observer row column) = column
@@ -29,27 +32,33 @@ abbrev pub rank_of : Cell → ℕ
 rank_of (Data row column) = 0
 rank_of (Ack observer row column) = observer + 1
 
--- within a row
+-- the order of cells that are of one row
 abbrev pub in_row_cmp : Cell → Cell → Ordering
 in_row_cmp = then_cmp (on column_of nat_cmp) (on rank_of nat_cmp)
 
+-- the order of cells: by row first, so that a range of rows is a range of cells
 abbrev pub cell_cmp : Cell → Cell → Ordering
 cell_cmp = then_cmp (on (λ c. (row_of c).0) nat_cmp) in_row_cmp
 
+-- any two cells compare, and comparing goes on from cell to cell
 pub cell_cmp_total : IsTotalOrder cell_cmp
 cell_cmp_total = then_total (on_total (λ c. (row_of c).0) nat_cmp_total) (then_total (on_total column_of nat_cmp_total) (on_total rank_of nat_cmp_total))
 
+-- two orderings, one after the other, come to equal only where each is
 pub both_equal : (a b : Ordering) → ordering_then a b ≡ Equal → (a ≡ Equal) × (b ≡ Equal)
 both_equal Less b e = (e, cc)
 both_equal Equal b e = (refl, e)
 both_equal Greater b e = (e, cc)
 
+-- two observers of one rank are one
 suc_same : (a b : ℕ) → a + 1 ≡ b + 1 → a ≡ b
 suc_same a b e = omega arith
 
+-- no acknowledgment has the rank of data
 no_rank : (a : ℕ) → 0 ≡ a + 1 → ⊥
 no_rank a e = omega arith
 
+-- row, column and rank are all that a cell says
 same_cells : (x y : Cell) → (row_of x).0 ≡ (row_of y).0 → column_of x ≡ column_of y → rank_of x ≡ rank_of y → x ≡ y
 same_cells (Data r c) (Data s d) p q e = λ i. Data (record { 0 = p i }) (q i)
 same_cells (Data r c) (Ack o s d) p q e = absurd (no_rank o e)

@@ -1,4 +1,6 @@
--- Reading a text from left to right, which may stop at a fault: lines, words, numbers, and what a reader returned.
+-- Reading a text from left to right, which may stop at a fault: lines, words, numbers, and what a reader returned. The
+-- readers of programs' texts, scripts and schedules are all said by these, so that they count lines and take numbers
+-- alike.
 use Rattle.std.specs.Prelude.{◌≡◌, ℕ, ◌+◌, Bool, true, false, ◌&&◌, ◌||◌, ◌==◌, nat_le, nat_lt, if◌then◌else◌, List, [], ◌∷◌, length, map, slice_index, Result, Ok, Err}
 use Rattle.std.specs.Char.{is_ascii_digit}
 use Rattle.std.specs.List.{list_all, slice_split}
@@ -6,11 +8,13 @@ use Rattle.std.specs.Str.Parse.{digits_value}
 use denote.Ref.{Bor}
 
 infixl 10 ◌>>=◌
+-- the next reading, of what the first one made; a fault of the first is the fault of both
 abbrev pub ◌>>=◌ : {A B E : Type 0} → Result A E → (A → Result B E) → Result B E
 (Ok x) >>= f = f x
 (Err e) >>= f = Err e
 
--- what reading gives where a function failed so: that fault, unless it is want of memory
+-- what reading gives where a function failed so: that fault. Of want of memory nothing follows, since no contract can
+-- say when there is any
 abbrev pub Fails : {Y E : Type 0} → Bool → E → Result Y E → Type 0
 Fails true e read = Unit {0}
 Fails false e read = read ≡ Err e
@@ -34,7 +38,7 @@ words_of line = slice_split (λ b. b == 32) line
 abbrev pub texts_of : List (Bor (List ℕ)) → List (List ℕ)
 texts_of texts = map (λ t. t.now) texts
 
--- a line that is empty, or a remark
+-- a line that is empty, or a remark, which begins with `#`
 abbrev pub is_skipped : List ℕ → Bool
 is_skipped line = (length line == 0) || (slice_index line 0 == 35)
 
@@ -50,7 +54,7 @@ no_word form (word ∷ words) = Err form
 
 -- ---- numbers
 
--- some digits, with no zero before another
+-- some digits, with no zero before another, so that each number has one spelling
 abbrev pub is_numeral : List ℕ → Bool
 is_numeral word = if length word == 0 then false else if (slice_index word 0 == 48) && nat_lt 1 (length word) then false else list_all is_ascii_digit word
 
@@ -60,7 +64,7 @@ numeral_upto form range greatest word = if is_numeral word then (if nat_le (digi
 
 -- ---- one after the other
 
--- each step from what those before it made, told its number; the first fault ends it
+-- each step from what those before it made, told its number, so that a fault can name its line; the first fault ends it
 abbrev pub in_turn : {S A E : Type 0} → (ℕ → S → A → Result S E) → ℕ → S → List A → Result S E
 in_turn step n s [] = Ok s
 in_turn step n s (x ∷ xs) = step n s x >>= λ t. in_turn step (n + 1) t xs

@@ -1,9 +1,11 @@
--- The numbers by which refusals are told.
+-- The numbers by which refusals are told. The table's definitions name reasons, and only contracts at the edge come
+-- here.
 use Rattle.std.specs.Prelude.{◌≡◌, ℕ, Option, Some, None}
 use Rattle.pb_base.specs.declared.refusal.Reason.{Reason}
 use Rattle.pb_base.specs.declared.refusal.Reason.TheVariants.{NoMemory, NoTablet, RowsDontRise, NotEmpty, NoSuchPlace, OutOfTimestamps, NotOfSeat, WrongPhase, NotItsDeclaration, JournalFull, NotDeclared, AlreadyPrewritten, NoSuchObserver, LaterThanStart}
 use Rattle.pb_base.specs.declared.refusal.Refusal.{Refusal}
 
+-- 1 to 5 are of tables and tablets, 40 to 49 of steps; 48 is a run's whose seats differ, and no step's
 abbrev pub reason_code : Reason → ℕ
 reason_code NoMemory = 1
 reason_code NoTablet = 2
@@ -20,6 +22,7 @@ reason_code AlreadyPrewritten = 46
 reason_code NoSuchObserver = 47
 reason_code LaterThanStart = 49
 
+-- what a caller gets for this reason
 abbrev pub refusal_by : Reason → Refusal
 refusal_by r = record { 0 = reason_code r }
 

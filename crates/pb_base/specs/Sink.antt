@@ -1,8 +1,8 @@
--- What a write to a sink did, and what a sink has taken of some bytes.
+-- What a write to a sink did, by which each sink keeps whether it has failed, and what a sink has taken of some bytes.
 use Rattle.std.specs.Prelude.{◌≡◌, ℕ, zero, suc, Bool, true, false, List, ◌++◌, Option, Result, Ok, Err}
 use Rattle.std.specs.Io.KnownBytes.{Appends}
 
--- the write failed, or took no byte
+-- the write failed, or took no byte, which is as bad where there was one
 abbrev pub took_none : {E : Type 0} → Result ℕ E → Bool
 took_none (Ok zero) = true
 took_none (Ok (suc n)) = false

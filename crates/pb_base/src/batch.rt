@@ -1,4 +1,5 @@
-//! What a script transaction writes.
+//! What a script's transaction writes. It is tested once, where it is made, so that no step of the table tests it
+//! again.
 ghost use Rattle.std.specs.Prelude.{◌≡◌};
 ghost use Rattle.std.specs.List.{list_all};
 ghost use Rattle.pb_base.specs.Batch.{writes_of, content_in, is_unstamped, is_data_write, are_distinct};
@@ -31,7 +32,7 @@ impl Model for Batch {
     ghost invariant = { λ b. is_batch (writes_of b.writes.items) ≡ true };
 }
 
-// What the writes give a cell.
+// What the writes give a cell: the first that names it. In a batch that is the only one, since its cells are distinct.
 fn content_in(writes: &[(Row, Column, Content)], cell: Cell) -> Option<Content>
     ensures { result ≡ content_in (writes_of writes.now) cell }
 {
@@ -43,6 +44,7 @@ fn content_in(writes: &[(Row, Column, Content)], cell: Cell) -> Option<Content>
     None
 }
 
+// Whether a script may write it. A stamp it may not, since that is an observer's acknowledgment.
 fn is_plain(content: Content) -> bool
     ensures { result ≡ is_unstamped content }
 {
@@ -53,6 +55,7 @@ fn is_plain(content: Content) -> bool
     }
 }
 
+// Whether a script may write each of them.
 fn are_plain(writes: &[(Row, Column, Content)]) -> bool
     ensures { result ≡ list_all is_data_write (writes_of writes.now) }
 {
@@ -64,7 +67,7 @@ fn are_plain(writes: &[(Row, Column, Content)]) -> bool
     true
 }
 
-// Whether no cell is named twice.
+// Whether no cell is named twice: each is looked for among those behind it, which takes no memory.
 fn are_distinct(writes: &[(Row, Column, Content)]) -> bool
     ensures { result ≡ are_distinct (writes_of writes.now) }
 {
@@ -86,6 +89,8 @@ impl Batch {
         ensures ok { IfOk result (λ b. b ≡ writes_of writes.items) }
         ensures handed_back { IfErr result (λ ws. ws ≡ writes) }
     {
+        // The number is tested before the cells are compared, since each is compared with all behind it, by a call for
+        // each.
         let is_batch = !writes.is_empty()
             && writes.len() <= MAX_CELLS
             && are_plain(&writes)
@@ -97,7 +102,7 @@ impl Batch {
         }
     }
 
-    /// How many cells it writes.
+    /// How many cells it writes: 1 to 16.
     pub fn len(&self) -> usize
         ensures count { result ≡ length self.now }
         ensures some { 0 < result }
@@ -123,7 +128,7 @@ impl Batch {
         content_in(&self.writes, cell)
     }
 
-    /// The first cell.
+    /// The first cell, whose write record decides for the whole transaction.
     pub fn primary(&self) -> Cell
         ensures { primary_in self.now ≡ Some result }
     {
@@ -131,7 +136,7 @@ impl Batch {
         Cell::Data(first.0, first.1)
     }
 
-    /// Another of the same writes.
+    /// Another of the same writes. Each try of a change takes one, since the change may have to be tried again.
     pub fn copy(&self) -> Result<Batch, NoMemory>
         ensures { IfOk result (λ b. b ≡ self.now) }
     {

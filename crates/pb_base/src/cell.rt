@@ -1,4 +1,4 @@
-//! Cells, with their order.
+//! Cells, and the order in which tablets keep them and passes go over them.
 ghost use Rattle.std.specs.Prelude.{◌≡◌};
 
 use crate::names::{Column, ObserverNo, Row};
@@ -6,7 +6,8 @@ use std::cmp::Ordering;
 
 /// A data cell, or the cell in which an observer acknowledges the changes of a data cell (OSDI 2010, section 2.4).
 ///
-/// Cells are ordered by row, then column, then data before acknowledgments, then observer.
+/// Cells are ordered by row, then column, then data before acknowledgments, then observer. The row comes first, so that
+/// the cells of a range of rows stand together and one tablet can have them.
 #[derive(Clone, Copy, Debug)]
 pub enum Cell {
     Data(Row, Column),
@@ -36,6 +37,7 @@ impl Cell {
         }
     }
 
+    // Where it stands among the cells of its row and column: data at 0, and so before each acknowledgment.
     fn rank(&self) -> u8
         ensures { result ≡ rank_of self.now }
     {
@@ -45,7 +47,7 @@ impl Cell {
         }
     }
 
-    // Columns and ranks, where the rows are alike.
+    // Of two cells of one row: by column, and then by rank.
     fn compare_in_row(&self, other: &Cell) -> Ordering
         ensures { result ≡ in_row_cmp self.now other.now }
     {
@@ -55,6 +57,7 @@ impl Cell {
         }
     }
 
+    // By row, and then within it.
     fn compare(&self, other: &Cell) -> Ordering
         ensures { result ≡ cell_cmp self.now other.now }
     {
@@ -65,6 +68,7 @@ impl Cell {
     }
 }
 
+// Equal is what compares alike, so that a sorted list and a test of equality never disagree about a cell.
 impl PartialEq for Cell {
     ghost use Rattle.std.specs.Cmp.{partial_equiv_from_equiv, eq_by_cmp_equiv};
     ghost use Rattle.std.specs.Ordering.{eq_by_cmp};

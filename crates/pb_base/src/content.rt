@@ -1,4 +1,4 @@
-//! What a cell holds.
+//! What a cell holds, and a version of it with the timestamps that a snapshot is read by.
 use crate::names::Ts;
 
 /// What a data cell holds when it isn't deleted.
@@ -12,7 +12,8 @@ pub enum Content {
     Stamp(Ts),
 }
 
-/// A committed version of a cell: the start and the commit of the transaction that wrote it, and what it wrote.
+/// A committed version of a cell: the start and the commit of the transaction that wrote it, and what it wrote. A
+/// snapshot is cut by commits; the start names the transaction.
 #[derive(Clone, Copy, Debug, PartialEq, Eq)]
 pub struct Revision {
     pub start: Ts,

@@ -13,7 +13,7 @@ pub struct Row(pub u64);
 #[derive(Clone, Copy, Debug, PartialEq, Eq, PartialOrd, Ord)]
 pub struct Ts(pub u64);
 
-/// A column, 0 to 15.
+/// A column, 0 to 15. The number is private, so that each column has been through [`Column::new`].
 #[derive(Clone, Copy, Debug, PartialEq, Eq, PartialOrd, Ord)]
 pub struct Column {
     number: u8,
@@ -55,7 +55,7 @@ impl Column {
     }
 }
 
-/// The number of an observer, its place in the manifest, 0 to 31.
+/// The number of an observer, its place in the manifest, 0 to 31. It too is private, so that each is in range.
 #[derive(Clone, Copy, Debug, PartialEq, Eq, PartialOrd, Ord)]
 pub struct ObserverNo {
     number: u8,

@@ -1,4 +1,4 @@
-//! Refusals by number.
+//! Refusals: a reason inside, and a number at the public edge.
 ghost use Rattle.std.specs.Prelude.{◌≡◌};
 ghost use Rattle.pb_base.specs.Reasons.{reason_code, refusal_by};
 
@@ -10,6 +10,8 @@ use thiserror::Error;
 #[error("no memory")]
 pub struct NoMemory;
 
+// A refused growth has nothing else to tell, so that `?` makes it this refusal. There are two, since a call that was
+// given a value, as `push`, hands it back with its error.
 impl From<AllocError> for NoMemory {
     fn from(_e: AllocError) -> NoMemory {
         NoMemory
@@ -22,7 +24,8 @@ impl<T: Drop> From<AllocFailed<T>> for NoMemory {
     }
 }
 
-/// Why a call of the table, or of its tablets, is refused.
+/// Why a call of the table, or of its tablets, is refused. Definitions name the reason, since a number says nothing to
+/// who reads them; callers get the number.
 #[derive(Clone, Copy, Debug, PartialEq, Eq, Drop)]
 pub enum Reason {
     /// A growth was refused.
@@ -56,7 +59,8 @@ pub enum Reason {
 }
 
 impl Reason {
-    /// The number that it is told by.
+    /// The number that it is told by. 48 is no reason's, since it is told of a whole run, whose seats differ from its
+    /// journal.
     pub fn code(self) -> u8
         ensures { result ≡ reason_code self }
     {

@@ -1,4 +1,4 @@
-//! Where bytes are written.
+//! Where bytes are written: what a report or a listing goes to, in the program standard output or a file.
 ghost use Rattle.std.specs.Prelude.{◌≡◌, ◌≤◌, ◌||◌, ◌&&◌, nat_lt, length, true, List, ℕ, Bool, Option, IfOk, OnOk, OnErr};
 ghost use Rattle.std.specs.Io.KnownBytes.{Appends, WriteAppends};
 ghost use Rattle.pb_base.specs.Sink.{took_none, AppendsPart};
@@ -12,7 +12,8 @@ use thiserror::Error;
 pub struct SinkFault;
 
 /// Takes bytes, and tells which it has taken so far, where that is known, and whether a write of a piece that isn't
-/// empty has failed or taken no byte so far.
+/// empty has failed or taken no byte so far. The bytes may be unknown, since no contract of the standard library says
+/// what is behind standard output; whether a write failed is known of each.
 pub trait Sink {
     ghost taken: { Self → Option (List ℕ) };
 
@@ -77,12 +78,15 @@ impl<W: Write> Sink for Out<W> {
     fn write(&mut self, piece: &[u8]) -> Result<usize, SinkFault> {
         match self.writer.write(piece) {
             Ok(count) => {
+                // Nothing taken of some bytes is kept as a failure, since who goes on until all are taken would never
+                // end.
                 if count == 0 && !piece.is_empty() {
                     self.failed = true;
                 }
                 Ok(count)
             }
             Err(_) => {
+                // A failed write of an empty piece isn't kept, since no byte is missing by it.
                 if !piece.is_empty() {
                     self.failed = true;
                 }

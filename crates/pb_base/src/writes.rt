@@ -1,10 +1,12 @@
-//! Whether two lists of writes are the same.
+//! Whether two lists of writes are the same: a declared run's are compared with those of the expected one. They are
+//! compared by recursion, since the search for a proof doesn't find an equality of slices of pairs.
 ghost use Rattle.std.specs.Prelude.{◌≡◌, ◌↔◌, ◌≤◌, IsTrue, length, drop};
 
 use crate::batch::Batch;
 use crate::cell::Cell;
 use crate::content::Content;
 
+// Whether both give the same cell the same content.
 fn is_same_write(a: &(Cell, Content), b: &(Cell, Content)) -> bool
     ensures { IsTrue result ↔ (a.now ≡ b.now) }
 {
@@ -24,7 +26,8 @@ pub fn are_same_writes(a: &[(Cell, Content)], b: &[(Cell, Content)]) -> bool
     }
 }
 
-// From this place on.
+// From this place on. By places and not by slices, since a batch keeps rows and columns, and `Batch::at` makes the
+// cell.
 fn is_same_from(a: &Batch, b: &Batch, from: usize) -> bool
     requires same { length a.now ≡ length b.now }
     requires within { from ≤ length a.now }
@@ -41,6 +44,7 @@ impl Batch {
     pub fn is_same(&self, other: &Batch) -> bool
         ensures { IsTrue result ↔ (self.now ≡ other.now) }
     {
+        // The number comes first, since what follows asks for each place in both.
         self.len() == other.len() && is_same_from(self, other, 0)
     }
 }

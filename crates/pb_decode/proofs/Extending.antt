@@ -22,12 +22,13 @@ use Rattle.pb_decode.specs.Opcodes.{IsFormOf}
 use Rattle.pb_decode.specs.Encoding.{bits_of}
 use Rattle.pb_decode.specs.Reading.{is_alu_offset, size_of_bits}
 
--- neither
+-- neither a load nor a move that extends the sign: each profile has it
 abbrev pub IsPlain : Insn → Type 0
 IsPlain (MovSx w z d s) = ⊥
 IsPlain (Load z x d s o) = ⊥
 IsPlain i = Unit {0}
 
+-- so it is of each
 pub is_plain : (p : Profile) (i : Insn) → IsPlain i → IsOf p i
 is_plain One (MovSx w z d s) h = absurd h
 is_plain Two (MovSx w z d s) h = absurd h
@@ -36,6 +37,7 @@ is_plain Two (Load z x d s o) h = absurd h
 is_plain One i h = refl
 is_plain Two i h = refl
 
+-- any form but a load's: each profile has it
 abbrev pub IsPlainForm : Form → Type 0
 IsPlainForm (form.Load z x) = ⊥
 IsPlainForm f = Unit {0}
@@ -75,6 +77,7 @@ pub record IsExtending (p : Profile) (op : AluOp) (w : Width) (n : ℕ) : Type 0
   pub narrower : IsTrue (is_narrower size w)
   pub of_profile : (d s : Reg) → IsOf p (MovSx w size d s)
 
+-- where the offset is a narrower size's bits, a move with it extends the sign
 bits_are : (w : Width) (z : Size) (n : ℕ) → IsTrue (is_narrower z w) → (n == bits_of z) ≡ true → IsExtending Two Mov w n
 bits_are w z n h e = record { size = z; move = refl; bits = eqb-true n (bits_of z) e; narrower = h; of_profile = λ d s. h }
 
@@ -90,15 +93,18 @@ from_bits64 : (n : ℕ) → ((n == 8) ≡ true) ⊎ (((n == 16) || (n == 32)) �
 from_bits64 n (inl h) = bits_are Bits64 B n refl h
 from_bits64 n (inr h) = from_larger n (or_cases (n == 16) (n == 32) h)
 
+-- the offset is zero, or what the other tests say
 zero_or : {A : Type 0} (n : ℕ) (b : Bool) → (b ≡ true → A) → ((n == 0) ≡ true) ⊎ (b ≡ true) → (0 ≡ n) ⊎ A
 zero_or n b others (inl h) = inl (sym (eqb-true n 0 h))
 zero_or n b others (inr h) = inr (others h)
 
+-- an offset that is let through is zero, or one with which a move extends the sign
 pub alu_offset : (p : Profile) (op : AluOp) (w : Width) (n : ℕ) → is_alu_offset p op w n ≡ true → (0 ≡ n) ⊎ IsExtending p op w n
 alu_offset Two Mov Bits64 n h = zero_or n _ (λ o. from_bits64 n (or_cases (n == 8) ((n == 16) || (n == 32)) o)) (or_cases (n == 0) ((n == 8) || ((n == 16) || (n == 32))) h)
 alu_offset Two Mov Bits32 n h = zero_or n _ (λ o. from_bits32 n (or_cases (n == 8) (n == 16) o)) (or_cases (n == 0) ((n == 8) || (n == 16)) h)
 alu_offset p op w n h = inl (sym (eqb-true n 0 h))
 
+-- an offset of zero is let through in each profile
 pub zero_offset : (p : Profile) (op : AluOp) (w : Width) → is_alu_offset p op w 0 ≡ true
 zero_offset Two Mov Bits64 = refl
 zero_offset Two Mov Bits32 = refl
@@ -123,6 +129,7 @@ size_back w H h = refl
 size_back w W h = refl
 size_back w Dw h = absurd cc
 
+-- no size has zero bits, so that an extending move is never read as a plain one
 pub some_bits : (z : Size) → (bits_of z == 0) ≡ false
 some_bits B = refl
 some_bits H = refl

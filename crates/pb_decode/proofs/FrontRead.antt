@@ -36,6 +36,7 @@ use Rattle.pb_decode.proofs.SlotBytes.{IsSlot, front_slot, is_slot, rest_bytes, 
 use Rattle.pb_decode.proofs.OpcodeTable.{form_front, form_back, reg_back, reg_front, number_below}
 use Rattle.pb_decode.proofs.Extending.{IsExtending, alu_offset, zero_offset, extending_offset, size_back, some_bits, is_plain, plain_form, load_form, load_insn}
 
+-- an instruction, and the bytes behind it
 abbrev Read : Type 0
 Read = Insn × List ℕ
 
@@ -45,6 +46,7 @@ done x = Ok x
 pub ok_is : {A : Type 0} (x y : A) → done x ≡ done y → x ≡ y
 ok_is x y e = cc
 
+-- where two readings one after the other end well, each has
 bind_ok : {A B : Type 0} (r : Result A Code) (f : A → Result B Code) (y : B) → (r >>= f) ≡ Ok y → (x : A) × (r ≡ Ok x) × (f x ≡ Ok y)
 bind_ok (Ok x) f y e = (x, refl, e)
 bind_ok (Err d) f y e = absurd cc
@@ -53,6 +55,7 @@ ok_or_ok : {A : Type 0} (c : Code) (o : Option A) (x : A) → ok_or o c ≡ Ok x
 ok_or_ok c (Some y) x e = ap Some (ok_is y x e)
 ok_or_ok c None x e = absurd cc
 
+-- a form that comes through the test of its fields has none that isn't zero
 clean_ok : (p : Profile) (f g : Form) (s : Slot) (b : Bool) → is_clean p f s ≡ b → cond b (Ok f) (Err Unused) ≡ done g → (b ≡ true) × (f ≡ g)
 clean_ok p f g s true is e = (refl, ok_is f g e)
 clean_ok p f g s false is e = absurd cc
@@ -64,17 +67,20 @@ is_zero n h = sym (eqb-true n 0 h)
 abbrev Takes : Profile → Slot → List ℕ → Read → Type 0
 Takes p s rest x = (slot_bytes s ++ rest ≡ insn_bytes x.0 ++ x.1) × Fits x.0 × IsOf p x.0
 
+-- where an instruction of one slot was read, and this is its slot, it is spelt by it
 single : (p : Profile) (i : Insn) (s : Slot) (rest : List ℕ) (x : Read) → first_slot i ≡ s → second_bytes i ≡ [] → Fits i → IsOf p i → done (i, rest) ≡ Ok x → Takes p s rest x
 single p i s rest x is alone fits of e =
     let parts : slot_bytes s ++ rest ≡ insn_bytes i ++ rest = ap (λ (t : Slot). slot_bytes t ++ rest) (sym is) ∙ ap (λ (b : List ℕ). b ++ rest) (sym (append-nil (slot_bytes (first_slot i)))) ∙ ap (λ (b : List ℕ). (slot_bytes (first_slot i) ++ b) ++ rest) (sym alone) in
     subst (Takes p s rest) (ok_is (i, rest) x e) (parts, fits, of)
 
+-- a word of 32 bits read with its sign fits an immediate, and one of 16 an offset
 imm_fits : (n : ℕ) → n < 2 ^ 32 → FitsSigned w32 (cast_signed w32 n)
 imm_fits n lt = sfits_to_z {w = w32} {n = n} (record { fits = lt })
 
 off_fits : (n : ℕ) → n < 2 ^ 16 → FitsSigned w16 (cast_signed w16 n)
 off_fits n lt = sfits_to_z {w = w16} {n = n} (record { fits = lt })
 
+-- a pair that is read has its second slot, with nothing but an immediate
 pair_cases : (d : Reg) (s : Slot) (rest : List ℕ) (x : Read) (short clean : Bool) → nat_lt (length rest) 8 ≡ short → is_second (slot_of_bytes rest) ≡ clean
     → cond short (Err CutOff) (cond clean (Ok (LoadImm d (s.imm + 2 ^ 32 * (slot_of_bytes rest).imm), drop 8 rest)) (Err SecondSlot)) ≡ done x
     → (8 ≤ length rest) × (is_second (slot_of_bytes rest) ≡ true) × ((LoadImm d (s.imm + 2 ^ 32 * (slot_of_bytes rest).imm), drop 8 rest) ≡ x)
@@ -82,6 +88,7 @@ pair_cases d s rest x true clean p q e = absurd cc
 pair_cases d s rest x false false p q e = absurd cc
 pair_cases d s rest x false true p q e = (ltb-false _ _ p, q, ok_is (LoadImm d (s.imm + 2 ^ 32 * (slot_of_bytes rest).imm), drop 8 rest) x e)
 
+-- a pair that is read is spelt so: both halves are those of its number
 pair_takes : (profile : Profile) (d : Reg) (s : Slot) (rest : List ℕ) (x : Read) → opcode form.LoadImm ≡ s.opcode → number d ≡ s.dst → 0 ≡ s.src → 0 ≡ s.offset → IsSlot s → AreBytes rest → pair_of d s.imm rest ≡ Ok x → Takes profile s rest x
 pair_takes profile d s rest x o p z f is fits e =
     let c = pair_cases d s rest x (nat_lt (length rest) 8) (is_second (slot_of_bytes rest)) refl refl e in
@@ -106,6 +113,7 @@ pair_takes profile d s rest x o p z f is fits e =
 abbrev IsAluRead : AluOp → Width → Reg → Reg → Operand → List ℕ → Read → ℕ → Type 0
 IsAluRead op w d r a rest x n = done (cond (n == 0) (Alu op w d a) (MovSx w (size_of_bits n) d r), rest) ≡ Ok x
 
+-- arithmetic with a register that is read is spelt so, with an offset or without
 register_takes : (profile : Profile) (op : AluOp) (w : Width) (d r : Reg) (s : Slot) (rest : List ℕ) (x : Read) → opcode (form.Alu op w X) ≡ s.opcode → number d ≡ s.dst → number r ≡ s.src → 0 ≡ s.imm
     → (0 ≡ s.offset) ⊎ IsExtending profile op w s.offset → IsAluRead op w d r (operand.Reg r) rest x s.offset → Takes profile s rest x
 register_takes profile op w d r s rest x o p q z (inl f) e =
@@ -116,6 +124,7 @@ register_takes profile op w d r s rest x o p q z (inr h) e =
     let move : opcode (form.Alu Mov w X) ≡ s.opcode = subst (λ (a : AluOp). opcode (form.Alu a w X) ≡ s.opcode) h.move o in
     single profile (MovSx w h.size d r) s rest x (same_slot s _ _ _ _ _ move p q (sym h.bits) z) refl tt (h.of_profile d r) extends
 
+-- what is read as an instruction of a form is spelt so: a case for each form
 form_takes : (profile : Profile) (f : Form) (d r : Reg) (s : Slot) (rest : List ℕ) (x : Read) → opcode f ≡ s.opcode → IsFormOf profile f → number d ≡ s.dst → number r ≡ s.src → IsSlot s → AreBytes rest → is_clean profile f s ≡ true → insn_of_form f d r s rest ≡ Ok x → Takes profile s rest x
 form_takes profile (form.Alu op w K) d r s rest x o of p q is fits clean e =
     let a = and_parts (s.src == 0) (s.offset == 0) clean in
@@ -156,6 +165,7 @@ form_takes profile form.Exit d r s rest x o of p q is fits clean e =
     let g = and_parts (s.offset == 0) (s.imm == 0) b.1 in
     single profile _ s rest x (same_slot s _ _ _ _ _ o (is_zero s.dst a.0) (is_zero s.src b.0) (is_zero s.offset g.0) (is_zero s.imm g.1)) refl tt (is_plain profile _ tt) e
 
+-- what is read of a slot and the bytes behind it is spelt so, and is of the profile
 with_takes : (p : Profile) (s : Slot) (rest : List ℕ) (x : Read) → IsSlot s → AreBytes rest → first_with p s rest ≡ Ok x → Takes p s rest x
 unfolding first_with
 with_takes p s rest x is fits e =
@@ -177,6 +187,7 @@ first_takes p bytes x fits long e =
 
 -- ---- back again
 
+-- the fields of an instruction's slot have their bits
 abbrev low_slot : Insn → Type 0
 low_slot i = ((first_slot i).dst < 16) × ((first_slot i).src < 16) × IsSlot (first_slot i)
 
@@ -204,6 +215,7 @@ bits_low H = omega arith
 bits_low W = omega arith
 bits_low Dw = omega arith
 
+-- since its numbers fit, they have
 slot_is_low : (i : Insn) → Fits i → low_slot i
 slot_is_low (Alu op w d (operand.Imm k)) fits = (reg_low d, zero_low, record { offset = zero_off; imm = imm_below k fits })
 slot_is_low (Alu op w d (operand.Reg s)) fits = (reg_low d, reg_low s, record { offset = zero_off; imm = zero_imm })
@@ -219,18 +231,21 @@ slot_is_low (JumpIf c w d (operand.Reg s) o) fits = (reg_low d, reg_low s, recor
 slot_is_low (Call k) fits = (zero_low, zero_low, record { offset = zero_off; imm = imm_below k fits })
 slot_is_low Exit fits = (zero_low, zero_low, record { offset = zero_off; imm = zero_imm })
 
+-- an immediate is read back with its sign, and so is an offset
 imm_again : (z : ℤ) → FitsSigned w32 z → cast_signed w32 (cast_unsigned w32 z) ≡ z
 imm_again z fits = to_z-of_z w32 z fits
 
 off_again : (z : ℤ) → FitsSigned w16 z → cast_signed w16 (cast_unsigned w16 z) ≡ z
 off_again z fits = to_z-of_z w16 z fits
 
+-- a number is its low half and its high half
 halves : (v : ℕ) → v % 2 ^ 32 + 2 ^ 32 * (v / 2 ^ 32) ≡ v
 halves v = omega arith
 
 high_fits : (v : ℕ) → v < 2 ^ 64 → v / 2 ^ 32 < 2 ^ 32
 high_fits v lt = omega (arith, lt)
 
+-- a second slot with this high half makes a pair
 pair_made : (d : Reg) (low h : ℕ) (rest : List ℕ) → 8 ≤ length rest → slot_of_bytes rest ≡ second_slot h → pair_of d low rest ≡ Ok (LoadImm d (low + 2 ^ 32 * h), drop 8 rest)
 pair_made d low h rest long is =
     ap (λ (b : Bool). cond b (Err CutOff) (cond (is_second (slot_of_bytes rest)) (Ok (LoadImm d (low + 2 ^ 32 * (slot_of_bytes rest).imm), drop 8 rest)) (Err SecondSlot))) (le-ltb (length rest) 8 long)
@@ -239,12 +254,14 @@ pair_made d low h rest long is =
 long_enough : (s : Slot) (rest : List ℕ) → 8 ≤ length (slot_bytes s ++ rest)
 long_enough s rest = let l = length-append (slot_bytes s) rest in omega (arith, l)
 
+-- the halves of a 64-bit immediate are read back as one
 pair_again : (d : Reg) (v : ℕ) (rest : List ℕ) → v < 2 ^ 64 → pair_of d (v % 2 ^ 32) (second_bytes (LoadImm d v) ++ rest) ≡ Ok (LoadImm d v, rest)
 pair_again d v rest lt =
     let second = second_slot (v / 2 ^ 32) in
     pair_made d (v % 2 ^ 32) (v / 2 ^ 32) (slot_bytes second ++ rest) (long_enough second rest) (slot_back second rest zero_low zero_low (record { offset = zero_off; imm = high_fits v lt }))
     ∙ ap (λ (n : ℕ). Ok (LoadImm d n, rest)) (halves v)
 
+-- the slot of an instruction is read as it: a case for each
 with_again : (p : Profile) (i : Insn) (rest : List ℕ) → Fits i → IsOf p i → first_with p (first_slot i) (second_bytes i ++ rest) ≡ Ok (i, rest)
 unfolding first_with
 with_again p (Alu op w d (operand.Imm k)) rest fits of = rw (form_back p (form.Alu op w K) (plain_form p (form.Alu op w K) tt), reg_back d, imm_again k fits) refl

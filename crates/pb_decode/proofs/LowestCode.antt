@@ -51,6 +51,7 @@ has_pair Two = refl
 
 -- ---- step by step
 
+-- no code below 12 applies to a slot, since 10 and 11 are of the whole
 least_opcode : (profile : Profile) (bytes : List ℕ) (other : Code) → Applies profile bytes other → 12 ≤ decode_code other
 least_opcode profile bytes Length h = absurd h
 least_opcode profile bytes TooLong h = absurd h
@@ -60,6 +61,7 @@ least_opcode profile bytes Unused h = omega arith
 least_opcode profile bytes CutOff h = omega arith
 least_opcode profile bytes SecondSlot h = omega arith
 
+-- an opcode that no form has is told as 12
 no_opcode : (profile : Profile) (bytes : List ℕ) → form_of profile (slot_of_bytes bytes).opcode ≡ None → IsLowest profile bytes Opcode
 no_opcode profile bytes none =
     record {
@@ -67,6 +69,7 @@ no_opcode profile bytes none =
       least = least_opcode profile bytes;
     }
 
+-- where a form has the opcode, no code below 13 applies; and so from code to code
 least_register : (profile : Profile) (bytes : List ℕ) → (Applies profile bytes Opcode → ⊥) → (other : Code) → Applies profile bytes other → 13 ≤ decode_code other
 least_register profile bytes known Length h = absurd h
 least_register profile bytes known TooLong h = absurd h
@@ -92,6 +95,7 @@ record Passed (profile : Profile) (bytes : List ℕ) (f : Form) : Type 0 where
   src : (slot_of_bytes bytes).src ≤ 10
   clean : is_clean profile f (slot_of_bytes bytes) ≡ true
 
+-- 12 doesn't apply where a form is found, 13 where both numbers are registers', and 14 where unused fields are zero
 known_opcode : (profile : Profile) (bytes : List ℕ) (f : Form) → form_of profile (slot_of_bytes bytes).opcode ≡ Some f → Applies profile bytes Opcode → ⊥
 known_opcode profile bytes f is h = let o = form_front profile (slot_of_bytes bytes).opcode f is in h f o.1 o.0
 
@@ -104,6 +108,7 @@ clean_fields profile bytes f is clean h =
     let same = same_form profile f h.0 (slot_of_bytes bytes).opcode is h.1 h.2 in
     not_false (is_clean profile f (slot_of_bytes bytes)) clean (subst (λ (g : Form). is_clean profile g (slot_of_bytes bytes) ≡ false) same h.3)
 
+-- behind the first three tests only the two codes of a pair are left
 only_pair : (profile : Profile) (bytes : List ℕ) (f : Form) → Passed profile bytes f → (Applies profile bytes CutOff → ⊥) → (Applies profile bytes SecondSlot → ⊥) → (code : Code) → Applies profile bytes code → ⊥
 only_pair profile bytes f p a b Length h = h
 only_pair profile bytes f p a b TooLong h = h
@@ -113,6 +118,7 @@ only_pair profile bytes f p a b Unused h = clean_fields profile bytes f p.is p.c
 only_pair profile bytes f p a b CutOff h = a h
 only_pair profile bytes f p a b SecondSlot h = b h
 
+-- so to a slot of another form than the pair's none applies
 none_applies : (profile : Profile) (bytes : List ℕ) (f : Form) → Passed profile bytes f → (LoadImm ≡ f → ⊥) → (code : Code) → Applies profile bytes code → ⊥
 none_applies profile bytes f p other = only_pair profile bytes f p (λ h. other (same_form profile f LoadImm (slot_of_bytes bytes).opcode p.is (has_pair profile) h.0)) (λ h. other (same_form profile f LoadImm (slot_of_bytes bytes).opcode p.is (has_pair profile) h.0))
 
@@ -137,6 +143,7 @@ least_second profile bytes p long Unused h = absurd (clean_fields profile bytes 
 least_second profile bytes p long CutOff h = absurd (not_short profile bytes long h)
 least_second profile bytes p long SecondSlot h = omega arith
 
+-- of a pair the end is told before the second slot
 pair_told : (profile : Profile) (bytes : List ℕ) (x : Read) → Passed profile bytes LoadImm → (short second : Bool) → nat_lt (length (drop 8 bytes)) 8 ≡ short → is_second (slot_of_bytes (drop 8 bytes)) ≡ second → Told profile bytes (cond short (Err CutOff) (cond second (Ok x) (Err SecondSlot)))
 pair_told profile bytes x p true second a b = record { applies = ((form_front profile (slot_of_bytes bytes).opcode LoadImm p.is).0, ltb-true (length (drop 8 bytes)) 8 a); least = least_cut profile bytes p }
 pair_told profile bytes x p false true a b = only_pair profile bytes LoadImm p (not_short profile bytes (ltb-false (length (drop 8 bytes)) 8 a)) (λ h. not_false (is_second (slot_of_bytes (drop 8 bytes))) b h.2)
@@ -144,6 +151,7 @@ pair_told profile bytes x p false false a b =
     let long = ltb-false (length (drop 8 bytes)) 8 a in
     record { applies = ((form_front profile (slot_of_bytes bytes).opcode LoadImm p.is).0, long, b); least = least_second profile bytes p long }
 
+-- an instruction of each form is read with no code, or told with its lowest
 insn_told : (profile : Profile) (bytes : List ℕ) (f : Form) (d r : Reg) → Passed profile bytes f → Told profile bytes (insn_of_form f d r (slot_of_bytes bytes) (drop 8 bytes))
 insn_told profile bytes (Alu op w K) d r p = none_applies profile bytes (Alu op w K) p (λ e. absurd cc)
 insn_told profile bytes (Alu op w X) d r p = none_applies profile bytes (Alu op w X) p (λ e. absurd cc)
@@ -184,12 +192,14 @@ form_told : (profile : Profile) (bytes : List ℕ) (o : Option Form) → form_of
 form_told profile bytes (Some f) h = dst_told profile bytes f h (reg_of (slot_of_bytes bytes).dst) refl
 form_told profile bytes None h = no_opcode profile bytes h
 
+-- so what is read, step by step, has no code that applies, or is told with the lowest
 told : (profile : Profile) (bytes : List ℕ) → Told profile bytes (first_of profile bytes)
 unfolding first_with
 told profile bytes = form_told profile bytes (form_of profile (slot_of_bytes bytes).opcode) refl
 
 -- ---- both ways
 
+-- the code that is told at the front is the lowest that applies
 pub lowest : (profile : Profile) (bytes : List ℕ) (code : Code) → first_of profile bytes ≡ Err code → IsLowest profile bytes code
 lowest profile bytes code e = subst (Told profile bytes) e (told profile bytes)
 
@@ -204,6 +214,7 @@ insn_clean profile i rest code fits of h = none_read profile (insn_bytes i ++ re
 code_of : ℕ → Code
 code_of n = cond (nat_eq n 10) Length (cond (nat_eq n 11) TooLong (cond (nat_eq n 12) Opcode (cond (nat_eq n 13) Register (cond (nat_eq n 14) Unused (cond (nat_eq n 15) CutOff SecondSlot)))))
 
+-- the codes have numbers of their own
 code_back : (c : Code) → code_of (decode_code c) ≡ c
 unfolding code_of
 code_back Length = refl
@@ -223,5 +234,6 @@ read_lowest profile bytes code h (Err other) e =
     let o = lowest profile bytes other e in
     ap Err (same_code other code (o.least code h.applies) (h.least other o.applies))
 
+-- and the lowest that applies is the one that is told, since there is but one
 pub lowest_read : (profile : Profile) (bytes : List ℕ) (code : Code) → IsLowest profile bytes code → first_of profile bytes ≡ Err code
 lowest_read profile bytes code h = read_lowest profile bytes code h (first_of profile bytes) refl

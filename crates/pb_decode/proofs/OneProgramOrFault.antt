@@ -28,6 +28,7 @@ use Rattle.pb_decode.proofs.LowestCode.{lowest, lowest_read}
 
 -- ---- lengths
 
+-- an instruction has eight bytes for each slot
 insn_len : (i : Insn) → length (insn_bytes i) ≡ 8 * length (places_of i)
 insn_len (Alu op w d (operand.Imm k)) = refl
 insn_len (Alu op w d (operand.Reg s)) = refl
@@ -56,6 +57,7 @@ some_place (JumpIf c w d a o) = omega arith
 some_place (Call k) = omega arith
 some_place Exit = omega arith
 
+-- and so have several
 pub bytes_len : (p : List Insn) → length (encoding p) ≡ 8 * slots p
 bytes_len [] = refl
 bytes_len (i ∷ p) =
@@ -83,6 +85,7 @@ no_error r x c p q = absurd cc
 err_is : {A B : Type 0} (r : Result A B) (c d : B) → r ≡ Err c → r ≡ Err d → c ≡ d
 err_is r c d p q = cc
 
+-- an instruction in front is read again, whatever stands behind it
 again : (profile : Profile) (i : Insn) (rest : List ℕ) → Each profile i → first_of profile (insn_bytes i ++ rest) ≡ Ok (i, rest)
 again profile i rest of = first_again profile i rest of.0 of.1
 
@@ -110,6 +113,7 @@ list_push P (j ∷ p) i all one = (all.0, list_push P p i all.1 one)
 all_push : (profile : Profile) (p : List Insn) (i : Insn) → All profile p → Each profile i → All profile (p ++ i ∷ [])
 all_push profile p i all one = (list_push Fits p i all.0 one.0, list_push (IsOf profile) p i all.1 one.1)
 
+-- an instruction has some bytes
 not_nil : (i : Insn) (x : List ℕ) → [] ≡ insn_bytes i ++ x → ⊥
 not_nil i x e =
     let h = insn_len i in let k = some_place i in let l = length-append (insn_bytes i) x in
@@ -125,6 +129,7 @@ none_inside profile (i ∷ p) (j ∷ g) y d p-all g-all e some q =
     let o = one_insn profile i j (encoding p) (encoding g ++ y) (front_one profile i p p-all) (front_one profile j g g-all) (e ∙ append_assoc (insn_bytes j) (encoding g) y) in
     none_inside profile p g y d (others profile i p p-all) (others profile j g g-all) o.1 some q
 
+-- two lists of instructions with the same bytes are one
 same_list : (profile : Profile) (p q : List Insn) → All profile p → All profile q → encoding p ≡ encoding q → p ≡ q
 same_list profile [] [] f g e = refl
 same_list profile [] (j ∷ q) f g e = absurd (not_nil j (encoding q) e)
@@ -143,6 +148,7 @@ program profile is = record { profile = profile; insns = is }
 same_program : (v w : Profile) (p q : List Insn) → v ≡ w → p ≡ q → program v p ≡ program w q
 same_program v w p q a b = rw (a, b) refl
 
+-- two programs of one profile with the same bytes are one
 pub one_program : (bytes : List ℕ) (p q : ProgramOf) → p.profile ≡ q.profile → Encodes bytes p → Encodes bytes q → p ≡ q
 one_program bytes p q same a b =
     let of : All p.profile q.insns = subst (λ (v : Profile). All v q.insns) (sym same) (all_of bytes q b) in
@@ -167,6 +173,7 @@ tests profile n false true false p q r e =
     let e0 = eqb-true (n % 8) 0 q in let most = ltb-false (8 * max_slots profile) n r in
     record { some = not_zero n p; even = e0; most = omega (arith, most) }
 
+-- where the whole has no fault, its length is some slots, and no more than the profile has
 pub whole_none : (profile : Profile) (bytes : List ℕ) → whole_fault profile bytes ≡ None → IsWhole profile (length bytes)
 whole_none profile bytes h = tests profile (length bytes) (length bytes == 0) (length bytes % 8 == 0) (nat_lt (8 * max_slots profile) (length bytes)) refl refl refl h
 
@@ -177,6 +184,7 @@ none_whole profile bytes w =
     let c : nat_lt (8 * max_slots profile) (length bytes) ≡ false = le-ltb (8 * max_slots profile) (length bytes) most in
     rw (a, even, c) refl
 
+-- a program's bytes have no fault of the whole
 program_whole : (bytes : List ℕ) (p : ProgramOf) → Encodes bytes p → IsWhole p.profile (length bytes)
 program_whole bytes p h =
     let l : length bytes ≡ 8 * slots p.insns = ap length h.spelt ∙ bytes_len p.insns in
@@ -192,11 +200,13 @@ some_same o x y p q = cc
 fault_all : (profile : Profile) (bytes : List ℕ) (slot : ℕ) (code : Code) (a : IsFaultAt profile bytes slot code) → All profile a.front
 fault_all profile bytes slot code a = (a.fits, a.of_profile)
 
+-- a program's bytes have no fault
 pub not_both : (bytes : List ℕ) (p : ProgramOf) (slot : ℕ) (code : Code) → Encodes bytes p → IsDecodeFault p.profile bytes slot code → ⊥
 not_both bytes p slot code h (inl w) = no_some (whole_fault p.profile bytes) code (none_whole p.profile bytes (program_whole bytes p h)) w.0
 not_both bytes p slot code h (inr a) =
     none_inside p.profile p.insns a.1.front a.1.rest code (all_of bytes p h) (fault_all p.profile bytes slot code a.1) (sym h.spelt ∙ a.1.parts) a.1.some (lowest_read p.profile a.1.rest code a.1.fault)
 
+-- two faults of the same bytes are one
 pub one_fault : (profile : Profile) (bytes : List ℕ) (s t : ℕ) (c d : Code) → IsDecodeFault profile bytes s c → IsDecodeFault profile bytes t d → (s ≡ t) × (c ≡ d)
 one_fault profile bytes s t c d (inl a) (inl b) = (a.1 ∙ sym b.1, some_same (whole_fault profile bytes) c d a.0 b.0)
 one_fault profile bytes s t c d (inl a) (inr b) = absurd (no_some (whole_fault profile bytes) c b.0 a.0)
@@ -208,6 +218,7 @@ one_fault profile bytes s t c d (inr a) (inr b) =
 
 -- ---- one of the two
 
+-- instructions of the profile that spell bytes of such a length are a program
 pub is_program : (profile : Profile) (bytes : List ℕ) (p : List Insn) → IsWhole profile (length bytes) → AreSpelt profile bytes p → Encodes bytes (program profile p)
 is_program profile bytes p w h =
     let l : length bytes ≡ 8 * slots p = ap length h.spelt ∙ bytes_len p in
@@ -218,6 +229,7 @@ is_program profile bytes p w h =
 abbrev Rest : Profile → List ℕ → Type 0
 Rest profile bytes = ((p : List Insn) × AreSpelt profile bytes p) ⊎ ((slot : ℕ) × (code : Code) × IsFaultAt profile bytes slot code)
 
+-- one more instruction in front of what the rest is
 behind : (profile : Profile) (i : Insn) (bytes after : List ℕ) → Each profile i → bytes ≡ insn_bytes i ++ after → Rest profile after → Rest profile bytes
 behind profile i bytes after of e (inl h) =
     inl (i ∷ h.0, record { fits = (of.0, h.1.fits); of_profile = (of.1, h.1.of_profile); spelt = e ∙ ap (λ (x : List ℕ). insn_bytes i ++ x) h.1.spelt })
@@ -240,6 +252,7 @@ from profile n bytes le some even fits (Ok x) is next =
     let lt = e.1 in
     behind profile x.0 bytes x.1 (t.1, t.2) t.0 (next x.1 (omega (arith, lt, le)) e.0 (rest_bytes (insn_bytes x.0) x.1 (subst AreBytes t.0 fits)))
 
+-- from any slot on, the bytes spell instructions, or a slot is at fault; by their length
 walk : (profile : Profile) (n : ℕ) (bytes : List ℕ) → length bytes ≤ n → length bytes % 8 ≡ 0 → AreBytes bytes → Rest profile bytes
 walk profile n [] le even fits = inl ([], record { fits = tt; of_profile = tt; spelt = refl })
 walk profile zero (b ∷ bytes) le even fits = let no : ⊥ = omega (arith, le) in absurd no
@@ -254,6 +267,7 @@ chosen profile bytes None is fits =
       | inr h ↦ inr (h.0, h.1, inr (is, h.2))
     ]
 
+-- bytes are a program's, or have a fault
 pub either : (profile : Profile) (bytes : List ℕ) → AreBytes bytes → HasProgram profile bytes ⊎ HasFault profile bytes
 either profile bytes fits = chosen profile bytes (whole_fault profile bytes) refl fits
 
@@ -267,11 +281,13 @@ no_fault profile bytes p slot code is h f = not_both bytes p slot code h (subst 
 abbrev IsAnswer : Profile → List ℕ → Result ProgramOf DecodeFault → Type 0
 IsAnswer profile bytes r = IfOk r (λ q. Encodes bytes q) × IfOk r (λ q. q.profile ≡ profile) × IfErr r (IsRefusal profile bytes)
 
+-- for a program's bytes nothing but it comes back, unless memory is refused
 pub only_program : (profile : Profile) (r : Result ProgramOf DecodeFault) (bytes : List ℕ) → IsAnswer profile bytes r → (p : ProgramOf) → p.profile ≡ profile → Encodes bytes p → IfOk r (λ q. q ≡ p) × IfErr r IsNoMemory
 only_program profile (Ok q) bytes a p is h = (one_program bytes q p (a.1 ∙ sym is) a.0 h, tt)
 only_program profile (Err faults.NoMemory) bytes a p is h = (tt, tt)
 only_program profile (Err (faults.Refused f)) bytes a p is h = absurd (no_fault profile bytes p f.slot a.2.0 is h a.2.2)
 
+-- for bytes with a fault nothing but it is told, unless memory is refused
 pub only_fault : (profile : Profile) (r : Result ProgramOf DecodeFault) (bytes : List ℕ) → IsAnswer profile bytes r → (slot told : ℕ) → AreRefusedAs profile bytes slot told → IfOk r (λ _. ⊥) × IfErr r (IsNoMemoryOr slot told)
 only_fault profile (Ok q) bytes a slot told h = absurd (no_fault profile bytes q slot h.0 a.1 a.0 h.2)
 only_fault profile (Err faults.NoMemory) bytes a slot told h = (tt, tt)
@@ -279,12 +295,14 @@ only_fault profile (Err (faults.Refused f)) bytes a slot told h =
     let o = one_fault profile bytes f.slot slot a.2.0 h.0 a.2.2 h.2 in
     (tt, (o.0, a.2.1 ∙ ap decode_code o.1 ∙ sym h.1))
 
+-- a program is in range, so that making it is never refused for that
 pub never_refused : (p : ProgramOf) → IsProgram p → (slots p.insns ≡ 0) ⊎ (max_slots p.profile < slots p.insns) → ⊥
 never_refused p is (inl none) = let some = is.some in omega (arith, some, none)
 never_refused p is (inr many) = let most = is.most in omega (arith, most, many)
 
 -- ---- the loop
 
+-- the loop reads one more instruction: its bytes move from the rest to what is spelt
 pub one_more : (profile : Profile) (bytes rest after : List ℕ) (p : List Insn) (i : Insn) → AreBytes bytes → bytes ≡ encoding p ++ rest → All profile p → length rest % 8 ≡ 0 → 0 < length rest → first_of profile rest ≡ Ok (i, after)
     → (bytes ≡ encoding (p ++ i ∷ []) ++ after) × All profile (p ++ i ∷ []) × (length after % 8 ≡ 0) × (length after < length rest)
 one_more profile bytes rest after p i fits parts all even some is =
@@ -294,6 +312,7 @@ one_more profile bytes rest after p i fits parts all even some is =
     let spelt : encoding (p ++ i ∷ []) ≡ encoding p ++ insn_bytes i = flat_map-append insn_bytes p (i ∷ []) ∙ ap (λ (b : List ℕ). encoding p ++ b) (append-nil (insn_bytes i)) in
     (parts ∙ ap (λ (b : List ℕ). encoding p ++ b) t.0 ∙ sym (append_assoc (encoding p) (insn_bytes i) after) ∙ ap (λ (b : List ℕ). b ++ after) (sym spelt), all_push profile p i all (t.1, t.2), e.0, e.1)
 
+-- the loop tells a fault: the slot is that of the rest
 pub fault_at : (profile : Profile) (bytes rest : List ℕ) (p : List Insn) (code : Code) (slot : ℕ) → bytes ≡ encoding p ++ rest → All profile p → 0 < length rest → first_of profile rest ≡ Err code → slot ≡ (length bytes - length rest) / 8 → IsFaultAt profile bytes slot code
 fault_at profile bytes rest p code slot parts all some is at =
     let l : length bytes ≡ length (encoding p) + length rest = ap length parts ∙ length-append (encoding p) rest in
@@ -302,6 +321,7 @@ fault_at profile bytes rest p code slot parts all some is at =
 
 -- ---- profile 1 in profile 2
 
+-- instructions of profile 1 are of profile 2
 all_next : (p : List Insn) → AllByRecursion (IsOf profiles.One) p → AllByRecursion (IsOf profiles.Two) p
 all_next [] all = tt
 all_next (i ∷ p) all = (of_next i all.0, all_next p all.1)
@@ -309,6 +329,7 @@ all_next (i ∷ p) all = (of_next i all.0, all_next p all.1)
 next : (p : ProgramOf) → IsProgram (in_profile profiles.One p) → IsProgram (in_profile profiles.Two p)
 next p is = let most = is.most in record { some = is.some; most = omega (arith, most); of_profile = all_next p.insns is.of_profile }
 
+-- bytes of a program of profile 1 are those of the same instructions' in profile 2
 pub read_alike : (bytes : List ℕ) (p : ProgramOf) → p.profile ≡ profiles.One → Encodes bytes p → Encodes bytes (in_profile profiles.Two p)
 read_alike bytes p one h =
     let is : IsProgram (in_profile profiles.One p) = subst (λ (v : Profile). IsProgram (in_profile v p)) one h.program in

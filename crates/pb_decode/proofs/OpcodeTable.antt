@@ -26,6 +26,7 @@ found : (n : ℕ) (f g : Form) (fs : List Form) → ((with_opcode n fs ≡ Some 
 found n f g fs others true is h = subst (λ (k : Form). opcode k ≡ n) (some_is f g h) (eqb-true (opcode f) n is)
 found n f g fs others false is h = others h
 
+-- a form that is found in a list has the opcode
 in_list : (n : ℕ) (g : Form) (fs : List Form) → with_opcode n fs ≡ Some g → opcode g ≡ n
 in_list n g [] h = absurd cc
 in_list n g (f ∷ fs) h = found n f g fs (in_list n g fs) (opcode f == n) refl h
@@ -34,6 +35,7 @@ only_if : (p : Profile) (g f : Form) (b : Bool) → is_form_of p g ≡ b → con
 only_if p g f true is h = (h, subst (IsFormOf p) (some_is g f h) is)
 only_if p g f false is h = absurd cc
 
+-- a form that comes through the test of the profile is of it
 only_some : (p : Profile) (o : Option Form) (f : Form) → only_of p o ≡ Some f → (o ≡ Some f) × IsFormOf p f
 only_some p None f h = absurd cc
 only_some p (Some g) f h = only_if p g f (is_form_of p g) refl h
@@ -42,6 +44,7 @@ only_some p (Some g) f h = only_if p g f (is_form_of p g) refl h
 pub form_front : (p : Profile) (n : ℕ) (f : Form) → form_of p n ≡ Some f → (opcode f ≡ n) × IsFormOf p f
 form_front p n f h = let o = only_some p (with_opcode n forms) f h in (in_list n f forms o.0, o.1)
 
+-- what holds of each width and source holds of any
 each_form : (P : Width → Source → Type 0) → P Bits32 K → P Bits32 X → P Bits64 K → P Bits64 X → (w : Width) (s : Source) → P w s
 each_form P a b c d Bits32 K = a
 each_form P a b c d Bits32 X = b
@@ -101,6 +104,7 @@ listed p Exit of = refl
 only_back : (p : Profile) (f : Form) (b : Bool) → b ≡ true → cond b (Some f) None ≡ Some f
 only_back p f b is = rw is refl
 
+-- each form of a profile is found by its opcode: no two have the same
 pub form_back : (p : Profile) (f : Form) → IsFormOf p f → form_of p (opcode f) ≡ Some f
 form_back p f of = ap (only_of p) (listed p f of) ∙ only_back p f (is_form_of p f) of
 
@@ -118,6 +122,7 @@ reg_back R8 = refl
 reg_back R9 = refl
 reg_back R10 = refl
 
+-- a register that is found has the number
 pub reg_front : (n : ℕ) (r : Reg) → reg_of n ≡ Some r → number r ≡ n
 reg_front zero r h = ap number (some_is r R0 (sym h))
 reg_front (suc zero) r h = ap number (some_is r R1 (sym h))

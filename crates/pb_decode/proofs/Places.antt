@@ -25,6 +25,7 @@ places =
     255 ∷ 255 ∷ 255 ∷ 255 ∷ 255 ∷ 255 ∷ 255 ∷ 255 ∷ 255 ∷ 255 ∷ 255 ∷ 255 ∷ 255 ∷ 255 ∷ 255 ∷ 255 ∷
     []
 
+-- the forms at these places
 found : List ℕ → List (Option Form)
 found [] = []
 found (k ∷ ks) = slice_get forms k ∷ found ks
@@ -35,6 +36,7 @@ found_at [] i d h = absurd (omega (arith, h))
 found_at (k ∷ ks) zero d h = refl
 found_at (k ∷ ks) (suc i) d h = found_at ks i d (omega (arith, h))
 
+-- the forms that the definition finds for k opcodes from n on
 wanted : ℕ → ℕ → List (Option Form)
 wanted n zero = []
 wanted n (suc k) = with_opcode n forms ∷ wanted (n + 1) k
@@ -45,10 +47,12 @@ wanted_at n zero i h = absurd (omega (arith, h))
 wanted_at n (suc k) zero h = let e : n + 0 ≡ n = omega arith in rw e refl
 wanted_at n (suc k) (suc i) h = let e : n + suc i ≡ n + 1 + i = omega arith in rw e (wanted_at (n + 1) k i (omega (arith, h)))
 
+-- both lists are the same, which is proved by computing them
 all : found places ≡ wanted 0 256
 unfolding forms wanted found
 all = refl
 
+-- so the table finds for each opcode what the definition finds
 pub place_of : (n d : ℕ) → n < 256 → slice_get forms (get_or places n d) ≡ with_opcode n forms
 place_of n d h =
     let e : 0 + n ≡ n = omega arith in

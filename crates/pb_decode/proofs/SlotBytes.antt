@@ -12,12 +12,14 @@ pub record IsSlot (s : Slot) : Type 0 where
   pub offset : s.offset < 2 ^ 16
   pub imm : s.imm < 2 ^ 32
 
+-- eight bytes are equal where each is
 same_bytes : {a b c d e f g b' c' d' e' f' g' h h' : ℕ} (rest : List ℕ) → b ≡ b' → c ≡ c' → d ≡ d' → e ≡ e' → f ≡ f' → g ≡ g' → h ≡ h' → a ∷ b ∷ c ∷ d ∷ e ∷ f ∷ g ∷ h ∷ rest ≡ a ∷ b' ∷ c' ∷ d' ∷ e' ∷ f' ∷ g' ∷ h' ∷ rest
 same_bytes rest p q r s t u v = rw (p, q, r, s, t, u, v) refl
 
 short : {X : Type 0} (n : ℕ) → 8 ≤ n → n < 8 → X
 short n p q = let no : ⊥ = omega (arith, p, q) in absurd no
 
+-- the first eight bytes are those of the slot that they say
 pub front_slot : (bytes : List ℕ) → AreBytes bytes → 8 ≤ length bytes → bytes ≡ slot_bytes (slot_of_bytes bytes) ++ drop 8 bytes
 front_slot ([]) fits long = short 0 long (omega arith)
 front_slot (a ∷ []) fits long = short 1 long (omega arith)
@@ -37,6 +39,7 @@ rest_bytes xs ys fits i = subst (λ (n : ℕ). n < 256) (get_or-append-add xs ys
 drop_bytes : (n : ℕ) (bytes : List ℕ) → AreBytes bytes → AreBytes (drop n bytes)
 drop_bytes n bytes fits i = subst (λ (k : ℕ). k < 256) (sym (get_or-drop n bytes i 0)) (fits (n + i))
 
+-- offset and immediate of a slot out of bytes have their bits
 pub is_slot : (bytes : List ℕ) → AreBytes bytes → IsSlot (slot_of_bytes bytes)
 is_slot bytes fits =
     record {
@@ -44,6 +47,7 @@ is_slot bytes fits =
       imm = little_from-lt 0 4 (drop 4 bytes) (drop_bytes 4 bytes fits);
     }
 
+-- a slot is its fields
 pub same_slot : (s : Slot) (o d r f k : ℕ) → o ≡ s.opcode → d ≡ s.dst → r ≡ s.src → f ≡ s.offset → k ≡ s.imm → record { opcode = o; dst = d; src = r; offset = f; imm = k } ≡ s
 same_slot s o d r f k p q t u v = rw (p, q, t, u, v) refl
 

@@ -1,5 +1,6 @@
 -- The encoding of programs (RFC 9669, section 3): the slots of the instructions in order. A field that an instruction
--- doesn't use is zero. It is the same in every profile.
+-- doesn't use is zero. It is the same in every profile. Contracts of `encode` and `decode_in` say `Encodes`, which is
+-- this direction alone: what decoding has to find is said by it, and not by a reader.
 use Rattle.std.specs.Prelude.{◌≡◌, ℕ, ◌/◌, ◌%◌, ◌^◌, ◌++◌, List, []}
 use Rattle.std.specs.Int.{w16, w32, cast_unsigned}
 use Rattle.std.specs.List.{flat_map, AllByRecursion}
@@ -56,6 +57,7 @@ abbrev pub second_bytes : Insn → List ℕ
 second_bytes (LoadImm dst imm) = slot_bytes (second_slot (imm / 2 ^ 32))
 second_bytes i = []
 
+-- the eight or sixteen bytes of an instruction
 abbrev pub insn_bytes : Insn → List ℕ
 insn_bytes i = slot_bytes (first_slot i) ++ second_bytes i
 

@@ -1,4 +1,6 @@
--- The fault of a list of bytes that is no program's.
+-- The fault of a list of bytes that is no program's. When a code applies is said by the fields alone, and not by a
+-- reader that goes from left to right, since such a definition lets through a looseness that is written into both
+-- alike.
 use Rattle.std.specs.Prelude.{◌≡◌, ◌≢◌, ◌<◌, ◌≤◌, ◌⊎◌, ℕ, ◌*◌, ◌%◌, ◌==◌, false, nat_lt, not, ◌||◌, if◌then◌else◌, List, ◌++◌, length, drop, get_or, Option, Some, None}
 use Rattle.std.specs.List.{AllByRecursion}
 use Rattle.pb_isa.specs.declared.insn.Insn.{Insn}
@@ -72,7 +74,7 @@ pub record IsFaultAt (p : Profile) (bytes : List ℕ) (slot : ℕ) (code : Code)
 abbrev pub IsDecodeFault : Profile → List ℕ → ℕ → Code → Type 0
 IsDecodeFault p bytes slot code = (whole_fault p bytes ≡ Some code × (slot ≡ 0)) ⊎ ((whole_fault p bytes ≡ None) × IsFaultAt p bytes slot code)
 
--- the same with the code's number
+-- the first slot at fault with its lowest code, by the numbers that are told
 abbrev pub AreRefusedAs : Profile → List ℕ → ℕ → ℕ → Type 0
 AreRefusedAs p bytes slot told = (code : Code) × (told ≡ decode_code code) × IsDecodeFault p bytes slot code
 
@@ -81,20 +83,24 @@ abbrev pub IsRefusal : Profile → List ℕ → DecodeFault → Type 0
 IsRefusal p bytes NoMemory = Unit {0}
 IsRefusal p bytes (Refused r) = AreRefusedAs p bytes r.slot r.code
 
+-- the refusal is that of memory, which is the only one for a program's bytes
 abbrev pub IsNoMemory : DecodeFault → Type 0
 IsNoMemory NoMemory = Unit {0}
 IsNoMemory (Refused r) = ⊥
 
+-- each number is a byte's, as all that is handed in are
 abbrev pub AreBytes : List ℕ → Type 0
 AreBytes bytes = (i : ℕ) → get_or bytes i 0 < 256
 
+-- the bytes are some program's of the profile
 abbrev pub HasProgram : Profile → List ℕ → Type 0
 HasProgram profile bytes = (p : ProgramOf) × (p.profile ≡ profile) × Encodes bytes p
 
+-- the bytes have some fault in the profile
 abbrev pub HasFault : Profile → List ℕ → Type 0
 HasFault p bytes = (slot : ℕ) × (code : Code) × IsDecodeFault p bytes slot code
 
--- the same where memory was refused, or that fault was met
+-- memory was refused, or what is told is that fault
 abbrev pub IsNoMemoryOr : ℕ → ℕ → DecodeFault → Type 0
 IsNoMemoryOr slot told NoMemory = Unit {0}
 IsNoMemoryOr slot told (Refused r) = (r.slot ≡ slot) × (r.code ≡ told)

@@ -1,4 +1,5 @@
--- The opcodes of the profiles (RFC 9669, sections 3.1, 3.3, 4.1, 4.3 and 5).
+-- The opcodes of the profiles (RFC 9669, sections 3.1, 3.3, 4.1, 4.3 and 5). `opcode` says each by its parts, for
+-- encoding and decoding alike, so that no table stands twice; decoding searches the forms for the one that has it.
 use Rattle.std.specs.Prelude.{ℕ, ◌+◌, ◌*◌, Bool, true, false, IsTrue, ◌==◌, if◌then◌else◌, List, [], ◌∷◌, ◌++◌, map, Option, Some, None}
 use Rattle.std.specs.List.{flat_map}
 use Rattle.pb_isa.specs.declared.insn.AluOp.{AluOp}
@@ -106,6 +107,7 @@ forms =
     ++ Neg Bits32 ∷ Neg Bits64 ∷ LoadImm ∷ Jump ∷ Call ∷ Exit ∷ []
     ++ map (λ z. Load z Sign) (W ∷ H ∷ B ∷ [])
 
+-- the first of these forms that has the opcode
 abbrev pub with_opcode : ℕ → List Form → Option Form
 with_opcode n [] = None
 with_opcode n (f ∷ fs) = if opcode f == n then Some f else with_opcode n fs
@@ -116,6 +118,7 @@ is_form_of One (Load z Sign) = false
 is_form_of Two (Load z Sign) = is_narrower z Bits64
 is_form_of p f = true
 
+-- the profile has the form
 abbrev pub IsFormOf : Profile → Form → Type 0
 IsFormOf p f = IsTrue (is_form_of p f)
 

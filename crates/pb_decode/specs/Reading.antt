@@ -1,4 +1,5 @@
--- What stands at the front of a list of bytes: an instruction, or the lowest code of a fault.
+-- What stands at the front of a list of bytes: an instruction, or the lowest code of a fault. The code's readers are
+-- said by it; that it finds what Encoding and Faults say is proved.
 use Rattle.std.specs.Prelude.{ℕ, ℤ, ◌+◌, ◌*◌, ◌^◌, Bool, ◌&&◌, ◌||◌, ◌==◌, nat_lt, if◌then◌else◌, List, length, drop, ok_or, Result, Ok, Err}
 use Rattle.std.specs.Int.{w16, w32, cast_signed}
 use Rattle.pb_base.specs.Reading.{◌>>=◌}
@@ -86,6 +87,7 @@ insn_of_form (form.JumpIf c w x) dst src s rest = Ok (JumpIf c w dst (operand_of
 insn_of_form form.Call dst src s rest = Ok (Call (cast_signed w32 s.imm), rest)
 insn_of_form form.Exit dst src s rest = Ok (Exit, rest)
 
+-- the form, unless a field that it doesn't use isn't zero
 abbrev pub clean_or_code : Profile → Form → Slot → Result Form Code
 clean_or_code p f s = if is_clean p f s then Ok f else Err Unused
 
@@ -98,5 +100,6 @@ first_with p s rest = do
   clean ← clean_or_code p known s
   insn_of_form clean dst src s rest
 
+-- of the slot in front, and the bytes behind it
 abbrev pub first_of : Profile → List ℕ → Result (Insn × List ℕ) Code
 first_of p bytes = first_with p (slot_of_bytes bytes) (drop 8 bytes)

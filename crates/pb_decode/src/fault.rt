@@ -7,7 +7,8 @@ use pb_base::Refused;
 use std::alloc::AllocFailed;
 use thiserror::Error;
 
-/// What is wrong with the bytes.
+/// What is wrong with the bytes. A slot is looked at in the order of the numbers, so that the first code that is found
+/// is the lowest.
 #[derive(Clone, Copy, Debug, PartialEq, Eq)]
 pub enum Code {
     /// Their length is zero, or no multiple of 8.

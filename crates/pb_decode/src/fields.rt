@@ -1,10 +1,10 @@
-//! The fields of a slot (RFC 9669, section 3.1).
+//! The fields of a slot (RFC 9669, section 3.1), taken out of its bytes and put into them.
 ghost use Rattle.std.specs.Prelude.{◌≡◌, ◌≤◌, ◌<◌, length};
 ghost use Rattle.pb_decode.specs.Fields.{slot_of_bytes, slot_bytes};
 
 use byteorder::{ByteOrder, LittleEndian};
 
-/// A slot: offset and immediate are words, whose sign is read later.
+/// A slot. Offset and immediate are words, whose sign is read later, since the halves of a 64-bit immediate have none.
 #[derive(Clone, Copy, Debug, PartialEq, Eq)]
 pub struct Slot {
     pub opcode: u8,
@@ -15,7 +15,7 @@ pub struct Slot {
 }
 
 impl Slot {
-    /// The slot in the first eight bytes.
+    /// The slot in the first eight bytes. It can't fail, since any eight bytes are some slot.
     pub fn at(bytes: &[u8]) -> Slot
         requires { 8 ≤ length bytes.now }
         ensures { result ≡ slot_of_bytes bytes.now }
@@ -29,7 +29,7 @@ impl Slot {
         }
     }
 
-    /// Its eight bytes.
+    /// Its eight bytes. The registers share one, so that each has to be below 16.
     pub fn bytes(self) -> [u8; 8]
         requires dst { self.dst < 16 }
         requires src { self.src < 16 }

@@ -1,4 +1,4 @@
-//! Bytes to programs.
+//! Bytes to programs: slot by slot from the front, up to the first at fault.
 ghost use Rattle.std.specs.Prelude.{◌≡◌, ◌≤◌, ◌*◌, ◌%◌, ◌⊎◌, ◌++◌, ℕ, List, length, false, ok_or, IfOk, IfErr};
 ghost use Rattle.pb_base.specs.Reading.{Gives};
 ghost use Rattle.pb_isa.specs.declared.insn.Insn.{Insn};
@@ -39,7 +39,8 @@ fn is_second(slot: Slot) -> bool
     slot.opcode == 0 && slot.dst == 0 && slot.src == 0 && slot.offset == 0
 }
 
-// The 64-bit immediate of this low half, whose high half stands in the slot behind.
+// The 64-bit immediate of this low half, whose high half stands in the slot behind. A pair that is cut off is told
+// before one whose second slot is wrong, since there is no such slot.
 fn pair_of(dst: Reg, low: u32, bytes: &[u8]) -> Result<(Insn, &[u8]), Code>
     ensures { Gives (λ _. false) (λ x. (x.0, x.1.now)) result (pair_of dst low bytes.now) }
 {
@@ -54,7 +55,7 @@ fn pair_of(dst: Reg, low: u32, bytes: &[u8]) -> Result<(Insn, &[u8]), Code>
     Ok((Insn::LoadImm { dst, imm }, &bytes[8..]))
 }
 
-// The source operand.
+// The source operand: of which sort, the opcode says.
 fn operand(source: Source, src: Reg, imm: i32) -> Operand
     ensures { result ≡ operand_of_source source src imm }
 {
@@ -64,7 +65,7 @@ fn operand(source: Source, src: Reg, imm: i32) -> Operand
     }
 }
 
-// The size of 8, 16 or 32 bits.
+// The size of 8, 16 or 32 bits. The last case is that of 32, since an offset with other bits is refused before.
 fn size_of_bits(bits: u16) -> Size
     ensures { result ≡ size_of_bits bits }
 {
@@ -98,7 +99,7 @@ fn alu_of(op: AluOp, width: Width, source: Source, dst: Reg, src: Reg, slot: Slo
     }
 }
 
-// The instruction of a form with these fields, and the bytes behind it.
+// The instruction of a form with these fields, and the bytes behind it. Only a pair takes more than its slot.
 fn insn_of(form: Form, dst: Reg, src: Reg, slot: Slot, bytes: &[u8]) -> Result<(Insn, &[u8]), Code>
     ensures { Gives (λ _. false) (λ x. (x.0, x.1.now)) result (insn_of_form form dst src slot bytes.now) }
 {
@@ -141,7 +142,8 @@ fn insn_of(form: Form, dst: Reg, src: Reg, slot: Slot, bytes: &[u8]) -> Result<(
     Ok((insn, bytes))
 }
 
-// The instruction at the front, and the bytes behind it; or the lowest code that applies.
+// The instruction at the front, and the bytes behind it; or the lowest code that applies. The tests stand in the order
+// of the codes, so that the first that fails tells it.
 #[tactic(auto, unfolding(crate::specs::Reading::first_with))]
 fn first_of(profile: Profile, bytes: &[u8]) -> Result<(Insn, &[u8]), Code>
     requires { 8 ≤ length bytes.now }
@@ -159,7 +161,7 @@ fn first_of(profile: Profile, bytes: &[u8]) -> Result<(Insn, &[u8]), Code>
     insn_of(form, dst, src, slot, &bytes[8..])
 }
 
-// The fault of the whole.
+// The fault of the whole, told at slot 0 before that of any slot.
 fn whole_fault(profile: Profile, bytes: &[u8]) -> Option<Code>
     ensures { result ≡ whole_fault profile bytes.now }
 {
@@ -180,7 +182,8 @@ fn refused(slot: u16, code: Code) -> DecodeFault
     DecodeFault::Refused(Refused { slot, code })
 }
 
-// The instructions that the bytes spell, one after the other.
+// The instructions that the bytes spell, one after the other. The whole has been tested, so that each rest begins with
+// a slot, and a slot's number fits 16 bits.
 fn insns_of(alloc: Global, profile: Profile, bytes: &[u8]) -> Result<Vec<Insn>, DecodeFault>
     requires whole { length bytes.now % 8 ≡ 0 }
     requires most { length bytes.now ≤ 8 * max_slots profile }
@@ -193,6 +196,7 @@ fn insns_of(alloc: Global, profile: Profile, bytes: &[u8]) -> Result<Vec<Insn>, 
         let (insn, after) = match first_of(profile, rest) {
             Ok(found) => found,
             Err(code) => {
+                // What is read so far took whole slots, so that the division leaves nothing.
                 let slot = (bytes.len() - rest.len()) / 8;
                 return Err(refused(slot as u16, code));
             }
@@ -215,6 +219,7 @@ fn program_of(alloc: Global, profile: Profile, bytes: &[u8]) -> Result<Program, 
     match Program::new(alloc, profile, insns_of(alloc, profile, bytes)?) {
         Ok(program) => Ok(program),
         Err(NoProgram::NoMemory) => Err(DecodeFault::NoMemory),
+        // The bytes are some slots and no more than the profile has, since the whole has no fault.
         Err(NoProgram::NotInRange(_)) => unreachable!(),
     }
 }
@@ -247,8 +252,8 @@ pub fn decode_in(alloc: Global, profile: Profile, bytes: &[u8]) -> Result<Progra
     program_of(alloc, profile, bytes)
 }
 
-/// In each profile a list of bytes is one program's, or has one fault, and not both. No code applies where an instruction
-/// of the profile stands.
+/// In each profile a list of bytes is one program's, or has one fault, and not both. No code applies where an
+/// instruction of the profile stands. So what is told depends on the bytes alone, and on no order of reading.
 pub fn either_program_or_fault()
     ensures either { (profile : Profile) (bytes : List ℕ) → AreBytes bytes
         → HasProgram profile bytes ⊎ HasFault profile bytes }

@@ -1,4 +1,4 @@
-//! Programs to bytes.
+//! Programs to bytes: each instruction has one slot, and the 64-bit immediate two.
 ghost use Rattle.std.specs.Prelude.{◌≡◌, ◌++◌, IfOk, OnOk, ◌<◌};
 ghost use Rattle.pb_isa.specs.declared.insn.Insn.TheVariants as insn;
 ghost use Rattle.pb_isa.specs.Registers.{number};
@@ -10,7 +10,7 @@ use pb_base::NoMemory;
 use pb_isa::{AluOp, Cmp, Insn, Operand, Program, Reg, Size, Width};
 use std::alloc::{AllocError, Global};
 
-// A register's number.
+// A register's number. That it is below 11 is told with it, so that it fits its half of a byte.
 fn number(reg: Reg) -> u8
     ensures number { result ≡ number reg }
     ensures below { result < 11 }
@@ -41,7 +41,8 @@ fn register_slot(form: Form, dst: Reg, src: Reg, offset: u16) -> Slot
     slot(form, number(dst), number(src), offset, 0)
 }
 
-// How many bits of its source a sign-extending move takes.
+// How many bits of its source a sign-extending move takes. 64 stands here though no profile has it, so that any
+// instruction has a slot.
 fn bits_of(size: Size) -> u16
     ensures { result ≡ bits_of size }
 {
@@ -84,7 +85,7 @@ fn jump_slot(cmp: Cmp, width: Width, dst: Reg, src: Operand, offset: i16) -> Slo
     }
 }
 
-// The first slot of an instruction.
+// The first slot of an instruction. Fields that it doesn't use are zero, since it is read back only so.
 fn first_slot(insn: Insn) -> Slot
     ensures slot { result ≡ first_slot insn }
     ensures dst { result.dst < 16 }
@@ -149,7 +150,7 @@ fn first_slot(insn: Insn) -> Slot
     }
 }
 
-// Writes an instruction's slots at the end.
+// Writes an instruction's slots at the end. The high half of a 64-bit immediate follows in a slot of its own.
 fn put(out: &mut Vec<u8>, insn: Insn) -> Result<(), AllocError>
     ensures { OnOk result (out.new.items ≡ out.old.items ++ insn_bytes insn) }
 {

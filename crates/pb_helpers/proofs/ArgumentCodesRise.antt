@@ -1,3 +1,4 @@
+-- The codes of a call's rules are listed lowest first.
 use Rattle.std.proofs.Common.{ℕ, ◌≤◌, Bool, true, false, not, List, [], ◌∷◌, ◌++◌, arith}
 use Rattle.std.specs.Prelude.{if◌then◌else◌, Option, Some, None}
 use Rattle.pb_isa.specs.Helpers.{Helper, Read, Write, Delete, Start}
@@ -11,32 +12,39 @@ use Rattle.pb_helpers.specs.declared.code.Code.TheVariants.{ReadsUnset, OutsideS
 use Rattle.pb_helpers.specs.Codes.{code_number, when, CodesRiseWithin}
 use Rattle.pb_helpers.specs.Arguments.{unset, stack_writes, filled_bytes, taken_bytes, is_cell, call_rules}
 
+-- codes that rise from b on rise from any a below it on
 from_lower : (a b c : ℕ) (cs : List Code) → a ≤ b → CodesRiseWithin b c cs → CodesRiseWithin a c cs
 from_lower a b c [] l h = omega arith
 from_lower a b c (x ∷ xs) l h = (omega (arith, h.0), h.1)
 
+-- two rising lists one after the other rise, where the second begins no lower than the first ends
 joined : (a b c : ℕ) (xs ys : List Code) → CodesRiseWithin a b xs → CodesRiseWithin b c ys → CodesRiseWithin a c (xs ++ ys)
 joined a b c [] ys h k = from_lower a b c ys h k
 joined a b c (x ∷ xs) ys h k = (h.0, joined (code_number x) b c xs ys h.1 k)
 
+-- one code, if it is listed at all, lies from itself to itself
 one : (a : ℕ) (t : Bool) (c : Code) → a ≤ code_number c → CodesRiseWithin a (code_number c) (when t c)
 one a true c l = (l, omega arith)
 one a false c l = l
 
+-- a read of stack bytes breaks 25 or 26, and never both
 read_or_outside : (t u : Bool) → CodesRiseWithin 21 26 (if t then when u UnwrittenByte else OutsideStack ∷ [])
 read_or_outside true u = one 21 u UnwrittenByte (omega arith)
 read_or_outside false u = (omega arith, omega arith)
 
+-- codes that rise up to b rise up to any c above it
 to_higher : (a b c : ℕ) (cs : List Code) → b ≤ c → CodesRiseWithin a b cs → CodesRiseWithin a c cs
 to_higher a b c [] l h = omega arith
 to_higher a b c (x ∷ xs) l h = (h.0, to_higher (code_number x) b c xs l h.1)
 
+-- the bytes of a read break nothing above 26
 filled : (k : Kind) → CodesRiseWithin 21 26 (filled_bytes k)
 filled Unset = omega arith
 filled Number = omega arith
 filled (Stack k) = to_higher 21 25 26 (stack_writes k 32) (omega arith) (one 21 (not (in_stack k 32)) OutsideStack (omega arith))
 filled (Record k) = omega arith
 
+-- nor do those of a write
 taken : (f : Frame) (k : Kind) → CodesRiseWithin 21 26 (taken_bytes f k)
 taken f Unset = omega arith
 taken f Number = omega arith
@@ -49,6 +57,7 @@ reads f r = one 21 (is_unset (kind_of f r)) ReadsUnset (omega arith)
 wrong : (t : Bool) → CodesRiseWithin 26 31 (when t WrongArgument)
 wrong t = one 26 t WrongArgument (omega arith)
 
+-- three registers, then the bytes, then the wrong argument: the order of the rules is that of the codes
 with_place : (f : Frame) (cs : List Code) (t : Bool) → CodesRiseWithin 21 26 cs → CodesRiseWithin 21 31 (unset f 1 ++ unset f 2 ++ unset f 3 ++ cs ++ when t WrongArgument)
 with_place f cs t h =
     joined 21 26 31 (unset f 1 ++ unset f 2 ++ unset f 3 ++ cs) (when t WrongArgument)
@@ -56,6 +65,7 @@ with_place f cs t h =
     (joined 21 21 21 (unset f 1 ++ unset f 2) (unset f 3) (joined 21 21 21 (unset f 1) (unset f 2) (reads f 1) (reads f 2)) (reads f 3)) h)
     (wrong t)
 
+-- so the codes of each helper's rules rise from 21 to 31
 pub codes_rise : (f : Frame) (h : Option Helper) → CodesRiseWithin 21 31 (call_rules f h)
 codes_rise f None = (omega arith, omega arith)
 codes_rise f (Some Read) = with_place f (filled_bytes (kind_of f 3)) _ (filled (kind_of f 3))

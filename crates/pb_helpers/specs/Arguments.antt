@@ -23,10 +23,12 @@ stack_reads f z n = if in_stack z n then when (not (are_written f z n)) Unwritte
 abbrev pub stack_writes : ℤ → ℕ → List Code
 stack_writes z n = when (not (in_stack z n)) OutsideStack
 
+-- the 32 bytes that a read of a cell fills; what isn't a stack pointer is a wrong argument, and has none
 abbrev pub filled_bytes : Kind → List Code
 filled_bytes (Stack k) = stack_writes k 32
 filled_bytes _ = []
 
+-- the 32 bytes that a write takes, which are written before
 abbrev pub taken_bytes : Frame → Kind → List Code
 taken_bytes f (Stack k) = stack_reads f k 32
 taken_bytes f _ = []
@@ -35,16 +37,20 @@ taken_bytes f _ = []
 abbrev pub is_cell : Frame → Bool
 is_cell f = is_number_kind (kind_of f 1) && is_number_kind (kind_of f 2)
 
+-- a pointer to the stack; the record is none, since helpers fill and take stack bytes alone
 abbrev pub is_place : Kind → Bool
 is_place (Stack k) = true
 is_place _ = false
 
+-- row, column and address are set, the bytes lie in the stack, and each argument is of its kind
 abbrev pub read_rules : Frame → List Code
 read_rules f = unset f 1 ++ unset f 2 ++ unset f 3 ++ filled_bytes (kind_of f 3) ++ when (not (is_cell f && is_place (kind_of f 3))) WrongArgument
 
+-- those of a read, and the bytes are written besides
 abbrev pub write_rules : Frame → List Code
 write_rules f = unset f 1 ++ unset f 2 ++ unset f 3 ++ taken_bytes f (kind_of f 3) ++ when (not (is_cell f && is_place (kind_of f 3))) WrongArgument
 
+-- row and column are set, and numbers
 abbrev pub delete_rules : Frame → List Code
 delete_rules f = unset f 1 ++ unset f 2 ++ when (not (is_cell f)) WrongArgument
 
@@ -56,5 +62,6 @@ call_rules f (Some Write) = write_rules f
 call_rules f (Some Delete) = delete_rules f
 call_rules f (Some Start) = []
 
+-- in any frame the codes of a call are listed lowest first
 abbrev pub ArgumentCodesRise : Type 0
 ArgumentCodesRise = (f : Frame) (h : Option Helper) → CodesRiseWithin 21 31 (call_rules f h)

@@ -1,8 +1,10 @@
--- The codes of the verifier's rules. They are this project's own profile.
+-- The codes of the verifier's rules. They are this project's own profile. A definition lists all codes that an
+-- instruction breaks, by rising number, so that the lowest is the first, whatever order a body tests them in.
 use Rattle.std.specs.Prelude.{ℕ, ◌≤◌, Bool, true, false, List, [], ◌∷◌, map, Option, Some, None}
 use Rattle.pb_helpers.specs.declared.code.Code.{Code}
 use Rattle.pb_helpers.specs.declared.code.Code.TheVariants.{ReadsUnset, WritesR10, PointerArithmetic, PointerStored, OutsideStack, UnwrittenByte, OutsideRecord, WritesRecord, ThroughNumber, NotDeclared, WrongArgument, BackwardJump, JumpOutside, JumpIntoPair, Unreachable, FallsOff, ExitsWithPointer, PointerCompared}
 
+-- the number by which a code is told
 abbrev pub code_number : Code → ℕ
 code_number ReadsUnset = 21
 code_number WritesR10 = 22

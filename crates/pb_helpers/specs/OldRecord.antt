@@ -13,10 +13,11 @@ abbrev pub is_value : Reply → ℕ
 is_value (Some v) = 1
 is_value None = 0
 
+-- the bytes of version 1 stand unchanged in front, so that a program of either version finds them in the same places
 abbrev pub record_with_old : Cell → Revision → ℕ → Reply → List ℕ
 record_with_old x found acknowledged old = record_of x found acknowledged ++ (word_bytes (is_value old) ++ reply_bytes old)
 
--- whether a program is judged for records of version 2
+-- whether a program is judged for records of version 2, which only their size tells
 abbrev pub tells_old : JudgedOf → Bool
 tells_old j = nat_eq j.record_size MAX_RECORD_BYTES
 

@@ -9,6 +9,7 @@ use Rattle.pb_base.specs.declared.content.Content.TheVariants.{Value, Deleted, S
 use Rattle.pb_base.specs.declared.content.Revision.{Revision}
 use Rattle.pb_base.specs.Cell.{row_of, column_of}
 
+-- a number as eight bytes, the lowest first, as a load of 64 bits takes it
 abbrev pub word_bytes : ℕ → List ℕ
 word_bytes n = to_le_bytes w64 n
 
@@ -24,6 +25,7 @@ value_bytes (Value v) = v
 value_bytes Deleted = replicate 32 0
 value_bytes (Stamp t) = replicate 32 0
 
+-- the 80 bytes of version 1, for a version of a cell and the timestamp acknowledged before
 abbrev pub record_of : Cell → Revision → ℕ → List ℕ
 record_of x found acknowledged =
     word_bytes (row_of x).0 ++ (word_bytes (column_of x) ++ (word_bytes found.start.0 ++ (word_bytes found.commit.0 ++
@@ -37,5 +39,6 @@ word_at bytes n = from_le_bytes w64 (take 8 (drop n bytes))
 abbrev pub recorded_row : List ℕ → ℕ
 recorded_row bytes = word_at bytes 0
 
+-- the column; that it is 0 to 15 is the invariant of a record
 abbrev pub recorded_column : List ℕ → ℕ
 recorded_column bytes = word_at bytes 8

@@ -1,7 +1,8 @@
--- Tables of helpers.
+-- Tables of helpers. The set itself is defined with the machine, which has to know what is declared.
 use Rattle.std.specs.Prelude.{true}
 use Rattle.pb_isa.specs.Helpers.{HelperSet, Helper, Read, Write, Delete, Start}
 
+-- each of the four
 abbrev pub all_helpers : HelperSet
 all_helpers = record { read = true; write = true; delete = true; start = true }
 

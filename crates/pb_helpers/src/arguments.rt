@@ -1,4 +1,5 @@
-//! Which arguments a helper accepts.
+//! Which arguments a helper accepts. The codes of registers and stack bytes are found here for loads and stores too, so
+//! that each rule is said once.
 ghost use Rattle.std.specs.Prelude.{◌≡◌, ◌<◌, is_some, IsTrue};
 ghost use Rattle.pb_isa.specs.Helpers.{declared_helper};
 ghost use Rattle.pb_helpers.specs.Codes.{lowest_code};
@@ -8,7 +9,8 @@ use crate::code::Code;
 use crate::table::HelperTable;
 use pb_kinds::{Frame, Kind, in_stack};
 
-/// The code of a read of the register with this number.
+/// The code of a read of the register with this number. Where it breaks another rule too, this one is told, since it is
+/// the lowest.
 pub fn unset_code(frame: &Frame, register: usize) -> Option<Code>
     requires { register < 11 }
     ensures { result ≡ lowest_code (unset frame.now register) }
@@ -16,7 +18,8 @@ pub fn unset_code(frame: &Frame, register: usize) -> Option<Code>
     Code::ReadsUnset.when(frame.kinds[register].is_unset())
 }
 
-/// The lowest code of a read of so many stack bytes, from this distance to the stack's end on.
+/// The lowest code of a read of so many stack bytes, from this distance to the stack's end on. Whether they are written
+/// is asked only inside, since a byte outside has no flag.
 pub fn stack_read_code(frame: &Frame, at: i64, bytes: u8) -> Option<Code>
     ensures { result ≡ lowest_code (stack_reads frame.now at bytes) }
 {
@@ -34,7 +37,8 @@ pub fn stack_write_code(at: i64, bytes: u8) -> Option<Code>
     Code::OutsideStack.when(!in_stack(at, bytes))
 }
 
-// The 32 bytes that a helper fills.
+// The 32 bytes that a read of a cell fills. What isn't a stack pointer has no bytes to judge, since it is told as a
+// wrong argument.
 fn filled_bytes(place: Kind) -> Option<Code>
     ensures { result ≡ lowest_code (filled_bytes place) }
 {
@@ -44,7 +48,7 @@ fn filled_bytes(place: Kind) -> Option<Code>
     }
 }
 
-// The 32 bytes that a helper takes.
+// The 32 bytes that a write takes, which have to be written. Nor has anything but a stack pointer bytes to judge here.
 fn taken_bytes(frame: &Frame, place: Kind) -> Option<Code>
     ensures { result ≡ lowest_code (taken_bytes frame.now place) }
 {
@@ -54,12 +58,14 @@ fn taken_bytes(frame: &Frame, place: Kind) -> Option<Code>
     }
 }
 
+// Whether row and column are numbers. Any number will do, since a column over 15 is answered when the program runs.
 fn is_cell(frame: &Frame) -> bool
     ensures { result ≡ is_cell frame.now }
 {
     frame.kinds[1].is_number() && frame.kinds[2].is_number()
 }
 
+// Whether it points to the stack. The change record isn't one, since helpers fill and take stack bytes alone.
 fn is_place(kind: Kind) -> bool
     ensures { result ≡ is_place kind }
 {
@@ -69,6 +75,7 @@ fn is_place(kind: Kind) -> bool
     }
 }
 
+// The rules of helper 1. They stand by rising code, so that the first that is broken is the lowest.
 #[tactic(auto, using(crate::proofs::LowestCode::lowest_append))]
 fn read_code(frame: &Frame) -> Option<Code>
     ensures { result ≡ lowest_code (read_rules frame.now) }
@@ -80,6 +87,7 @@ fn read_code(frame: &Frame) -> Option<Code>
         .or(Code::WrongArgument.when(!(is_cell(frame) && is_place(frame.kinds[3]))))
 }
 
+// Those of helper 2. Its 32 bytes are read, so that they have to be written besides.
 #[tactic(auto, using(crate::proofs::LowestCode::lowest_append))]
 fn write_code(frame: &Frame) -> Option<Code>
     ensures { result ≡ lowest_code (write_rules frame.now) }
@@ -91,6 +99,7 @@ fn write_code(frame: &Frame) -> Option<Code>
         .or(Code::WrongArgument.when(!(is_cell(frame) && is_place(frame.kinds[3]))))
 }
 
+// Those of helper 3, which takes no bytes.
 #[tactic(auto, using(crate::proofs::LowestCode::lowest_append))]
 fn delete_code(frame: &Frame) -> Option<Code>
     ensures { result ≡ lowest_code (delete_rules frame.now) }
@@ -108,6 +117,7 @@ pub fn argument_code(helpers: HelperTable, number: i32, frame: &Frame) -> Option
     if !helpers.declares(number) {
         return Some(Code::NotDeclared);
     }
+    // The start takes no argument, and another number isn't declared.
     match number {
         1 => read_code(frame),
         2 => write_code(frame),
@@ -116,7 +126,7 @@ pub fn argument_code(helpers: HelperTable, number: i32, frame: &Frame) -> Option
     }
 }
 
-/// The codes of a call are listed lowest first, all from 21 to 31.
+/// The codes of a call are listed lowest first, all from 21 to 31. The verifier's law of all rules rests on it.
 pub fn argument_codes_rise()
     ensures { ArgumentCodesRise }
 {}

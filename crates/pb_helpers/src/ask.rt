@@ -1,11 +1,12 @@
-//! What a program asks, and what it is told.
+//! What a program asks, and what it is told: both are kept in order with a run, and compared where it is declared.
 ghost use Rattle.std.specs.Prelude.{◌≡◌, ◌↔◌, IsTrue};
 ghost use Rattle.pb_isa.specs.Machine.{IsReply};
 ghost use Rattle.pb_helpers.specs.Replies.{ask_of, reply_of};
 
 use pb_base::{Column, Row, Value};
 
-/// A cell that a program reads: helper 1 with a column of 0 to 15.
+/// A cell that a program reads: helper 1 with a column of 0 to 15. A column over 15 makes no ask, since there is no
+/// such cell.
 #[derive(Clone, Copy, Debug, PartialEq, Eq)]
 pub struct Ask {
     pub row: Row,
@@ -17,7 +18,7 @@ pub struct Ask {
 pub enum Reply {
     /// Its value.
     Found(Value),
-    /// It is absent, or deleted.
+    /// It is absent, or deleted: a program isn't told which.
     Absent,
 }
 

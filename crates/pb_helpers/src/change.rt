@@ -1,4 +1,4 @@
-//! The record of a change, which a program reads.
+//! The record of a change, which a program reads at the address in R1.
 ghost use Rattle.std.specs.Prelude.{◌≡◌, ◌<◌, ◌≤◌, ◌↔◌, IsTrue, length, take, drop};
 ghost use Rattle.pb_isa.specs.Machine.{reply_bytes};
 ghost use Rattle.pb_helpers.specs.Bytes.{size_of, is_second, padded};
@@ -9,7 +9,7 @@ use pb_base::{COLUMNS, Cell, Column, Content, Revision, Row, Ts, Value};
 use pb_isa::{MAX_RECORD_BYTES, RECORD_BYTES};
 use std::marker::Model;
 
-/// Which record a program is told.
+/// Which record a program is told. A program is judged for one, since it may load only bytes that the record has.
 #[derive(Clone, Copy, Debug, PartialEq, Eq)]
 pub enum Version {
     First,
@@ -26,6 +26,7 @@ pub struct Record {
     bytes: Bytes,
 }
 
+// Two arrays and no list, so that a record takes no memory of its own.
 #[derive(Clone, Copy)]
 enum Bytes {
     First([u8; RECORD_BYTES]),
@@ -48,6 +49,7 @@ impl Model for Record {
     ghost invariant = { λ r. (recorded_column (all_bytes r.bytes) < COLUMNS) × IsSized r.bytes };
 }
 
+// The word at 32. A stamp counts as no value, since only an acknowledgment has one, and no observer is told of those.
 fn present(content: Content) -> u64
     ensures { result ≡ present content }
 {
@@ -57,6 +59,7 @@ fn present(content: Content) -> u64
     }
 }
 
+// The bytes at 48.
 fn value_of(content: Content) -> Value
     ensures { result ≡ value_bytes content }
 {
@@ -83,6 +86,7 @@ fn first_bytes(cell: Cell, found: &Revision, acknowledged: Ts) -> [u8; RECORD_BY
     bytes
 }
 
+// The word at 80.
 fn flag_of(old: Option<Value>) -> u64
     ensures { result ≡ is_value old }
 {
@@ -92,6 +96,7 @@ fn flag_of(old: Option<Value>) -> u64
     }
 }
 
+// The bytes at 88.
 fn old_value(old: Option<Value>) -> Value
     ensures { result ≡ reply_bytes old }
 {
@@ -121,12 +126,13 @@ impl Record {
         }
     }
 
-    /// The same of version 2, with the value that the cell had at the acknowledged timestamp, if it had one.
+    /// The record of version 2, which tells besides the value that the cell had at the acknowledged timestamp, if it
+    /// had one.
     pub fn with_old(cell: Cell, found: &Revision, acknowledged: Ts, old: Option<Value>) -> Record
         ensures record { result ≡ record_with_old cell found.now acknowledged.0 old }
         ensures size { length result ≡ MAX_RECORD_BYTES }
     {
-        // From the last to the first: the place of each part is then known, whatever stands behind it.
+        // From the last to the first, so that the place of each part is known, whatever stands behind it.
         let mut bytes = [0; MAX_RECORD_BYTES];
         bytes[88..].copy_from_slice(&old_value(old));
         bytes[80..88].copy_from_slice(&flag_of(old).to_le_bytes());
@@ -159,7 +165,7 @@ impl Record {
         }
     }
 
-    // The words of 8 bytes from the first byte on.
+    // The words of 8 bytes from the first byte on: row and column.
     fn first_words(&self) -> ([u8; 8], [u8; 8])
         ensures row { result.0 ≡ take 8 self.now }
         ensures column { result.1 ≡ take 8 (drop 8 self.now) }
@@ -185,6 +191,7 @@ impl Record {
         ensures column { result ≡ recorded_column self.now }
         ensures in_range { recorded_column self.now < COLUMNS }
     {
+        // The column is in range by the record's invariant, so that the cast cuts nothing, and there always is one.
         match Column::new(u64::from_le_bytes(self.first_words().1) as u8) {
             Some(column) => column,
             None => unreachable!(),
@@ -201,7 +208,7 @@ impl Record {
         }
     }
 
-    /// Its bytes.
+    /// Its bytes: 80 or 120.
     pub fn bytes(&self) -> &[u8]
         ensures bytes { result.now ≡ self.now }
         ensures some { RECORD_BYTES ≤ length self.now }
@@ -214,7 +221,8 @@ impl Record {
         }
     }
 
-    /// Its bytes, with zeros up to the most that a record has.
+    /// Its bytes, with zeros up to the most that a record has. The machine copies them, so that its memory is of one
+    /// size for both versions.
     pub fn padded(&self) -> [u8; MAX_RECORD_BYTES]
         ensures { result ≡ padded self.now }
     {
@@ -228,7 +236,7 @@ impl Record {
         }
     }
 
-    /// Whether both have the same bytes.
+    /// Whether both have the same bytes. Records of two versions never do, since they differ in number.
     pub fn is_same(&self, other: &Record) -> bool
         ensures { IsTrue result ↔ (self.now ≡ other.now) }
     {

@@ -1,4 +1,5 @@
-//! The rules that an instruction can break.
+//! The rules that an instruction can break. They are an enum, since a definition can't be read by numbers; it stands in
+//! this crate, as the lowest whose rules tell codes.
 ghost use Rattle.std.specs.Prelude.{◌≡◌, if◌then◌else◌};
 ghost use Rattle.pb_helpers.specs.Codes.{code_number, when, lowest_code};
 
@@ -9,7 +10,7 @@ pub enum Code {
     ReadsUnset,
     /// It writes R10.
     WritesR10,
-    /// Arithmetic on a pointer.
+    /// Arithmetic on a pointer, but for what moves it: a 64-bit sum or difference with an immediate.
     PointerArithmetic,
     /// It stores a pointer.
     PointerStored,

@@ -5,7 +5,8 @@ ghost use Rattle.pb_helpers.specs.Table.{all_helpers, with_helper};
 
 use std::marker::Model;
 
-/// The helpers that a program may call: a set of 1 (read), 2 (write), 3 (delete) and 4 (start).
+/// The helpers that a program may call: a set of 1 (read), 2 (write), 3 (delete) and 4 (start). A set, since a manifest
+/// names each for itself, and a program that is declared neither write nor delete can't change any cell.
 #[derive(Clone, Copy, Debug, PartialEq, Eq)]
 pub struct HelperTable {
     reads: bool,
@@ -55,6 +56,7 @@ impl HelperTable {
     pub fn with(self, number: i32) -> Option<HelperTable>
         ensures { result ≡ option_map (with_helper self) (helper_of number) }
     {
+        // A number that no helper has gives none, and a helper that is there already changes nothing.
         let mut table = self;
         match number {
             1 => table.reads = true,

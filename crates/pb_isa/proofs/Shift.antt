@@ -16,13 +16,14 @@ rest_div a d e q r t is lt more =
     let s : e * d - suc a ≡ t * d + (d - suc r) = omega (arith, p, o, is, lt) in
     ap (λ (n : ℕ). n / d) s ∙ div-mul-add t d (d - suc r) (omega (arith, lt))
 
+-- counted back from e * d, the quotients come in reverse: so a negative number is divided
 below_div : (a d e : ℕ) → 0 < d → a < e * d → (a / d < e) × ((e * d - suc a) / d ≡ e - suc (a / d))
 below_div a d e some lt =
     let q = a / d in
     let below : q < e = (div-lt_iff_lt-mul {k = d} {x = a} {y = e} some).1 lt in
     (below, rest_div a d e q (a % d) (e - suc q) (mod-add-div' a d) (mod-lt a some) (omega (arith, below)))
 
--- by the sign of a word
+-- by the sign of a word: a positive one is divided, and a negative one gets ones from above
 shifted : (w : Width) (a k : ℕ) → a < 2 ^ bits w → k ≤ bits w → (low : Bool)
     → cast_unsigned w (int_shr (sel low (pos a) (negsuc (2 ^ bits w - suc a))) k) ≡ cond low (a / 2 ^ k) (a / 2 ^ k + (2 ^ bits w - 2 ^ (bits w - k)))
 shifted w a k lt le true = refl
@@ -38,6 +39,7 @@ shifted w a k lt le false =
     let t : (n - suc a) / d ≡ e - suc (a / d) = subst (λ (m : ℕ). (m - suc a) / d ≡ e - suc (a / d)) is s.1 in
     ap (λ (m : ℕ). n - suc m) t ∙ omega (arith, below, most)
 
+-- the shift of the code, at 64 bits, is that of the definition; and so at 32
 pub arsh_64 : (a b : ℕ) → a < 2 ^ 64 → cast_unsigned w64 (int_shr (cast_signed w64 a) (b % 64)) ≡ arsh w64 a (b % 64)
 arsh_64 a b lt = shifted w64 a (b % 64) lt (omega arith) (nat_lt a (2 ^ 63))
 

@@ -7,10 +7,12 @@ use Rattle.pb_isa.specs.declared.insn.Insn.TheVariants.{Alu, MovSx, Neg, LoadImm
 use Rattle.pb_isa.specs.declared.insn.Operand.{Operand}
 use Rattle.pb_isa.specs.declared.insn.Operand.TheVariants.{Imm, Reg}
 
+-- a register always does, and an immediate has 32 bits and a sign
 abbrev pub OperandFits : Operand → Type 0
 OperandFits (Imm imm) = FitsSigned w32 imm
 OperandFits (Reg src) = Unit {0}
 
+-- each number is one that its field holds: such an instruction has an encoding, and is read back from it
 abbrev pub Fits : Insn → Type 0
 Fits (Alu op w dst src) = OperandFits src
 Fits (MovSx w z dst src) = Unit {0}

@@ -8,5 +8,6 @@ pub record LeadOn (p : List Insn) : Type 0 where
   pub first : 0 < slots p → IsTrue (is_some (insn_at p 0))
   pub next : (n : ℕ) (i : Insn) → insn_at p n ≡ Some i → n + length (places_of i) ≢ slots p → IsTrue (is_some (insn_at p (n + length (places_of i))))
 
+-- in each list of instructions, of whatever length
 abbrev pub NextSlotsAreFirst : Type 0
 NextSlotsAreFirst = (p : List Insn) → LeadOn p

@@ -1,4 +1,5 @@
--- The profiles: the instructions and the slots that a program may have.
+-- The profiles: the instructions and the slots that a program may have. They are the project's own, as RFC 9669 lets a
+-- platform choose (section 2.4). Nothing else depends on the profile: rules and machine take instructions.
 use Rattle.std.specs.Prelude.{ℕ, Bool, true, false, IsTrue}
 use Rattle.pb_isa.specs.declared.limits.TheConstants.{MAX_SLOTS, PROFILE_1_SLOTS}
 use Rattle.pb_isa.specs.declared.profile.Profile.{Profile}
@@ -30,5 +31,6 @@ is_of One (Load z Sign dst src offset) = false
 is_of Two (Load z Sign dst src offset) = is_narrower z Bits64
 is_of p i = true
 
+-- a program of the profile may have this instruction
 abbrev pub IsOf : Profile → Insn → Type 0
 IsOf p i = IsTrue (is_of p i)

@@ -1,4 +1,5 @@
--- Programs, and programs with what they are judged for, as contracts see them.
+-- Programs, and programs with what they are judged for, as contracts see them. Each has a code, since refusal 43
+-- compares the program of a declared run with the observer's.
 use Rattle.std.specs.Prelude.{◌≡◌, ℕ, ◌<◌, ◌≤◌, ◌⊎◌, List, refl}
 use Rattle.std.specs.Coded.{Coded, code_by, coded×, coded_ℕ, coded_list}
 use Rattle.std.specs.List.{AllByRecursion}
@@ -12,10 +13,13 @@ use Rattle.pb_isa.specs.Profiles.{IsOf, max_slots}
 use Rattle.pb_isa.specs.Helpers.{HelperSet, helper_code}
 use Rattle.pb_isa.specs.Slots.{slots}
 
+-- a profile and instructions; the profile is part of the value, so that the same instructions of the other are another
+-- program
 pub record ProgramOf : Type 0 where
   pub profile : Profile
   pub insns : List Insn
 
+-- a program as a tree, by which two are compared
 abbrev pub program_code : Coded ProgramOf
 program_code =
     code_by (Profile × List Insn) (coded× profile.the_row.coded (coded_list insn.the_row.coded))
@@ -38,6 +42,7 @@ pub record JudgedOf : Type 0 where
   pub helpers : HelperSet
   pub record_size : ℕ
 
+-- a judged program as a tree: with other helpers or another record it is another
 abbrev pub judged_code : Coded JudgedOf
 judged_code =
     code_by (ProgramOf × (HelperSet × ℕ)) (coded× program_code (coded× helper_code coded_ℕ))

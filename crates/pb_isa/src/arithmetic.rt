@@ -1,10 +1,12 @@
-//! Arithmetic and comparisons (RFC 9669, sections 4.1 and 4.3).
+//! Arithmetic and comparisons (RFC 9669, sections 4.1 and 4.3), which the machine does at each instruction.
 ghost use Rattle.std.specs.Prelude.{◌≡◌, ◌%◌, ◌^◌};
 ghost use Rattle.pb_isa.specs.Alu.{word_alu, word_holds, alu, holds};
 ghost use mir.Syntax.{w32, w64};
 
 use crate::insn::{AluOp, Cmp, Width};
 
+// Zero is tested before a division, since RFC 9669 has a result for it, where a processor's division would trap. The
+// amount of a shift is reduced first, since only so many bits of it count.
 #[tactic(auto, using(crate::proofs::Shift::arsh_64))]
 fn alu_64(op: AluOp, a: u64, b: u64) -> u64
     ensures { result ≡ word_alu w64 op a b }
@@ -25,6 +27,8 @@ fn alu_64(op: AluOp, a: u64, b: u64) -> u64
     }
 }
 
+// Operations on 32 bits. They have a function of their own, since shift amounts, wrapping and the sign bit are those of
+// the width.
 #[tactic(auto, using(crate::proofs::Shift::arsh_32))]
 fn alu_32(op: AluOp, a: u32, b: u32) -> u32
     ensures { result ≡ word_alu w32 op a b }
@@ -45,7 +49,7 @@ fn alu_32(op: AluOp, a: u32, b: u32) -> u32
     }
 }
 
-// The low half of a word.
+// The low half of a word. The upper bits are masked off, so that the cast cuts nothing.
 fn low(a: u64) -> u32
     ensures { result ≡ a % 2 ^ 32 }
 {
@@ -64,6 +68,7 @@ pub fn alu(op: AluOp, width: Width, a: u64, b: u64) -> u64
     }
 }
 
+// Registers hold words without a sign, so that a comparison with sign reads both as signed numbers first.
 fn holds_64(cmp: Cmp, a: u64, b: u64) -> bool
     ensures { result ≡ word_holds w64 cmp a b }
 {
@@ -82,6 +87,7 @@ fn holds_64(cmp: Cmp, a: u64, b: u64) -> bool
     }
 }
 
+// Comparisons of low halves, whose sign bit is bit 31.
 fn holds_32(cmp: Cmp, a: u32, b: u32) -> bool
     ensures { result ≡ word_holds w32 cmp a b }
 {

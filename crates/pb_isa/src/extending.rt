@@ -1,4 +1,4 @@
-//! Words made of fewer bits by copying the sign upwards (RFC 9669, sections 4.1 and 5.2).
+//! Words made of fewer bits by copying the sign upwards (RFC 9669, sections 4.1 and 5.2), as profile 2 has them.
 ghost use Rattle.std.specs.Prelude.{◌≡◌};
 ghost use Rattle.pb_isa.specs.Machine.{sign_extended, mov_sx};
 
@@ -8,6 +8,8 @@ use crate::insn::{Size, Width};
 pub fn sign_extended(size: Size, v: u64) -> u64
     ensures { result ≡ sign_extended size v }
 {
+    // The low bytes are masked off first, so that no cast cuts anything; the cast to a wider signed number copies the
+    // sign.
     match size {
         Size::B => i64::from(((v & 0xff) as u8).cast_signed()).cast_unsigned(),
         Size::H => i64::from(((v & 0xffff) as u16).cast_signed()).cast_unsigned(),
@@ -16,7 +18,8 @@ pub fn sign_extended(size: Size, v: u64) -> u64
     }
 }
 
-/// What a sign-extending move makes of its source: on 32 bits the upper half of the result is clear.
+/// What a sign-extending move makes of its source: on 32 bits the upper half of the result is clear, as after any
+/// operation of that width.
 pub fn mov_sx(width: Width, size: Size, v: u64) -> u64
     ensures { result ≡ mov_sx width size v }
 {

@@ -1,4 +1,4 @@
-//! Registers and instructions.
+//! Registers and instructions, with their fields as RFC 9669 names them.
 ghost use Rattle.std.specs.Prelude.{◌≡◌, ◌<◌};
 ghost use Rattle.pb_isa.specs.Registers.{number, reg_of};
 
@@ -104,7 +104,8 @@ pub enum Operand {
     Reg(Reg),
 }
 
-/// How a load of fewer bytes than a register has fills the rest of it (RFC 9669, sections 5.1 and 5.2).
+/// How a load of fewer bytes than a register has fills the rest of it (RFC 9669, sections 5.1 and 5.2). It is a field
+/// of the load and makes no instruction of its own, so that rules and machine have one case for both.
 #[derive(Clone, Copy, Debug, PartialEq, Eq)]
 pub enum Extension {
     /// MEM
@@ -113,8 +114,9 @@ pub enum Extension {
     Sign,
 }
 
-/// An instruction, with the fields of RFC 9669, section 3.1, that it uses. Each takes one slot, and the 64-bit immediate
-/// takes two. Which of them a program may have, its [`Profile`](crate::Profile) says.
+/// An instruction, with the fields of RFC 9669, section 3.1, that it uses. Each takes one slot, and the 64-bit
+/// immediate takes two. Which of them a program may have, its [`Profile`](crate::Profile) says. Numbers have the widths
+/// of their fields, so that no instruction has one that its slots can't hold.
 #[derive(Clone, Copy, Debug, PartialEq, Eq)]
 pub enum Insn {
     /// An operation on destination and source, whose result is the destination's.
@@ -131,7 +133,7 @@ pub enum Insn {
         dst: Reg,
         src: Reg,
     },
-    /// The destination's negative.
+    /// The destination's negative. It isn't one of [`AluOp`], since it has no second operand.
     Neg {
         width: Width,
         dst: Reg,
@@ -175,9 +177,10 @@ pub enum Insn {
         src: Operand,
         offset: i16,
     },
-    /// A helper, by its number.
+    /// A helper, by its number. Any number is an instruction, since which helpers there are is the verifier's to say.
     Call {
         imm: i32,
     },
+    /// The end of the program, with R0 as its result.
     Exit,
 }

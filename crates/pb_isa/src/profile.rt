@@ -6,7 +6,8 @@ ghost use Rattle.pb_isa.specs.Profiles.{max_slots, is_narrower, is_of, IsOf};
 use crate::insn::{Extension, Insn, Size, Width};
 use crate::limits::{MAX_SLOTS, PROFILE_1_SLOTS};
 
-/// What a program may be.
+/// What a program may be. What profile 1 has means the same in profile 2, so that a manifest may go over to it with the
+/// programs that it has.
 #[derive(Clone, Copy, Debug, PartialEq, Eq)]
 pub enum Profile {
     /// No moves and loads that extend the sign, and at most [`PROFILE_1_SLOTS`] slots.
@@ -15,7 +16,7 @@ pub enum Profile {
     Two,
 }
 
-// Whether a size has fewer bits than a width.
+// Whether a size has fewer bits than a width, so that there is something to extend.
 fn is_narrower(size: Size, width: Width) -> bool
     ensures { result ≡ is_narrower size width }
 {
@@ -27,7 +28,7 @@ fn is_narrower(size: Size, width: Width) -> bool
 }
 
 impl Profile {
-    /// The most slots that a program takes.
+    /// The most slots that a program of it takes.
     pub fn max_slots(self) -> usize
         ensures slots { result ≡ max_slots self }
         ensures most { result ≤ MAX_SLOTS }
@@ -38,7 +39,8 @@ impl Profile {
         }
     }
 
-    /// Whether a program may have this instruction.
+    /// Whether a program may have this instruction. What extends a sign over no bit is of no profile, since a plain
+    /// move or load does the same.
     pub fn has(self, insn: Insn) -> bool
         ensures { result ≡ is_of self insn }
     {
@@ -57,7 +59,8 @@ impl Profile {
         }
     }
 
-    /// Whether a program may have each of these instructions.
+    /// Whether a program may have each of these instructions. It is what [`Program::new`](crate::Program::new) asks of
+    /// them.
     pub fn has_all(self, insns: &[Insn]) -> bool
         ensures { IsTrue result ↔ AllByRecursion (IsOf self) insns.now }
     {

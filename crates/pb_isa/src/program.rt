@@ -14,7 +14,8 @@ use pb_base::NoMemory;
 use std::alloc::Global;
 use std::marker::Model;
 
-/// A program: some instructions of its profile, of at most so many slots together as the profile has.
+/// A program: some instructions of its profile, of at most so many slots together as the profile has. They are kept
+/// slot by slot besides, since jumps count slots, so that what a jump leads to is looked up and not counted out.
 #[derive(Drop)]
 pub struct Program {
     profile: Profile,
@@ -42,11 +43,12 @@ impl Model for Program {
 #[derive(Drop)]
 pub enum NoProgram {
     NoMemory,
-    /// They take no slot, or more than the profile has.
+    /// They take no slot, or more than the profile has. They are handed back, so that the caller still has them.
     NotInRange(Vec<Insn>),
 }
 
-// Whether an instruction takes two slots. Its numbers fit by their types.
+// Whether an instruction takes two slots. It also says that the instruction's numbers fit, which they do by their
+// types, so that this can be said of the whole list.
 fn is_pair(insn: Insn) -> bool
     ensures places { places_of insn ≡ Some insn ∷ (if result then None ∷ [] else []) }
     ensures fits { Fits insn }
@@ -79,6 +81,7 @@ impl Program {
                 }
             }
         }
+        // Tested once all are there, since only then it is known how many slots they take: a pair takes two.
         if places.is_empty() || places.len() > profile.max_slots() {
             return Err(NoProgram::NotInRange(insns));
         }
@@ -113,7 +116,8 @@ impl Program {
         self.places[slot]
     }
 
-    /// Whether both are of one profile and have the same instructions.
+    /// Whether both are of one profile and have the same instructions. A declared run is refused where its program
+    /// isn't the observer's, so that a program that only means the same isn't enough.
     pub fn is_same(&self, other: &Program) -> bool
         ensures { IsTrue result ↔ (self.now ≡ other.now) }
     {
@@ -130,7 +134,8 @@ impl Program {
     }
 }
 
-/// An instruction begins at slot 0, and at the slot after each instruction but the last.
+/// An instruction begins at slot 0, and at the slot after each instruction but the last. So straight code never comes
+/// to the second slot of a pair.
 pub fn next_slots_are_first()
     ensures { NextSlotsAreFirst }
 {}

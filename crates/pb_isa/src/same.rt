@@ -1,11 +1,13 @@
-//! Whether two lists of instructions are the same.
+//! Whether two lists of instructions are the same, field by field. A declared run's program is compared with the
+//! observer's by it.
 ghost use Rattle.std.specs.Prelude.{◌≡◌, ◌↔◌, IsTrue};
 ghost use Rattle.pb_isa.specs.declared.insn.Insn.TheVariants.{Alu, MovSx, Load, StoreImm, Store, JumpIf};
 
 use crate::insn::{AluOp, Cmp, Extension, Insn, Operand, Reg, Size, Width};
 use crate::profile::Profile;
 
-/// Whether both are one profile.
+/// Whether both are one profile. Programs are told apart by it too, since the same instructions of the other profile
+/// are another program.
 pub fn is_same_profile(a: Profile, b: Profile) -> bool
     ensures { IsTrue result ↔ (a ≡ b) }
 {
@@ -58,6 +60,8 @@ fn is_same_operand(a: Operand, b: Operand) -> bool
     }
 }
 
+// Whether it is this operation on these operands. Each case of several fields has such a function, so that `is_same`
+// has one equation a case.
 fn is_alu(insn: Insn, op: AluOp, width: Width, dst: Reg, src: Operand) -> bool
     ensures { IsTrue result ↔ (insn ≡ Alu op width dst src) }
 {
@@ -164,6 +168,7 @@ fn is_jump_if(insn: Insn, cmp: Cmp, width: Width, dst: Reg, src: Operand, offset
     }
 }
 
+// The same case with the same fields. Without a rest case for the first, so that a new instruction can't be left out.
 fn is_same(a: Insn, b: Insn) -> bool
     ensures { IsTrue result ↔ (a ≡ b) }
 {

@@ -9,10 +9,11 @@ use Rattle.pb_kinds.specs.Frames.{has_byte}
 abbrev pub is_inside : ℤ → ℤ → ℤ → ℕ → Bool
 is_inside low high z n = int_le low z && int_le (z +ℤ pos n) high
 
+-- n bytes from z on lie all in the stack, from its lowest byte up to its end
 abbrev pub in_stack : ℤ → ℕ → Bool
 in_stack = is_inside (neg_ℤ (pos STACK_BYTES)) (pos 0)
 
--- in a record of this size
+-- n bytes from z on lie all in a record of this size, which the version that a program is judged for says
 abbrev pub in_record : ℕ → ℤ → ℕ → Bool
 in_record size = is_inside (pos 0) (pos size)
 

@@ -12,21 +12,22 @@ pub enum Kind {
     Unset,
     /// It holds a number, whichever.
     Number,
-    /// It points to the stack, at this distance from the stack's end.
+    /// It points to the stack, at this distance from the stack's end. A distance and no address, since a program is
+    /// judged for every placement.
     Stack(i64),
     /// It points to the change record, at this distance from the record's first byte.
     Record(i64),
 }
 
 impl Kind {
-    /// Whether nothing is known.
+    /// Whether nothing is known, so that it may not be read.
     pub fn is_unset(self) -> bool
         ensures { result ≡ is_unset self }
     {
         self == Kind::Unset
     }
 
-    /// Whether it is a number.
+    /// Whether it is a number, whichever; a helper takes any as row and column.
     pub fn is_number(self) -> bool
         ensures { result ≡ is_number_kind self }
     {
@@ -44,8 +45,8 @@ impl Kind {
     }
 }
 
-/// What is known before an instruction: the kinds of the registers by number, and which stack bytes are written, from the
-/// lowest.
+/// What is known before an instruction: the kinds of the registers by number, and which stack bytes are written, from
+/// the lowest. Each byte has a flag of its own, since a load may take any bytes of what several stores have written.
 #[derive(Clone, Copy)]
 pub struct Frame {
     pub kinds: [Kind; 11],
@@ -66,12 +67,14 @@ pub fn entry() -> Frame
     }
 }
 
+// What is known where both may be: a pointer only where both point to one place, since it has to hold on either way.
 fn meet(a: Kind, b: Kind) -> Kind
     ensures { result ≡ meet a b }
 {
     if a == b { a } else { Kind::Unset }
 }
 
+// Register by register.
 fn meet_kinds(a: &[Kind; 11], b: &[Kind; 11]) -> [Kind; 11]
     ensures { result ≡ meet_kinds a.now b.now }
 {
@@ -82,12 +85,13 @@ fn meet_kinds(a: &[Kind; 11], b: &[Kind; 11]) -> [Kind; 11]
     kinds
 }
 
+// Byte by byte: one is written where it is on both ways.
 fn meet_bytes(a: &[bool; STACK_BYTES], b: &[bool; STACK_BYTES]) -> [bool; STACK_BYTES]
     ensures { result ≡ meet_bytes a.now b.now }
 {
     let mut written = *a;
     for i in 0..STACK_BYTES {
-        // Without a branch, which lets the compiler join many at once.
+        // Without a branch, so that the compiler joins many at once.
         written[i] = a[i] & b[i];
     }
     written
@@ -104,7 +108,7 @@ pub fn join(a: &Frame, b: &Frame) -> Frame
     }
 }
 
-/// The join of any two frames is their meet.
+/// The join of any two frames is their meet. By it the verifier's law of frames needs no order of the ways to a slot.
 pub fn joins_are_meets()
     ensures { JoinsAreMeets }
 {}

@@ -1,4 +1,5 @@
-//! Which bytes a pointer reaches, and which of them are written.
+//! Which bytes a pointer reaches, and which of them are written. It is said here once, below loads, stores and
+//! arguments.
 ghost use Rattle.std.specs.Prelude.{◌≡◌, ◌≤◌, ◌+◌, length, replicate, true, IsTrue};
 ghost use Rattle.std.specs.List.{list_all};
 ghost use Rattle.pb_kinds.specs.Ranges.{in_stack, in_record, from_low, are_written, set_flags, with_written};
@@ -6,14 +7,15 @@ ghost use Rattle.pb_kinds.specs.Ranges.{in_stack, in_record, from_low, are_writt
 use crate::frame::Frame;
 use pb_isa::{RECORD_BYTES, STACK_BYTES};
 
-/// Whether so many bytes lie all in the stack, from this distance to the stack's end on.
+/// Whether so many bytes lie all in the stack, from this distance to the stack's end on. Distances in the stack are
+/// negative, since R10 points to its end.
 pub fn in_stack(at: i64, bytes: u8) -> bool
     ensures { result ≡ in_stack at bytes }
 {
     -(STACK_BYTES as i64) <= at && at <= -i64::from(bytes)
 }
 
-/// Whether so many bytes lie all in the change record, from this distance to its first byte on.
+/// Whether so many bytes lie all in a change record of version 1, from this distance to its first byte on.
 pub fn in_record(at: i64, bytes: u8) -> bool
     ensures { result ≡ in_record RECORD_BYTES at bytes }
 {
@@ -29,6 +31,7 @@ pub fn from_low(at: i64, bytes: u8) -> usize
     (at + STACK_BYTES as i64) as usize
 }
 
+// Whether each of these flags is set.
 fn all_true(bytes: &[bool]) -> bool
     ensures { result ≡ list_all (λ b. b) bytes.now }
 {
@@ -40,6 +43,7 @@ fn all_true(bytes: &[bool]) -> bool
     true
 }
 
+// Sets all of these flags.
 fn fill(bytes: &mut [bool])
     ensures { bytes.new ≡ replicate (length bytes.old) true }
 {
@@ -48,6 +52,7 @@ fn fill(bytes: &mut [bool])
     }
 }
 
+// Sets the flags of so many bytes. It is lent the array alone, so that nothing else of a frame changes.
 fn fill_from(written: &mut [bool; STACK_BYTES], low: usize, bytes: usize)
     requires { low + bytes ≤ STACK_BYTES }
     ensures { written.new ≡ set_flags written.old low bytes }
