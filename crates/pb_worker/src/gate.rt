@@ -1,8 +1,8 @@
-//! What is called before each call of the table.
+//! The gate: what is called before each call of the table, so that a test may hold a worker between two of its steps.
 use pb_core::Step;
 
-/// What is called before each call of the table, with the seat that asks and the step that it asks, while the caller holds no
-/// lock. It may wait.
+/// What is called before each call of the table, with the seat that asks and the step that it asks, while the caller
+/// holds no lock. It may wait.
 pub trait Gate: Sync {
     fn pass(&self, seat: u32, step: &Step);
 }

@@ -1,4 +1,4 @@
-//! Notes of events.
+//! Notes of events: what each did, as a story tells it.
 use pb_core::Answer;
 
 /// What an event did.
@@ -8,7 +8,8 @@ pub enum Note {
     Launched,
     /// The table answered a step.
     Called(Answer),
-    /// The table refused a step with this number, 40 to 47 or 49. If it was an actor's, its job ended there as by a crash.
+    /// The table refused a step with this number, 40 to 47 or 49. If it was an actor's, its job ended there as by a
+    /// crash.
     Refused(u8),
     /// The actor's machine did one instruction, or came to one that asks.
     Instruction,
