@@ -73,6 +73,7 @@ more_has : (e d : Entry) (xs ys : List Entry) → (Has xs d → Has ys d) → Ha
 more_has e d xs ys f (inl is) = inl is
 more_has e d xs ys f (inr h) = inr (f h)
 
+-- what is kept of a list stands in it
 has_unfiltered : (p : Entry → Bool) (es : List Entry) (d : Entry) → Has (filter p es) d → Has es d
 has_unfiltered p [] d h = absurd h
 has_unfiltered p (e ∷ es) d h = more_has e d (filter p es) es (has_unfiltered p es d) (if_has (p e) e d (filter p es) h)
@@ -81,6 +82,7 @@ keeps_has : (b : Bool) (e d : Entry) (es : List Entry) → Has es d → Has (con
 keeps_has true e d es h = inr h
 keeps_has false e d es h = h
 
+-- what was said and names the start is one of the entries that do
 has_filtered : (s : Ts) (seat : ℕ) (said : List Received) (r : Received) → Has said r → names_start s.0 r.step r.answer ≡ true
     → Has (entries_naming s.0 (entries_by seat said)) (record { seat = seat; step = r.step; answer = r.answer })
 has_filtered s seat [] r h names = absurd h
@@ -225,6 +227,7 @@ module _ (observers : List ObserverOf) (seats clock : ℕ) (journal : List Entry
         absurd (no_transaction state seat why seated (subst (λ z. step_reason state seat z ≡ Some why) (sym (same_step (Sweep (Data row observer.column)) step next)) refused))
     at_place n (Over end) so next = absurd (none_some step next)
 
+-- by where the job stands: looks, its declaration and the later steps of its plan each come at their time
 pub jobs_allowed : PlansTalk → PlansEnd → PlansAreAllowed → TransactionsAreTold → JournalsAreSound → AcknowledgedIsEarlier → JobsAreAllowed
 jobs_allowed pt pe allowed told_by sound earlier observers seats clock journal state legal seat o observer row said k step why seated there row_fits column_fits reaches has next refused =
     let h = talk.holds o observer.program row observer.column pt pe said k reaches in

@@ -8,6 +8,7 @@ use Rattle.pb_vm.specs.Moves.{EndedWith, EndsAt, Finishes}
 use Rattle.pb_vm.specs.Finished.{Meant, IsMeant}
 use Rattle.pb_notify.specs.Machines.{exit_at, Leaves}
 
+-- the machine stood where what it left says, with the instructions before its exit
 pub at_exit : (old new : Position) (r : ℕ) (f : Meant) (taken : ℕ) → EndedWith old r new → Finishes new f → old.phase ≡ Going → taken ≡ old.taken → exit_at f taken ≡ old
 at_exit old new r f taken e k going same =
     rw (k.judged ∙ e.given.judged, k.bytes ∙ e.given.bytes, k.began ∙ e.given.began, k.talk ∙ e.talk, same) (ap (λ p. record old { phase = p }) (sym going))
@@ -15,6 +16,7 @@ at_exit old new r f taken e k going same =
 over_by : (r q : ℕ) → Over r ≡ Over q → r ≡ q
 over_by r q e = cc
 
+-- what was taken from it is what its exit leaves there
 pub left : (old new : Position) (r : ℕ) (f : Meant) (taken : ℕ) → EndedWith old r new → Finishes new f → old.phase ≡ Going → taken ≡ old.taken → new.taken ≤ slots new.judged.program.insns → IsMeant f → Leaves (exit_at f taken) f
 left old new r f taken e k going same most meant =
     let here = at_exit old new r f taken e k going same in

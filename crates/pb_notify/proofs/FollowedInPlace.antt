@@ -23,6 +23,7 @@ use Rattle.pb_notify.proofs.MovedInPlace.{asks_at, asks_comes}
 
 -- ---- the machine
 
+-- the slots of its program, which no run's instructions exceed
 abbrev slots_of : Position → ℕ
 slots_of v = slots v.judged.program.insns
 
@@ -34,11 +35,13 @@ record IsLater (v w : Position) : Type 0 where
   taken : v.taken ≤ w.taken
   same : slots_of w ≡ slots_of v
 
+-- an ask or the exit takes no instruction back
 stop_later : (v : Position) (m : Moved) (w : Position) → IsStop m → Moves v m w → IsLater v w
 stop_later v moved.Went w stop h = absurd stop
 stop_later v (moved.Asks q) w stop h = record { taken = omega (arith, h.taken); same = same_slots v w h.given.judged }
 stop_later v (moved.Ended r) w stop h = record { taken = omega (arith, h.taken); same = same_slots v w h.given.judged }
 
+-- nor do all that lead there
 later : (n : ℕ) (v : Position) (m : Moved) (w : Position) → Advances n v m w → IsLater v w
 later zero v m w h = subst (IsLater v) (sym h.1) (record { taken = omega arith; same = refl })
 later (suc n) v m w (inl stop) = stop_later v m w stop.0 stop.1
@@ -58,6 +61,7 @@ follows (suc n) v u m w on going stops (inr more) most =
 
 -- ---- a place
 
+-- a machine that has come on without an ask still goes
 proceeds_going : (v w : Position) → Proceeds v w → v.phase ≡ Going → w.phase ≡ Going
 proceeds_going v w at_first going = going
 proceeds_going v w (one_more u x on went) going = went.went.phase
@@ -67,19 +71,23 @@ pub followed_at : (before : Place) (m : Moved) (after : Place) → FollowsAt bef
 followed_at (Computing s v) m (Computing t w) h = (Computing s h.1.last, (refl, h.1.proceeds), (h.0, h.1.moves))
 followed_at _ m _ h = absurd h
 
+-- where none was done it stands still
 pub still_at : (place : Place) → IsLocal place → ProceedsAt place place
 still_at (Starting s seen) at = refl
 still_at (Computing s v) at = (refl, at_first)
 still_at _ at = absurd at
 
+-- what ended it was its exit, which takes memory
 pub exit_grows : (old : Place) (r : ℕ) (new : Place) → MovesAt old (moved.Ended r) new → GrowsAt old
 exit_grows (Computing s v) r (Computing t w) h = (r, h.1.moves.at)
 exit_grows _ r _ h = absurd h
 
+-- a machine that goes on still fits its place
 pub proceeds_at : (locked : ℕ) (before after : Place) → ProceedsAt before after → AtPlace locked before → AtPlace locked after
 proceeds_at locked (Computing s v) (Computing t w) on at = (at.0, proceeds_going v w on.1 at.1)
 proceeds_at locked before after on at = subst (AtPlace locked) (sym on) at
 
+-- instructions change nothing about the step that is kept
 pub no_step_at : (o : ℕ) (row : Row) (column : ℕ) (before after : Place) → ProceedsAt before after → stored_step o row column after ≡ stored_step o row column before
 no_step_at o row column (Computing s v) (Computing t w) on = refl
 no_step_at o row column before after on = ap (stored_step o row column) on
@@ -88,6 +96,7 @@ asks_goes : (old new : Place) (q : Ask) → MovesAt old (moved.Asks q) new → G
 asks_goes (Computing s v) (Computing t w) q h = (h.0, h.1.moves)
 asks_goes _ _ q h = absurd h
 
+-- a machine that waits fits the look that its place has then
 pub waits_at : (locked : ℕ) (before after : Place) → AtPlace locked before → WaitsAt before after → AtPlace locked after
 waits_at locked before after at w =
     let last = followed_at before (moved.Asks w.0) w.1 w.2 in
@@ -95,9 +104,11 @@ waits_at locked before after at w =
 
 -- ---- a job
 
+-- the job, standing at this place
 abbrev job_at : RunOf → Place → RunOf
 job_at j p = record j { place = p }
 
+-- its machine's instructions are as many of the job's
 on_computing : (j : RunOf) (s : Ts) (v w : Position) → Proceeds v w → ComputesOn (job_at j (Computing s v)) (job_at j (Computing s w))
 on_computing j s v w at_first = runs.at_first
 on_computing j s v w (one_more u x on went) =
@@ -111,6 +122,7 @@ local_at : (old : Place) (m : Moved) (new : Place) → MovesAt old m new → nee
 local_at (Computing s v) m new h = refl
 local_at _ m new h = absurd h
 
+-- up to an ask the job did at least one
 pub some_at : (j : RunOf) (before after : Place) → WaitsAt before after → ComputesSome (job_at j before) (job_at j after)
 some_at j before after w =
     let last = followed_at before (moved.Asks w.0) w.1 w.2 in
@@ -130,6 +142,7 @@ grows_local (Starting s seen) h = refl
 grows_local (Computing s v) h = refl
 grows_local _ h = absurd h
 
+-- some instructions after others are instructions of one job
 pub joined : (j k l : RunOf) → ComputesOn j k → ComputesOn k l → ComputesOn j l
 joined j k l on runs.at_first = on
 joined j k l on (runs.one_more m n to is_next last) = runs.one_more m n (joined j k m on to) is_next last

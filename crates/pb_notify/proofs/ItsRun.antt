@@ -29,9 +29,11 @@ at_itself : (at : Option Ts) → is_at at at ≡ true
 at_itself None = refl
 at_itself (Some t) = eq-eqb t.0 t.0 refl
 
+-- a recorded read of this cell and timestamp is found to be one
 is_read : (r : RecordedRead) (x : Cell) (named : Option Ts) → IsReadOf r x named → is_read_of r x named ≡ true
 is_read r x named h = λ i. same_cells r.cell x h.cell i && (ap (is_at r.at) (sym h.at) ∙ at_itself r.at) i
 
+-- the value of before is that of the third read, where there is one
 old_is : (at : Option Ts) (x : Cell) (seen : Seen) (rest asked : List RecordedRead) → WasOld at x rest seen.old asked
     → with_old at x (record { version = seen.version; acknowledged = seen.acknowledged; old = None }) rest ≡ Some seen
 old_is None x seen rest asked w = ap (λ o. Some (record { version = seen.version; acknowledged = seen.acknowledged; old = o })) (sym w.0)
@@ -44,6 +46,7 @@ asked_is : (at : Option Ts) (x : Cell) (r q : RecordedRead) (old : Reply) (rest 
 asked_is None x r q old rest asked w = w.1
 asked_is (Some t) x r q old rest asked w = ap (λ l. asked_in (Some t) (r ∷ q ∷ l)) w.3
 
+-- what was seen is read off the first two or three reads
 seen_is : (x ack : Cell) (second : Bool) (reads asked : List RecordedRead) (seen : Seen) → WasSeen x ack second reads seen asked → seen_in x ack second reads ≡ Some seen
 seen_is x ack second reads asked seen w =
     ap (seen_in x ack second) w.reads_are
@@ -52,12 +55,14 @@ seen_is x ack second reads asked seen w =
     ∙ ap (λ a. seen_by second x (Some seen.version) a w.rest) (sym w.acknowledged)
     ∙ old_is (old_at second seen.acknowledged) x seen w.rest asked w.old
 
+-- each reply is the value with which its cell was read
 replies_are : (asked : List RecordedRead) (talk : Talk) → AreReplies asked talk → are_replies asked talk ≡ true
 replies_are [] [] h = refl
 replies_are (r ∷ rs) (a ∷ talk) h = λ i. (is_read r (asked_cell a.0) None h.0 i && is_same value_code a.1 (value_in r.answer) h.1 i) && replies_are rs talk h.2 i
 replies_are [] (a ∷ talk) h = absurd h
 replies_are (r ∷ rs) [] h = absurd h
 
+-- such a run isn't refused as another's: the start, the record and the replies are compared with these reads
 pub its_run : (observers : List ObserverOf) (o : ℕ) (row : Row) (s : ℕ) (reads : List RecordedRead) (f : Meant) → IsItsRun observers o row s reads f
     → is_its observers (works.Run o row) s reads (declared.Run o f) ≡ true
 its_run observers o row s reads f i =

@@ -50,6 +50,7 @@ locked_few locked primary true e = below (locked + 1) MAX_LOCKED e where
   below a c h = grind (arith, h)
 locked_few locked primary false e = tt
 
+-- a look blocks at the last lock that may be met, so that else there is room for one more
 look_few : (locked : ℕ) (look : Look) (a : Answer) → locked < MAX_LOCKED → IsFew (look_after locked look a) (locked_after locked look a)
 look_few locked Reading (Locked start primary) few = locked_few locked primary (nat_lt (locked + 1) MAX_LOCKED) refl
 look_few locked Reading _ few = few
@@ -60,6 +61,7 @@ look_few locked ClearingAgain a few = few
 
 -- ---- answers
 
+-- each answer leads to a place that its parts fit, here and below
 at_begun : (n : ℕ) (a : Answer) → n < MAX_LOCKED → AtPlace n (after_begin a)
 at_begun n (At s) few = few
 at_begun n _ few = few
@@ -103,6 +105,7 @@ at_outcome n r p (Some (outcomes.Committed c)) is fits = tt
 at_outcome n r p (Some outcomes.Conflicted) is fits = tt
 at_outcome n r p (Some outcomes.Lost) is fits = tt
 
+-- so after any answer
 pub at_after : (second : Bool) (locked : ℕ) (place : Place) (a : Answer) → AtPlace locked place → AtPlace (locked_at locked place a) (place_after second locked place a)
 at_after second locked Beginning a at = at_begun locked a at
 at_after second locked (Observing s look) a at = at_observed _ s (look_after locked look a) (look_few locked look a at)
@@ -117,6 +120,7 @@ at_after second locked (Over end) a at = tt
 
 -- ---- instructions
 
+-- what an instruction did tells how the machine stands at the next place
 at_stepped : (locked o : ℕ) (s : Ts) (v : Position) (stepped : Stepped) → Steps o v stepped → locked < MAX_LOCKED → AtPlace locked (place_of s stepped)
 at_stepped locked o s v (did.Went w) steps few = (few, steps.went.phase)
 at_stepped locked o s v (did.Asks w q) steps few = (few, steps.phase)
@@ -125,6 +129,7 @@ at_stepped locked o s v (did.Ended r what) steps few = (refl, tt)
 at_come : (locked o : ℕ) (s : Ts) (v : Position) (place : Place) → Comes o s v place → locked < MAX_LOCKED → AtPlace locked place
 at_come locked o s v place comes few = subst (AtPlace locked) (sym comes.place_is) (at_stepped locked o s v comes.stepped comes.steps few)
 
+-- and so after any instruction
 pub at_computed : (locked o : ℕ) (judged : JudgedOf) (x : Cell) (place next : Place) → ComesFrom o judged x place next → AtPlace locked place → AtPlace locked next
 at_computed locked o judged x (Starting s seen) next comes at = at_come locked o s _ next comes.comes at
 at_computed locked o judged x (Computing s v) next comes at = at_come locked o s v next comes at.0

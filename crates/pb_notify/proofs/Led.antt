@@ -50,6 +50,7 @@ use Rattle.pb_notify.proofs.RunTalk as talk
 same_bytes : (v w : Position) (a : Placement) → w.bytes ≡ v.bytes → IsPlacement (length w.bytes) a → IsPlacement (length v.bytes) a
 same_bytes v w a is p = subst (λ b. IsPlacement (length b) a) is p
 
+-- an instruction leads on at every placement
 went_led : (v w : Position) → Went v w → IsLed w
 went_led v w went a p = let at = went.at a (same_bytes v w a went.given.bytes p) in (at.to, at.now)
 
@@ -58,6 +59,7 @@ same_state : (v w : Position) (a : Placement) (here : State) → SameGiven v w �
 same_state v w a here given talk taken is =
     subst (λ (z : Type 0). z) (λ i. Leads (environment_of (sym given.judged i) (sym given.bytes i) (sym given.began i) a) (sym talk i) (sym taken i) here) is
 
+-- one that asks leads to where it stood, since it isn't done before the reply
 asks_led : (v : Position) (q : Ask) (w : Position) → AskedFor v q w → IsLed w
 asks_led v q w asks a p =
     let at = asks.at a (same_bytes v w a asks.given.bytes p) in
@@ -76,20 +78,24 @@ asks_open v q w asks a p =
 
 -- ---- at a place
 
+-- the record has the size for which the program was judged
 abbrev HasSize : Position → Type 0
 HasSize v = length v.bytes ≡ v.judged.record_size
 
 sized : (v w : Position) → SameGiven v w → HasSize v → HasSize w
 sized v w given size = ap length given.bytes ∙ size ∙ ap (λ (j : JudgedOf). j.record_size) (sym given.judged)
 
+-- the next instruction asks for this cell
 abbrev IsAsked : Position → Ask → Type 0
 IsAsked v q = (a : Placement) → IsPlacement (length v.bytes) a → AsksAt v q a
 
+-- the machine of a place, if it has one, was led there
 abbrev AtLed : Place → Type 0
 AtLed (Computing s v) = IsLed v × HasSize v
 AtLed (Asking s v q look) = IsLed v × HasSize v × IsAsked v q
 AtLed place = Unit {0}
 
+-- places without a machine have nothing to show, here and below
 begun_led : (a : Answer) → AtLed (after_begin a)
 begun_led (At s) = tt
 begun_led _ = tt
@@ -121,6 +127,7 @@ recalled_led s seen (On look) = tt
 recalled_led s seen (Tells a) = tt
 recalled_led s seen Blocks = tt
 
+-- with its reply the machine has done the asking instruction
 asked_led : (s : Ts) (v : Position) (q : Ask) (looked : Looked) → IsLed v × HasSize v × IsAsked v q → IsToldBy v q looked (after_ask s v q looked) → AtLed (after_ask s v q looked)
 asked_led s v q (On look) led is = led
 asked_led s v q (Tells b) led is = (λ a p. (_, (is.told.at a p).now), led.1)
@@ -132,6 +139,7 @@ outcome_led r p (Some (outcomes.Committed c)) = tt
 outcome_led r p (Some outcomes.Conflicted) = tt
 outcome_led r p (Some outcomes.Lost) = tt
 
+-- so after any answer
 answered_led : (second : Bool) (locked : ℕ) (place : Place) (a : Answer) → AtLed place → IsToldAt locked place a (place_after second locked place a) → AtLed (place_after second locked place a)
 answered_led second locked Beginning a led is = begun_led a
 answered_led second locked (Observing s look) a led is = observed_led s (look_after locked look a)
@@ -144,6 +152,7 @@ answered_led second locked (Planning r p) a led is = outcome_led r (plans.answer
 answered_led second locked (Sweeping end) a led is = tt
 answered_led second locked (Over end) a led is = tt
 
+-- and after any instruction
 stepped_led : (o : ℕ) (s : Ts) (v : Position) (stepped : Stepped) → HasSize v → Steps o v stepped → AtLed (place_of s stepped)
 stepped_led o s v (did.Went w) size st = (went_led v w st.went, sized v w st.went.given size)
 stepped_led o s v (did.Asks w q) size st = (asks_led v q w st, sized v w st.given size, asks_open v q w st)
@@ -157,6 +166,7 @@ computed_led o judged x (Starting s seen) next led c = comes_led o s _ next c.si
 computed_led o judged x (Computing s v) next led c = comes_led o s v next led.1 c
 computed_led o judged x _ next led c = absurd c
 
+-- and so wherever a job has come
 reached_led : (j : RunOf) (said : List Received) (k : RunOf) → AtLed j.place → Reaches j said k → AtLed k.place
 reached_led j said k led made = led
 reached_led j said k led (took before from r to reaches next can is told) =
@@ -182,6 +192,7 @@ module _ (o : ℕ) (judged : JudgedOf) (row : Row) (column : ℕ) where
       (record { seen = so.0; program = so.3.program; bytes = so.3.bytes; began = so.3.began; met = so.1; base = so.2; asked = so.4; since = open_look; size = led.1 ∙ ap (λ (j : JudgedOf). j.record_size) so.3.program; led = led.0 }))
   machine_at said n _ s v stands so led = absurd stands
 
+-- with the conversation up to there, the record and the replies are what the job read
 pub machines_are_led : PlansTalk → PlansEnd → MachinesAreLed
 machines_are_led pt pe o judged row column said k s v reaches stands =
     let h = talk.holds o judged row column pt pe said k reaches in
@@ -220,6 +231,7 @@ module _ (o : ℕ) (judged : JudgedOf) (row : Row) (column : ℕ) where
   ended_at n (Sweeping end) said so = so
   ended_at n place said so = tt
 
+-- what a job declares was left by its machine, as the conversation at that place says
 pub ended_runs_mean : PlansTalk → PlansEnd → EndedRunsMean
 ended_runs_mean pt pe o judged row column said k reaches =
     let h = talk.holds o judged row column pt pe said k reaches in

@@ -1,4 +1,5 @@
--- What an instruction that is done where the machine stands, and an answer to a plan where it stands, do to a job's place.
+-- What an instruction that is done where the machine stands, and an answer to a plan where it stands, do to a job's
+-- place.
 use Rattle.std.proofs.Common.{◌≡◌, ℕ, Bool, Some, ap, sym, ◌∙◌}
 use Rattle.pb_base.specs.declared.cell.Cell.{Cell}
 use Rattle.pb_base.specs.declared.names.Ts.{Ts}
@@ -21,6 +22,7 @@ pub back_at : (old : Place) (r : ℕ) (s : Ts) (w z : Position) → MovesAt old 
 back_at (Computing t v) r s w z m b = ap (λ x. Computing x z) m.0 ∙ ap (λ y. Computing t y) (b v m.1)
 back_at _ r s w z m b = absurd m
 
+-- an instruction in place is one of the job's
 pub went_comes : (o : ℕ) (judged : JudgedOf) (x : Cell) (old new : Place) → GoesAt old moved.Went new → ComesFrom o judged x old new
 went_comes o judged x (Computing s v) (Computing t w) g = record { stepped = did.Went w; steps = g.1; place_is = ap (λ u. Computing u w) g.0 }
 went_comes o judged x _ _ g = absurd g
@@ -29,6 +31,7 @@ pub asks_at : (locked : ℕ) (old new : Place) (q : Ask) → AtPlace locked old 
 asks_at locked (Computing s v) (Computing t w) q at g = (at.0, g.1.phase)
 asks_at locked _ _ q at g = absurd g
 
+-- and so is one that asks, once the place waits for it
 pub asks_comes : (o : ℕ) (judged : JudgedOf) (x : Cell) (old new : Place) (q : Ask) → GoesAt old (moved.Asks q) new → ComesFrom o judged x old (waiting new q)
 asks_comes o judged x (Computing s v) (Computing t w) q g = record { stepped = did.Asks w q; steps = g.1; place_is = ap (λ u. Asking u w q Reading) g.0 }
 asks_comes o judged x _ _ q g = absurd g

@@ -48,6 +48,7 @@ it_or_none : (b : Bool) (r why : Reason) → cond b (Some r) None ≡ Some why �
 it_or_none true r why e = same_reason r why e
 it_or_none false r why e = absurd (none_why why e)
 
+-- the first applies, since none of the others does
 it_or : (b : Bool) (r why : Reason) (rest : Option Reason) → (rest ≡ Some why → ⊥) → cond b (Some r) rest ≡ Some why → why ≡ r
 it_or true r why rest isnt e = same_reason r why e
 it_or false r why rest isnt e = absurd (isnt e)

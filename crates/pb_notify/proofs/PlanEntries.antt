@@ -32,6 +32,7 @@ named_no s (Sweep x) answer n = refl
 abbrev named_in : ℕ → List Entry → List Entry
 named_in s journal = filter (λ e. names s e.step) journal
 
+-- what names the start and is no read is among all that name it
 of_naming : (s : ℕ) (journal : List Entry) → named_in s (entries_naming s journal) ≡ named_in s journal
 of_naming s [] = refl
 of_naming s (e ∷ es) = elim (names_start s e.step e.answer) as
@@ -44,11 +45,13 @@ if_kept : (b : Bool) (seat : ℕ) (r : Received) (rs : List Received) → cond b
 if_kept true seat r rs = refl
 if_kept false seat r rs = refl
 
+-- so it is in a conversation
 of_said : (s : Ts) (seat : ℕ) (said : List Received) → named_in s.0 (entries_by seat said) ≡ entries_by seat (bare_of s said)
 of_said s seat [] = refl
 of_said s seat (r ∷ rs) =
     ap (λ l. cond (names s.0 r.step) (record { seat = seat; step = r.step; answer = r.answer } ∷ l) l) (of_said s seat rs) ∙ if_kept (names s.0 r.step) seat r (bare_of s rs)
 
+-- a plan's entries are those of its run, reads aside, since a run's looks are all reads
 pub has_said : (journal : List Entry) (seat : ℕ) (s : Ts) (base plan : List Received) → bare_of s base ≡ [] → entries_naming s.0 journal ≡ entries_naming s.0 (entries_by seat (base ++ plan))
     → HasSaid journal seat s.0 plan
 has_said journal seat s base plan bare has =

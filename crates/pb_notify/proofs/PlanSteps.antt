@@ -30,6 +30,7 @@ keeps p q (r ∷ rs) talk = keeps (answered p r.answer) q rs talk.2
 
 -- ---- after an answer it declares no more
 
+-- its declaration was answered
 abbrev pub IsLater : Place → Type 0
 IsLater Declaring = ⊥
 IsLater _ = Unit {0}
@@ -50,6 +51,7 @@ primary_later : (count : ℕ) (c : Ts) (a : Answer) → IsLater (after_primary c
 primary_later count c Committed = by_test (nat_lt 1 count) (CommittingSecondary c 1) (Over (outcomes.Committed c)) tt tt
 primary_later count c _ = by_test (nat_lt 1 count) (Clearing 1 count outcomes.Lost) (Over outcomes.Lost) tt tt
 
+-- no answer leads back to the declaration
 later : (count : ℕ) (p : Place) (a : Answer) → IsLater (place_after count p a)
 later count Declaring a = by_test (nat_lt 0 count) (Prewriting 0) Stamping tt tt
 later count (Prewriting k) a = prewrite_later count k a
@@ -64,12 +66,14 @@ stays_later : (p q : PlanOf) (said : List Received) → IsLater p.place → Talk
 stays_later p q [] i talk = subst (λ (z : PlanOf). IsLater z.place) (sym talk) i
 stays_later p q (r ∷ rs) i talk = stays_later (answered p r.answer) q rs (later (length (declared_cells p.what)) p.place r.answer) talk.2
 
+-- so a plan that still declares has said nothing
 pub declaring_said_nothing : (p q : PlanOf) (said : List Received) → q.place ≡ Declaring → Talks p said q → said ≡ []
 declaring_said_nothing p q [] e talk = refl
 declaring_said_nothing p q (r ∷ rs) e talk = absurd (subst IsLater e (stays_later (answered p r.answer) q rs (later (length (declared_cells p.what)) p.place r.answer) talk.2))
 
 -- ---- what its steps are
 
+-- a step that a plan of this start may ask at this place
 abbrev pub IsPlanStep : ℕ → Place → Step → Type 0
 IsPlanStep s p (Declare start what) = p ≡ Declaring
 IsPlanStep s p (Prewrite start x) = start.0 ≡ s
@@ -84,6 +88,7 @@ at_cell : (s : ℕ) (p : Place) (f : Cell → Step) (o : Option Cell) (t : Step)
 at_cell s p f None t h e = absurd cc
 at_cell s p f (Some x) t h e = subst (IsPlanStep s p) (same_step (f x) t e) (h x)
 
+-- the step at a place is one
 pub plan_step : (s : ℕ) (what : Declared) (p : Place) (t : Step) → step_at s what p ≡ Some t → IsPlanStep s p t
 plan_step s what Declaring t e = subst (IsPlanStep s Declaring) (same_step (Declare (record { 0 = s }) what) t e) refl
 plan_step s what (Prewriting k) t e = at_cell s (Prewriting k) _ (slice_get (declared_cells what) k) t (λ x. refl) e
@@ -94,6 +99,7 @@ plan_step s what (Settling k) t e = at_cell s (Settling k) _ (slice_get (declare
 plan_step s what (Clearing k end o) t e = at_cell s (Clearing k end o) _ (slice_get (declared_cells what) k) t (λ x. tt) e
 plan_step s what (Over o) t e = absurd cc
 
+-- a plan begins no transaction
 no_begin : (s : ℕ) (p : Place) (t : Step) → IsPlanStep s p t → is_begin t ≡ false
 no_begin s p (Begin work) i = absurd i
 no_begin s p _ i = refl
@@ -105,6 +111,7 @@ pub record IsSameRun (u v : TransactionOf) : Type 0 where
   pub seat : v.seat ≡ u.seat
   pub work : v.work ≡ u.work
 
+-- the transaction is still there, and is the same run's
 abbrev pub KeepsRun : TransactionOf → Option TransactionOf → Type 0
 KeepsRun u o = (v : TransactionOf) × (o ≡ Some v) × IsSameRun u v
 

@@ -22,6 +22,7 @@ by_test : (count : ℕ) (b : Bool) (p q : Place) → (b ≡ true → LiesWithin 
 by_test count true p q first second = first refl
 by_test count false p q first second = second
 
+-- the next cell to prewrite is one of the cells, or there is none
 prewrites : (count k : ℕ) → LiesWithin count (prewrite_from count k)
 prewrites count k = by_test count (nat_lt k count) (Prewriting k) Stamping (below k count) tt
 
@@ -49,6 +50,7 @@ primary_after : (count : ℕ) (c : Ts) (a : Answer) → LiesWithin count (after_
 primary_after count c answers.Committed = commits count c 1 (omega arith)
 primary_after count c _ = clears count 1 count outcomes.Lost (omega arith) (omega arith)
 
+-- wherever an answer leads, the place lies within the cells
 pub fits_after : (count : ℕ) (p : Place) (a : Answer) → LiesWithin count p → LiesWithin count (place_after count p a)
 fits_after count Declaring a fits = prewrites count 0
 fits_after count (Prewriting k) a fits = prewrite_after count k a fits
@@ -61,11 +63,13 @@ fits_after count (Over o) a fits = tt
 
 -- ---- the step at a place
 
+-- at a place within the cells there is one, and a step about it
 at_cell : (xs : List Cell) (k : ℕ) (f : Cell → Step) → k < length xs → (s : Step) × (option_map f (slice_get xs k) ≡ Some s)
 at_cell [] k f lt = absurd (omega (arith, lt))
 at_cell (x ∷ xs) zero f lt = (f x, refl)
 at_cell (x ∷ xs) (suc k) f lt = at_cell xs k f (omega (arith, lt))
 
+-- a plan that isn't over has a next step
 pub next_is : (p : PlanOf) (place : Place) → p.place ≡ place → LiesWithin (length (declared_cells p.what)) place → outcome_of p ≡ None → (s : Step) × (next_of p ≡ Some s)
 next_is p place is fits none = found p.place (subst (LiesWithin (length (declared_cells p.what))) (sym is) fits) none where
   found : (at : Place) → LiesWithin (length (declared_cells p.what)) at → outcome_of (record p { place = at }) ≡ None → (s : Step) × (next_of (record p { place = at }) ≡ Some s)

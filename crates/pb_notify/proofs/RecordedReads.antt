@@ -41,6 +41,7 @@ same_either : {A : Type 0} (b : Bool) (x : A) → cond b x x ≡ x
 same_either true x = refl
 same_either false x = refl
 
+-- what was said stays said
 pub has_append : (said more : List Received) (r : Received) → Has said r → Has (said ++ more) r
 has_append [] more r h = absurd h
 has_append (x ∷ xs) more r (inl is) = inl is
@@ -50,6 +51,7 @@ has_append (x ∷ xs) more r (inr h) = inr (has_append xs more r h)
 abbrev pub bare_of : Ts → List Received → List Received
 bare_of s said = filter (λ (r : Received). names s.0 r.step) said
 
+-- one more ask with its reply, and the read that told it
 replies_more : (rs : List RecordedRead) (talk : Talk) (r : RecordedRead) (q : machine.Ask) (a : machine.Reply) → AreReplies rs talk → IsReadOf r (asked_cell q) None → a ≡ value_in r.answer
     → AreReplies (rs ++ r ∷ []) (talk ++ (q, a) ∷ [])
 replies_more [] [] r q a h e f = (e, f, tt)

@@ -67,6 +67,7 @@ plan_more : (p : PlanOf) (said : List Received) (q : PlanOf) (r : Received) → 
 plan_more p [] q r t next can = (ap plans.next_of (sym t) ∙ next, can, ap (λ z. plans.answered z r.answer) t)
 plan_more p (x ∷ xs) q r t next can = (t.0, t.1, plan_more (plans.answered p x.answer) xs q r t.2 next can)
 
+-- a read that met a lock tells nothing of the cell
 locked_tells_not : (b : Bool) (primary : Cell) (a : Answer) → cond b (On (Clearing primary)) Blocks ≡ Tells a → ⊥
 locked_tells_not true primary a e = cc
 locked_tells_not false primary a e = cc
@@ -468,12 +469,14 @@ module _ (o : ℕ) (judged : JudgedOf) (row : Row) (column : ℕ) where
     ended said (Computing s v) end n i e = absurd cc
     ended said _ end n i e = absurd cc
 
+-- what was said at any place can be ended: a look by a read without a lock, a plan as plans can
 pub jobs_talk : PlansTalk → PlansEnd → JobsTalk
 jobs_talk pt pe o judged row column said k reaches =
     let h = holds o judged row column pt pe said k reaches in
     let c = can_end o judged row column pt pe k.locked k.place said h.at h.so in
     (c.rest, c.end, c.run, c.whole)
 
+-- at the end what was said is whole
 pub jobs_end : PlansTalk → PlansEnd → JobsEnd
 jobs_end pt pe o judged row column said k end reaches over =
     let h = holds o judged row column pt pe said k reaches in

@@ -37,6 +37,7 @@ in_journal seat (e ∷ es) r h = elim (e.seat == seat) as
       | false ↦ λ is k. inr (in_journal seat es r k)
     ] refl h
 
+-- an entry that names the start is among those that do
 in_naming : (s : ℕ) (journal : List Entry) (e : Entry) → names_start s e.step e.answer ≡ true → Has journal e → Has (entries_naming s journal) e
 in_naming s [] e n h = absurd h
 in_naming s (d ∷ ds) e n (inl q) = first (names_start s d.step d.answer) (ap (λ (z : Entry). names_start s z.step z.answer) q ∙ n) where
@@ -93,6 +94,7 @@ begin_in [] (y ∷ ys) e (inl q) b = one_of (is_begin y.step) _ (ap (λ (z : Ent
 begin_in [] (y ∷ ys) e (inr on) b = or_other (is_begin y.step) _ (begin_in [] ys e on b)
 begin_in (x ∷ xs) ys e h b = or_other (is_begin x.step) _ (begin_in xs ys e h b)
 
+-- before a start's begin nothing names it
 none_before : (xs ys : List Entry) (e : Entry) → BeginsOnce (xs ++ ys) → Has ys e → is_begin e.step ≡ true → xs ≡ []
 none_before [] ys e once h b = refl
 none_before (x ∷ xs) ys e once h b = let has = begin_in xs ys e h b in let hasnt = once.1 in absurd cc
@@ -106,6 +108,7 @@ in_said seat [] r h = absurd h
 in_said seat (x ∷ xs) r (inl q) = inl (ap (entry_of seat) q)
 in_said seat (x ∷ xs) r (inr on) = inr (in_said seat xs r on)
 
+-- all that name the start are one seat's, and none comes before the begin
 pub runs_kept : TransactionsAreTold → RunsAreKept
 runs_kept told_by observers seats clock journal state legal seat o row before said is s begun =
     let tells = told_by observers seats clock journal state legal in

@@ -8,9 +8,11 @@ use Rattle.pb_helpers.specs.declared.change.Version.TheVariants.{First, Second}
 use Rattle.pb_helpers.specs.Bytes.{size_of, is_second}
 use Rattle.pb_helpers.specs.OldRecord.{tells_old}
 
+-- only a record of version 2 has the greatest size
 by_size : (v : Version) → nat_eq (size_of v) MAX_RECORD_BYTES ≡ is_second v
 by_size First = refl
 by_size Second = refl
 
+-- so the size for which a program was judged tells its version
 pub second_is : (j : JudgedOf) (v : Version) → j.record_size ≡ size_of v → is_second v ≡ tells_old j
 second_is j v e = sym (ap (λ n. nat_eq n MAX_RECORD_BYTES) e ∙ by_size v)

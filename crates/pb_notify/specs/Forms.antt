@@ -1,5 +1,5 @@
--- The conversations of a run of an observer on a cell (OSDI 2010, section 2.4). Each goes on from an earlier part, and counts
--- the reads that met a lock.
+-- The conversations of a run of an observer on a cell (OSDI 2010, section 2.4). Each goes on from an earlier part, and
+-- counts the reads that met a lock.
 use Rattle.std.specs.Prelude.{◌≡◌, ◌≢◌, ℕ, suc, ◌<◌, ◌≤◌, Bool, List, [], ◌∷◌, ◌++◌, Option, Some, None}
 use Rattle.pb_base.specs.declared.cell.Cell.{Cell}
 use Rattle.pb_base.specs.declared.cell.Cell.TheVariants.{Data, Ack}
@@ -46,6 +46,7 @@ pub data AreRounds (s : Ts) (x : Cell) (at : Option Ts) (m : ℕ) (base : List R
   at_first : AreRounds s x at m base m base
   one_more : (n : ℕ) (said round : List Received) → AreRounds s x at m base n said → IsRound s x at round → AreRounds s x at m base (suc n) (said ++ round)
 
+-- a read was answered, and no lock was in the way
 abbrev pub IsHeld : Answer → Type 0
 IsHeld (Found start commit content) = Unit {0}
 IsHeld Absent = Unit {0}
@@ -70,6 +71,7 @@ pub record IsLooking (s : Ts) (x : Cell) (at : Option Ts) (m : ℕ) (base said :
 
 -- ---- the parts of a run of this observer on the cell of this row and column
 
+-- the first step of a run of this observer on the row, and its start
 abbrev pub its_begin : ℕ → Row → Ts → List Received
 its_begin o row s = told (Begin (works.Run o row)) (At s) ∷ []
 
@@ -94,8 +96,8 @@ IsRecalled o row column s seen None n said = (seen.old ≡ None) × IsAcknowledg
 IsRecalled o row column s seen (Some t) n said =
     (m : ℕ) × (base : List Received) × (a : Answer) × IsAcknowledged o row column s seen m base × IsLooked s (Data row column) (Some t) m base n said a × (seen.old ≡ value_in a)
 
--- where the version is newer: the cell as of the acknowledged timestamp, if the program is told that, and a look at each cell
--- that its machine asked for, with these asks and replies
+-- where the version is newer: the cell as of the acknowledged timestamp, if the program is told that, and a look at
+-- each cell that its machine asked for, with these asks and replies
 pub data AreAsked (o : ℕ) (second : Bool) (row : Row) (column : ℕ) (s : Ts) (seen : Seen) : Talk → ℕ → List Received → Type 0 where
   dirty : (n : ℕ) (said : List Received) → IsRecalled o row column s seen (old_at second seen.acknowledged) n said → seen.acknowledged.0 < seen.version.commit.0 → AreAsked o second row column s seen [] n said
   asked : (talk : Talk) (m : ℕ) (base : List Received) (q : machine.Ask) (a : Answer) (n : ℕ) (said : List Received) → AreAsked o second row column s seen talk m base
@@ -118,6 +120,7 @@ pub data LooksFrom (o : ℕ) (second : Bool) (row : Row) (column : ℕ) (s : Ts)
 
 -- ---- whole conversations, with their ends and the run that they declared
 
+-- a whole conversation, by how it ended: each but the last has met fewer locks than it may
 pub data IsRunTalk (o : ℕ) (judged : JudgedOf) (row : Row) (column : ℕ) : List Received → JobEnd → Option Meant → Type 0 where
   -- the cell was absent
   absent : (s : Ts) (n : ℕ) (said : List Received) (a w : Answer) → IsLooked s (Data row column) None 0 (its_begin o row s) n said a → version_in a ≡ None → n < MAX_LOCKED

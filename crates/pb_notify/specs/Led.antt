@@ -1,5 +1,5 @@
--- Where the machine of a job stands: its program led it there from entry, on the record of what the job read and with the
--- replies that it read.
+-- Where the machine of a job stands: its program led it there from entry, on the record of what the job read and with
+-- the replies that it read.
 use Rattle.std.specs.Prelude.{◌≡◌, ℕ, List, [], ◌∷◌, ◌++◌, length, Option, None}
 use Rattle.pb_base.specs.declared.cell.Cell.TheVariants.{Data}
 use Rattle.pb_base.specs.declared.names.Row.{Row}
@@ -37,7 +37,8 @@ MachineStandsAt place s v = ⊥
 abbrev pub IsLed : Position → Type 0
 IsLed v = (a : Placement) → IsPlacement (length v.bytes) a → (here : State) × IsAtState v a here
 
--- what was said since the machine had its last reply: nothing while it computes, and of one look at the cell while it asks
+-- what was said since the machine had its last reply: nothing while it computes, and of one look at the cell while it
+-- asks
 abbrev pub IsSaidSince : Place → ℕ → List Received → List Received → Type 0
 IsSaidSince (Computing s v) met base said = said ≡ base
 IsSaidSince (Asking s v q look) met base said = IsLooking s (Data q.row q.column) None met base said
@@ -61,8 +62,8 @@ abbrev pub IsAskingAt : Place → Type 0
 IsAskingAt (Asking s v q look) = (a : Placement) → IsPlacement (length v.bytes) a → AsksAt v q a
 IsAskingAt place = Unit {0}
 
--- the plan that is followed declares a run of the program on the record of what was seen, with the replies that were read, and
--- this is what the program means by them; what was said since is the plan's
+-- the plan that is followed declares a run of the program on the record of what was seen, with the replies that were
+-- read, and this is what the program means by them; what was said since is the plan's
 pub record IsEndedRun (o : ℕ) (judged : JudgedOf) (row : Row) (column r : ℕ) (p : PlanOf) (said : List Received) : Type 0 where
   pub s : Ts
   pub seen : Seen
@@ -79,24 +80,28 @@ pub record IsEndedRun (o : ℕ) (judged : JudgedOf) (row : Row) (column r : ℕ)
   pub declares : p.what ≡ declared.Run o run
   pub followed : Talks (plans.fresh s.0 p.what) since p
 
--- before its sweep: with the sweep's answer what was said is a whole conversation, and if a run was declared in it, that is what
--- its program means
+-- before its sweep: with the sweep's answer what was said is a whole conversation, and if a run was declared in it,
+-- that is what its program means
 pub record IsBeforeSweep (o : ℕ) (judged : JudgedOf) (row : Row) (column : ℕ) (end : JobEnd) (said : List Received) : Type 0 where
   pub run : Option Meant
   pub meant : WasMeant run
   pub ends : (w : Answer) → CanAnswer (Sweep (Data row column)) w → IsRunTalk o judged row column (said ++ told (Sweep (Data row column)) w ∷ []) end run
 
+-- what is known once the machine has ended: of the plan, or of what comes before the sweep
 abbrev pub HasEnded : ℕ → JudgedOf → Row → ℕ → Place → List Received → Type 0
 HasEnded o judged row column (Planning r p) said = IsEndedRun o judged row column r p said
 HasEnded o judged row column (Sweeping end) said = IsBeforeSweep o judged row column end said
 HasEnded o judged row column place said = Unit {0}
 
+-- a job that looks at a cell for its machine looks at the one that the next instruction asks for
 abbrev pub AsksAreOpen : Type 0
 AsksAreOpen = (o : ℕ) (judged : JudgedOf) (row : Row) (column : ℕ) (said : List Received) (k : RunOf) → Reaches (fresh o judged row column) said k → IsAskingAt k.place
 
+-- what a job declares, or has declared before its sweep, is what its program means
 abbrev pub EndedRunsMean : Type 0
 EndedRunsMean = (o : ℕ) (judged : JudgedOf) (row : Row) (column : ℕ) (said : List Received) (k : RunOf) → Reaches (fresh o judged row column) said k → HasEnded o judged row column k.place said
 
+-- the machine of a job was led to where it stands, on what the job read
 abbrev pub MachinesAreLed : Type 0
 MachinesAreLed = (o : ℕ) (judged : JudgedOf) (row : Row) (column : ℕ) (said : List Received) (k : RunOf) (s : Ts) (v : Position) → Reaches (fresh o judged row column) said k
     → MachineStandsAt k.place s v → IsMachineOf o judged row column k.place s v said

@@ -1,5 +1,6 @@
--- Looks at a cell, as of a start or of an earlier timestamp (OSDI 2010, section 2.2): it is read; a lock in the way is cleared, after its primary was settled where it
--- waits for that; and the cell is read again.
+-- Looks at a cell, as of a start or of an earlier timestamp (OSDI 2010, section 2.2): it is read; a lock in the way
+-- is cleared, after its primary was settled where it waits for that; and the cell is read again. A job's definitions
+-- stand on these for each cell that it reads.
 use Rattle.std.specs.Prelude.{ℕ, ◌+◌, nat_lt, if◌then◌else◌, Option}
 use Rattle.pb_base.specs.declared.cell.Cell.{Cell}
 use Rattle.pb_base.specs.declared.names.Ts.{Ts}
@@ -28,10 +29,12 @@ abbrev pub after_read : ℕ → Answer → Looked
 after_read locked (Locked start primary) = if nat_lt (locked + 1) MAX_LOCKED then On (Clearing primary) else Blocks
 after_read locked a = Tells a
 
+-- a lock that waits for its primary's has that settled; else the cell is read again
 abbrev pub after_clear : Cell → Answer → Looked
 after_clear primary Waits = On (Settling primary)
 after_clear primary _ = On Reading
 
+-- once a lock was settled and cleared its cell is read again, whatever the answers
 abbrev pub look_after : ℕ → Look → Answer → Looked
 look_after locked Reading a = after_read locked a
 look_after locked (Clearing primary) a = after_clear primary a
@@ -40,10 +43,12 @@ look_after locked ClearingAgain a = On Reading
 
 -- ---- how many reads met a lock by then
 
+-- a read that meets a lock is one more, whosever lock it is
 abbrev pub locked_by_read : ℕ → Answer → ℕ
 locked_by_read locked (Locked start primary) = locked + 1
 locked_by_read locked _ = locked
 
+-- what clears a lock is no read, and isn't counted
 abbrev pub locked_after : ℕ → Look → Answer → ℕ
 locked_after locked Reading a = locked_by_read locked a
 locked_after locked _ a = locked

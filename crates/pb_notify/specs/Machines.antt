@@ -1,4 +1,5 @@
--- Machines of runs, seen by their positions, and what their exit leaves.
+-- Machines of runs, seen by their positions, and what their exit leaves. At its exit a machine is seen before it
+-- until that is declared, since memory may be refused then, and the exit is tried again.
 use Rattle.std.specs.Prelude.{◌≡◌, ℕ, ◌+◌, ◌<◌, ◌≤◌, List, [], ◌∷◌, ◌++◌, length}
 use Rattle.pb_isa.specs.Programs.{JudgedOf}
 use Rattle.pb_isa.specs.Slots.{slots}
@@ -48,10 +49,12 @@ pub record Leaves (v : Position) (f : Meant) : Type 0 where
 abbrev pub exit_at : Meant → ℕ → Position
 exit_at f taken = record { judged = f.judged; bytes = f.bytes; began = f.began; talk = f.talk; taken = taken; phase = Going }
 
+-- where a machine is seen: one that has exited, before its exit
 abbrev pub position_in : Standing → Position
 position_in (Running v) = v
 position_in (Exited f taken slot) = exit_at f taken
 
+-- what is kept of an exit is what that exit leaves, with its slot
 abbrev pub IsKept : Standing → Type 0
 IsKept (Running v) = Unit {0}
 IsKept (Exited f taken slot) = Leaves (exit_at f taken) f × IsAtSlot (exit_at f taken) slot

@@ -1,4 +1,5 @@
--- Where a job stands: the step at each place, and where each answer and each instruction leads.
+-- Where a job stands: the step at each place, and where each answer and each instruction leads. A job's value has its
+-- place, so that the order of a run is read off these functions, and its conversation is a law (Forms).
 use Rattle.std.specs.Prelude.{◌≡◌, ℕ, ◌<◌, Bool, nat_lt, if◌then◌else◌, length, Option, Some, None, MatchOption}
 use Rattle.pb_base.specs.declared.cell.Cell.{Cell}
 use Rattle.pb_base.specs.declared.cell.Cell.TheVariants.{Data, Ack}
@@ -42,7 +43,7 @@ use Rattle.pb_vm.specs.Moves.{AskedFor}
 
 -- ---- the step at a place
 
--- but for those of a plan
+-- the step at a place: a plan keeps its own, and there is none in the machine's turn or at the end
 abbrev pub stored_step : ℕ → Row → ℕ → Place → Option Step
 stored_step o row column Beginning = Some (steps.Begin (works.Run o row))
 stored_step o row column (Observing s look) = Some (look_step s (Data row column) None look)
@@ -59,6 +60,7 @@ step_at o row column place = stored_step o row column place
 
 -- ---- where an answer leads
 
+-- the begin is answered with the start, and the look at the cell is next
 abbrev pub after_begin : Answer → Place
 after_begin (answers.At s) = Observing s Reading
 after_begin _ = Beginning
@@ -68,6 +70,7 @@ abbrev pub if_found : Ts → Option Revision → Place
 if_found s None = Sweeping ends.Clean
 if_found s (Some found) = Acknowledging s found Reading
 
+-- after a look at the observed cell
 abbrev pub after_cell : Ts → Looked → Place
 after_cell s (On look) = Observing s look
 after_cell s (Tells a) = if_found s (version_in a)
@@ -86,16 +89,19 @@ seen_so_far found acknowledged = record { version = found; acknowledged = acknow
 abbrev pub if_dirty : Bool → Ts → Revision → Ts → Place
 if_dirty second s found acknowledged = if nat_lt acknowledged.0 found.commit.0 then if_recalled s (seen_so_far found acknowledged) (old_at second acknowledged) else Sweeping ends.Clean
 
+-- after a look at the acknowledgment: where it is absent the acknowledged timestamp is 0
 abbrev pub after_acknowledgment : Bool → Ts → Revision → Looked → Place
 after_acknowledgment second s found (On look) = Acknowledging s found look
 after_acknowledgment second s found (Tells a) = if_dirty second s found (acknowledged_in a)
 after_acknowledgment second s found Blocks = Over ends.Blocked
 
+-- after a look as of the acknowledged timestamp: deleted and absent are both no value of before
 abbrev pub after_recall : Ts → Seen → Looked → Place
 after_recall s seen (On look) = Recalling s seen look
 after_recall s seen (Tells a) = Starting s (record seen { old = value_in a })
 after_recall s seen Blocks = Over ends.Blocked
 
+-- after a look for the machine, which takes a value as its reply, or that there is none
 abbrev pub after_ask : Ts → Position → Ask → Looked → Place
 after_ask s v q (On look) = Asking s v q look
 after_ask s v q (Tells a) = Computing s (after_reply v q (value_in a))
@@ -108,10 +114,12 @@ by_outcome r p (Some (outcomes.Committed c)) = Sweeping (ends.Ran r)
 by_outcome r p (Some outcomes.Conflicted) = Over ends.Conflicted
 by_outcome r p (Some outcomes.Lost) = Over ends.Lost
 
+-- after an answer to its plan, which goes on or has an outcome
 abbrev pub after_plan : ℕ → PlanOf → Place
 after_plan r p = by_outcome r p (outcome_of p)
 
--- after so many reads that met a lock, of a program that is told what its cell held at the acknowledged timestamp, or isn't
+-- after so many reads that met a lock, of a program that is told what its cell held at the acknowledged timestamp, or
+-- isn't
 abbrev pub place_after : Bool → ℕ → Place → Answer → Place
 place_after second locked Beginning a = after_begin a
 place_after second locked (Observing s look) a = after_cell s (look_after locked look a)
@@ -129,11 +137,12 @@ abbrev pub IsToldBy : Position → Ask → Looked → Place → Type 0
 IsToldBy v q (Tells a) (Computing s w) = HearsReply v q a w
 IsToldBy v q looked place = Unit {0}
 
+-- only a look for the machine tells it anything
 abbrev pub IsToldAt : ℕ → Place → Answer → Place → Type 0
 IsToldAt locked (Asking s v q look) a place = IsToldBy v q (look_after locked look a) place
 IsToldAt locked before a place = Unit {0}
 
--- how many met one by then
+-- how many reads met a lock by then
 abbrev pub locked_at : ℕ → Place → Answer → ℕ
 locked_at locked (Observing s look) a = locked_after locked look a
 locked_at locked (Acknowledging s found look) a = locked_after locked look a
@@ -143,6 +152,7 @@ locked_at locked _ a = locked
 
 -- ---- where an instruction leads
 
+-- the machine goes on, a cell is read for it, or its run is declared by a plan from the same start
 abbrev pub place_of : Ts → Stepped → Place
 place_of s (did.Went w) = Computing s w
 place_of s (did.Asks w q) = Asking s w q Reading
@@ -203,6 +213,8 @@ GrowsAt place = ⊥
 
 -- ---- what a place says of its parts
 
+-- wherever it may read, one lock more may be met; its machine goes or asks as the place says; a plan that it follows
+-- isn't over
 abbrev pub AtPlace : ℕ → Place → Type 0
 AtPlace locked Beginning = locked < MAX_LOCKED
 AtPlace locked (Observing s look) = locked < MAX_LOCKED

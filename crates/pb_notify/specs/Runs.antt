@@ -1,4 +1,5 @@
--- Jobs of observers, as their owners see them.
+-- Jobs of observers, as their owners see them. The contracts of `ObserverJob` cite them, and `pb_world` and
+-- `pb_worker` say by them how a run goes on.
 use Rattle.std.specs.Prelude.{◌≡◌, ℕ, Option, Some}
 use Rattle.pb_base.specs.declared.cell.Cell.TheVariants.{Data}
 use Rattle.pb_base.specs.declared.names.Row.{Row}
@@ -26,18 +27,22 @@ pub record RunOf : Type 0 where
 abbrev pub fresh : ℕ → JudgedOf → Row → ℕ → RunOf
 fresh o judged row column = record { observer = o; judged = judged; row = row; column = column; locked = 0; place = Beginning }
 
+-- the step that it asks next, while it needs an answer
 abbrev pub next_of : RunOf → Option Step
 next_of j = step_at j.observer j.row j.column j.place
 
+-- there is such a step, as an owner who is told to call may rely on
 abbrev pub HasNext : RunOf → Type 0
 HasNext j = (s : Step) × (next_of j ≡ Some s)
 
+-- in the machine's turn one instruction, at the end nothing, and else an answer of the table
 abbrev pub need_at : Place → Need
 need_at (Starting s seen) = needs.Local
 need_at (Computing s v) = needs.Local
 need_at (Over end) = needs.Over end
 need_at _ = needs.Call
 
+-- what a job needs next
 abbrev pub need_of : RunOf → Need
 need_of j = need_at j.place
 
@@ -84,6 +89,7 @@ GrowsNext j = GrowsAt j.place
 
 -- ---- how a job is kept
 
+-- the step is kept as it comes, so that it can be lent, and the parts fit the place
 pub record IsJob (o : ℕ) (row : Row) (column locked : ℕ) (place : Place) (next : Option Step) : Type 0 where
   pub stored : next ≡ stored_step o row column place
   pub at : AtPlace locked place

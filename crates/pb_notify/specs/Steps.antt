@@ -1,4 +1,5 @@
--- What the instructions of a run's machine do.
+-- What the instructions of a run's machine do: one, which a world tells of each, or all up to the next ask or the
+-- exit, as a worker has them done. The second is said by the first, so that both are one meaning.
 use Rattle.std.specs.Prelude.{◌≡◌, ℕ, ◌≤◌, length}
 use Rattle.pb_isa.specs.Slots.{slots}
 use Rattle.pb_isa.specs.Machine.{Placement, IsPlacement}

@@ -1,12 +1,12 @@
--- What a job has asked, step by step, with the answers.
+-- What a job has asked, step by step, with the answers. Instructions leave no trace in it, since the table sees none.
 use Rattle.std.specs.Prelude.{◌≡◌, List, [], ◌∷◌, ◌++◌, Some}
 use Rattle.pb_steps.specs.Answers.{CanAnswer}
 use Rattle.pb_history.specs.declared.entry.Received.{Received}
 use Rattle.pb_notify.specs.declared.need.Need.TheVariants.{Local}
 use Rattle.pb_notify.specs.Runs.{RunOf, next_of, need_of, answered, HearsLook, Computes}
 
--- from one place to another: each of its next steps was answered with one of its answers, and between them its machine did
--- instructions
+-- from one place to another: each of its next steps was answered with one of its answers, and between them its machine
+-- did instructions
 pub data Reaches (j : RunOf) : List Received → RunOf → Type 0 where
   made : Reaches j [] j
   took : (said : List Received) (k : RunOf) (r : Received) (l : RunOf) → Reaches j said k → next_of k ≡ Some r.step → CanAnswer r.step r.answer

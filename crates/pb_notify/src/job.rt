@@ -1,4 +1,4 @@
-//! Jobs of observers.
+//! Jobs of observers: where a run stands, the step that is next, and how many locks its reads have met.
 use crate::need::Need;
 use crate::place::{
     Place, compute, follow, keep_step, locked_at, move_on, step_at, take, tells_old, wait_at,
@@ -12,14 +12,15 @@ use std::marker::Model;
 use std::mem;
 use std::sync::Arc;
 
-/// One run of an observer on a cell of its column (OSDI 2010, section 2.4), step after step: it begins a transaction, reads
-/// the cell and then its acknowledgment. Where the cell was committed after the acknowledged change, its machine runs on
-/// the record of the change, with a read for each cell that it asks for; where that record tells what the cell held when it
-/// was acknowledged, a read as of then comes before. What it leaves is declared and committed by a [`Plan`](pb_txn::Plan),
-/// and the cell is swept if it committed. Where there is nothing newer, it only sweeps the cell.
+/// One run of an observer on a cell of its column (OSDI 2010, section 2.4), step after step: it begins a transaction,
+/// reads the cell and then its acknowledgment. Where the cell was committed after the acknowledged change, its machine
+/// runs on the record of the change, with a read for each cell that it asks for; where that record tells what the cell
+/// held when it was acknowledged, a read as of then comes before. What it leaves is declared and committed by a
+/// [`Plan`](pb_txn::Plan), and the cell is swept if it committed. Where there is nothing newer, it only sweeps the
+/// cell.
 ///
-/// A read that meets a lock clears it, after its primary was settled where the lock waits for that, and reads again, until
-/// [`MAX_LOCKED`](crate::MAX_LOCKED) reads of the job met one.
+/// A read that meets a lock clears it, after its primary was settled where the lock waits for that, and reads again,
+/// until [`MAX_LOCKED`](crate::MAX_LOCKED) reads of the job met one.
 #[derive(Drop)]
 pub struct ObserverJob {
     observer: ObserverNo,
@@ -28,6 +29,8 @@ pub struct ObserverJob {
     column: Column,
     locked: u8,
     place: Place,
+    // The step at the place, kept so that it can be lent. At a plan's place there is none, since the plan lends its
+    // own.
     next: Option<Step>,
 }
 
@@ -99,18 +102,20 @@ impl ObserverJob {
         }
     }
 
-    /// Takes the answer of the next step, which is one that such a step can have. It takes no memory. Where a read meets a
-    /// lock, it goes on by clearing it, and settling its primary where that waits; it runs only where the version that it
-    /// found is newer than its acknowledgment; it ends at the 64th lock; it sweeps where it is clean or committed, and only
-    /// there. What a look for the machine found is its reply, at every placement.
+    /// Takes the answer of the next step, which is one that such a step can have. It takes no memory. Where a read
+    /// meets a lock, it goes on by clearing it, and settling its primary where that waits; it runs only where the
+    /// version that it found is newer than its acknowledgment; it ends at the 64th lock; it sweeps where it is clean
+    /// or committed, and only there. What a look for the machine found is its reply, at every placement.
     pub fn took(&mut self, answer: Answer)
         requires { CanTake self.old answer }
         ensures answered { self.new ≡ answered self.old answer }
         ensures told { HearsLook self.old answer self.new }
     {
+        // Counted before the answer is taken, since that changes the place.
         let locked = locked_at(self.locked, &self.place, &answer);
         let second = tells_old(&self.accepted);
         if take(second, self.locked, &mut self.place, answer) {
+            // Step and count stay, since a plan lends its own step and reads nothing.
             return;
         }
         keep_step(
@@ -123,10 +128,10 @@ impl ObserverJob {
         self.locked = locked;
     }
 
-    /// Does one instruction of its machine, which it starts before the first. The exit also makes what it declares and its
-    /// plan. Refused for memory, which these two alone can be, it is as before, and goes on when it is called again. It is
-    /// one instruction at every placement, of the run on the record of what was seen and from its start; and what is
-    /// declared at the exit is what the program means by what it was given and told.
+    /// Does one instruction of its machine, which it starts before the first. The exit also makes what it declares and
+    /// its plan. Refused for memory, which these two alone can be, it is as before, and goes on when it is called
+    /// again. It is one instruction at every placement, of the run on the record of what was seen and from its start;
+    /// and what is declared at the exit is what the program means by what it was given and told.
     pub fn local(&mut self, alloc: Global) -> Result<(), NoMemory>
         requires { need_of self.old ≡ Local }
         ensures ok { OnOk result (Computes self.old self.new) }
@@ -146,20 +151,22 @@ impl ObserverJob {
                 );
                 Ok(())
             }
+            // `move_on` leaves the exit undone, since that takes memory.
             Some(Moved::Ended(_)) => unreachable!(),
             None => self.compute(alloc),
         }
     }
 
     /// Does all instructions of its machine up to the next ask, or up to the exit and that too, as so many calls of
-    /// [`local`](ObserverJob::local) would. Refused for memory, it stands before its first instruction or before its exit,
-    /// with all that it did, and goes on from there when it is called again.
+    /// [`local`](ObserverJob::local) would. Refused for memory, it stands before its first instruction or before its
+    /// exit, with all that it did, and goes on from there when it is called again.
     pub fn follow(&mut self, alloc: Global) -> Result<(), NoMemory>
         requires { need_of self.old ≡ Local }
         ensures on { ComputesOn self.old self.new }
         ensures ok { OnOk result (need_of self.new ≢ Local) }
         ensures err { OnErr result (GrowsNext self.new) }
     {
+        // Twice at most: a machine that isn't started does its first instruction alone.
         while self.needs() == Need::Local {
             self.go_on(alloc)?;
         }
@@ -185,7 +192,7 @@ impl ObserverJob {
         Ok(())
     }
 
-    // Does the first instruction, or the exit.
+    // Does the first instruction, or the exit. The place is taken out for it, since an exit uses its machine up.
     #[inline(never)]
     fn compute(&mut self, alloc: Global) -> Result<(), NoMemory>
         requires { need_of self.old ≡ Local }

@@ -6,11 +6,11 @@ ghost use Rattle.pb_notify.specs.Allowed.{JobsAreAllowed, RunsAreKept};
 use pb_history::{acknowledged_is_earlier, journals_are_sound, transactions_are_told};
 use pb_txn::{plans_are_allowed, plans_talk};
 
-/// What a job has asked is a beginning of a run's conversation, and at its end a whole one, whose declared run is what its
-/// program means. It is its begin and a look at the cell, or at the cell and its acknowledgment, where nothing is newer,
-/// and then a sweep; or these looks, a look at each cell that was asked for, with the replies of the declared run, and a
-/// transaction's conversation of that run, with a sweep where it committed; or a beginning of one, up to the 64th read that
-/// met a lock.
+/// What a job has asked is a beginning of a run's conversation, and at its end a whole one, whose declared run is what
+/// its program means. It is its begin and a look at the cell, or at the cell and its acknowledgment, where nothing is
+/// newer, and then a sweep; or these looks, a look at each cell that was asked for, with the replies of the declared
+/// run, and a transaction's conversation of that run, with a sweep where it committed; or a beginning of one, up to
+/// the 64th read that met a lock.
 pub fn jobs_talk()
     ensures talks { JobsTalk }
     ensures ends { JobsEnd }
@@ -18,10 +18,10 @@ pub fn jobs_talk()
     plans_talk();
 }
 
-/// The machine of a job stands where its program led it from entry, at every placement, on the record of what the job read
-/// and with the replies that it read. It has exactly the asks that the job looked at. Nothing was said since the last reply
-/// while it computes, and while it asks a beginning of one look at that cell; once it has ended, what was said since is its
-/// plan's.
+/// The machine of a job stands where its program led it from entry, at every placement, on the record of what the job
+/// read and with the replies that it read. It has exactly the asks that the job looked at. Nothing was said since the
+/// last reply while it computes, and while it asks a beginning of one look at that cell; once it has ended, what was
+/// said since is its plan's.
 pub fn machines_are_led()
     ensures led { MachinesAreLed }
     ensures open { AsksAreOpen }
@@ -30,9 +30,9 @@ pub fn machines_are_led()
     plans_talk();
 }
 
-/// Where the entries of a legal journal that name a run's start are those of its job, the job's next step is refused only
-/// where no timestamp is left. They are its job's where the seat's entries end with what the job asked. So none of 41 to 43,
-/// 45 to 47 and 49 comes: no other seat's entries name the start, and none of that seat's before it.
+/// Where the entries of a legal journal that name a run's start are those of its job, the job's next step is refused
+/// only where no timestamp is left. They are its job's where the seat's entries end with what the job asked. So none
+/// of 41 to 43, 45 to 47 and 49 comes: no other seat's entries name the start, and none of that seat's before it.
 pub fn jobs_are_allowed()
     ensures allowed { JobsAreAllowed }
     ensures kept { RunsAreKept }

@@ -1,4 +1,6 @@
 //! Looks at a cell: it is read, and a lock in the way is cleared before it is read again (OSDI 2010, section 2.2).
+//! They are apart from jobs, since the cell, the acknowledgment, the value of before and each asked cell are read
+//! alike.
 ghost use Rattle.std.specs.Prelude.{◌≡◌, ◌<◌};
 ghost use Rattle.pb_steps.specs.Read.{read_step};
 ghost use Rattle.pb_notify.specs.Looks.{look_step, look_after, locked_after};
@@ -6,7 +8,8 @@ ghost use Rattle.pb_notify.specs.Looks.{look_step, look_after, locked_after};
 use pb_base::{Cell, Ts};
 use pb_steps::{Answer, Step};
 
-/// How many reads of one job may meet a lock: at the last it ends.
+/// How many reads of one job may meet a lock: at the last it ends, so that it ends however often others lock its
+/// cells.
 pub const MAX_LOCKED: u8 = 64;
 
 /// The limit of a job has this value.
@@ -36,6 +39,7 @@ pub enum Looked {
     Blocks,
 }
 
+// A read at the start names no timestamp, since `Declare` refuses a run that names one where it needn't.
 fn read_step(start: Ts, cell: Cell, at: Option<Ts>) -> Step
     ensures { result ≡ read_step start cell at }
 {
@@ -85,6 +89,7 @@ pub fn look_after(locked: u8, look: Look, answer: Answer) -> Looked
             Answer::Waits => Looked::On(Look::Settling(primary)),
             _ => Looked::On(Look::Reading),
         },
+        // The answer doesn't matter, here and below, since the read that follows sees what is left.
         Look::Settling(_) => Looked::On(Look::ClearingAgain),
         Look::ClearingAgain => Looked::On(Look::Reading),
     }

@@ -1,4 +1,5 @@
-//! The machine of a run, which tries its exit again where memory was refused to declare what it leaves.
+//! The machine of a run. It can try its exit again where memory was refused, since what the exit left is kept until
+//! it is declared.
 ghost use Rattle.std.specs.Prelude.{◌≡◌, length, IfOk};
 ghost use Rattle.pb_steps.specs.Reads.{value_in};
 ghost use Rattle.pb_notify.specs.Machines.{first_position, after_reply, HearsReply};
@@ -26,7 +27,7 @@ pub struct Machine {
 #[derive(Drop)]
 enum Standing {
     Running(Vm),
-    /// What it left at its exit, with the instructions before that and its slot.
+    /// What it left at its exit, with the instructions before that and its slot, so that it is still seen there.
     Exited(Finished, u16, usize),
 }
 
@@ -81,6 +82,7 @@ impl Machine {
                     standing: Standing::Running(vm),
                 }
             }
+            // It isn't here while it asks, since at its exit it is seen as going on.
             Standing::Exited(..) => unreachable!(),
         }
     }

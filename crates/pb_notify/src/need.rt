@@ -1,4 +1,4 @@
-//! What a job needs, and how it ends.
+//! What a job needs, and how it ends: all that an owner goes by, so that none has to know a job's places.
 
 /// How a run of an observer ends.
 #[derive(Clone, Copy, Debug, PartialEq, Eq)]

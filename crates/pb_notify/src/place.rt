@@ -1,4 +1,5 @@
-//! Where a job stands, and where an answer or an instruction leads.
+//! Where a job stands, and where an answer or an instruction leads. `Beginning` holds nothing, so that it stands in
+//! for a place that is taken out to be moved.
 ghost use Rattle.std.specs.Prelude.{◌≡◌, ◌<◌, ℕ, Some, length, IfOk, IfErr, IsTrue, IsFalse, MatchOption};
 ghost use Rattle.pb_helpers.specs.OldRecord as versions;
 ghost use Rattle.pb_txn.specs.Plans.{PlanOf};
@@ -32,7 +33,8 @@ pub enum Place {
     Acknowledging(Ts, Revision, Look),
     /// Its look at the cell as of the acknowledged timestamp, with what it saw so far.
     Recalling(Ts, Seen, Look),
-    /// The first instruction of its machine, which isn't started.
+    /// The first instruction of its machine, which isn't started. What was seen is kept here, since a refused start
+    /// lets the record go, and it is made anew.
     Starting(Ts, Seen),
     Computing(Ts, Machine),
     /// Its look at a cell that its machine asks for.
@@ -73,7 +75,8 @@ pub fn step_at(observer: ObserverNo, row: Row, column: Column, place: &Place) ->
     }
 }
 
-/// Keeps the step at a place, but for those of a plan.
+/// Keeps the step at a place, but for those of a plan. It isn't inlined, since room for a step would be cleared at
+/// each entry of its caller, also where none is made.
 #[inline(never)]
 pub fn keep_step(
     next: &mut Option<Step>,
@@ -101,7 +104,7 @@ pub fn locked_at(locked: u8, place: &Place, answer: &Answer) -> u8
     }
 }
 
-// What was found of the cell.
+// What was found of the cell. Without a version there is no change to run on.
 fn after_cell(start: Ts, looked: Looked) -> Place
     ensures { result ≡ Rattle.pb_notify.specs.Places.after_cell start looked }
 {
@@ -125,6 +128,7 @@ fn if_dirty(second: bool, start: Ts, version: Revision, acknowledged: Ts) -> Pla
             acknowledged,
             old: None,
         };
+        // It is read only where the record tells it, since `Declare` refuses a run with a read too many.
         match old_at(second, acknowledged) {
             None => Place::Starting(start, seen),
             Some(_) => Place::Recalling(start, seen, Look::Reading),
@@ -159,7 +163,8 @@ fn after_recall(start: Ts, seen: Seen, looked: Looked) -> Place
     }
 }
 
-// What was found of a cell that the machine asked for.
+// What was found of a cell that the machine asked for, which goes on with it. A lock too many ends the run, and the
+// machine with it.
 fn after_ask(start: Ts, machine: Machine, ask: Ask, looked: Looked) -> Place
     requires { machine.phase ≡ Asking ask }
     ensures place { result ≡ Rattle.pb_notify.specs.Places.after_ask start machine ask looked }
@@ -217,13 +222,15 @@ fn place_after(second: bool, locked: u8, place: Place, answer: Answer) -> Place
         Place::Asking(start, machine, ask, look) => {
             after_ask(start, machine, ask, look_after(locked, look, answer))
         }
+        // It isn't here, since a plan takes its answers where it stands.
         Place::Planning(..) => unreachable!(),
         Place::Sweeping(end) => Place::Over(end),
         Place::Over(end) => Place::Over(end),
     }
 }
 
-// Takes the answer of the next step of a look or a sweep.
+// Takes the answer where the place is moved for it: of the begin, and of a look as of an earlier timestamp or for the
+// machine. It isn't inlined, since the room for a second place is cleared at each entry.
 #[inline(never)]
 fn look_at(second: bool, locked: u8, place: &mut Place, answer: Answer)
     requires at { AtPlace locked place.old }
@@ -254,6 +261,7 @@ pub fn take(second: bool, locked: u8, place: &mut Place, answer: Answer) -> bool
                 }
             }
         }
+        // These looks and the sweep are taken where they stand, since every run has them.
         Place::Observing(start, look) => {
             let (start, look) = (*start, *look);
             *place = after_cell(start, look_after(locked, look, answer));
@@ -306,7 +314,8 @@ fn go_on(alloc: Global, observer: ObserverNo, start: Ts, machine: Machine) -> Re
     }
 }
 
-// The record of what was seen of a cell, of the version that the program is accepted for.
+// The record of what was seen of a cell, of the version that the program is accepted for: no other has the size for
+// which the verifier judged it.
 fn record_by(accepted: &Arc<Accepted>, cell: Cell, seen: &Seen) -> Record
     ensures record { result ≡ versions.record_by (versions.tells_old accepted.now.value) cell seen.now.version
         seen.now.acknowledged.0 seen.now.old }
@@ -334,6 +343,8 @@ fn begin(
     };
     match machine.step(alloc, observer) {
         Ok(stepped) => Ok(place_of(start, stepped)),
+        // The first instruction is the exit, and its declaration was refused: the machine goes, since a start leads
+        // there again.
         Err(_) => Err(Place::Starting(start, seen)),
     }
 }
@@ -360,7 +371,7 @@ fn before_exit(place: Place) -> Place
     }
 }
 
-// The same where it stands.
+// A place whose machine did its exit is before it again, where it stands. It isn't inlined, since only exits need it.
 #[inline(never)]
 fn go_back(place: &mut Place)
     requires { (old : Place) × (r : ℕ) × MovesAt old (Ended r) place.old }
@@ -370,8 +381,8 @@ fn go_back(place: &mut Place)
     *place = before_exit(ended);
 }
 
-/// Does the next instruction of a machine where it stands, if it is neither the first nor the exit, and tells what it did:
-/// a job is moved to another place at these two and at asks alone.
+/// Does the next instruction of a machine where it stands, if it is neither the first nor the exit, and tells what it
+/// did: a job is moved to another place at these two and at asks alone.
 pub fn move_on(place: &mut Place) -> Option<Moved>
     requires { IsLocal place.old }
     ensures { MatchOption result (GrowsAt place.old × (place.new ≡ place.old)) (λ m. GoesAt place.old m place.new) }
@@ -384,7 +395,7 @@ pub fn move_on(place: &mut Place) -> Option<Moved>
     moved
 }
 
-// The place of a machine that asked where it stands.
+// The place of a machine that asked where it stands: its look at that cell begins with a read.
 fn waiting(place: Place, ask: Ask) -> Place
     ensures { result ≡ waiting place ask }
 {
@@ -403,8 +414,8 @@ pub fn wait_at(place: &mut Place, ask: Ask)
     *place = waiting(asking, ask);
 }
 
-// Does all instructions of a machine up to the next ask or the exit where it stands, and tells what the last one did; none
-// where it isn't started, and at an exit that was refused.
+// Does all instructions of a machine up to the next ask or the exit where it stands, and tells what the last one did;
+// none where it isn't started, and at an exit that was refused.
 fn follow_at(place: &mut Place) -> Option<Moved>
     requires { IsLocal place.old }
     ensures { MatchOption result (GrowsAt place.old × (place.new ≡ place.old))
@@ -416,8 +427,8 @@ fn follow_at(place: &mut Place) -> Option<Moved>
     }
 }
 
-/// Does all instructions of a machine up to the next ask or the exit where it stands, and tells whether it waits for what it
-/// asked; else it is before its exit, or isn't started.
+/// Does all instructions of a machine up to the next ask or the exit where it stands, and tells whether it waits for
+/// what it asked; else it is before its exit, or isn't started.
 pub fn follow(place: &mut Place) -> bool
     requires { IsLocal place.old }
     ensures waits { IsTrue result → WaitsAt place.old place.new }
@@ -432,13 +443,14 @@ pub fn follow(place: &mut Place) -> bool
             go_back(place);
             false
         }
+        // A machine that is followed stops at an ask or at the exit alone.
         Some(Moved::Went) => unreachable!(),
         None => false,
     }
 }
 
-/// Where the next instruction leads, for the run of this observer, whose program this is, on this cell. Refused for memory,
-/// the place is as before.
+/// Where the next instruction leads, for the run of this observer, whose program this is, on this cell. Refused for
+/// memory, the place is as before.
 pub fn compute(
     alloc: Global,
     observer: ObserverNo,

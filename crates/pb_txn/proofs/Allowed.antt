@@ -33,9 +33,11 @@ use Rattle.pb_txn.proofs.PlanTransactions.{HasCells, HasCellsAt, keeps, cells_by
 
 -- ---- reasons
 
+-- the reason that applies is a timely one
 timely_if : (r why : Reason) → IsTimely r → Some r ≡ Some why → IsTimely why
 timely_if r why t e = let is : r ≡ why = cc in subst IsTimely is t
 
+-- 41, 43 and 40 are timely: they aren't told for the phase or a cell
 not_of_seat : IsTimely NotOfSeat
 not_of_seat = record { phase = λ e. cc; declared = λ e. cc; once = λ e. cc }
 
@@ -59,6 +61,7 @@ of_own : (o : Option TransactionOf) (reasons : TransactionOf → Reasons) (why :
 of_own None reasons why h e = timely_if NotOfSeat why not_of_seat e
 of_own (Some t) reasons why h e = h t refl e
 
+-- a transaction that a seat finds as its own is there
 of_seat : (seat : ℕ) (o : Option TransactionOf) (t : TransactionOf) → if_of_seat seat o ≡ Some t → o ≡ Some t
 of_seat seat None t e = e
 of_seat seat (Some u) t e = by (u.seat == seat) e where
@@ -70,6 +73,7 @@ there : (absent : Bool) (seat : ℕ) (o : Option TransactionOf) (t : Transaction
 there true seat o t e = absurd cc
 there false seat o t e = of_seat seat o t e
 
+-- a step that names no start is refused for its seat alone
 seat_alone : (b : Bool) (why : Reason) → first_reason ((NotOfSeat, b) ∷ []) ≡ Some why → IsTimely why
 seat_alone b why e = either b NotOfSeat why None not_of_seat (λ f. absurd (no_reason why f)) e
 
@@ -86,6 +90,7 @@ none_of_three : (r q v why : Reason) (a b c : Bool) → a ≡ false → b ≡ fa
 none_of_three r q v why true b c p u w e = absurd cc
 none_of_three r q v why false b c p u w e = none_of_two q v why b c u w e
 
+-- a declaration in the phase of reading can only be refused as not its run's
 second_alone : (a b : Bool) (why : Reason) → a ≡ true → first_reason ((WrongPhase, not a) ∷ (NotItsDeclaration, b) ∷ []) ≡ Some why → IsTimely why
 second_alone true b why p e = either b NotItsDeclaration why None not_its (λ h. absurd (no_reason why h)) e
 second_alone false b why p e = absurd cc
@@ -94,6 +99,7 @@ neither : (a b : Bool) → a ≡ true → b ≡ false → (not a || b) ≡ false
 neither true b p q = q
 neither false b p q = absurd cc
 
+-- a stamp isn't refused for its phase where all cells are prewritten
 nor : (a b : Bool) → a ≡ true → b ≡ true → (not a || not b) ≡ false
 nor true true p q = refl
 nor true false p q = absurd cc
@@ -168,6 +174,7 @@ module _ (state : StateOf) (seat s : ℕ) (what : Declared) (why : Reason) where
       subst Timely x.2 (seat_alone (no_seat state seat) why)
   at_place (Over o) step is e = absurd cc
 
+-- a plan's next step is timely, since its transaction has come to where the plan stands
 pub plans_allowed : HistoriesAreTold → TransactionsAreTold → JournalsAreSound → PlansAreAllowed
 plans_allowed histories transactions sound observers seats clock journal state legal seat s what said q step why range talk has next refused =
     let k = keeps (fresh s what) q said talk in

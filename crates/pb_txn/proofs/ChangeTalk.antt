@@ -26,11 +26,12 @@ following batch p = record { batch = batch; plan = Some p }
 same_step : (s t : Step) → Some s ≡ Some t → s ≡ t
 same_step s t e = cc
 
--- what it asks then is what its plan asks
+-- a plan keeps its start
 start_stays : (p : PlanOf) (said : List Received) (q : PlanOf) → talks.Talks p said q → q.start ≡ p.start
 start_stays p [] q t = ap (λ (z : PlanOf). z.start) t
 start_stays p (x ∷ xs) q t = start_stays (plans.answered p x.answer) xs q t.2
 
+-- what a change asks once it has begun is what its plan asks
 plan_talks : (batch : Writes) (p : PlanOf) (said : List Received) (q : ChangeOf) → Talks (following batch p) said q → (r : PlanOf) × (q ≡ following batch r) × talks.Talks p said r
 plan_talks batch p [] q t = (p, t, refl)
 plan_talks batch p (x ∷ xs) q t = let r = plan_talks batch (plans.answered p x.answer) xs q t.2 in (r.0, r.1, (t.0, t.1, r.2))
@@ -43,10 +44,12 @@ pub record HasBegun (batch : Writes) (r : Received) (rest : List Received) (q : 
   pub q_is : q ≡ following batch plan
   pub said : talks.Talks (fresh s (declared.Script batch)) rest plan
 
+-- a begin is answered with a start, of which the plan is then
 begun : (batch : Writes) (a : Answer) (rest : List Received) (q : ChangeOf) → CanAnswer (Begin works.Script) a → Talks (answered (new_change batch) a) rest q → HasBegun batch (told (Begin works.Script) a) rest q
 begun batch (At s) rest q can t = let p = plan_talks batch (fresh s.0 (declared.Script batch)) rest q t in record { s = s.0; first = refl; plan = p.0; q_is = p.1; said = p.2 }
 begun batch _ rest q can t = absurd can
 
+-- a change of which a step was answered has begun
 pub begins : (batch : Writes) (r : Received) (rest : List Received) (q : ChangeOf) → Talks (new_change batch) (r ∷ rest) q → HasBegun batch r rest q
 begins batch r rest q t =
     let is : Begin works.Script ≡ r.step = same_step _ _ t.0 in
@@ -58,16 +61,19 @@ whole : (batch : Writes) → batch ≢ [] → (rest : List Received) × (o : Out
 whole [] some = absurd (some refl)
 whole (w ∷ ws) some = plans_talk 0 (declared.Script (w ∷ ws)) w.0 _ [] (fresh 0 (declared.Script (w ∷ ws))) refl refl
 
+-- what was said since the begin can be ended, since a batch has some cells
 on_from : (batch : Writes) (s : ℕ) (rest : List Received) (q : PlanOf) → batch ≢ [] → talks.Talks (fresh s (declared.Script batch)) rest q
     → (more : List Received) × (o : Outcome) × IsWhole (record { 0 = s }) (declared.Script batch) (declared_cells (declared.Script batch)) (rest ++ more) o
 on_from [] s rest q some t = absurd (some refl)
 on_from (w ∷ ws) s rest q some t = plans_talk s (declared.Script (w ∷ ws)) w.0 _ rest q refl t
 
+-- and once its plan is over, it is a whole conversation
 at_end : (batch : Writes) (s : ℕ) (rest : List Received) (q : PlanOf) (o : Outcome) → batch ≢ [] → talks.Talks (fresh s (declared.Script batch)) rest q → plans.outcome_of q ≡ Some o
     → IsWhole (record { 0 = s }) (declared.Script batch) (declared_cells (declared.Script batch)) rest o
 at_end [] s rest q o some t e = absurd (some refl)
 at_end (w ∷ ws) s rest q o some t e = plans_end s (declared.Script (w ∷ ws)) w.0 _ rest q o refl t e
 
+-- before its begin any whole change may follow, and later one that ends as its plan may
 pub changes_talk : ChangesTalk
 changes_talk batch [] q some t =
     let w = whole batch some in

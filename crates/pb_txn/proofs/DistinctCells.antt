@@ -13,11 +13,13 @@ use Rattle.pb_steps.specs.Prewrite.{is_before_primary}
 
 -- ---- the first items of a list
 
+-- the first so many, and the one that comes next
 pub take_one : {A : Type 0} (xs : List A) (k : ℕ) (x : A) → slice_get xs k ≡ Some x → take k xs ++ x ∷ [] ≡ take (suc k) xs
 take_one [] k x e = absurd cc
 take_one (y ∷ ys) zero x e = let is : y ≡ x = cc in ap (λ z. z ∷ []) (sym is)
 take_one (y ∷ ys) (suc k) x e = ap (λ zs. y ∷ zs) (take_one ys k x e)
 
+-- no more than all
 pub take_all : {A : Type 0} (xs : List A) (k : ℕ) → length xs ≤ k → take k xs ≡ xs
 take_all [] zero le = refl
 take_all [] (suc k) le = refl
@@ -40,6 +42,7 @@ some_is x y e = cc
 
 -- ---- the cells of writes
 
+-- the cells that are written, in declared order
 abbrev pub cells_in : Writes → List Cell
 cells_in ws = map (λ (w : Cell × Content). w.0) ws
 
@@ -51,6 +54,7 @@ first_here : (b : Bool) (c : Content) (o : Option Content) → b ≡ true → is
 first_here true c o e = refl
 first_here false c o e = absurd cc
 
+-- each of these cells is declared, so that no step about it is refused with 45
 pub has_content : (ws : Writes) (k : ℕ) (x : Cell) → slice_get (cells_in ws) k ≡ Some x → is_none (content_in ws x) ≡ false
 has_content [] k x e = absurd cc
 has_content (w ∷ ws) zero x e = first_here (eq_by_cmp cell_cmp x w.0) w.1 (content_in ws x) (same_cells x w.0 (sym (some_is w.0 x e)))
@@ -105,6 +109,7 @@ more y xs (w ∷ ws) e =
     let p = both (is_in xs w.0) (list_all (λ v. is_in xs v.0) ws) e in
     (λ i. or_true (eq_by_cmp cell_cmp y w.0) (is_in xs w.0) p.0 i && more y xs ws p.1 i)
 
+-- with all cells prewritten the stamp comes at its time
 pub all_in : (ws : Writes) → list_all (λ w. is_in (cells_in ws) w.0) ws ≡ true
 all_in [] = refl
 all_in (w ∷ ws) = λ i. first i && more w.0 (cells_in ws) ws (all_in ws) i where

@@ -51,6 +51,7 @@ IsAt cells (CommittingPrimary c) u = is_stamped u.phase ≡ true
 IsAt cells (CommittingSecondary c k) u = is_committed u.phase ≡ true
 IsAt cells _ u = Unit {0}
 
+-- what a seat received, as the journal's entry of it
 abbrev pub entry_of : ℕ → Received → Entry
 entry_of seat r = record { seat = seat; step = r.step; answer = r.answer }
 

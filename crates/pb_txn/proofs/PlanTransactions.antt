@@ -53,6 +53,7 @@ has_cells : (p : Place) (what : Declared) (t : TransactionOf) → HasCells what 
 has_cells Declaring what t h = tt
 has_cells _ what t h = h
 
+-- an entry that names the start is one of the journal
 in_filter : (s : ℕ) (journal : List Entry) (e : Entry) → Has (named_in s journal) e → Has journal e
 in_filter s [] e h = absurd h
 in_filter s (d ∷ ds) e h = elim (names s d.step) as (λ b. Has (cond b (d ∷ named_in s ds) (named_in s ds)) e → Has (d ∷ ds) e) [
@@ -98,6 +99,7 @@ module _ (seat s : ℕ) (what : Declared) where
 
 -- ---- where it stands
 
+-- the table's transaction of this start has come to where the plan stands, its reads aside
 pub stands : (journal : List Entry) (state : StateOf) (seat s : ℕ) (what : Declared) (said : List Received) (q : PlanOf) (t : TransactionOf) → TellsTransactions journal state
     → finite.get state.transactions s ≡ Some t → Talks (fresh s what) said q → HasSaid journal seat s said → IsAt (declared_cells what) q.place (bare t)
 stands journal state seat s what said q t tells there talk has =

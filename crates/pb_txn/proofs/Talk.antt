@@ -28,6 +28,7 @@ secondaries_append : (s : Ts) (xs ys : List Cell) → secondaries s (xs ++ ys) �
 secondaries_append s [] ys = refl
 secondaries_append s (x ∷ xs) ys = ap (λ rs. told (CommitSecondary s x) Done ∷ rs) (secondaries_append s xs ys)
 
+-- one more cell is cleared
 cleared_more : (xs : List Cell) (rs : List Received) (y : Cell) (a : Answer) → AreCleared xs rs → CanAnswer (Clear y) a → AreCleared (xs ++ y ∷ []) (rs ++ told (Clear y) a ∷ [])
 cleared_more [] rs y a c can = rw c (refl, can, refl)
 cleared_more (x ∷ xs) [] y a c can = absurd c
@@ -292,6 +293,7 @@ module _ (s : Ts) (what : Declared) (x : Cell) (others : List Cell) where
   ended p l o (clearing w done y left more said cs at c ends) e = absurd (none_some o e)
   ended p l o (over w said whole) e = subst (λ z. Whole said z) (some_some w o e) whole
 
+-- what was said at any place can be ended, by commits while none was refused, and else by clearing what is left
 pub plans_talk : PlansTalk
 plans_talk s what x others said q is t =
     let so = said_all (record { 0 = s }) what x others is (fresh s what) q [] said refl refl declaring t in
@@ -303,10 +305,12 @@ plans_end s what x others said q o is t e =
     subst (λ cs. IsWhole (record { 0 = s }) what cs said o) (sym is)
     (ended (record { 0 = s }) what x others q.place said o (said_all (record { 0 = s }) what x others is (fresh s what) q [] said refl refl declaring t) e)
 
+-- a plan keeps its start and its declaration
 stays : (p : PlanOf) (said : List Received) (q : PlanOf) → Talks p said q → (q.start ≡ p.start) × (q.what ≡ p.what)
 stays p [] q t = (ap (λ (z : PlanOf). z.start) t, ap (λ (z : PlanOf). z.what) t)
 stays p (r ∷ rs) q t = stays (answered p r.answer) rs q t.2
 
+-- at every place but the end there is a step, since the cells that a place names are declared
 pub plans_stop : PlansStop
 plans_stop s what x others said q is t e =
     let same = stays (fresh s what) said q t in

@@ -23,10 +23,12 @@ bare t = record t { reads = [] }
 abbrev bare_if : Option TransactionOf → Option TransactionOf
 bare_if o = option_map (λ t. bare t) o
 
+-- a read that is recorded leaves all else as it was
 read_leaves : (x : Cell) (at : Option Ts) (a : Answer) (t : Option TransactionOf) → bare_if (option_map (λ (u : TransactionOf). with_read u x at a) t) ≡ bare_if t
 read_leaves x at a None = refl
 read_leaves x at a (Some t) = refl
 
+-- a change that looks at no reads may come before they are left out, or after
 apart_from_reads : (f : TransactionOf → TransactionOf) → ((u : TransactionOf) → bare (f u) ≡ f (bare u)) → (t : Option TransactionOf) → bare_if (option_map f t) ≡ option_map f (bare_if t)
 apart_from_reads f h None = refl
 apart_from_reads f h (Some u) = ap Some (h u)

@@ -1,5 +1,6 @@
--- No step of a plan comes at a wrong time: in a legal journal it isn't refused for its phase, for its cell, or as prewritten
--- already.
+-- No step of a plan comes at a wrong time: in a legal journal it isn't refused for its phase, for its cell, or as
+-- prewritten already. The law `plans_are_allowed` cites it. It asks that nobody else names the plan's start, and
+-- nothing of the other steps, so that it holds in whatever order they come.
 use Rattle.std.specs.Prelude.{◌≡◌, ◌≢◌, ℕ, ◌<◌, ◌^◌, Bool, false, ◌==◌, List, map, Some}
 use Rattle.std.specs.List.{filter}
 use Rattle.std.specs.FinMap as finite
@@ -19,7 +20,7 @@ use Rattle.pb_history.specs.Journals.{IsLegal}
 use Rattle.pb_txn.specs.Plans.{PlanOf, fresh, next_of}
 use Rattle.pb_txn.specs.Talks.{Talks}
 
--- the step names the start, and is no read
+-- the step names the start, and is no read: reads are left aside, since a run reads before its plan begins
 abbrev pub names : ℕ → Step → Bool
 names s (Declare start what) = s == start.0
 names s (Prewrite start x) = s == start.0
@@ -38,12 +39,14 @@ abbrev pub IsInRange : List ObserverOf → Work → Type 0
 IsInRange observers works.Script = Unit {0}
 IsInRange observers (works.Run o row) = (row.0 < 2 ^ 64) × (observed_column observers o < 2 ^ 64)
 
--- not 42, 45 or 46
+-- the refusal isn't 42, 45 or 46; 40, 41, 43 and 44 are for the plan's owner to see to
 pub record IsTimely (why : Reason) : Type 0 where
   pub phase : why ≢ WrongPhase
   pub declared : why ≢ NotDeclared
   pub once : why ≢ AlreadyPrewritten
 
+-- where the entries of a legal journal that name the start are the plan's, its next step isn't refused for such a
+-- reason
 abbrev pub PlansAreAllowed : Type 0
 PlansAreAllowed = (observers : List ObserverOf) (seats clock : ℕ) (journal : List Entry) (state : StateOf) → IsLegal observers seats clock journal state
     → (seat s : ℕ) (what : Declared) (said : List Received) (q : PlanOf) (step : Step) (why : Reason)

@@ -1,4 +1,5 @@
--- Changes of a script: a transaction that begins and then follows its plan.
+-- Changes of a script: a transaction that begins and then follows its plan. The contracts of `ChangeJob` cite them,
+-- and those of `pb_world` and `pb_worker` say by them what an actor or a worker has asked.
 use Rattle.std.specs.Prelude.{◌≡◌, ◌≢◌, List, [], ◌∷◌, ◌++◌, Option, Some, None}
 use Rattle.pb_base.specs.Batch.{Writes}
 use Rattle.pb_base.specs.declared.names.Ts.{Ts}
@@ -28,10 +29,12 @@ pub record ChangeOf : Type 0 where
 abbrev pub new_change : Writes → ChangeOf
 new_change batch = record { batch = batch; plan = None }
 
+-- as long as there is no plan, the begin is next
 abbrev pub next_in : Option PlanOf → Option Step
 next_in None = Some (Begin works.Script)
 next_in (Some p) = plans.next_of p
 
+-- the step that a change asks next, none once it is over
 abbrev pub next_of : ChangeOf → Option Step
 next_of j = next_in j.plan
 
@@ -40,17 +43,21 @@ abbrev pub begun_at : Writes → Answer → Option PlanOf
 begun_at batch (At s) = Some (fresh s.0 (declared.Script batch))
 begun_at batch _ = None
 
+-- the first answer makes the plan, and each later one is the plan's
 abbrev pub plan_after : Writes → Option PlanOf → Answer → Option PlanOf
 plan_after batch None a = begun_at batch a
 plan_after batch (Some p) a = Some (plans.answered p a)
 
+-- after its next step was answered
 abbrev pub answered : ChangeOf → Answer → ChangeOf
 answered j a = record j { plan = plan_after j.batch j.plan a }
 
+-- a change that hasn't begun has no outcome
 abbrev pub outcome_in : Option PlanOf → Option Outcome
 outcome_in None = None
 outcome_in (Some p) = plans.outcome_of p
 
+-- how the change ended, once it is over
 abbrev pub outcome_of : ChangeOf → Option Outcome
 outcome_of j = outcome_in j.plan
 
@@ -79,6 +86,7 @@ ChangesEnd = (batch : Writes) (said : List Received) (q : ChangeOf) (p : PlanOf)
 
 -- ---- how a change is kept
 
+-- the batch, read off the declaration or the plan, of which one is there
 abbrev pub batch_by : Option Declared → Option PlanOf → Writes
 batch_by (Some what) plan = batch_in what
 batch_by None (Some p) = batch_in p.what

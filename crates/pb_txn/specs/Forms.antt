@@ -1,4 +1,5 @@
--- The conversations of a transaction (OSDI 2010, section 2.2).
+-- The conversations of a transaction (OSDI 2010, section 2.2): four forms, in words of steps and answers alone, so
+-- that who reads a journal needs to know nothing of plans. The law `plans_talk` says that plans keep to them.
 use Rattle.std.specs.Prelude.{◌≡◌, ℕ, List, [], ◌∷◌, ◌++◌, map, Some, None}
 use Rattle.pb_base.specs.declared.cell.Cell.{Cell}
 use Rattle.pb_base.specs.declared.names.Ts.{Ts}
@@ -14,11 +15,11 @@ use Rattle.pb_txn.specs.Places.{declared_cells}
 use Rattle.pb_txn.specs.Plans.{PlanOf, fresh, next_of, outcome_of}
 use Rattle.pb_txn.specs.Talks.{told, Talks}
 
--- each cell prewritten
+-- each cell prewritten, without a conflict
 abbrev pub prewrites : Ts → List Cell → List Received
 prewrites s xs = map (λ x. told (Prewrite s x) Done) xs
 
--- each cell committed
+-- each cell committed; the answer is the same where another has cleared it already
 abbrev pub secondaries : Ts → List Cell → List Received
 secondaries s xs = map (λ x. told (CommitSecondary s x) Done) xs
 

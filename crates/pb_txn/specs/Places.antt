@@ -1,4 +1,6 @@
 -- The order of a transaction's steps (OSDI 2010, section 2.2): the step at each place, and where each answer leads.
+-- Both are functions of the place, so that a plan's value is its place. The step is an option, so that no cell stands
+-- in where the list has none at a place.
 use Rattle.std.specs.Prelude.{ℕ, ◌+◌, ◌<◌, ◌≤◌, ◌==◌, nat_lt, if◌then◌else◌, List, ◌∷◌, map, slice_get, Option, Some, None, option_map}
 use Rattle.pb_base.specs.declared.cell.Cell.{Cell}
 use Rattle.pb_base.specs.declared.cell.Cell.TheVariants.{Ack}
@@ -40,15 +42,17 @@ abbrev pub after_prewrite : ℕ → ℕ → Answer → Place
 after_prewrite count k answers.Conflict = if k == 0 then Over outcomes.Conflicted else Settling k
 after_prewrite count k _ = prewrite_from count (k + 1)
 
+-- the stamp is answered with the commit timestamp, which the end tells
 abbrev pub after_stamp : Answer → Place
 after_stamp (answers.At c) = CommittingPrimary c
 after_stamp _ = Stamping
 
+-- a primary that is lost has been decided against: all other cells are cleared
 abbrev pub after_primary : ℕ → Ts → Answer → Place
 after_primary count c answers.Committed = commit_from count c 1
 after_primary count c _ = clear_from 1 count outcomes.Lost
 
--- of so many cells
+-- where the answer of the step at a place leads, in a transaction of so many cells
 abbrev pub place_after : ℕ → Place → Answer → Place
 place_after count Declaring a = prewrite_from count 0
 place_after count (Prewriting k) a = after_prewrite count k a
@@ -61,7 +65,7 @@ place_after count (Over o) a = Over o
 
 -- ---- the step at a place
 
--- but for the declaration
+-- the step at a place, but for the declaration, which a plan keeps by itself
 abbrev pub later_step : ℕ → List Cell → Place → Option Step
 later_step s cells Declaring = None
 later_step s cells (Prewriting k) = option_map (λ x. steps.Prewrite (record { 0 = s }) x) (slice_get cells k)
@@ -77,7 +81,7 @@ abbrev pub step_at : ℕ → Declared → Place → Option Step
 step_at s what Declaring = Some (steps.Declare (record { 0 = s }) what)
 step_at s what place = later_step s (declared_cells what) place
 
--- the place lies within so many cells
+-- the place lies within so many cells, and a secondary's isn't that of the primary
 abbrev pub LiesWithin : ℕ → Place → Type 0
 LiesWithin count Declaring = Unit {0}
 LiesWithin count (Prewriting k) = k < count

@@ -1,4 +1,5 @@
--- Plans, as their owners see them.
+-- Plans, as their owners see them. The contracts of `Plan` cite them, and so do those of `ChangeJob` and of the jobs
+-- of `pb_notify`, which follow plans.
 use Rattle.std.specs.Prelude.{◌≡◌, ℕ, [], length, Option, Some, None, MatchOption}
 use Rattle.pb_steps.specs.declared.step.Declared.{Declared}
 use Rattle.pb_steps.specs.declared.step.Declared.TheVariants as declared
@@ -21,6 +22,7 @@ pub record PlanOf : Type 0 where
 abbrev pub fresh : ℕ → Declared → PlanOf
 fresh s what = record { start = s; what = what; place = Declaring }
 
+-- the step that a plan asks next, none once it is over
 abbrev pub next_of : PlanOf → Option Step
 next_of p = step_at p.start p.what p.place
 
@@ -28,10 +30,12 @@ next_of p = step_at p.start p.what p.place
 abbrev pub answered : PlanOf → Answer → PlanOf
 answered p a = record p { place = place_after (length (declared_cells p.what)) p.place a }
 
+-- there is an outcome at the end alone
 abbrev pub outcome_at : Place → Option Outcome
 outcome_at (Over o) = Some o
 outcome_at _ = None
 
+-- how the transaction ended, once it is over
 abbrev pub outcome_of : PlanOf → Option Outcome
 outcome_of p = outcome_at p.place
 
@@ -41,11 +45,12 @@ CanTake next a = MatchOption next ⊥ (λ s. CanAnswer s a)
 
 -- ---- how a plan is kept
 
+-- what the kept step declares: a plan keeps none but a declaration
 abbrev pub what_in : Step → Declared
 what_in (steps.Declare s what) = what
 what_in _ = declared.Script []
 
--- the declaration is kept as its step, and each later step as it comes
+-- the declaration is kept as its step, and each later step as it comes, so that the next one can be lent
 pub record IsPlan (s : ℕ) (declare : Step) (later : Option Step) (place : Place) : Type 0 where
   pub declares : declare ≡ steps.Declare (record { 0 = s }) (what_in declare)
   pub stored : later ≡ later_step s (declared_cells (what_in declare)) place

@@ -1,4 +1,4 @@
-//! Changes of a script.
+//! Changes of a script: a begin, and then a plan, since only the begin's answer tells the start that a plan names.
 use crate::place::Outcome;
 use crate::plan::Plan;
 use pb_base::Batch;
@@ -10,6 +10,7 @@ use std::marker::Model;
 #[derive(Drop)]
 pub struct ChangeJob {
     begin: Step,
+    // There until the begin is answered, since the plan takes it then.
     what: Option<Declaration>,
     plan: Option<Plan>,
 }
@@ -43,6 +44,7 @@ impl ChangeJob {
                 what: Some(what),
                 plan: None,
             }),
+            // What was to be declared comes back, so that the batch is handed back without a copy.
             Err(failed) => match failed.value {
                 Declared::Script(batch) => Err(batch),
                 Declared::Run(_, _) => unreachable!(),
@@ -69,6 +71,7 @@ impl ChangeJob {
             plan.took(answer);
             return;
         }
+        // A begin has no other answer.
         let Answer::At(start) = answer else {
             unreachable!()
         };

@@ -5,10 +5,10 @@ ghost use Rattle.pb_txn.specs.Allowed.{PlansAreAllowed};
 
 use pb_history::{histories_are_told, journals_are_sound, transactions_are_told};
 
-/// What a plan has asked is a beginning of a transaction's conversation, and at its end a whole one. Without a next step it
-/// is at its end. There are four: it declares, prewrites every cell, is stamped, and commits the primary and then the
-/// others; or it meets a conflict on the primary, and that is all; or one on a later cell, and settles its primary and
-/// clears the others that it prewrote; or it loses its primary, and clears the others.
+/// What a plan has asked is a beginning of a transaction's conversation, and at its end a whole one. Without a next
+/// step it is at its end. There are four: it declares, prewrites every cell, is stamped, and commits the primary and
+/// then the others; or it meets a conflict on the primary, and that is all; or one on a later cell, and settles its
+/// primary and clears the others that it prewrote; or it loses its primary, and clears the others.
 pub fn plans_talk()
     ensures talks { PlansTalk }
     ensures ends { PlansEnd }
@@ -21,8 +21,8 @@ pub fn changes_talk()
     ensures ends { ChangesEnd }
 {}
 
-/// Where the entries of a legal journal that name a start, reads aside, are those of its plan, the plan's next step isn't
-/// refused with 42, 45 or 46.
+/// Where the entries of a legal journal that name a start, reads aside, are those of its plan, the plan's next step
+/// isn't refused with 42, 45 or 46.
 pub fn plans_are_allowed()
     ensures { PlansAreAllowed }
 {

@@ -1,4 +1,5 @@
-//! Where a plan stands, and where an answer leads.
+//! Where a plan stands, and where an answer leads. Cells go by their places among the declared ones, so that a place
+//! holds none of them.
 ghost use Rattle.std.specs.Prelude.{◌≡◌, ◌<◌, ◌≤◌, ℕ};
 ghost use Rattle.pb_txn.specs.Places.{place_after, LiesWithin};
 
@@ -46,7 +47,7 @@ fn prewrite_from(count: usize, k: usize) -> Place
     }
 }
 
-// The next secondary to commit, or the end.
+// The next secondary to commit, or the end. It is never the cell at 0, since that is the primary.
 fn commit_from(count: usize, commit: Ts, k: usize) -> Place
     requires { 0 < k }
     ensures place { result ≡ Rattle.pb_txn.specs.Places.commit_from count commit k }
@@ -59,7 +60,7 @@ fn commit_from(count: usize, commit: Ts, k: usize) -> Place
     }
 }
 
-// The next secondary to clear, or the end.
+// The next secondary to clear, or the end. The primary is none of them, since it was settled or is lost.
 fn clear_from(k: usize, end: usize, outcome: Outcome) -> Place
     requires { 0 < k }
     ensures place { result ≡ Rattle.pb_txn.specs.Places.clear_from k end outcome }
@@ -72,7 +73,7 @@ fn clear_from(k: usize, end: usize, outcome: Outcome) -> Place
     }
 }
 
-// After a prewrite: a conflict on the primary leaves nothing behind.
+// After a prewrite: a conflict on the primary leaves nothing behind, since that is prewritten first.
 fn after_prewrite(count: usize, k: usize, answer: Answer) -> Place
     requires { k < count }
     ensures place { result ≡ Rattle.pb_txn.specs.Places.after_prewrite count k answer }
@@ -105,9 +106,12 @@ pub fn place_after(count: usize, place: Place, answer: Answer) -> Place
         },
         Place::CommittingPrimary(commit) => match answer {
             Answer::Committed => commit_from(count, commit, 1),
+            // Who took the primary's lock off has decided against the transaction, and all other cells are
+            // prewritten.
             _ => clear_from(1, count, Outcome::Lost),
         },
         Place::CommittingSecondary(commit, k) => commit_from(count, commit, k + 1),
+        // What is to be cleared are the cells before the one that conflicted, since no later one was prewritten.
         Place::Settling(k) => clear_from(1, k, Outcome::Conflicted),
         Place::Clearing(k, end, outcome) => clear_from(k + 1, end, outcome),
         Place::Over(outcome) => Place::Over(outcome),

@@ -1,4 +1,4 @@
-//! Plans.
+//! Plans. The next step is kept and lent, so that who makes it gets the declaration without a copy.
 ghost use Rattle.std.specs.Prelude.{◌≡◌, ◌<◌, length, slice_get, Some};
 ghost use Rattle.pb_steps.specs.Declarations.{IsKnown};
 ghost use Rattle.pb_txn.specs.Places.{declared_cells, later_step, LiesWithin};
@@ -9,10 +9,10 @@ use pb_base::{Cell, Ts};
 use pb_steps::{Answer, Declaration, Declared, Step};
 use std::marker::Model;
 
-/// The steps of a transaction of this start, from its declaration to its end, one after another (OSDI 2010, section 2.2):
-/// it declares, prewrites each cell in declared order, the primary first, takes its commit timestamp, commits the primary
-/// and then the other cells. A conflict on the primary ends it; after one on a later cell it settles its primary, and
-/// clears what it prewrote besides. Where its primary was lost, it clears its other cells.
+/// The steps of a transaction of this start, from its declaration to its end, one after another (OSDI 2010, section
+/// 2.2): it declares, prewrites each cell in declared order, the primary first, takes its commit timestamp, commits
+/// the primary and then the other cells. A conflict on the primary ends it; after one on a later cell it settles its
+/// primary, and clears what it prewrote besides. Where its primary was lost, it clears its other cells.
 ///
 /// It takes no memory.
 #[derive(Drop)]
@@ -33,7 +33,7 @@ impl Model for Plan {
     ghost invariant = { λ p. IsPlan p.start.0 p.declare p.later p.place };
 }
 
-// How many cells are written.
+// How many cells are written: of a run one more than its writes, since it writes its acknowledgment besides.
 fn cell_count(what: &Declared) -> usize
     ensures { result ≡ length (declared_cells what.now) }
 {
@@ -43,7 +43,8 @@ fn cell_count(what: &Declared) -> usize
     }
 }
 
-// The cell at a place, the primary at the first.
+// The cell at a place, the primary at the first. A run's primary is its acknowledgment, so that of two runs for one
+// change one meets the lock or the write record of the other there.
 fn cell_at(what: &Declared, place: usize) -> Cell
     requires { place < length (declared_cells what.now) }
     ensures { slice_get (declared_cells what.now) place ≡ Some result }
@@ -64,7 +65,7 @@ fn cell_at(what: &Declared, place: usize) -> Cell
     }
 }
 
-// What a step declares.
+// What a step declares. A plan keeps its declaration as the step that declares it, so that `next` can lend it.
 fn declared_by(step: &Step) -> &Declared
     requires { IsDeclaration step.now }
     ensures { result.now ≡ what_in step.now }
@@ -75,7 +76,7 @@ fn declared_by(step: &Step) -> &Declared
     }
 }
 
-// The step at a place, but for the declaration.
+// The step at a place. For the declaration there is none, since a plan keeps that step from the start.
 fn step_at(start: Ts, what: &Declared, place: Place) -> Option<Step>
     requires { LiesWithin (length (declared_cells what.now)) place }
     ensures { result ≡ later_step start.0 (declared_cells what.now) place }
@@ -86,6 +87,7 @@ fn step_at(start: Ts, what: &Declared, place: Place) -> Option<Step>
         Place::Stamping => Some(Step::Stamp(start)),
         Place::CommittingPrimary(_) => Some(Step::CommitPrimary(start)),
         Place::CommittingSecondary(_, k) => Some(Step::CommitSecondary(start, cell_at(what, k))),
+        // The primary goes first, since `Clear` of another cell waits as long as the primary's lock stands.
         Place::Settling(_) => Some(Step::Settle(cell_at(what, 0))),
         Place::Clearing(k, _, _) => Some(Step::Clear(cell_at(what, k))),
         Place::Over(_) => None,
@@ -126,6 +128,7 @@ impl Plan {
         let what = declared_by(&self.declare);
         let place = place_after(cell_count(what), self.place, answer);
         let later = step_at(self.start, what, place);
+        // Each later step is kept as it comes, so that `next` lends it.
         self.later = later;
         self.place = place;
     }

@@ -13,6 +13,7 @@ use Rattle.pb_worker.proofs.Gaining.{gains_none, gains_as, gains_on, renumbered}
 
 -- ---- one change
 
+-- before the first try nothing was said
 pub no_tries : (batch : Writes) (a : SeatOf) → Gains (AreVain batch 0) a a
 no_tries batch a = gains_none a at_first
 
@@ -30,9 +31,11 @@ module _ (batch : Writes) (count : ℕ) (a b : SeatOf) (vain : Gains (AreVain ba
 
 -- ---- change after change
 
+-- before the first change nothing was said
 pub no_changes : (batches : List Writes) (n first : ℕ) (flags : List Bool) (a : SeatOf) → flags ≡ [] → Gains (AreTried batches n first flags) a a
 no_changes batches n first flags a none = gains_none a (subst (λ fs. AreTried batches n first fs []) (sym none) before_all)
 
+-- a worker's next change is as many further as there are workers
 pub next_number : (next n first : ℕ) (flags : List Bool) (b : Bool) → next ≡ first + length flags * n → next + n ≡ first + length (flags ++ b ∷ []) * n
 next_number next n first flags b is =
     let one : length (flags ++ b ∷ []) ≡ length flags + 1 = length-append flags (b ∷ []) in
@@ -63,5 +66,6 @@ module _ (batches : List Writes) (n first : ℕ) (flags : List Bool) (a b : Seat
         said_is = refl;
       }))
 
+-- where the next number is beyond the changes all of the worker's were tried
 pub all_changes : (batches : List Writes) (n first next : ℕ) (flags : List Bool) (a b : SeatOf) → Gains (AreTried batches n first flags) a b → next ≡ first + length flags * n → length batches ≤ next → Gains (AreAllTried batches n first flags) a b
 all_changes batches n first next flags a b g is all = gains_as a b (λ said t. record { tried = t; all = subst (λ k. length batches ≤ k) is all }) g

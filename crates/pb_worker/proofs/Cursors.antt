@@ -65,6 +65,7 @@ pub record IsAlong (journal : List Entry) (i : ℕ) (seat : SeatOf) (n : ℕ) : 
   pub within : n ≤ length seat.received
   pub rests : (entries_of seat.number journal ≡ seat.received) ↔ (entries_of seat.number (drop i journal) ≡ drop n seat.received)
 
+-- and in each list
 abbrev pub AreAlong : List Entry → ℕ → List SeatOf → List ℕ → Type 0
 AreAlong journal i seats cursors = (k : ℕ) (d : SeatOf) → k < length seats → IsAlong journal i (slice_index_or seats k d) (slice_index_or cursors k 0)
 
@@ -74,6 +75,7 @@ zero_at n k = elim (cases_lt k n) [
   | inr le ↦ get_or_past (replicate n zero) k zero (omega (arith, le, length-replicate n zero))
 ]
 
+-- at first every cursor is at the beginning of its list, and the pass at that of the journal
 pub at_first : (j : List Entry) (seats : List SeatOf) (n : ℕ) → AreAlong j 0 seats (replicate n zero)
 at_first j seats n k d lt = subst (λ c. IsAlong j 0 (slice_index_or seats k d) c) (sym (zero_at n k)) (record { within = omega arith; rests = (λ h. h, λ h. h) })
 

@@ -44,14 +44,17 @@ not_both false p q = cc
 
 -- ---- answers and steps in a list
 
+-- a commit stands in one part of a list or in the other
 pub commit_in : (xs ys : List Received) → has_commit (xs ++ ys) ≡ (has_commit xs || has_commit ys)
 commit_in [] ys = refl
 commit_in (x ∷ xs) ys = ap (λ b. is_commit x.answer || b) (commit_in xs ys) ∙ or_assoc (is_commit x.answer) (has_commit xs) (has_commit ys)
 
+-- it clears a cell, as a transaction does only where it failed
 abbrev is_clear : Step → Bool
 is_clear (Clear x) = true
 is_clear _ = false
 
+-- something was cleared
 abbrev has_clear : List Received → Bool
 has_clear [] = false
 has_clear (r ∷ rs) = is_clear r.step || has_clear rs
@@ -60,10 +63,12 @@ clear_in : (xs ys : List Received) → has_clear (xs ++ ys) ≡ (has_clear xs ||
 clear_in [] ys = refl
 clear_in (x ∷ xs) ys = ap (λ b. is_clear x.step || b) (clear_in xs ys) ∙ or_assoc (is_clear x.step) (has_clear xs) (has_clear ys)
 
+-- prewrites commit nothing
 no_prewrite : (s : Ts) (xs : List Cell) → has_commit (prewrites s xs) ≡ false
 no_prewrite s [] = refl
 no_prewrite s (x ∷ xs) = no_prewrite s xs
 
+-- nor do they clear
 prewrites_clear : (s : Ts) (xs : List Cell) → has_clear (prewrites s xs) ≡ false
 prewrites_clear s [] = refl
 prewrites_clear s (x ∷ xs) = prewrites_clear s xs
@@ -75,6 +80,7 @@ secondaries_clear s (x ∷ xs) = secondaries_clear s xs
 none_after : (s : Ts) (xs : List Cell) (ys : List Received) → has_commit ys ≡ false → has_commit (prewrites s xs ++ ys) ≡ false
 none_after s xs ys none = commit_in (prewrites s xs) ys ∙ both_false (has_commit (prewrites s xs)) (has_commit ys) (no_prewrite s xs) none
 
+-- to clear a lock forward is no commit of one's own
 clear_answer : (x : Cell) (a : Answer) → CanAnswer (Clear x) a → is_commit a ≡ false
 clear_answer x answers.Absent can = refl
 clear_answer x answers.Waits can = refl
@@ -88,6 +94,7 @@ settle_answer x (answers.Locked start primary) can = refl
 settle_answer x answers.RolledBack can = refl
 settle_answer x _ can = absurd can
 
+-- what is cleared commits nothing
 cleared : (xs : List Cell) (rs : List Received) → AreCleared xs rs → has_commit rs ≡ false
 cleared [] rs c = rw c refl
 cleared (x ∷ xs) [] c = absurd c
@@ -123,6 +130,7 @@ by_form s what cells said o (lost x others c cs k) = inl (uncommitted s what _ _
 
 -- ---- at a place
 
+-- it was declared, stamped and committed
 abbrev Commits : Ts → Declared → List Received → Type 0
 Commits s what rest = (c : Ts) × Has rest (told (Declare s what) Done) × Has rest (told (Stamp s) (At c)) × Has rest (told (CommitPrimary s) Committed)
 
@@ -131,6 +139,7 @@ paid s what xs c more =
     let rest = told (Stamp s) (At c) ∷ told (CommitPrimary s) Committed ∷ more in
     (c, inl refl, inr (has_right (prewrites s xs) rest (told (Stamp s) (At c)) (inl refl)), inr (has_right (prewrites s xs) rest (told (CommitPrimary s) Committed) (inr (inl refl))))
 
+-- a whole conversation with a commit in it is that of a committed transaction
 whole_commits : (s : Ts) (what : Declared) (cells : List Cell) (said : List Received) (o : Outcome) → IsWhole s what cells said o → has_commit said ≡ true → Commits s what said
 whole_commits s what cells said o (committed x others c) e = paid s what (x ∷ others) c (secondaries s others)
 whole_commits s what cells said o (conflicted_first x after) e = cc
@@ -173,6 +182,7 @@ module _ (s : Ts) (what : Declared) (x : Cell) (others : List Cell) where
   at_place p all (clearing o done y left more said cs at c ends) e = absurd (clearing_none o done y left said cs c ends e)
   at_place p said (over o said' w) e = whole_commits s what (x ∷ others) said o w e
 
+-- a change in which a commit was said is committed, wherever it stands
 of_begun : (batch : Writes) (r : Received) (rest : List Received) (q : ChangeOf) → batch ≢ [] → HasBegun batch r rest q → has_commit (r ∷ rest) ≡ true → (start : Ts) × HasCommitted batch start (r ∷ rest)
 of_begun [] r rest q some b e = absurd (some refl)
 of_begun (w ∷ ws) r rest q some b e =
@@ -183,6 +193,7 @@ of_begun (w ∷ ws) r rest q some b e =
     let k = at_place s (declared.Script batch) w.0 _ b.plan.place rest so first in
     (s, record { commit = k.0; begun = inl b.first; declared = inr k.1; stamped = inr k.2; committed = inr k.3 })
 
+-- so a try that was cut off behind its commit has committed its change
 pub cut_commits : (batch : Writes) (part : List Received) (q : ChangeOf) → batch ≢ [] → Talks (new_change batch) part q → has_commit part ≡ true → (start : Ts) × HasCommitted batch start part
 cut_commits batch [] q some t e = cc
 cut_commits batch (r ∷ rest) q some t e = of_begun batch r rest q some (has_begun batch r rest q t) e

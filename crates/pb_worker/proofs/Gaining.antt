@@ -15,12 +15,15 @@ pub append_nil : {A : Type 0} (xs : List A) → xs ++ [] ≡ xs
 append_nil [] = refl
 append_nil (x ∷ xs) = ap (λ l. x ∷ l) (append_nil xs)
 
+-- a seat that was told nothing has gained nothing
 pub gains_none : {P : List Received → Type 0} (a : SeatOf) → P [] → Gains P a a
 gains_none a is = record { said = []; number = refl; received = sym (append_nil a.received); are_such = is }
 
+-- what was gained may be said in other words
 pub gains_as : {P R : List Received → Type 0} (a b : SeatOf) → ((said : List Received) → P said → R said) → Gains P a b → Gains R a b
 gains_as a b h g = record { said = g.said; number = g.number; received = g.received; are_such = h g.said g.are_such }
 
+-- one part, and then another
 pub gains_on : {P Q R : List Received → Type 0} (a b c : SeatOf) → Gains P a b → Gains Q b c → ((said more : List Received) → P said → Q more → R (said ++ more)) → Gains R a c
 gains_on a b c g h join = record {
   said = g.said ++ h.said;
@@ -29,6 +32,7 @@ gains_on a b c g h join = record {
   are_such = join g.said h.said g.are_such h.are_such;
 }
 
+-- one answer more
 pub gains_more : {P R : List Received → Type 0} (a b c : SeatOf) (step : Step) (answer : Answer) → Gains P a b → Told b step answer c → ((said : List Received) → P said → R (said ++ told step answer ∷ [])) → Gains R a c
 gains_more a b c step answer g t join = record {
   said = g.said ++ told step answer ∷ [];

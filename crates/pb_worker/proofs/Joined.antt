@@ -13,6 +13,7 @@ use Rattle.pb_worker.specs.Gains.{Gains}
 use Rattle.pb_worker.specs.Swaps.{Spare}
 use Rattle.pb_worker.specs.Work.{IsWork, IsLastDrain, AllWork, WorkedOn, AreFilled, seats_in, refusals_in, done_in, flags_in, is_done, undone_below}
 
+-- all seats of a table, in order, have their places as numbers
 pub numbered : (from : ℕ) (journal : List Entry) (seats : List SeatOf) → AreSeatsFrom from journal seats → (k : ℕ) (d : SeatOf) → k < length seats → (slice_index_or seats k d).number ≡ from + k
 numbered from j [] a k d lt = absurd (omega (arith, lt))
 numbered from j (s ∷ ss) a zero d lt = a.0 ∙ omega arith

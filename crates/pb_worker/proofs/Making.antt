@@ -46,10 +46,12 @@ undone_at done k i true s e lt more false d = has_right (undone_below done k) (k
 undone_at done k i false s e lt more true d = let apart : i ≢ k = eqb-false i k s in more (omega (arith, lt, apart))
 undone_at done k i false s e lt more false d = let apart : i ≢ k = eqb-false i k s in has_left (undone_below done k) (k ∷ []) i (more (omega (arith, lt, apart)))
 
+-- a change of which no try committed is named
 has_undone : (done : ℕ → Bool) (n i : ℕ) → i < n → done i ≡ false → Has (undone_below done n) i
 has_undone done zero i lt e = absurd (omega (arith, lt))
 has_undone done (suc k) i lt e = undone_at done k i (eqb i k) refl e lt (λ less. has_undone done k i less e) (done k) refl
 
+-- so of one that isn't named a try committed
 flag_of : (done : ℕ → Bool) (n i : ℕ) (unfinished : List ℕ) → unfinished ≡ undone_below done n → i < n → (Has unfinished i → ⊥) → done i ≡ true
 flag_of done n i unfinished is lt not = by (done i) refl
   where
@@ -61,6 +63,7 @@ undone_in : (done : ℕ → Bool) (k i : ℕ) → (Has (undone_below done k) i �
 undone_in done k i more true d h = more h
 undone_in done k i more false d h = elim (has_which (undone_below done k) (k ∷ []) i h) [ inl g ↦ more g | inr g ↦ elim g [ inl same ↦ ap done (sym same) ∙ d | inr none ↦ absurd none ] ]
 
+-- and of one that is named none did
 not_done : (done : ℕ → Bool) (n i : ℕ) → Has (undone_below done n) i → done i ≡ false
 not_done done zero i h = absurd h
 not_done done (suc k) i h = undone_in done k i (not_done done k i) (done k) refl h
@@ -244,6 +247,7 @@ module _ (observers : List ObserverOf) (batches : List Writes) (spares : List Sp
       let joined : j % n + j / n * n ≡ i % n + i / n * n = λ k. worker k + sym place k * n in
       sym left ∙ sym joined ∙ right
 
+-- a change's start is the one that its worker's list tells, and no other script's transaction is committed
 pub changes_are_made : TransactionsAreTold → ChangesAreMade
 changes_are_made tell observers batches spares olds news refusals unfinished before table empty are some w legal agree =
     let tells = tell table.state.observers table.state.seats table.opened table.journal table.state legal in

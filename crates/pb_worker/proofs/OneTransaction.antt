@@ -54,11 +54,13 @@ and_first s r rs one more = record { each = by }
 only_one : (s : Ts) (r : Received) → IsNoOther s r.step → CommitNoOther s (r ∷ [])
 only_one s r one = and_first s r [] one (nothing s)
 
+-- neither part commits another, nor do both
 both : (s : Ts) (xs ys : List Received) → CommitNoOther s xs → CommitNoOther s ys → CommitNoOther s (xs ++ ys)
 both s xs ys h k = record { each = λ r has. elim (has_which xs ys r has) [ inl a ↦ h.each r a | inr b ↦ k.each r b ] }
 
 -- ---- a whole conversation of a transaction
 
+-- prewrites commit none
 prewrites_none : (s : Ts) (xs : List Cell) → CommitNoOther s (prewrites s xs)
 prewrites_none s [] = nothing s
 prewrites_none s (x ∷ xs) = and_first s (told (Prewrite s x) Done) (prewrites s xs) (λ u e. cc) (prewrites_none s xs)
@@ -70,11 +72,13 @@ secondaries_none s (x ∷ xs) = and_first s (told (CommitSecondary s x) Done) (s
 clear_none : (s : Ts) (x : Cell) → IsNoOther s (Clear x)
 clear_none s x u e = cc
 
+-- to clear what was prewritten commits none
 cleared_none : (s : Ts) (xs : List Cell) (rs : List Received) → AreCleared xs rs → CommitNoOther s rs
 cleared_none s [] rs c = subst (CommitNoOther s) (sym c) (nothing s)
 cleared_none s (x ∷ xs) [] c = absurd c
 cleared_none s (x ∷ xs) (r ∷ rs) c = and_first s r rs (subst (IsNoOther s) (sym c.0) (clear_none s x)) (cleared_none s xs rs c.2)
 
+-- a transaction's conversation commits none but its own
 whole_own : (s : Ts) (what : Declared) (cells : List Cell) (said : List Received) (o : Outcome) → IsWhole s what cells said o → CommitNoOther s said
 whole_own s what cells said o (committed x others c) =
     let after = and_first s (told (Stamp s) (At c)) (told (CommitPrimary s) Committed ∷ secondaries s others) (λ u e. cc) (and_first s (told (CommitPrimary s) Committed) (secondaries s others) (λ u e. cc) (secondaries_none s others)) in
@@ -102,6 +106,7 @@ goes_on work s said more i m = record { rest = i.rest ++ more; said_is = ap (λ 
 begins : (work : Work) (s : Ts) → IsOneTransaction work s (told (Begin work) (At s) ∷ [])
 begins work s = record { rest = []; said_is = refl; own = only_one s (told (Begin work) (At s)) (λ u e. cc) }
 
+-- a change begins one transaction, and commits no other
 pub of_change : (batch : Writes) (start : Ts) (said : List Received) (o : Outcome) → IsWholeChange batch start said o → IsOneTransaction works.Script start said
 of_change batch start said o w = record {
   rest = w.rest;
@@ -111,10 +116,12 @@ of_change batch start said o w = record {
 
 -- ---- a run
 
+-- a read commits none
 read_none : (s t : Ts) (x : Cell) (at : Option Ts) → IsNoOther s (read_step t x at)
 read_none s t x None u e = cc
 read_none s t x (Some v) u e = cc
 
+-- nor does what clears a lock that a read met
 round_none : (s : Ts) (x : Cell) (at : Option Ts) (round : List Received) → IsRound s x at round → CommitNoOther s round
 round_none s x at round (cleared t primary a can goes) =
     and_first s (told (read_step s x at) (Locked t primary)) (told (Clear x) a ∷ []) (read_none s s x at) (only_one s (told (Clear x) a) (λ u e. cc))
@@ -158,6 +165,7 @@ module _ (o : ℕ) (row : Row) (column : ℕ) (s : Ts) where
   swept : (x : Cell) (w : Answer) → CommitNoOther s (told (Sweep x) w ∷ [])
   swept x w = only_one s (told (Sweep x) w) (λ u e. cc)
 
+-- a run begins one transaction, and commits no other, however many locks it clears
 pub of_run : (o : ℕ) (judged : JudgedOf) (row : Row) (column : ℕ) (said : List Received) (end : JobEnd) (run : Option Meant) → IsRunTalk o judged row column said end run → (s : Ts) × IsOneTransaction (works.Run o row) s said
 of_run o judged row column all end run (absent s n said a w look none few can) =
     (s, goes_on (works.Run o row) s said (told (Sweep (Data row column)) w ∷ []) (with_look o row column s (Data row column) None 0 (its_begin o row s) n said a look (begins (works.Run o row) s)) (swept o row column s (Data row column) w))

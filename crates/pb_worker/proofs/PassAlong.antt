@@ -20,6 +20,7 @@ use Rattle.pb_worker.proofs.Gaining.{append_assoc, gains_none, gains_more, gains
 
 -- ---- the observers of a cell, one after another
 
+-- before the first observer nothing was said
 pub no_runs : (observers : List ObserverOf) (x : Cell) (a : SeatOf) → Gains (AreRuns observers x 0) a a
 no_runs observers x a = gains_none a before_all
 
@@ -35,6 +36,7 @@ module _ (observers : List ObserverOf) (x : Cell) (i : ℕ) (a b : SeatOf) (runs
 
 -- ---- from mark to mark
 
+-- an answer that tells no cell tells that there is no mark
 pub no_mark : (after : Option Cell) (a : Answer) → CanAnswer (NextMark after) a → ((x : Cell) → a ≢ Marked x) → a ≡ NoMark
 no_mark after NoMark can isnt = refl
 no_mark after (Marked x) can isnt = absurd (isnt x refl)
@@ -46,6 +48,7 @@ record Found (observers : List ObserverOf) (last : Option Cell) (x : Cell) (said
   pub walk : IsWalk observers before last
   pub said_is : said ≡ before ++ told (NextMark last) (Marked x) ∷ []
 
+-- a pass begins before all cells
 pub no_walk : (observers : List ObserverOf) (a : SeatOf) → Gains (λ said. IsWalk observers said None) a a
 no_walk observers a = gains_none a at_beginning
 
@@ -76,6 +79,7 @@ module _ (observers : List ObserverOf) (last : Option Cell) (a b : SeatOf) (walk
 
 -- ---- pass after pass
 
+-- before the first pass nothing was said
 pub no_passes : (observers : List ObserverOf) (a : SeatOf) → Gains (ArePasses observers 0) a a
 no_passes observers a = gains_none a at_first
 

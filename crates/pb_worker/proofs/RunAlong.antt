@@ -23,17 +23,20 @@ use Rattle.pb_worker.proofs.Gaining.{gains_none, gains_more, gains_as}
 
 -- ---- its machine
 
+-- its machine's instructions take a run further, and say nothing
 pub reaches_on : (j k : RunOf) → ComputesOn j k → ReachesOn j k
 reaches_on j k at_first first said h = h
 reaches_on j k (one_more l m on is_next last) first said h = computed said l m (reaches_on j l on first said h) is_next last
 
 -- ---- its steps
 
+-- what the seat gained led the run to where it stands
 pub record IsAlong (observers : List ObserverOf) (n : ℕ) (x : Cell) (a b : SeatOf) (job : RunOf) : Type 0 where
   pub o : ObserverOf
   pub observer : IsObserverOf observers n x o
   pub gains : Gains (λ said. Reaches (job_on n o x) said job) a b
 
+-- a run begins with a call, and not in its machine
 begins : (n : ℕ) (o : ObserverOf) (x : Cell) → need_of (job_on n o x) ≢ Local
 begins n o x e = cc
 
@@ -45,6 +48,7 @@ job_is observers n x job known is =
     let same : is.o ≡ known.0 = same_some is.o known.0 (sym is.there ∙ known.1.there) in
     is.job_is ∙ ap (λ p. job_on n p x) same
 
+-- before its first step the seat has gained nothing
 pub first : (observers : List ObserverOf) (n : ℕ) (x : Cell) (a : SeatOf) (job : RunOf) → HasColumn observers n x → IsJobOn observers n x job → IsAlong observers n x a a job
 first observers n x a job known is = record {
   o = known.0;

@@ -38,9 +38,11 @@ run_left xs ys u b = record { o = b.o; row = b.row; begun = has_left xs ys _ b.b
 pub run_right : (xs ys : List Received) (u : Ts) → HasBegunRun ys u → HasBegunRun (xs ++ ys) u
 run_right xs ys u b = record { o = b.o; row = b.row; begun = has_right xs ys _ b.begun }
 
+-- where nothing was said nothing is committed
 nothing : CommitRuns []
 nothing = record { each = λ u h. absurd h }
 
+-- what holds of two parts holds of both
 both : (xs ys : List Received) → CommitRuns xs → CommitRuns ys → CommitRuns (xs ++ ys)
 both xs ys h k = record { each = λ u has. elim (has_which xs ys (commit_of u) has) [ inl a ↦ run_left xs ys u (h.each u a) | inr b ↦ run_right xs ys u (k.each u b) ] }
 
@@ -56,6 +58,7 @@ and_first r rs other more = record { each = by }
 heads : (x y : Received) (xs ys : List Received) → x ∷ xs ≡ y ∷ ys → x ≡ y
 heads x y xs ys e = cc
 
+-- the beginning of a run's conversation commits that run alone, which begins first
 of_beginning : (o : ℕ) (row : Row) (s : Ts) (said rest : List Received) → IsOneTransaction (works.Run o row) s (said ++ rest) → CommitRuns said
 of_beginning o row s [] rest i = nothing
 of_beginning o row s (r ∷ said) rest i = record {
@@ -65,11 +68,13 @@ of_beginning o row s (r ∷ said) rest i = record {
       record { o = o; row = row; begun = inl (first ∙ ap (λ (z : Ts). told (Begin (works.Run o row)) (At z)) (sym own)) };
 }
 
+-- so a whole run
 run_commits : (observers : List ObserverOf) (n : ℕ) (x : Cell) (said : List Received) → IsRun observers n x said → CommitRuns said
 run_commits observers n x said r =
     let k = of_run n r.o.program (row_of x) r.o.column said r.end r.run r.talk in
     of_beginning n (row_of x) k.0 said [] (subst (IsOneTransaction (works.Run n (row_of x)) k.0) (sym (append_nil said)) k.1)
 
+-- and one that was left
 run_stopped : (seat : ℕ) (observers : List ObserverOf) (i : ℕ) (x : Cell) (r : Refusal) (said : List Received) → RunStops seat observers i x r said → CommitRuns said
 run_stopped seat observers i x r said s =
     let b = s.begins in
@@ -86,6 +91,7 @@ of_runs observers x m all (passes_by n said h other) = of_runs observers x n sai
 with_mark : (after : Option Cell) (x : Cell) (more : List Received) → CommitRuns more → CommitRuns (told (NextMark after) (Marked x) ∷ more)
 with_mark after x more h = and_first (told (NextMark after) (Marked x)) more (λ u e. cc) h
 
+-- between the marks there are only runs, and to ask for a mark commits nothing
 of_walk : (observers : List ObserverOf) (said : List Received) (last : Option Cell) → IsWalk observers said last → CommitRuns said
 of_walk observers said last at_beginning = nothing
 of_walk observers all last (found said after x more h r) =
@@ -100,6 +106,7 @@ of_passes : (observers : List ObserverOf) (n : ℕ) (said : List Received) → A
 of_passes observers n said at_first = nothing
 of_passes observers m all (one_more n said more x h p) = both said more (of_passes observers n said h) (of_pass observers (Some x) more p)
 
+-- so in all passes
 pub of_drain : (observers : List ObserverOf) (said : List Received) → IsDrain observers said → CommitRuns said
 of_drain observers said d =
     subst CommitRuns (sym d.said_is) (both d.before d.rest (of_passes observers d.count d.before d.passes) (elim d.ends [ inl p ↦ of_pass observers None d.rest p.1 | inr p ↦ subst CommitRuns (sym p.1) nothing ]))
@@ -123,5 +130,6 @@ of_drain_to : (seat : ℕ) (observers : List ObserverOf) (r : Option Refusal) (s
 of_drain_to seat observers None said d = of_drain observers said d
 of_drain_to seat observers (Some r) said d = of_drain_stop seat observers r said d
 
+-- so the main seat commits no script's transaction
 pub of_last_drain : (spares : List Spare) (seat : ℕ) (observers : List ObserverOf) (r : Option Refusal) (said : List Received) → IsLastDrain spares seat observers r said → CommitRuns said
 of_last_drain spares seat observers r said d = of_drain_to seat observers d.drained said d.drain

@@ -33,6 +33,7 @@ twice_kept : {A : Type 0} (b : Bool) (x : A) (xs : List A) (y : A) → HasTwice 
 twice_kept true x xs y t = inr t
 twice_kept false x xs y t = t
 
+-- an item that passes the test is one of those that do
 has_filtered : {A : Type 0} (p : A → Bool) (xs : List A) (x : A) → p x ≡ true → Has xs x → Has (filter p xs) x
 has_filtered p [] x is h = absurd h
 has_filtered p (y ∷ xs) x is (inl e) = subst (λ b. Has (cond b (y ∷ filter p xs) (filter p xs)) x) (sym (ap p e ∙ is)) (inl e)
@@ -67,10 +68,12 @@ has_entry true seat e es r own (inl is) more = inl (is_entry seat e r own is)
 has_entry true seat e es r own (inr h) more = inr (more h)
 has_entry false seat e es r own h more = inr (more h)
 
+-- what a seat's entries tell stands in the journal
 pub in_journal : (seat : ℕ) (j : List Entry) (r : Received) → Has (entries_of seat j) r → IsEntry j seat r.step r.answer
 in_journal seat [] r h = absurd h
 in_journal seat (e ∷ es) r h = has_entry (e.seat == seat) seat e es r refl h (in_journal seat es r)
 
+-- and what stands there of a seat is told by its entries
 pub in_list : (seat : ℕ) (j : List Entry) (r : Received) → IsEntry j seat r.step r.answer → Has (entries_of seat j) r
 in_list seat [] r h = absurd h
 in_list seat (e ∷ es) r (inl is) =
@@ -101,12 +104,14 @@ none_later (d ∷ es) e none is (inl same) =
     not_both (is_begin d.step) (ap (λ (z : Entry). is_begin z.step) same ∙ is) (left_false (is_begin d.step) any none)
 none_later (d ∷ es) e none is (inr h) = none_later es e (right_false (is_begin d.step) (list_any (λ (d : Entry). is_begin d.step) es) none) is h
 
+-- of the entries that name one start one is a begin
 one_begin : (es : List Entry) (d e : Entry) → BeginsOnce es → is_begin d.step ≡ true → is_begin e.step ≡ true → Has es d → Has es e → d ≡ e
 one_begin [] d e once p q h k = absurd h
 one_begin (x ∷ es) d e once p q (inl h) (inl k) = sym h ∙ k
 one_begin (x ∷ es) d e once p q (inl h) (inr k) = absurd (none_later es e once.1 q k)
 one_begin (x ∷ es) d e once p q (inr h) k = absurd (none_later es d once.1 p h)
 
+-- and it stands there once
 not_again : (es : List Entry) (e : Entry) → BeginsOnce es → is_begin e.step ≡ true → HasTwice es e → ⊥
 not_again [] e once is t = t
 not_again (x ∷ es) e once is (inl t) = none_later es e once.1 is t.1
@@ -144,10 +149,12 @@ second_reason false false p q rest e = cc
 has_seat : (state : StateOf) (seat : ℕ) (work : Work) → step_reason state seat (Begin work) ≡ None → seat < state.seats
 has_seat state seat work e = ltb-true seat state.seats (second_reason (is_out state) (nat_lt seat state.seats) OutOfTimestamps NotOfSeat _ e)
 
+-- no step changes how many seats there are
 seats_stay : (old : StateOf) (es : List Entry) (new : StateOf) → JournalLeads old es new → new.seats ≡ old.seats
 seats_stay old [] new r = ap (λ (z : StateOf). z.seats) r
 seats_stay old (e ∷ es) new r = seats_stay r.0 es new r.2 ∙ machine_seats old e.seat e.step e.answer r.0 r.1
 
+-- who began a transaction is a seat of the table
 pub begun_by_seat : (old : StateOf) (es : List Entry) (new : StateOf) (seat : ℕ) (work : Work) (u : Ts) → JournalLeads old es new → IsEntry es seat (Begin work) (At u) → seat < new.seats
 begun_by_seat old [] new seat work u r h = absurd h
 begun_by_seat old (e ∷ es) new seat work u r (inl is) =

@@ -21,6 +21,7 @@ use Rattle.pb_worker.proofs.TryCommits.{TellsCommit, of_tries, of_cut}
 
 -- ---- twice in a list
 
+-- at two places of the list there is this
 abbrev pub HasTwice : {A : Type 0} → List A → A → Type 0
 HasTwice [] x = ⊥
 HasTwice (y ∷ ys) x = ((y ≡ x) × Has ys x) ⊎ HasTwice ys x
@@ -30,6 +31,7 @@ twice_left [] ys x t = absurd t
 twice_left (y ∷ xs) ys x (inl h) = inl (h.0, has_left xs ys x h.1)
 twice_left (y ∷ xs) ys x (inr t) = inr (twice_left xs ys x t)
 
+-- what stands in both parts stands there twice
 twice_across : {A : Type 0} (xs ys : List A) (x : A) → Has xs x → Has ys x → HasTwice (xs ++ ys) x
 twice_across [] ys x h k = absurd h
 twice_across (y ∷ xs) ys x (inl e) k = inl (e, has_right xs ys x k)
@@ -53,6 +55,7 @@ flag_last : (done : List Bool) (b : Bool) → slice_index_or (done ++ b ∷ []) 
 flag_last [] b = refl
 flag_last (d ∷ ds) b = flag_last ds b
 
+-- a change that was done is an earlier one or the last
 which_flag : (done : List Bool) (b : Bool) (j : ℕ) → slice_index_or (done ++ b ∷ []) j false ≡ true → (slice_index_or done j false ≡ true) ⊎ ((j ≡ length done) × (b ≡ true))
 which_flag [] b zero e = inr (refl, e)
 which_flag [] b (suc j) e = inl e
@@ -61,6 +64,7 @@ which_flag (d ∷ ds) b (suc j) e = elim (which_flag ds b j e) [ inl h ↦ inl h
 
 -- ---- starts
 
+-- the worker's change of this place, counted from its first, was committed at this start
 pub record HasMade (batches : List Writes) (n first j : ℕ) (said : List Received) (start : Ts) : Type 0 where
   pub batch : Writes
   pub at : slice_get batches (first + j * n) ≡ Some batch

@@ -7,6 +7,7 @@ use Rattle.pb_base.specs.declared.refusal.Refusal.{Refusal}
 use Rattle.pb_store.specs.Contents.{Contents}
 use Rattle.pb_worker.specs.Swaps.{Spare, spares_of, IsSwapped, AreSwapped}
 
+-- it was taken
 abbrev IsTaken : Spare → Type 0
 IsTaken s = IsSwapped s None
 
@@ -29,6 +30,7 @@ pub record IsOnTheWay {T : Type 0} (c : T → Contents) (all waiting : List (ℕ
   pub all_are : all ≡ before ++ reverse waiting
   pub swapped : AreSwapped (spares_of c before) first
 
+-- the last one that waits is swapped in next, since the list was turned round
 pub next : {T : Type 0} (c : T → Contents) (all waiting rest : List (ℕ × T)) (x : ℕ × T) (first refused : Option Refusal) → waiting ≡ rest ++ x ∷ [] → IsOnTheWay c all waiting first → IsSwapped (x.0, c x.1) refused → IsOnTheWay c all rest (option_or first refused)
 next {T} c all waiting rest x first refused is w s = record {
   before = w.before ++ x ∷ [];

@@ -26,6 +26,7 @@ pub record HasSaid (batch : Writes) (job : ChangeOf) (committed : Bool) (said : 
   pub talks : Talks (new_change batch) said job
   pub told : committed ≡ has_commit said
 
+-- what the seat gained led the change to where it stands
 abbrev pub IsAlong : Writes → SeatOf → SeatOf → ChangeOf → Bool → Type 0
 IsAlong batch a b job committed = Gains (HasSaid batch job committed) a b
 
@@ -37,10 +38,12 @@ or_false : (a : Bool) → (a || false) ≡ a
 or_false true = refl
 or_false false = refl
 
+-- one answer more tells a commit or doesn't
 commit_on : (said : List Received) (r : Received) → has_commit (said ++ r ∷ []) ≡ (has_commit said || is_commit r.answer)
 commit_on [] r = or_false (is_commit r.answer)
 commit_on (s ∷ ss) r = ap (λ b. is_commit s.answer || b) (commit_on ss r) ∙ or_assoc (is_commit s.answer) (has_commit ss) (is_commit r.answer)
 
+-- one answer more leads a change on
 talk_on : (p : ChangeOf) (said : List Received) (q : ChangeOf) (step : Step) (a : Answer) → Talks p said q → next_of q ≡ Some step → CanAnswer step a → Talks p (said ++ told step a ∷ []) (answered q a)
 talk_on p [] q step a t e can = (ap next_of (sym t) ∙ e, can, ap (λ (z : ChangeOf). answered z a) t)
 talk_on p (r ∷ rs) q step a t e can = (t.0, t.1, talk_on (answered p r.answer) rs q step a t.2 e can)
@@ -48,6 +51,7 @@ talk_on p (r ∷ rs) q step a t e can = (t.0, t.1, talk_on (answered p r.answer)
 pub some_cells : (batch : Writes) (n : ℕ) → n ≡ length batch → 0 < n → batch ≢ []
 some_cells batch n is some e = let none : length batch ≡ 0 = ap length e in omega (arith, is, some, none)
 
+-- before its first step nothing was said, and nothing is committed
 pub first : (batch : Writes) (a : SeatOf) (job : ChangeOf) → job ≡ new_change batch → IsAlong batch a a job false
 first batch a job is = gains_none a (record { talks = is; told = refl })
 
@@ -88,6 +92,7 @@ ended_by (w ∷ ws) r rest q some stop end t e b =
       ended = sym (ap committed_in (ap outcome_of b.q_is ∙ over.1));
     }
 
+-- at its end a change is a whole try, which committed where its outcome says so
 pub ended : (batch : Writes) (said : List Received) (q : ChangeOf) → batch ≢ [] → PlansStop → ChangesEnd → Talks (new_change batch) said q → next_of q ≡ None → IsTry batch (committed_in (outcome_of q)) said
 ended batch [] q some stop end t e = absurd (no_step (Begin works.Script) (ap next_of (sym t) ∙ e))
 ended batch (r ∷ rest) q some stop end t e = ended_by batch r rest q some stop end t e (has_begun batch r rest q t)

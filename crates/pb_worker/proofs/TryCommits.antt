@@ -22,6 +22,7 @@ use Rattle.pb_worker.proofs.OneTransaction.{of_change}
 
 -- ---- where nothing was committed
 
+-- where a transaction is committed a commit was said
 has_committed : (said : List Received) (u : Ts) → Has said (commit_of u) → has_commit said ≡ true
 has_committed [] u h = absurd h
 has_committed (r ∷ rs) u (inl e) = ap (λ (z : Received). is_commit z.answer || has_commit rs) e
@@ -30,17 +31,20 @@ has_committed (r ∷ rs) u (inr h) = true_right (is_commit r.answer) (has_commit
 has_none : (said : List Received) (u : Ts) → has_commit said ≡ false → Has said (commit_of u) → ⊥
 has_none said u none h = not_both (has_commit said) (has_committed said u h) none
 
+-- in a try in vain none was said
 try_in_vain : (batch : Writes) (said : List Received) → IsTry batch false said → has_commit said ≡ false
 try_in_vain batch said t =
     let rest : has_commit t.whole.rest ≡ false = uncommitted t.start (declared.Script batch) (declared_cells (declared.Script batch)) t.whole.rest t.outcome t.ended t.whole.whole in
     ap has_commit t.whole.said_is ∙ rest
 
+-- nor in several
 tries_in_vain : (batch : Writes) (n : ℕ) (said : List Received) → AreVain batch n said → has_commit said ≡ false
 tries_in_vain batch n said at_first = refl
 tries_in_vain batch m all (one_more n said more before t) = commit_in said more ∙ both_false (has_commit said) (has_commit more) (tries_in_vain batch n said before) (try_in_vain batch more t)
 
 -- ---- a committed try
 
+-- of the forms of a conversation only one commits, and it says all that a commit takes
 by_form : (batch : Writes) (start : Ts) (cells : List Cell) (rest : List Received) (o : Outcome) → is_committed o ≡ true → IsWhole start (declared.Script batch) cells rest o
     → (c : Ts) × Has rest (told (Declare start (declared.Script batch)) Done) × Has rest (told (Stamp start) (At c)) × Has rest (commit_of start)
 by_form batch start cells rest o is (committed x others c) = (
@@ -73,6 +77,7 @@ module _ (batch : Writes) (n : ℕ) (vain part said : List Received) (tries : Ar
   only_in_part : (u : Ts) → Has said (commit_of u) → Has part (commit_of u)
   only_in_part u h = elim (has_which vain part (commit_of u) (subst (λ l. Has l (commit_of u)) is h)) [ inl k ↦ absurd (has_none vain u (tries_in_vain batch n vain tries) k) | inr k ↦ k ]
 
+-- of the tries of a change that is done only the last committed
 of_done : (batch : Writes) (said : List Received) → IsDone batch said → (start : Ts) × TellsCommit batch true start said
 of_done batch said d =
     let t = d.commits in
@@ -84,12 +89,14 @@ of_done batch said d =
       },
     )
 
+-- so all tries of a change tell one start, or none is committed
 pub of_tries : (batch : Writes) (is : Bool) (said : List Received) → AreTries batch is said → (start : Ts) × TellsCommit batch is start said
 of_tries batch true said d = of_done batch said d
 of_tries batch false said v = (record { 0 = 0 }, record { made = λ e. cc; only = λ u h. absurd (has_none said u (tries_in_vain batch _ said v) h) })
 
 -- ---- a change that was left in a try
 
+-- and so do those of a change that was left
 pub of_cut : (seat : ℕ) (batch : Writes) (is : Bool) (r : Refusal) (said : List Received) → batch ≢ [] → TriesStop seat batch is r said → (start : Ts) × TellsCommit batch is start said
 of_cut seat batch is r said some t =
     let s = t.stops in

@@ -27,6 +27,7 @@ tails x y xs ys e = cc
 goes_on : (list : List Received) (n : ℕ) (r : Received) → slice_get list n ≡ Some r → drop n list ≡ r ∷ drop (n + 1) list
 goes_on list n r is = drop_more list n r (slice_get_within list n r is) ∙ ap (λ x. x ∷ drop (n + 1) list) (get_or_from_slice_get list n r r is)
 
+-- the item at the cursor is the first of what is left
 first_of : (list : List Received) (n : ℕ) (r : Received) (rest : List Received) → drop n list ≡ r ∷ rest → slice_get list n ≡ Some r
 first_of list n r rest is =
     let left : length list - n ≡ suc (length rest) = sym (length-drop n list) ∙ ap length is in

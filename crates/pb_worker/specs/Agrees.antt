@@ -1,4 +1,4 @@
--- When the seats agree with the journal.
+-- When the seats agree with the journal. The contract of `finish` cites it, which accepts exactly then.
 use Rattle.std.specs.Prelude.{◌≡◌, ℕ, ◌<◌, Bool, true, not, ◌&&◌, ◌==◌, IsTrue, List, [], ◌∷◌, length, slice_index_or, refl}
 use Rattle.std.specs.List.{list_any}
 use Rattle.std.specs.Coded.{Coded, code_by, coded×, coded_list}
@@ -33,5 +33,6 @@ pub record EndedOf : Type 0 where
   pub shared : SharedOf
   pub seats : List SeatOf
 
+-- what has ended by its two parts, as a pair
 abbrev pub ended_code : Coded EndedOf
 ended_code = code_by (SharedOf × List SeatOf) (coded× shared_code (coded_list seat.the_row.coded)) (λ e. (e.shared, e.seats)) (λ p. record { shared = p.0; seats = p.1 }) (λ _. refl)

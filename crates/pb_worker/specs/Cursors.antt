@@ -1,4 +1,4 @@
--- One pass along a journal, with a cursor in each seat's list.
+-- One pass along a journal, with a cursor in each seat's list: what `finish` goes by on its way, and no caller sees.
 use Rattle.std.specs.Prelude.{◌≡◌, ◌≢◌, ℕ, ◌<◌, List, length, Some, slice_get, slice_index_or}
 use Rattle.pb_history.specs.declared.entry.Entry.{Entry}
 use Rattle.pb_history.specs.declared.entry.Received.{Received}

@@ -1,4 +1,5 @@
--- What a seat gained, and why its worker stopped.
+-- What a seat gained, and why its worker stopped. Of a call under a lock no more is said, since what the table has
+-- come to depends on all seats.
 use Rattle.std.specs.Prelude.{◌≡◌, ℕ, ◌⊎◌, List, [], ◌∷◌, ◌++◌, Option, Some}
 use Rattle.pb_base.specs.declared.refusal.Reason.{Reason}
 use Rattle.pb_base.specs.declared.refusal.Reason.TheVariants.{NoMemory}
@@ -31,6 +32,7 @@ pub record IsRefused (seat : ℕ) (step : Step) (r : Refusal) : Type 0 where
   pub refused : call_reason shared seat step ≡ Some why
   pub told : r ≡ refusal_by why
 
+-- memory was refused
 abbrev pub IsWant : Refusal → Type 0
 IsWant r = r ≡ refusal_by NoMemory
 

@@ -23,8 +23,8 @@ pub record IsFinished (batches : List Writes) (unfinished : List ℕ) (i : ℕ) 
   pub there : slice_get batches i ≡ Some batch
   pub not_named : Has unfinished i → ⊥
 
--- The committed script transactions of the journal are the changes that aren't named as unfinished, each once: of each change
--- there is the start of the transaction that made it.
+-- The committed script transactions of the journal are the changes that aren't named as unfinished, each once: of each
+-- change there is the start of the transaction that made it.
 pub record MakesChanges (table : SharedOf) (n : ℕ) (batches : List Writes) (unfinished : List ℕ) : Type 0 where
   pub start : ℕ → ℕ
   pub made : (i : ℕ) (batch : Writes) → IsFinished batches unfinished i batch → (m : Member) × IsMade table n i batch m × (m.start ≡ start i)

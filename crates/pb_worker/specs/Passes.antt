@@ -1,4 +1,5 @@
--- Passes over the marked cells (OSDI 2010, section 2.4): each mark is found, and the observers of its column are run on it.
+-- Passes over the marked cells (OSDI 2010, section 2.4): each mark is found, and the observers of its column are run
+-- on it.
 use Rattle.std.specs.Prelude.{◌≡◌, ◌≢◌, ℕ, ◌+◌, ◌<◌, ◌⊎◌, Bool, true, false, List, [], ◌∷◌, ◌++◌, length, Option, Some, None, slice_get}
 use Rattle.pb_base.specs.declared.cell.Cell.{Cell}
 use Rattle.pb_base.specs.Cell.{row_of, column_of}
@@ -20,9 +21,11 @@ pub record IsObserverOf (observers : List ObserverOf) (n : ℕ) (x : Cell) (o : 
   pub there : slice_get observers n ≡ Some o
   pub column : o.column ≡ column_of x
 
+-- the run of this observer on the cell, before its first step
 abbrev pub job_on : ℕ → ObserverOf → Cell → RunOf
 job_on n o x = fresh n o.program (row_of x) o.column
 
+-- there is an observer of this number, and its column is the cell's
 abbrev pub HasColumn : List ObserverOf → ℕ → Cell → Type 0
 HasColumn observers n x = (o : ObserverOf) × IsObserverOf observers n x o
 
@@ -61,6 +64,7 @@ pub data AreRuns (observers : List ObserverOf) (x : Cell) : ℕ → List Receive
   runs : (n : ℕ) (said more : List Received) → AreRuns observers x n said → IsRun observers n x more → AreRuns observers x (n + 1) (said ++ more)
   passes_by : (n : ℕ) (said : List Received) → AreRuns observers x n said → IsOfOther observers n x → AreRuns observers x (n + 1) said
 
+-- a run of each observer of the cell's column
 abbrev pub AreAllRuns : List ObserverOf → Cell → List Received → Type 0
 AreAllRuns observers x said = AreRuns observers x (length observers) said
 

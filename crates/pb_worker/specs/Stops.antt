@@ -1,4 +1,5 @@
--- Where a worker stopped: just a beginning of what it was to say, and the step that it asked next.
+-- Where a worker stopped: just a beginning of what it was to say, and the step that it asked next. Each says where in
+-- its part it stopped, and has the whole parts before it, as the loops do.
 use Rattle.std.specs.Prelude.{◌≡◌, ℕ, ◌+◌, ◌*◌, ◌<◌, ◌⊎◌, Bool, false, List, [], ◌∷◌, ◌++◌, length, Option, Some, slice_get}
 use Rattle.pb_base.specs.declared.cell.Cell.{Cell}
 use Rattle.pb_base.specs.declared.names.Ts.{Ts}

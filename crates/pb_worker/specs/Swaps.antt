@@ -9,6 +9,7 @@ use Rattle.pb_store.specs.Tiles.{TellsSwapReason}
 abbrev pub Spare : Type 0
 Spare = ℕ × Contents
 
+-- a spare is seen as its place and what its tablet contains
 abbrev pub spares_of : {T : Type 0} → (T → Contents) → List (ℕ × T) → List Spare
 spares_of {T} c spares = map (λ (s : ℕ × T). (s.0, c s.1)) spares
 
@@ -17,6 +18,7 @@ abbrev pub IsSwapped : Spare → Option Refusal → Type 0
 IsSwapped spare None = is_nothing spare.1 ≡ true
 IsSwapped spare (Some r) = TellsSwapReason spare.1 spare.0 r
 
+-- each of them was taken
 abbrev pub AreTaken : List Spare → Type 0
 AreTaken spares = All (λ (s : Spare). IsSwapped s None) spares
 

@@ -10,10 +10,12 @@ use Rattle.pb_txn.specs.declared.place.Outcome.TheVariants.{Committed}
 use Rattle.pb_txn.specs.Changes.{IsWholeChange}
 use Rattle.pb_worker.specs.declared.tries.TheConstants.{MAX_TRIES}
 
+-- the outcome of a committed transaction, at whatever timestamp
 abbrev pub is_committed : Outcome → Bool
 is_committed (Committed c) = true
 is_committed _ = false
 
+-- one that isn't over isn't told as committed
 abbrev pub committed_in : Option Outcome → Bool
 committed_in None = false
 committed_in (Some o) = is_committed o
@@ -23,6 +25,7 @@ abbrev pub is_commit : Answer → Bool
 is_commit answers.Committed = true
 is_commit _ = false
 
+-- the transaction was committed by then, whether its other cells were or not
 abbrev pub has_commit : List Received → Bool
 has_commit [] = false
 has_commit (r ∷ rs) = is_commit r.answer || has_commit rs
@@ -54,7 +57,8 @@ abbrev pub AreTries : Writes → Bool → List Received → Type 0
 AreTries batch true said = IsDone batch said
 AreTries batch false said = AreVain batch MAX_TRIES said
 
--- the first changes of one of n workers, its first at this number and each later one n further, with whether each committed
+-- the first changes of one of n workers, its first at this number and each later one n further, with whether each
+-- committed
 pub data AreTried (batches : List Writes) (n first : ℕ) : List Bool → List Received → Type 0 where
   before_all : AreTried batches n first [] []
   tried : (done : List Bool) (said : List Received) (batch : Writes) (committed : Bool) (more : List Received) → AreTried batches n first done said

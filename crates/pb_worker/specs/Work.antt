@@ -1,4 +1,5 @@
--- What workers leave: what each seat gained, and which changes are unfinished.
+-- What workers leave: what each seat gained, and which changes are unfinished. The contract of `run_workers` cites
+-- `WorkedOn`; what it means for the journal is the law `changes_are_made`.
 use Rattle.std.specs.Prelude.{◌≡◌, ◌≢◌, ℕ, ◌+◌, ◌-◌, ◌/◌, ◌%◌, ◌<◌, ◌≤◌, zero, suc, Bool, false, if◌then◌else◌, List, [], ◌∷◌, ◌++◌, length, map, vec_capacity, slice_get, Option, Some, None, slice_index_or}
 use Rattle.std.specs.Option.{option_or}
 use Rattle.pb_base.specs.declared.refusal.Refusal.{Refusal}
@@ -37,8 +38,8 @@ abbrev pub IsDrainTo : ℕ → List ObserverOf → Option Refusal → List Recei
 IsDrainTo seat observers None said = IsDrain observers said
 IsDrainTo seat observers (Some r) said = DrainStops seat observers r said
 
--- what the main seat gained: passes alone, whether a spare was refused or not. Its refusal is the first of the swaps', or else
--- that of the passes.
+-- what the main seat gained: passes alone, whether a spare was refused or not. Its refusal is the first of the swaps',
+-- or else that of the passes.
 pub record IsLastDrain (spares : List Spare) (seat : ℕ) (observers : List ObserverOf) (refusal : Option Refusal) (said : List Received) : Type 0 where
   pub swapped : Option Refusal
   pub swaps : AreSwapped spares swapped
@@ -63,17 +64,20 @@ abbrev pub undone_below : (ℕ → Bool) → ℕ → List ℕ
 undone_below done zero = []
 undone_below done (suc i) = if done i then undone_below done i else undone_below done i ++ i ∷ []
 
--- of each worker, from 0, which has the seat one higher, whether each of its changes committed
+-- of a worker, whether each of its changes committed, in their order
 abbrev pub done_in : Option Worker → List Bool
 done_in None = []
 done_in (Some w) = w.done.items
 
+-- what became of the changes of each worker, from 0, who stands one place higher, since the main seat is the first
 abbrev pub flags_in : List Worker → ℕ → List Bool
 flags_in workers w = done_in (slice_get workers (w + 1))
 
+-- the seats with which workers came, in their order
 abbrev pub seats_in : List Worker → List SeatOf
 seats_in workers = map (λ (w : Worker). w.seat) workers
 
+-- why each of them stopped, if it was refused
 abbrev pub refusals_in : List Worker → List (Option Refusal)
 refusals_in workers = map (λ (w : Worker). w.refusal) workers
 
@@ -94,6 +98,7 @@ pub record AllWork (observers : List ObserverOf) (batches : List Writes) (spares
   pub main : (d : Worker) → Drains spares observers (slice_index_or olds 0 d) (slice_index_or news 0 d)
   pub workers : (w : ℕ) (d : Worker) → w + 1 < length olds → Works observers batches (length olds - 1) w (slice_index_or olds (w + 1) d) (slice_index_or news (w + 1) d)
 
+-- room for so many seats and changes, and the observers
 pub record HasRooms (observers : List ObserverOf) (seats changes : ℕ) (r : Rooms) : Type 0 where
   pub observers_are : r.observers.items ≡ observers
   pub no_workers : r.workers.items ≡ []
@@ -109,7 +114,8 @@ pub record HasRooms (observers : List ObserverOf) (seats changes : ℕ) (r : Roo
 abbrev pub AreFilled : List Writes → Type 0
 AreFilled batches = (i : ℕ) (batch : Writes) → slice_get batches i ≡ Some batch → batch ≢ []
 
--- what all left: with the spares and seats handed in, the seats given back, the first refusal of each, and the unfinished changes
+-- what all left: with the spares and seats handed in, the seats given back, the first refusal of each, and the
+-- unfinished changes
 pub record WorkedOn (observers : List ObserverOf) (batches : List Writes) (spares : List Spare) (olds news : List SeatOf) (refusals : List (Option Refusal)) (unfinished : List ℕ) : Type 0 where
   pub seats : length news ≡ length olds
   pub refused : length refusals ≡ length olds

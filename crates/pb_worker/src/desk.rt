@@ -1,4 +1,4 @@
-//! Calls of a table under its lock.
+//! Calls of a table under its lock: one each time that it is taken, so that steps of others may come between any two.
 ghost use Rattle.std.specs.Prelude.{◌≡◌, Err, Some, None, IfOk, IfErr, OnErr};
 ghost use Rattle.pb_base.specs.Reasons.{refusal_by};
 ghost use Rattle.pb_base.specs.declared.refusal.Reason.TheVariants as reasons;
@@ -18,8 +18,8 @@ use std::sync::{Mutex, Wait};
 pub trait Callee {
     ghost table: { Self → SharedOf };
 
-    /// Takes one step for a seat, as [`Shared::call`] does: its journal was legal, and refused, it leaves table and seat as
-    /// they were.
+    /// Takes one step for a seat, as [`Shared::call`] does: its journal was legal, and refused, it leaves table and
+    /// seat as they were.
     fn take(&mut self, seat: &mut Seat, step: &Step) -> Result<Answer, Refusal>
         ensures legal { IsLegalTable (table self.old) }
         ensures refused { (r : _) → call_reason (table self.old) seat.old.number step.now ≡ Some r
@@ -45,7 +45,8 @@ impl<T: Tablet> Callee for Shared<T> {
 /// Where seats take their turns at a table.
 pub struct Desk;
 
-// One call, and why it is refused.
+// One call, and why it is refused: as some table of a legal journal would, since of the one under the lock no more is
+// known.
 fn call<C: Callee>(shared: &mut C, seat: &mut Seat, step: &Step) -> Result<Answer, Refusal>
     ensures told { IfOk result (λ a. Told seat.old step.now a seat.new) }
     ensures can { IfOk result (λ a. CanAnswer step.now a) }
@@ -62,9 +63,9 @@ impl Desk {
 
     /// Takes the lock, makes one call and gives the lock back. Refused, it leaves the seat as it was.
     ///
-    /// Under the lock stands a [`Shared`] itself, as in `Mutex::new(shared)`, or what keeps more of one, as under the lock
-    /// of [`crate::run_workers`]: workers make this very call. It adds to the seat's list exactly the step and the answer
-    /// that it returns, one that the step can have.
+    /// Under the lock stands a [`Shared`] itself, as in `Mutex::new(shared)`, or what keeps more of one, as under the
+    /// lock of [`crate::run_workers`]: workers make this very call. It adds to the seat's list exactly the step and
+    /// the answer that it returns, one that the step can have.
     pub fn call<R: Wait, C: Callee>(
         rt: &R,
         shared: &Mutex<C>,
@@ -80,7 +81,7 @@ impl Desk {
     }
 }
 
-// The gate, and then the call.
+// The gate, and then the call. The gate comes first, so that who is held there holds no lock.
 pub(crate) fn ask<R: Wait, C: Callee, G: Gate>(
     rt: &R,
     shared: &Mutex<C>,

@@ -1,4 +1,5 @@
-//! The end of a run: each seat's list is the journal's part.
+//! The end of a run: each seat's list is compared with the journal, since nothing else tells that the table which
+//! comes out of the lock is the one that the seats called.
 ghost use Rattle.std.specs.Prelude.{◌≡◌, ◌≢◌, ◌<◌, ◌≤◌, ◌+◌, ◌↔◌, ◌==◌, IsTrue, IsOk, IfOk, IfErr, IfSome, Some, None, length, slice_get};
 ghost use Rattle.std.specs.List.{list_any};
 ghost use Rattle.pb_base.specs.declared.limits.TheConstants.{MAX_SEATS};
@@ -12,7 +13,7 @@ use pb_history::{Entry, Received};
 use pb_store::Tablet;
 use std::marker::Model;
 
-// As many as there are seats at most.
+// As many as there are seats at most, so that places and cursors take no memory.
 const SEATS: usize = MAX_SEATS as usize;
 
 /// A table whose seats agree with its journal. It ends by `close` alone.
@@ -45,6 +46,7 @@ fn are_seated(count: u32, seats: &[Seat]) -> bool
     true
 }
 
+// Whether one of these seats has this number.
 fn has_number(number: u32, seats: &[Seat]) -> bool
     ensures { result ≡ list_any (λ s. s.number == number) seats.now }
 {
@@ -63,7 +65,7 @@ fn are_distinct(seats: &[Seat]) -> bool
     true
 }
 
-// By its number, the place of each seat among these.
+// By its number, the place of each seat among these, so that the list of an entry is found without a search.
 fn places_of(seats: &[Seat]) -> [usize; SEATS]
     requires few { AreBelow MAX_SEATS seats.now }
     requires distinct { IsTrue (no_twice seats.now) }
@@ -76,7 +78,8 @@ fn places_of(seats: &[Seat]) -> [usize; SEATS]
     places
 }
 
-// Where the seat of this number stands, if it is among these.
+// Where the seat of this number stands, if it is among these. What stands at its place is asked for its number, since
+// the place is 0 for a number that none has.
 fn place_of(number: u32, seats: &[Seat], places: &[usize; SEATS]) -> Option<usize>
     requires { ArePlaces places.now seats.now }
     ensures some { IfSome result (IsAt seats.now number) }
@@ -116,7 +119,8 @@ fn are_at_end(seats: &[Seat], cursors: &[usize; SEATS]) -> bool
     true
 }
 
-// Each list is the journal's entries of its seat. One pass along the journal has a cursor in each list.
+// Each list is the journal's entries of its seat. One pass along the journal has a cursor in each list, so that each
+// entry is looked at once.
 fn are_told(count: u32, journal: &[Entry], seats: &[Seat]) -> bool
     requires few { count ≤ MAX_SEATS }
     requires counted { length seats.now ≡ count }
@@ -137,6 +141,8 @@ fn are_told(count: u32, journal: &[Entry], seats: &[Seat]) -> bool
     are_at_end(seats, &cursors)
 }
 
+// Each seat of the table is there once, and was told what the journal has. Numbers are looked at first, since the
+// pass takes them for places.
 fn do_agree<T: Tablet>(shared: &Shared<T>, seats: &[Seat]) -> bool
     ensures { IsTrue result ↔ Agree shared.now seats.now }
 {
@@ -150,9 +156,9 @@ fn do_agree<T: Tablet>(shared: &Shared<T>, seats: &[Seat]) -> bool
     are_told(count, shared.journal(), seats)
 }
 
-/// Accepts where each seat of the table is there once, in whatever order, and each list is the journal's entries of that seat.
-/// Else it hands both back: refusal 48. It takes no memory, and looks at each entry of the journal once, however many seats
-/// there are.
+/// Accepts where each seat of the table is there once, in whatever order, and each list is the journal's entries of
+/// that seat. Else it hands both back: refusal 48. It takes no memory, and looks at each entry of the journal once,
+/// however many seats there are.
 pub fn finish<T: Tablet>(
     shared: Shared<T>,
     seats: Vec<Seat>,

@@ -23,8 +23,8 @@ fn job_on(observers: &[Observer], number: ObserverNo, cell: Cell) -> Result<Obse
     Ok(ObserverJob::new(number, program, cell.row(), observer.column))
 }
 
-// The instructions of its machine up to the next ask or the exit, if it is at one. Refused for memory, it stands where one is
-// next.
+// The instructions of its machine up to the next ask or the exit, if it is at one. They need no lock, so that others
+// call the table meanwhile. Refused for memory, it stands where one is next.
 fn compute(alloc: Global, job: &mut ObserverJob) -> Result<(), NoMemory>
     ensures ok { OnOk result (IsComputed job.old job.new) }
     ensures on { ReachesOn job.old job.new }
@@ -35,7 +35,7 @@ fn compute(alloc: Global, job: &mut ObserverJob) -> Result<(), NoMemory>
     Ok(())
 }
 
-// The same; refused for memory, its seat's refusal.
+// These instructions. Want of memory is the refusal of this seat alone, since the others go on.
 fn compute_on(alloc: Global, job: &mut ObserverJob) -> Result<(), Refusal>
     ensures ok { OnOk result (IsComputed job.old job.new) }
     ensures on { ReachesOn job.old job.new }
@@ -67,6 +67,7 @@ pub(crate) fn run_one<R: Wait, C: Callee, G: Gate>(
     let Ok(mut job) = job_on(observers, number, cell) else {
         return Err(Reason::NoMemory.refusal());
     };
+    // As many steps as the job asks: it has an end of its own, since it gives up at its last lock.
     for _turn in rt.forever() {
         let Some(step) = job.next() else {
             return Ok(());

@@ -1,4 +1,5 @@
-//! A table under a lock of which it is known which observers it has.
+//! A table under a lock of which it is known how it was opened, and with which observers. A type parameter says it,
+//! since of what comes out of a lock nothing is known but what its type keeps.
 ghost use Rattle.std.specs.Prelude.{◌≡◌};
 
 use crate::desk::Callee;
@@ -35,7 +36,7 @@ impl Opening for Brand {
     ghost limit = { 0 };
 }
 
-/// A table that was opened so.
+/// A table that was opened so, and stays so, since no call and no swap changes any of it.
 pub struct Held<T: Tablet, J: Opening> {
     shared: Shared<T>,
     of: PhantomData<J>,

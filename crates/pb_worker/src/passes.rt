@@ -15,7 +15,8 @@ use pb_verify::Observer;
 use std::alloc::Global;
 use std::sync::{Mutex, Wait};
 
-/// How many passes are made at most.
+/// How many passes are made at most. There is a limit, since an observer that changes a cell which it observes is due
+/// again in each.
 pub const MAX_PASSES: u32 = 1000;
 
 /// The limit of a worker's passes has this value.
@@ -49,6 +50,7 @@ fn run_all<R: Wait, C: Callee, G: Gate>(
 {
     for place in 0..observers.len() {
         if is_observer_of(observers, place, cell) {
+            // A table has no more observers than there are numbers.
             let Some(number) = ObserverNo::new(place as u8) else {
                 unreachable!()
             };
@@ -58,7 +60,8 @@ fn run_all<R: Wait, C: Callee, G: Gate>(
     Ok(())
 }
 
-// One pass, from mark to mark up to where there is none, and whether it found one.
+// One pass, from mark to mark up to where there is none, and whether it found one. Then another is due, since its
+// runs may have marked cells that it had gone by.
 fn pass<R: Wait, C: Callee, G: Gate>(
     rt: &R,
     alloc: Global,

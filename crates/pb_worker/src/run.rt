@@ -1,4 +1,4 @@
-//! A run of workers, each in a thread of its own.
+//! A run of workers, each in a thread of its own where one can be started.
 ghost use Rattle.std.specs.Prelude.{◌≡◌, ◌<◌, ◌≤◌, ◌-◌, [], length, map, vec_len, vec_capacity, IfOk, IfErr};
 ghost use Rattle.pb_base.specs.declared.limits.TheConstants.{MAX_SEATS, MAX_OBSERVERS};
 ghost use Rattle.pb_core.specs.Calls.{AreSeats};
@@ -39,7 +39,8 @@ pub struct NotRun<T: Tablet> {
     pub spares: Vec<(usize, T)>,
 }
 
-/// Room for all that workers leave, and their own list of the observers.
+/// Room for all that workers leave, and their own list of the observers. It is made before the first call, so that a
+/// refusal hands everything back as it was.
 pub(crate) struct Rooms {
     observers: Vec<Observer>,
     workers: Vec<Worker>,
@@ -48,6 +49,7 @@ pub(crate) struct Rooms {
     unfinished: Vec<usize>,
 }
 
+// An observer, whose program isn't copied but shared.
 fn copy_of(observer: &Observer) -> Result<Observer, NoMemory>
     ensures { IfOk result (λ o. o ≡ observer.now) }
 {
@@ -60,6 +62,7 @@ fn copy_of(observer: &Observer) -> Result<Observer, NoMemory>
     })
 }
 
+// The workers' own list of the observers, so that they look into it without the lock.
 fn copies_of(alloc: Global, observers: &[Observer]) -> Result<Vec<Observer>, NoMemory>
     ensures { IfOk result (λ v. v.items ≡ observers.now) }
 {
@@ -70,6 +73,7 @@ fn copies_of(alloc: Global, observers: &[Observer]) -> Result<Vec<Observer>, NoM
     Ok(copies)
 }
 
+// All that a run of workers needs by itself.
 fn make_rooms(
     alloc: Global,
     observers: &[Observer],
@@ -101,7 +105,7 @@ fn look_through(batches: &[Batch])
     }
 }
 
-// A worker for each seat, in their order.
+// A worker for each seat, in their order. Room is there, so that no seat is lost on the way.
 fn seat_all(alloc: Global, seats: Vec<Seat>, workers: &mut Vec<Worker>)
     requires none { workers.old.items ≡ [] }
     requires room { vec_len seats ≤ vec_capacity workers.old }
@@ -137,7 +141,8 @@ fn part(workers: Vec<Worker>, seats: &mut Vec<Seat>, refusals: &mut Vec<Option<R
     }
 }
 
-// Whether a try of the change of this number committed.
+// Whether a try of the change of this number committed. Its worker stands one place further, since the main seat is
+// the first.
 fn is_done(workers: &[Worker], number: usize) -> bool
     requires { 1 < length workers.now }
     ensures { result ≡ is_done (flags_in workers.now) (length workers.now - 1) number }
@@ -150,6 +155,7 @@ fn is_done(workers: &[Worker], number: usize) -> bool
     }
 }
 
+// The numbers of the changes of which no try committed, from the lowest.
 fn note_unfinished(workers: &[Worker], changes: usize, unfinished: &mut Vec<usize>)
     requires some { 1 < length workers.now }
     requires none { unfinished.old.items ≡ [] }
@@ -215,7 +221,8 @@ pub(crate) fn work_rest<R: Threads + Wait + Sync, C: Callee + Send, G: Gate>(
     in_threads(rt, alloc, shared, rest, observers, batches, gate);
 }
 
-// The workers beside the swaps, and after them the last passes of the main seat.
+// The workers beside the swaps, and after them the last passes of the main seat, since a worker that was refused may
+// leave marks.
 fn run_all<R: Threads + Wait + Sync, T: Tablet + Send, J: Opening + Send + Sync, G: Gate>(
     rt: &R,
     alloc: Global,
@@ -238,7 +245,7 @@ fn run_all<R: Threads + Wait + Sync, T: Tablet + Send, J: Opening + Send + Sync,
     workers
 }
 
-// The same, where it is known how the table was opened.
+// A run of workers where a type says how the table was opened, so that it is known of the table that comes out.
 fn run_held<R: Threads + Wait + Sync, T: Tablet + Send, J: Opening + Send + Sync, G: Gate>(
     rt: &R,
     alloc: Global,
@@ -295,20 +302,22 @@ fn run_held<R: Threads + Wait + Sync, T: Tablet + Send, J: Opening + Send + Sync
     })
 }
 
-/// Runs the changes by workers, each in a thread of its own where one can be started, and after them passes of the first seat
-/// alone. Worker k has seat k; the change of number i, from 0, is tried by the worker of seat 1 + i mod n, of n workers.
+/// Runs the changes by workers, each in a thread of its own where one can be started, and after them passes of the
+/// first seat alone. Worker k has seat k; the change of number i, from 0, is tried by the worker of seat 1 + i mod n,
+/// of n workers.
 ///
-/// While they run, the caller's thread swaps the spares in, each at its place, in the order of their list, and ends the emptied
-/// tablets that come back. A spare that [`Shared::swap`] refuses is ended too, and the other swaps and the passes go on; the first
-/// such refusal is that of the first seat, before any of its passes. Swaps don't pass the gate.
+/// While they run, the caller's thread swaps the spares in, each at its place, in the order of their list, and ends
+/// the emptied tablets that come back. A spare that [`Shared::swap`] refuses is ended too, and the other swaps and the
+/// passes go on; the first such refusal is that of the first seat, before any of its passes. Swaps don't pass the
+/// gate.
 ///
-/// Its own growths come first: refused there, it hands everything back and has made no call. What a worker's seat gained
-/// is, in order: whole tries of its changes by number, each change until one commits or 100 are made; then passes, each
-/// from `NextMark` to `NoMark` with a whole conversation of every observer of a marked cell's column, in file order, up to
-/// a pass without a mark or the 1,000th. The first seat gained such passes alone. Where a refusal of a seat is named, its
-/// part may be a beginning of that. A change is named as unfinished exactly where no try of it committed, a try that was
-/// cut off behind its commit included. The table that comes out has the observers, seats, opening clock and limit of the
-/// one that went in.
+/// Its own growths come first: refused there, it hands everything back and has made no call. What a worker's seat
+/// gained is, in order: whole tries of its changes by number, each change until one commits or 100 are made; then
+/// passes, each from `NextMark` to `NoMark` with a whole conversation of every observer of a marked cell's column, in
+/// file order, up to a pass without a mark or the 1,000th. The first seat gained such passes alone. Where a refusal of
+/// a seat is named, its part may be a beginning of that. A change is named as unfinished exactly where no try of it
+/// committed, a try that was cut off behind its commit included. The table that comes out has the observers, seats,
+/// opening clock and limit of the one that went in.
 pub fn run_workers<R: Threads + Wait + Sync, T: Tablet + Send, G: Gate>(
     rt: &R,
     alloc: Global,

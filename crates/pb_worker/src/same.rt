@@ -8,5 +8,6 @@ use pb_history::{Entry, Received};
 pub(crate) fn is_same(entry: &Entry, told: &Received) -> bool
     ensures { IsTrue result ↔ (told.now ≡ told_by entry.now) }
 {
+    // Kept answers are compared where they stand, so that no `Answer` is made of any.
     entry.answer.is_same(&told.answer) && told.step.is_same(&entry.step)
 }

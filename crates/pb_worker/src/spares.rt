@@ -1,4 +1,5 @@
-//! Spare tablets, put in while workers run.
+//! Spare tablets, put in while workers run. The list stays with the calling thread, since a closure may hold only
+//! what can be dropped, and a tablet can't.
 ghost use Rattle.std.specs.Prelude.{◌≡◌, ◌<◌, ◌≤◌, length};
 ghost use Rattle.pb_base.specs.declared.limits.TheConstants.{MAX_SEATS, MAX_OBSERVERS};
 ghost use Rattle.pb_worker.specs.Swaps.{IsSwapped, AreSwapped, spares_of};
@@ -17,6 +18,7 @@ use std::thread;
 use std::thread::Threads;
 
 // Swaps a spare in under the lock, and then ends the emptied tablet that comes back: why it was refused, if it was.
+// The lock is given back before that, so that no worker waits for it.
 fn swap_in<R: Wait, T: Tablet, J: Opening>(
     rt: &R,
     shared: &Mutex<Held<T, J>>,
@@ -50,6 +52,7 @@ fn swap_all<R: Wait, T: Tablet, J: Opening>(
     ensures { AreSwapped (spares_of T.contents spares.old.items) result }
 {
     let mut refusal = None;
+    // Turned round, since the last of a list is the one that can be taken off.
     spares.reverse();
     while let Some((place, spare)) = spares.pop() {
         let refused = swap_in(rt, shared, place, spare);
@@ -62,6 +65,7 @@ fn swap_all<R: Wait, T: Tablet, J: Opening>(
 pub fn end_spares<T: Tablet>(spares: Vec<(usize, T)>) {
     let mut spares = spares;
     while let Some((_, mut spare)) = spares.pop() {
+        // A tablet has to be empty to end.
         spare.clear();
         spare.end();
     }
@@ -92,6 +96,7 @@ pub(crate) fn work_beside_swaps<
     ensures swaps { AreSwapped (spares_of T.contents spares.items) result.1 }
 {
     let mut spares = spares;
+    // Without swaps there is no thread for them, since a worker that is alone in its process takes less time.
     if spares.is_empty() {
         let mut workers = workers;
         work_rest(rt, alloc, shared, &mut workers, observers, batches, gate);
@@ -114,6 +119,7 @@ pub(crate) fn work_beside_swaps<
             ensures { AreSwapped (spares_of T.contents waiting.entry.now.items) result }
         { swap_all(rt, shared, waiting) },
     );
+    // None is left, but the list has to be ended too.
     end_spares(spares);
     worked
 }

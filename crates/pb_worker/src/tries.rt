@@ -16,10 +16,11 @@ use std::alloc::Global;
 use std::sync::{Mutex, Wait};
 use std::thread;
 
-/// How often a change is tried at most.
+/// How often a change is tried at most, so that a worker ends whatever others commit before it.
 pub const MAX_TRIES: u32 = 100;
 
-// How often a thread yields after a try for each that was in vain, and how often at most.
+// How often a thread yields after a try for each that was in vain, and how often at most. The limit isn't lower,
+// since with one of 32 several workers took longer to change one row.
 const TURNS: u32 = 16;
 
 const MOST_TURNS: u32 = 512;
@@ -29,14 +30,15 @@ pub fn tries_limit_is_this()
     ensures { MAX_TRIES ≡ 100 }
 {}
 
-/// Why a change was left, and whether a try of it had committed by then.
+/// Why a change was left, and whether a try of it had committed by then, since one that is cut off behind its commit
+/// has.
 #[derive(Drop)]
 pub(crate) struct Cut {
     refusal: Refusal,
     committed: bool,
 }
 
-// A change of a copy of this batch, before its first step.
+// A change of a copy of this batch, before its first step: a copy, since another try may follow.
 fn job_of(alloc: Global, batch: &Batch) -> Result<ChangeJob, NoMemory>
     ensures { IfOk result (λ j. j ≡ new_change batch.now) }
 {
@@ -47,12 +49,14 @@ fn job_of(alloc: Global, batch: &Batch) -> Result<ChangeJob, NoMemory>
     }
 }
 
+// Whether an answer says that the transaction is committed.
 fn is_commit(answer: &Answer) -> bool
     ensures { result ≡ is_commit answer.now }
 {
     matches!(answer, Answer::Committed)
 }
 
+// What is committed stays so, whatever the later answers are.
 fn or_commits(committed: bool, answer: &Answer) -> bool
     ensures { result ≡ (committed || is_commit answer.now) }
 {
@@ -66,8 +70,8 @@ fn has_committed(job: &ChangeJob) -> bool
     matches!(job.outcome(), Some(Outcome::Committed(_)))
 }
 
-// One try of a change, and whether it committed. It may be left with its transaction committed, and some of its cells still
-// locked.
+// One try of a change, and whether it committed. It may be left with its transaction committed, and some of its cells
+// still locked.
 fn try_once<R: Wait, C: Callee, G: Gate>(
     rt: &R,
     alloc: Global,
@@ -80,8 +84,8 @@ fn try_once<R: Wait, C: Callee, G: Gate>(
     ensures err { IfErr result
         (λ cut. Gains (TryStops seat.old.number batch.now cut.committed cut.refusal) seat.old seat.new) }
 {
-    // For the proof: a batch has some cells; and what a change has asked is a beginning of its conversation, and at its end
-    // a whole one.
+    // For the proof: a batch has some cells; and what a change has asked is a beginning of its conversation, and at
+    // its end a whole one.
     let _ = batch.len();
     plans_talk();
     changes_talk();
@@ -98,6 +102,7 @@ fn try_once<R: Wait, C: Callee, G: Gate>(
         };
         match ask(rt, shared, seat, step, gate) {
             Ok(answer) => {
+                // Noted at once, since a step behind the commit may be refused.
                 committed = or_commits(committed, &answer);
                 job.took(answer);
             }
@@ -107,7 +112,7 @@ fn try_once<R: Wait, C: Callee, G: Gate>(
     unreachable!()
 }
 
-// Lets others go on, the longer the more tries were in vain.
+// Lets others go on, the longer the more tries were in vain, so that those whose locks it met come to their ends.
 fn stand_back(tries: u32) {
     let turns = tries.saturating_mul(TURNS).min(MOST_TURNS);
     for _turn in 0..turns {
@@ -138,7 +143,7 @@ fn try_all<R: Wait, C: Callee, G: Gate>(
     Ok(false)
 }
 
-// Room for one flag more.
+// Room for one flag more, made before the change is tried, so that what became of it is never lost.
 fn make_room(done: &mut Vec<bool>) -> Result<(), Refusal>
     ensures items { done.new.items ≡ done.old.items }
     ensures room { OnOk result (vec_len done.new < vec_capacity done.new) }
@@ -150,6 +155,7 @@ fn make_room(done: &mut Vec<bool>) -> Result<(), Refusal>
     }
 }
 
+// Notes whether a change committed, where there is room for it.
 fn note(done: &mut Vec<bool>, committed: bool)
     requires { vec_len done.old < vec_capacity done.old }
     ensures { done.new.items ≡ done.old.items ++ committed ∷ [] }
@@ -157,8 +163,8 @@ fn note(done: &mut Vec<bool>, committed: bool)
     done.push(committed).unwrap();
 }
 
-/// Tries the changes of one of so many workers, its first at this number and each later one so many further. It notes of
-/// each whether it committed.
+/// Tries the changes of one of so many workers, its first at this number and each later one so many further. It notes
+/// of each whether it committed.
 pub(crate) fn change_all<R: Wait, C: Callee, G: Gate>(
     rt: &R,
     alloc: Global,

@@ -1,4 +1,4 @@
-//! Workers.
+//! Workers: what one does with its seat, from its first change to its last pass.
 ghost use Rattle.std.specs.Prelude.{◌≡◌, ◌<◌, ◌≤◌, [], List, length, IfOk, IfErr, OnOk};
 ghost use Rattle.pb_base.specs.declared.limits.TheConstants.{MAX_SEATS, MAX_OBSERVERS};
 ghost use Rattle.pb_worker.specs.Gains.{Gains};
@@ -96,5 +96,6 @@ pub(crate) fn drain_last<R: Wait, C: Callee, G: Gate>(
     ensures { (spares : List Spare) → AreSwapped spares swapped → Drains spares observers.now main.old main.new }
 {
     let ended = drain(rt, alloc, shared, &mut main.seat, observers, gate);
+    // The swaps come first, since they were made before these passes.
     main.refusal = swapped.or(ended.err());
 }

@@ -63,6 +63,7 @@ not_in k [] d none isnt e (inr has) r = absurd has
 not_in k (x ∷ after) d none isnt e (inl is) r = none e (inl is) r
 not_in k (x ∷ after) d none isnt e (inr on) r = not_in k after d (λ f has. none f (inr has)) isnt e on r
 
+-- an event that neither launches nor crashes the actor leaves its last launch the last
 longer : (es : List Event) (k : ℕ) (job : Job) (d : Event) → (Renews k d → ⊥) → IsLastLaunch es k job → IsLastLaunch (es ++ d ∷ []) k job
 longer es k job d isnt l = record {
   before = l.before;
@@ -73,6 +74,7 @@ longer es k job d isnt l = record {
 
 -- ---- jobs
 
+-- whose job it is stays with each answer
 of_on : (w : WorldOf) (job : Job) (j : ActorJob) (a : Answer) (k : ActorJob) → IsOf w job j → Takes j a k → IsOf w job k
 of_on w (jobs.Change n) (Change c) a k is takes = subst (λ x. IsOf w (jobs.Change n) x) (sym takes) is
 of_on w (jobs.Run o row) (Run r) a k is takes =
@@ -81,6 +83,7 @@ of_on w (jobs.Run o row) (Run r) a k is takes =
 of_on w (jobs.Change n) (Run r) a k is takes = absurd is
 of_on w (jobs.Run o row) (Change c) a k is takes = absurd is
 
+-- and with each instruction
 of_by : (w : WorldOf) (job : Job) (j k : ActorJob) → IsOf w job j → Computes j k → IsOf w job k
 of_by w (jobs.Change n) (Change c) k is did = absurd did
 of_by w (jobs.Run o row) (Run r) k is did =
@@ -89,6 +92,7 @@ of_by w (jobs.Run o row) (Run r) k is did =
 of_by w (jobs.Change n) (Run r) k is did = absurd is
 of_by w (jobs.Run o row) (Change c) k is did = absurd is
 
+-- it depends on the observers and the changes alone
 of_in : (w v : WorldOf) (job : Job) (j : ActorJob) → v.shared.state.observers ≡ w.shared.state.observers → v.batches ≡ w.batches → IsOf w job j → IsOf v job j
 of_in w v (jobs.Change n) (Change c) os bs is = subst (λ x. change_of x n ≡ Some c.batch) (sym bs) is
 of_in w v (jobs.Run o row) (Run r) os bs is =
@@ -110,6 +114,7 @@ from_on o judged x (Starting s seen) next c = comes_on o s _ next c.comes
 from_on o judged x (Computing s v) next c = comes_on o s v next c
 from_on o judged x _ next c = absurd c
 
+-- so a run that did an instruction isn't over
 computed_goes : (j k : ActorJob) → Computes j k → is_over k ≡ false
 computed_goes (Change c) k did = absurd did
 computed_goes (Run r) k did = subst (λ x. is_over x ≡ false) (sym did.1) (from_on r.observer r.judged _ r.place did.0.place did.2.comes)
@@ -147,6 +152,7 @@ record IsLeftOf (w : WorldOf) (j : Option ActorJob) (s : SharedOf) (rest : Optio
   pub observers : s.state.observers ≡ w.shared.state.observers
   pub goes : (k : ActorJob) → rest ≡ Some k → (i : ActorJob) × (j ≡ Some i) × ((job : Job) → IsOf w job i → IsOf w job k) × (is_over k ≡ false)
 
+-- of what is gone nothing is to be shown
 left_none : (w : WorldOf) (j : Option ActorJob) (s : SharedOf) (rest : Option ActorJob) → s ≡ w.shared → rest ≡ None → IsLeftOf w j s rest
 left_none w j s rest same none = record { observers = ap (λ (x : SharedOf). x.state.observers) same; goes = λ k is. absurd (none_some k (sym none ∙ is)) }
 
@@ -176,12 +182,14 @@ left_asked : (w : WorldOf) (seat : SeatOf) (j : ActorJob) (n : Note) (t : Shared
 left_asked w seat j n t told rest None d = left_none w (Some j) t rest d.same.table d.left
 left_asked w seat j n t told rest (Some st) d = left_called w seat j st n t told rest (call_reason w.shared seat.number st) d
 
+-- whatever a step of a job came to
 left_job : (w : WorldOf) (seat : SeatOf) (j : ActorJob) (n : Note) (t : SharedOf) (told : SeatOf) (rest : Option ActorJob) (b : Bool)
     → MatchBool b (Instructs w.shared seat j n t told rest) (MatchOption (next_of j) (IsIdle w.shared seat n t told rest) (λ st. MatchOption (call_reason w.shared seat.number st) (AnswersJob w.shared seat j st n t told rest) (λ y. RefusesJob w.shared seat y n t told rest)))
     → IsLeftOf w (Some j) t rest
 left_job w seat j n t told rest true d = left_instructed w seat j n t told rest d
 left_job w seat j n t told rest false d = left_asked w seat j n t told rest (next_of j) d
 
+-- and a step of an actor with a job or without
 left_actor : (w : WorldOf) (seat : SeatOf) (o : Option ActorJob) (n : Note) (t : SharedOf) (told : SeatOf) (rest : Option ActorJob)
     → MatchOption o (IsIdle w.shared seat n t told rest) (λ j. JobSteps w.shared seat j n t told rest) → IsLeftOf w o t rest
 left_actor w seat None n t told rest d = left_none w None t rest d.same.table d.left
@@ -197,6 +205,7 @@ AreGiven es w = (k : ℕ) (a : Actor) (j : ActorJob) → slice_get w.actors k �
 held_on : (es : List Event) (w v : WorldOf) (k : ℕ) (j : ActorJob) (e : Event) → v.shared.state.observers ≡ w.shared.state.observers → v.batches ≡ w.batches → (Renews k e → ⊥) → IsGivenJob es w k j → IsGivenJob (es ++ e ∷ []) v k j
 held_on es w v k j e os bs isnt g = record { job = g.job; launch = longer es k g.job e isnt g.launch; is = of_in w v g.job j os bs g.is; goes_on = g.goes_on }
 
+-- each kind of event keeps that jobs are given, here and below
 launch_given : (es : List Event) (w v : WorldOf) (i : ℕ) (job : Job) (n : Note) → AreGiven es w → Launches w i job n v → AreGiven (es ++ events.Launch i job ∷ []) v
 launch_given es w v i job n all d k a j is holds = by (after_set w.actors i (launched (length d.seat.received) d.made) k a (subst (λ (x : WorldOf). slice_get x.actors k ≡ Some a) d.after is))
   where
@@ -250,6 +259,7 @@ own_given es w v st e n isnt all d k a j is holds = by (call_reason w.shared d.s
     by (Some y) c =
         held_on es w v k j e (ap (λ (x : WorldOf). x.shared.state.observers) c.1) (ap (λ (x : WorldOf). x.batches) c.1) (isnt k) (all k a j (subst (λ (x : WorldOf). slice_get x.actors k ≡ Some a) c.1 is) holds)
 
+-- so any event does
 does_given : (es : List Event) (w : WorldOf) (e : Event) (n : Note) (v : WorldOf) → AreGiven es w → Does w e n v → AreGiven (es ++ e ∷ []) v
 does_given es w (events.Launch k job) n v all d = launch_given es w v k job n all d
 does_given es w (events.Step k) n v all d = step_given es w v k n all d
@@ -258,6 +268,7 @@ does_given es w (events.Settle x) n v all d = own_given es w v (step.Settle x) (
 does_given es w (events.Clear x) n v all d = own_given es w v (step.Clear x) (events.Clear x) n (λ k r. r) all d
 does_given es w (events.Sweep x) n v all d = own_given es w v (step.Sweep x) (events.Sweep x) n (λ k r. r) all d
 
+-- and any list of events
 run_given : (es : List Event) (w : WorldOf) (fs : List Event) (ns : List Note) (v : WorldOf) → AreGiven es w → RunsTo w fs ns v → AreGiven (es ++ fs) v
 run_given es w [] [] v all r = subst (λ x. AreGiven x v) (sym (append_none es)) (subst (λ x. AreGiven es x) (sym r) all)
   where
@@ -269,6 +280,7 @@ run_given es w (e ∷ fs) (n ∷ ns) v all r =
 run_given es w [] (n ∷ ns) v all r = absurd r
 run_given es w (e ∷ fs) [] v all r = absurd r
 
+-- in an opened world no actor has a job yet
 pub jobs_are_given : JobsAreGiven
 jobs_are_given w es ns v o r = run_given [] w es ns v (λ k a j is holds. absurd (none_some j (sym (idle _ k a (subst (λ xs. slice_get xs k ≡ Some a) o.actors is)) ∙ holds))) r
 
@@ -277,9 +289,11 @@ jobs_are_given w es ns v o r = run_given [] w es ns v (λ k a j is holds. absurd
 some_none : {A : Type 0} (x : A) → Some x ≡ None → ⊥
 some_none x e = cc
 
+-- the launch of an actor with a job is at fault with 61
 busy_fault : (w : WorldOf) (k : ℕ) (a : Actor) (j : ActorJob) (job : Job) → actor_of w k ≡ Some a → a.job ≡ Some j → fault_of w (events.Launch k job) ≡ Some faults.Busy
 busy_fault w k a j job is holds = ap (λ o. no_launch o (job_for w job)) is ∙ ap (λ o. no_launch_by o (job_for w job)) holds
 
+-- so no run of events begins with it
 pub busy_actors_are_left : BusyActorsAreLeft
 busy_actors_are_left w k a j job es [] v is holds r = r
 busy_actors_are_left w k a j job es (n ∷ ns) v is holds r = some_none faults.Busy (sym (busy_fault w k a j job is holds) ∙ r.1.can)
@@ -301,6 +315,7 @@ busy_actors_are_told w k a j job es (suc at) code v is holds s = absurd (busy_ac
 
 -- ---- refused steps
 
+-- the note of a refused step is that of no answer and of no instruction, so the job is gone
 refused_job : (w : WorldOf) (seat : SeatOf) (j : ActorJob) (code : ℕ) (t : SharedOf) (told : SeatOf) (rest : Option ActorJob) (b : Bool)
     → MatchBool b (Instructs w.shared seat j (Refused code) t told rest) (MatchOption (next_of j) (IsIdle w.shared seat (Refused code) t told rest) (λ st. MatchOption (call_reason w.shared seat.number st) (AnswersJob w.shared seat j st (Refused code) t told rest) (λ y. RefusesJob w.shared seat y (Refused code) t told rest)))
     → rest ≡ None

@@ -16,6 +16,7 @@ use Rattle.pb_world.specs.Jobs.{IsReady}
 use Rattle.pb_world.specs.Actors.{ActorSteps, NoneApplies, ActorMayWant, launched, crashed, crash_note}
 use Rattle.pb_world.specs.Events.{WorldOf, IsWorld, with_actor, actor_of, job_for, no_launch, no_actor, Launches, StepsActor, CrashesActor, OwnAnswers, OwnCalls, StepMayWant, OwnMayWant}
 
+-- a place below the length has what is read there
 pub here : {A : Type 0} (xs : List A) (k : ℕ) (x : A) → k < length xs → x ≡ get_or xs k x → slice_get xs k ≡ Some x
 here xs k x lt at = slice_get_read xs (length xs) k x refl lt at
 
@@ -31,10 +32,12 @@ read_within : (w : WorldOf) (k : ℕ) (a : Actor) (b : Bool) → (if b then None
 read_within w k a true e = absurd (some_none a (sym e))
 read_within w k a false e = slice_get_within w.actors k a e
 
+-- an actor whose event isn't at fault has its place, and so its seat
 actor_within : (w : WorldOf) (k : ℕ) (o : Option Actor) → actor_of w k ≡ o → no_actor o ≡ None → k < length w.actors
 actor_within w k (Some a) is h = read_within w k a (k == 0) is
 actor_within w k None is h = absurd (some_none _ h)
 
+-- and so has one that is launched
 launch_within : (w : WorldOf) (k : ℕ) (made : Option ActorJob) (o : Option Actor) → actor_of w k ≡ o → no_launch o made ≡ None → k < length w.actors
 launch_within w k made (Some a) is h = read_within w k a (k == 0) is
 launch_within w k made None is h = absurd (some_none _ h)

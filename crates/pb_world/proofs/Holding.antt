@@ -24,6 +24,7 @@ use Rattle.pb_world.proofs.SeatLists.{seat_list}
 false_true : false ≡ true → ⊥
 false_true e = cc
 
+-- a batch has some cells
 not_empty : (batch : Writes) → is_batch batch ≡ true → batch ≢ []
 not_empty batch is e = false_true (subst (λ b. is_batch b ≡ true) e is)
 
@@ -31,6 +32,7 @@ not_empty batch is e = false_true (subst (λ b. is_batch b ≡ true) e is)
 some_placement : (n : ℕ) → n ≤ MAX_RECORD_BYTES → (a : Placement) × IsPlacement n a
 some_placement n is = (record { stack = MAX_RECORD_BYTES; record_at = 0 }, record { stack_fits = omega arith; record_fits = omega (arith, is); apart = inr (omega (arith, is)) })
 
+-- a machine that was led to where it stands isn't stuck, since its program keeps the rules
 never_stuck : AcceptedAreNeverStuck → (v : Position) → RulesAccept v.judged → length v.bytes ≡ v.judged.record_size → ((a : Placement) → IsPlacement (length v.bytes) a → (here : State) × IsAtState v a here) → IsNeverStuck v
 never_stuck law v ok size led = record {
   at = λ a p.
@@ -44,11 +46,13 @@ never_stuck law v ok size led = record {
       omega (arith, sound.few);
 }
 
+-- what a change has said is a beginning of its conversation
 of_change : ChangesTalk → (w : WorldOf) (c : ChangeOf) (said : List Received) → ChangeCame w c said → HoldsOfChange w c said
 of_change law w c said m =
     let t = law c.batch said c (not_empty c.batch m.is) m.talks in
     record { number = m.number; there = m.there; start = t.0; rest = t.1; outcome = t.2; talk = t.3 }
 
+-- and so is what a run has said, whose machine was led by it
 of_run : AcceptedAreNeverStuck → JobsTalk → MachinesAreLed → AsksAreOpen → EndedRunsMean → (w : WorldOf) (r : RunOf) (said : List Received) → RunCame w r said → HoldsOfRun w r said
 of_run stuck talks led waits ended w r said m =
     let t = talks r.observer r.judged r.row r.column said r m.reaches in
@@ -70,6 +74,7 @@ of_job : AcceptedAreNeverStuck → JobsTalk → MachinesAreLed → AsksAreOpen �
 of_job stuck talks led waits ended changes w (Change c) said m = of_change changes w c said m
 of_job stuck talks led waits ended changes w (Run r) said m = of_run stuck talks led waits ended w r said m
 
+-- of an actor in a sound world the headline holds
 pub of_actor : AcceptedAreNeverStuck → JobsTalk → MachinesAreLed → AsksAreOpen → EndedRunsMean → ChangesTalk → (w : WorldOf) (k n : ℕ) (seat : SeatOf) (j : ActorJob) → IsSound w → slice_get w.seats k ≡ Some seat → IsTied w seat n j → HoldsOfActor w k n seat j
 of_actor stuck talks led waits ended changes w k n seat j s is t =
     let its = seat_list w.shared w.seats k seat s.seats is in

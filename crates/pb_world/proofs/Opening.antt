@@ -11,11 +11,13 @@ some_same x y e = cc
 none_some : {A : Type 0} (x : A) → None ≡ Some x → ⊥
 none_some x e = cc
 
+-- an actor of a world that was just opened has no job
 pub idle : (n k : ℕ) (a : Actor) → slice_get (idle_actors n) k ≡ Some a → a.job ≡ None
 idle zero k a e = absurd (none_some a e)
 idle (suc n) zero a e = ap (λ (x : Actor). x.job) (sym (some_same _ a e))
 idle (suc n) (suc k) a e = idle n k a e
 
+-- without jobs it is enough that the journal is legal and the seats have their entries
 pub opened_sound : (w : WorldOf) → IsOpened w → IsSound w
 opened_sound w o = record {
   legal = o.legal;

@@ -15,6 +15,7 @@ one_more : (b : Bool) (r : Received) (all xs ys : List Received) → all ≡ xs 
 one_more true r all xs ys e = ap (λ l. r ∷ l) e
 one_more false r all xs ys e = e
 
+-- a seat's entries of two parts of a journal, one after the other
 entries_join : (n : ℕ) (xs ys : List Entry) → entries_of n (xs ++ ys) ≡ entries_of n xs ++ entries_of n ys
 entries_join n [] ys = refl
 entries_join n (x ∷ xs) ys = one_more (x.seat == n) (received_of x) (entries_of n (xs ++ ys)) (entries_of n xs) (entries_of n ys) (entries_join n xs ys)
@@ -29,6 +30,7 @@ append-none : (xs : List Received) → xs ++ [] ≡ xs
 append-none [] = refl
 append-none (x ∷ xs) = ap (λ l. x ∷ l) (append-none xs)
 
+-- an entry of another seat adds nothing to a seat's
 other : (n : ℕ) (j : List Entry) (e : Entry) → e.seat ≢ n → entries_of n (j ++ e ∷ []) ≡ entries_of n j
 other n j e apart =
     let alone : entries_of n (e ∷ []) ≡ [] = rw (ne_eqb e.seat n apart) refl in
@@ -65,6 +67,7 @@ list_at from j (q ∷ qs) (suc k) seat h is =
     let n : (from + 1) + k ≡ from + suc k = omega arith in
     list_at (from + 1) j qs k seat h.2 is ∙ ap (λ m. entries_of m j) n
 
+-- the seat that called has one entry more, and each other seat what it had
 after : (from : ℕ) (j : List Entry) (e : Entry) (seats : List SeatOf) (k : ℕ) (seat told : SeatOf) → AreSeatsFrom from j seats → slice_get seats k ≡ Some seat → e.seat ≡ seat.number → told.number ≡ seat.number
     → told.received ≡ seat.received ++ received_of e ∷ [] → AreSeatsFrom from (j ++ e ∷ []) (slice_set seats k told)
 after from j e [] k seat told h is by number list = absurd (some_none seat is)

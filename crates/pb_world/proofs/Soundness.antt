@@ -89,6 +89,7 @@ leads_more : (s : StateOf) (es : List Entry) (t : StateOf) (e : Entry) (u : Stat
 leads_more s [] t e u r m = (u, subst (λ x. TableStep x e.seat e.step e.answer u) r m, refl)
 leads_more s (d ∷ es) t e u r m = (r.0, r.1, leads_more r.0 es t e u r.2 m)
 
+-- a call leads from a legal table to a legal one
 call_legal : (s : SharedOf) (seat told : SeatOf) (st : Step) (a : Answer) (t : SharedOf) → IsLegalTable s → Calls s seat st a t told → IsLegalTable t
 call_legal s seat told st a t l c =
     let e : Entry = record { seat = seat.number; step = st; answer = a } in
@@ -162,6 +163,7 @@ came_in : (w v : WorldOf) (j : ActorJob) (said : List Received) → v.shared.sta
 came_in w v (Change c) said os bs m = record { number = m.number; there = subst (λ x. change_of x m.number ≡ Some c.batch) (sym bs) m.there; is = m.is; talks = m.talks }
 came_in w v (Run r) said os bs m = record { its = record { observer = m.its.observer; there = subst (λ x. slice_get x r.observer ≡ Some m.its.observer) (sym os) m.its.there; program = m.its.program; column = m.its.column }; accepted = m.accepted; reaches = m.reaches }
 
+-- a job stays tied while the observers and the changes stay
 tied_in : (w v : WorldOf) (seat : SeatOf) (n : ℕ) (j : ActorJob) → v.shared.state.observers ≡ w.shared.state.observers → v.batches ≡ w.batches → IsTied w seat n j → IsTied v seat n j
 tied_in w v seat n j os bs t = record { before = t.before; said = t.said; counted = t.counted; received = t.received; came = came_in w v j t.said os bs t.came }
 
@@ -172,10 +174,12 @@ kept_is false k j e = some_same j k e
 
 -- ---- what a step does to the table and to its seat
 
+-- a step of an actor asks nothing of the table, or is one call by its seat
 data Moves (s : SharedOf) (seat : SeatOf) (t : SharedOf) (told : SeatOf) : Type 0 where
   stays : t ≡ s → told ≡ seat → Moves s seat t told
   calls : (st : Step) (a : Answer) → Calls s seat st a t told → Moves s seat t told
 
+-- the table stays legal either way
 moves_legal : (s : SharedOf) (seat : SeatOf) (t : SharedOf) (told : SeatOf) → Moves s seat t told → IsLegalTable s → IsLegalTable t
 moves_legal s seat t told (stays t-is told-is) l = subst (λ x. IsLegalTable x) (sym t-is) l
 moves_legal s seat t told (calls st a c) l = call_legal s seat told st a t l c
@@ -189,12 +193,14 @@ set_same xs k x y is same =
     let read : get_or xs k x ≡ x = get_or_from_slice_get xs k x x is in
     ap (λ z. slice_set xs k z) (same ∙ sym read) ∙ set-get_or xs k x
 
+-- and its seats have their entries
 moves_seats : (s : SharedOf) (seats : List SeatOf) (k : ℕ) (seat : SeatOf) (t : SharedOf) (told : SeatOf) → Moves s seat t told → slice_get seats k ≡ Some seat → AreSeats s seats → AreSeats t (slice_set seats k told)
 moves_seats s seats k seat t told (stays t-is told-is) is are = subst (λ xs. AreSeats t xs) (sym (set_same seats k seat told is told-is)) (subst (λ x. AreSeats x seats) (sym t-is) are)
 moves_seats s seats k seat t told (calls st a c) is are = called s seats k seat told st a t are is c
 
 -- ---- what a step leaves of a job
 
+-- what is left of the job is tied to what its seat was told by then
 record IsSteppedTo (w : WorldOf) (seat : SeatOf) (n : ℕ) (t : SharedOf) (told : SeatOf) (rest : Option ActorJob) : Type 0 where
   pub moves : Moves w.shared seat t told
   pub tied : (k : ActorJob) → rest ≡ Some k → IsTied w told n k
@@ -234,6 +240,7 @@ asked : (w : WorldOf) (seat : SeatOf) (n : ℕ) (j : ActorJob) (note : Note) (t 
 asked w seat n j note t told rest None is tie d = idled w seat n note t told rest d
 asked w seat n j note t told rest (Some st) is tie d = called_by w seat n j st note t told rest (call_reason w.shared seat.number st) is tie d
 
+-- whatever a step of a job came to
 job_steps : (w : WorldOf) (seat : SeatOf) (n : ℕ) (j : ActorJob) (note : Note) (t : SharedOf) (told : SeatOf) (rest : Option ActorJob) → IsTied w seat n j → JobSteps w.shared seat j note t told rest → IsSteppedTo w seat n t told rest
 job_steps w seat n j note t told rest tie d = by (is_local j) refl d
   where
@@ -302,6 +309,7 @@ with_sound w k b some s tie = record {
         tied_in w (with_actor w k b) seat a.launched j refl refl (subst (λ (x : Actor). IsTied w seat x.launched j) (sym a-is) here)
     at i a seat j (unchanged apart is) is' job = tied_in w (with_actor w k b) seat a.launched j refl refl (s.tied i a seat j is is' job)
 
+-- a crash leaves no job to be tied
 crashed_sound : (w v : WorldOf) (k : ℕ) (n : Note) → 0 < k → IsSound w → CrashesActor w k n v → IsSound v
 crashed_sound w v k n some s d = subst (λ x. IsSound x) (sym d.after) (with_sound w k (crashed d.actor) some s (λ seat j is job. absurd (some_none j job)))
 
@@ -322,10 +330,12 @@ run_made w o row (Some x) made is e ready =
     let here : RunCame w (fresh o x.program row x.column) [] = record { its = record { observer = x; there = is; program = refl; column = refl }; accepted = fits; reaches = talk.made } in
     subst (λ y. Came w y []) same here
 
+-- a job that was just made has said nothing
 came_first : (w : WorldOf) (job : Job) (made : ActorJob) → job_for w job ≡ Some made → IsReady made → Came w made []
 came_first w (jobs.Change k) made is ready = change_made w k (change_of w.batches k) made refl is ready
 came_first w (jobs.Run o row) made is ready = run_made w o row (slice_get w.shared.state.observers o) made refl is ready
 
+-- its conversation begins at the end of its seat's list
 launched_sound : (w v : WorldOf) (k : ℕ) (job : Job) (n : Note) → 0 < k → IsSound w → Launches w k job n v → IsSound v
 launched_sound w v k job n some s d = subst (λ x. IsSound x) (sym d.after) (with_sound w k (launched (length d.seat.received) d.made) some s at)
   where
@@ -380,6 +390,7 @@ not_own_launch : (w : WorldOf) (k : ℕ) (made : Option ActorJob) (o : Option Ac
 not_own_launch w k made None is h = absurd (none_some _ h)
 not_own_launch w k made (Some a) is h = read_some w k a (k == 0) refl is
 
+-- so any event keeps a world sound
 does_sound : (w : WorldOf) (e : Event) (n : Note) (v : WorldOf) → IsSound w → fault_of w e ≡ None → Does w e n v → IsSound v
 does_sound w (events.Launch k job) n v s can d = launched_sound w v k job n (not_own_launch w k (job_for w job) (actor_of w k) refl can) s d
 does_sound w (events.Step k) n v s can d = stepped w v k n (not_own w k (actor_of w k) refl can) s d
@@ -388,6 +399,7 @@ does_sound w (events.Settle x) n v s can d = own_sound w v (step.Settle x) n s d
 does_sound w (events.Clear x) n v s can d = own_sound w v (step.Clear x) n s d
 does_sound w (events.Sweep x) n v s can d = own_sound w v (step.Sweep x) n s d
 
+-- and any list of events
 pub events_keep_sound : EventsKeepSound
 events_keep_sound w [] [] v s r = subst (λ y. IsSound y) (sym r) s
 events_keep_sound w (e ∷ es) (n ∷ ns) v s r = events_keep_sound r.0 es ns v (does_sound w e n r.0 s r.1.can r.1.does) r.2

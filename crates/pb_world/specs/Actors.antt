@@ -1,4 +1,5 @@
--- What a step does to an actor and to the table.
+-- What a step does to an actor and to the table. The contracts of `World` cite them. They are relations, since a step
+-- of the table is one.
 use Rattle.std.specs.Prelude.{◌≡◌, ℕ, MatchBool, Option, Some, None, MatchOption, Result, MatchResult}
 use Rattle.pb_base.specs.declared.refusal.Reason.{Reason}
 use Rattle.pb_base.specs.declared.refusal.Reason.TheVariants.{NoMemory}
@@ -69,6 +70,7 @@ pub record RefusesJob (s : SharedOf) (seat : SeatOf) (why : Reason) (n : Note) (
   pub same : ChangesJobAlone s seat t told
   pub left : rest ≡ None
 
+-- the call that the job asks next is answered, or refused for the first reason that applies
 abbrev pub CallSteps : SharedOf → SeatOf → ActorJob → Step → Note → SharedOf → SeatOf → Option ActorJob → Type 0
 CallSteps s seat j step n t told left = MatchOption (call_reason s seat.number step) (AnswersJob s seat j step n t told left) (λ why. RefusesJob s seat why n t told left)
 
@@ -94,6 +96,7 @@ JobSteps s seat j n t told left = MatchBool (is_local j) (Instructs s seat j n t
 abbrev pub MayWant : SharedOf → ℕ → ActorJob → Type 0
 MayWant s seat j = MatchBool (is_local j) (GrowsNext j) (MatchOption (next_of j) ⊥ (λ step. NoneApplies (call_reason s seat step)))
 
+-- a step of an actor without job wants no memory
 abbrev pub ActorMayWant : SharedOf → ℕ → Actor → Type 0
 ActorMayWant s seat a = MatchOption a.job ⊥ (MayWant s seat)
 
@@ -106,9 +109,11 @@ pub record ActorSteps (s : SharedOf) (seat : SeatOf) (a : Actor) (n : Note) (t :
 abbrev pub launched : ℕ → ActorJob → Actor
 launched said j = record { launched = said; job = Some j }
 
+-- an actor that has lost its job; when it was launched is of no more use
 abbrev pub crashed : Actor → Actor
 crashed a = record { launched = a.launched; job = None }
 
+-- an actor without job has nothing to lose
 abbrev pub crash_note : Option ActorJob → Note
 crash_note None = Idle
 crash_note (Some j) = Crashed

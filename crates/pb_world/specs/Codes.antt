@@ -10,6 +10,7 @@ use Rattle.pb_world.specs.declared.actor.Actor.{Actor}
 use Rattle.pb_world.specs.contracts.actor.Actor as actor
 use Rattle.pb_world.specs.Events.{WorldOf}
 
+-- a world by its four parts, as pairs
 abbrev pub world_code : Coded WorldOf
 world_code =
     code_by (SharedOf × (List SeatOf × (List Actor × List Writes))) (coded× shared_code (coded× (coded_list seat.the_row.coded) (coded× (coded_list actor.the_row.coded) (coded_list batch.the_row.coded))))

@@ -1,4 +1,5 @@
--- Worlds, and runs of a list of events.
+-- Worlds, and runs of a list of events. The contracts of `World` cite them, and the laws of this crate and of
+-- `law_worlds` speak of `RunsTo`.
 use Rattle.std.specs.Prelude.{◌≡◌, ℕ, ◌-◌, ◌≤◌, ◌==◌, if◌then◌else◌, List, [], ◌∷◌, length, take, replicate, Option, Some, None, MatchOption, slice_get, slice_set, ◌⊎◌}
 use Rattle.std.specs.Option.{option_map, option_and_then}
 use Rattle.pb_base.specs.Batch.{Writes}
@@ -26,8 +27,8 @@ use Rattle.pb_world.specs.Faults.{fault_code}
 use Rattle.pb_world.specs.Jobs.{IsReady}
 use Rattle.pb_world.specs.Actors.{ActorSteps, NoneApplies, ActorMayWant, launched, crashed, crash_note}
 
--- A world, as its owner sees it. An actor has the seat of its number; the world's own steps are taken by seat 0, whose actor
--- has no job.
+-- A world, as its owner sees it. An actor has the seat of its number; the world's own steps are taken by seat 0, whose
+-- actor has no job.
 pub record WorldOf : Type 0 where
   pub shared : SharedOf
   pub seats : List SeatOf
@@ -49,9 +50,11 @@ idle_actors n = replicate n (record { launched = 0; job = None })
 abbrev pub change_of : List Writes → ℕ → Option Writes
 change_of batches k = if k == 0 then None else slice_get batches (k - 1)
 
+-- a run of the observer of this number on the cell of this row and of its column
 abbrev pub run_of : List ObserverOf → ℕ → Row → Option ActorJob
 run_of observers o row = option_map (λ (x : ObserverOf). actors.Run (fresh o x.program row x.column)) (slice_get observers o)
 
+-- the job that a launch gives, before its first step; none where there is no such change or observer
 abbrev pub job_for : WorldOf → Job → Option ActorJob
 job_for w (jobs.Change k) = option_map (λ batch. actors.Change (new_change batch)) (change_of w.batches k)
 job_for w (jobs.Run o row) = run_of w.shared.state.observers o row
@@ -66,18 +69,22 @@ actor_of w k = if k == 0 then None else slice_get w.actors k
 abbrev pub held_job : WorldOf → ℕ → Option ActorJob
 held_job w k = option_and_then (λ (a : Actor). a.job) (actor_of w k)
 
+-- 63, where there is no such change or observer
 abbrev pub no_job : Option ActorJob → Option EventFault
 no_job None = Some faults.NoSuchJob
 no_job (Some j) = None
 
+-- 61, where the actor has a job, also where 63 would apply
 abbrev pub no_launch_by : Option ActorJob → Option ActorJob → Option EventFault
 no_launch_by (Some j) made = Some faults.Busy
 no_launch_by None made = no_job made
 
+-- why a launch can't happen, the lowest number first
 abbrev pub no_launch : Option Actor → Option ActorJob → Option EventFault
 no_launch None made = Some faults.NoSuchActor
 no_launch (Some a) made = no_launch_by a.job made
 
+-- 60, where there is no such actor
 abbrev pub no_actor : Option Actor → Option EventFault
 no_actor None = Some faults.NoSuchActor
 no_actor (Some a) = None
@@ -91,9 +98,11 @@ fault_of w _ = None
 
 -- ---- what events do
 
+-- the world with this actor in its place
 abbrev pub with_actor : WorldOf → ℕ → Actor → WorldOf
 with_actor w k a = record w { actors = slice_set w.actors k a }
 
+-- the actor gets the job, and how long its seat's list is then is kept; the table isn't asked
 pub record Launches (w : WorldOf) (k : ℕ) (job : Job) (n : Note) (v : WorldOf) : Type 0 where
   pub seat : SeatOf
   pub made : ActorJob
@@ -103,6 +112,7 @@ pub record Launches (w : WorldOf) (k : ℕ) (job : Job) (n : Note) (v : WorldOf)
   pub note : n ≡ Launched
   pub after : v ≡ with_actor w k (launched (length seat.received) made)
 
+-- a step of the actor, by the seat of its number: no other actor and no other seat is changed
 pub record StepsActor (w : WorldOf) (k : ℕ) (n : Note) (v : WorldOf) : Type 0 where
   pub seat : SeatOf
   pub actor : Actor
@@ -113,6 +123,7 @@ pub record StepsActor (w : WorldOf) (k : ℕ) (n : Note) (v : WorldOf) : Type 0 
   pub steps : ActorSteps w.shared seat actor n v.shared told stepped
   pub after : v ≡ record w { shared = v.shared; seats = slice_set w.seats k told; actors = slice_set w.actors k stepped }
 
+-- the actor loses its job: table and seats stay as they are, with the locks of its transaction
 pub record CrashesActor (w : WorldOf) (k : ℕ) (n : Note) (v : WorldOf) : Type 0 where
   pub actor : Actor
   pub its_actor : slice_get w.actors k ≡ Some actor
@@ -127,11 +138,13 @@ pub record OwnAnswers (w : WorldOf) (seat : SeatOf) (step : Step) (n : Note) (v 
   pub calls : Calls w.shared seat step answer v.shared told
   pub after : v ≡ record w { shared = v.shared; seats = slice_set w.seats 0 told }
 
+-- a step of the world's own, by seat 0; refused, it changes nothing
 pub record OwnCalls (w : WorldOf) (step : Step) (n : Note) (v : WorldOf) : Type 0 where
   pub seat : SeatOf
   pub its_seat : slice_get w.seats 0 ≡ Some seat
   pub calls : MatchOption (call_reason w.shared seat.number step) (OwnAnswers w seat step n v) (λ why. (n ≡ Refused (reason_code why)) × (v ≡ w))
 
+-- what each kind of event does, with its note
 abbrev pub Does : WorldOf → Event → Note → WorldOf → Type 0
 Does w (events.Launch k job) n v = Launches w k job n v
 Does w (events.Step k) n v = StepsActor w k n v
@@ -147,6 +160,7 @@ pub record Happens (w : WorldOf) (e : Event) (n : Note) (v : WorldOf) : Type 0 w
 
 -- ---- what may want memory
 
+-- what the actor does next may want memory
 pub record StepMayWant (w : WorldOf) (k : ℕ) : Type 0 where
   pub seat : SeatOf
   pub actor : Actor
@@ -154,6 +168,7 @@ pub record StepMayWant (w : WorldOf) (k : ℕ) : Type 0 where
   pub its_actor : slice_get w.actors k ≡ Some actor
   pub wants : ActorMayWant w.shared seat.number actor
 
+-- a call of seat 0 that isn't refused may want memory
 pub record OwnMayWant (w : WorldOf) (step : Step) : Type 0 where
   pub seat : SeatOf
   pub its_seat : slice_get w.seats 0 ≡ Some seat

@@ -27,7 +27,8 @@ use Rattle.pb_world.specs.Sound.{HasObserver}
 
 -- ---- actors
 
--- at every placement the machine stands in a state that isn't stuck, after fewer instructions than its program has slots
+-- at every placement the machine stands in a state that isn't stuck, after fewer instructions than its program has
+-- slots
 pub record IsNeverStuck (v : Position) : Type 0 where
   pub at : (a : Placement) → IsPlacement (length v.bytes) a → (here : State) × IsAtState v a here × (act (environment_at v a) here ≢ Stuck)
   pub few : v.taken < slots v.judged.program.insns
@@ -41,9 +42,9 @@ pub record HoldsOfChange (w : WorldOf) (c : ChangeOf) (said : List Received) : T
   pub outcome : Outcome
   pub talk : IsWholeChange c.batch start (said ++ rest) outcome
 
--- What was said is a beginning of a run of its observer on the cell of its row. Its machine, while there is one, runs the
--- observer's program on the record of what was read, was told what was read, and is never stuck; while it asks, it stands
--- before the asking instruction.
+-- What was said is a beginning of a run of its observer on the cell of its row. Its machine, while there is one, runs
+-- the observer's program on the record of what was read, was told what was read, and is never stuck; while it asks, it
+-- stands before the asking instruction.
 pub record HoldsOfRun (w : WorldOf) (r : RunOf) (said : List Received) : Type 0 where
   pub its : HasObserver w r
   pub rest : List Received
@@ -55,11 +56,13 @@ pub record HoldsOfRun (w : WorldOf) (r : RunOf) (said : List Received) : Type 0 
   pub asks : IsAskingAt r.place
   pub ended : HasEnded r.observer r.judged r.row r.column r.place said
 
+-- what is promised of a job and what was said for it
 abbrev pub HoldsOfJob : WorldOf → ActorJob → List Received → Type 0
 HoldsOfJob w (Change c) said = HoldsOfChange w c said
 HoldsOfJob w (Run r) said = HoldsOfRun w r said
 
--- its conversation is what its seat was told since the launch, and the seat's list is the journal's entries of that seat
+-- its conversation is what its seat was told since the launch, and the seat's list is the journal's entries of that
+-- seat
 pub record HoldsOfActor (w : WorldOf) (k launched : ℕ) (seat : SeatOf) (j : ActorJob) : Type 0 where
   pub number : seat.number ≡ k
   pub entries : seat.received ≡ entries_of k w.shared.journal
@@ -71,6 +74,7 @@ pub record HoldsOfActor (w : WorldOf) (k launched : ℕ) (seat : SeatOf) (j : Ac
 
 -- ---- worlds
 
+-- the headline in one world: of each actor with a job, of the committed history, and of how often a change is handled
 pub record HeadlineHolds (w : WorldOf) : Type 0 where
   pub actors : (k : ℕ) (a : Actor) (seat : SeatOf) (j : ActorJob) → slice_get w.actors k ≡ Some a → slice_get w.seats k ≡ Some seat → a.job ≡ Some j → HoldsOfActor w k a.launched seat j
   pub history : IsSnapshotHistory w.shared
@@ -96,6 +100,8 @@ pub record StopsBetween (w : WorldOf) (es fs : List Event) (ns : List Note) (v :
   pub rest : RunsTo between fs after v
   pub notes : ns ≡ before ++ after
 
+-- wherever a list of events is parted there is such a world, so that what holds after each list holds after each
+-- event
 abbrev pub RunsPart : Type 0
 RunsPart = (w : WorldOf) (es fs : List Event) (ns : List Note) (v : WorldOf) → RunsTo w (es ++ fs) ns v → StopsBetween w es fs ns v
 

@@ -1,4 +1,4 @@
--- The job of an actor, as the table meets it.
+-- The job of an actor, as the table meets it: a change or a run, with the words that both have.
 use Rattle.std.specs.Prelude.{◌≡◌, ℕ, Bool, true, false, if◌then◌else◌, Option, Some, None, ◌≤◌}
 use Rattle.std.specs.Option.{is_some}
 use Rattle.pb_base.specs.Batch.{is_batch}
@@ -16,10 +16,12 @@ use Rattle.pb_notify.specs.Runs as runs
 use Rattle.pb_world.specs.declared.job.ActorJob.{ActorJob}
 use Rattle.pb_world.specs.declared.job.ActorJob.TheVariants.{Change, Run}
 
+-- the step that it asks next, if it asks one
 abbrev pub next_of : ActorJob → Option Step
 next_of (Change c) = changes.next_of c
 next_of (Run r) = runs.next_of r
 
+-- the answer is one that this step can have
 abbrev pub CanTake : ActorJob → Answer → Type 0
 CanTake j a = plans.CanTake (next_of j) a
 
@@ -28,10 +30,12 @@ abbrev pub Takes : ActorJob → Answer → ActorJob → Type 0
 Takes (Change c) a k = k ≡ Change (changes.answered c a)
 Takes (Run r) a k = (l : RunOf) × (k ≡ Run l) × (l ≡ runs.answered r a) × runs.HearsLook r a l
 
+-- one instruction is next
 abbrev pub is_local_need : Need → Bool
 is_local_need Local = true
 is_local_need _ = false
 
+-- nothing is next
 abbrev pub is_over_need : Need → Bool
 is_over_need (Over end) = true
 is_over_need _ = false
@@ -56,6 +60,7 @@ abbrev pub GrowsNext : ActorJob → Type 0
 GrowsNext (Change c) = ⊥
 GrowsNext (Run r) = runs.GrowsNext r
 
+-- it has come to its end
 abbrev pub is_over : ActorJob → Bool
 is_over (Change c) = is_some (changes.outcome_of c)
 is_over (Run r) = is_over_need (runs.need_of r)

@@ -1,5 +1,5 @@
--- What every world keeps: its journal is legal, each seat has its entries, and each actor's job is tied to what its seat was
--- told since the launch.
+-- What every world keeps: its journal is legal, each seat has its entries, and each actor's job is tied to what its
+-- seat was told since the launch.
 use Rattle.std.specs.Prelude.{◌≡◌, ℕ, true, List, ◌++◌, length, Some, None, slice_get}
 use Rattle.pb_base.specs.Batch.{is_batch}
 use Rattle.pb_verify.specs.Observers.{ObserverOf}
@@ -37,6 +37,7 @@ pub record RunCame (w : WorldOf) (r : RunOf) (said : List Received) : Type 0 whe
   pub accepted : RulesAccept r.judged
   pub reaches : Reaches (fresh r.observer r.judged r.row r.column) said r
 
+-- the job was led to where it stands by what was said
 abbrev pub Came : WorldOf → ActorJob → List Received → Type 0
 Came w (Change c) said = ChangeCame w c said
 Came w (Run r) said = RunCame w r said
@@ -49,6 +50,7 @@ pub record IsTied (w : WorldOf) (seat : SeatOf) (launched : ℕ) (j : ActorJob) 
   pub received : seat.received ≡ before ++ said
   pub came : Came w j said
 
+-- what every event keeps; the world's own seat never has a job, since no launch reaches it
 pub record IsSound (w : WorldOf) : Type 0 where
   pub legal : IsLegalTable w.shared
   pub seats : AreSeats w.shared w.seats

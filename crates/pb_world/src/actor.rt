@@ -1,4 +1,5 @@
-//! Actors, and what one step does to them and to the table.
+//! Actors, and what one step does to them and to the table. No two have one seat, so that what came in at a seat
+//! since the launch is the conversation of one job.
 ghost use Rattle.std.specs.Prelude.{◌≡◌, None, Some, MatchOption, MatchResult, IfOk, IfErr, OnErr, OnOk};
 ghost use Rattle.pb_steps.specs.Answers.{CanAnswer};
 ghost use Rattle.pb_core.specs.Calls.{Calls, call_reason};
@@ -14,7 +15,8 @@ use pb_steps::{Answer, Step};
 use pb_store::Tablet;
 use std::alloc::Global;
 
-/// An actor. The length of its seat's list when it was launched is kept.
+/// An actor. The length of its seat's list when it was launched is kept, since what its job has said comes after
+/// that.
 #[derive(Drop)]
 pub struct Actor {
     pub launched: usize,
@@ -28,7 +30,7 @@ pub enum NotCalled {
     Refused(u8),
 }
 
-/// One call of the table.
+/// One call of the table. Want of memory is told apart from the other refusals, since it doesn't end a job.
 pub fn call<T: Tablet>(
     shared: &mut Shared<T>,
     seat: &mut Seat,
@@ -67,7 +69,7 @@ fn ask<T: Tablet>(
     Some(call(shared, seat, step))
 }
 
-// What a step leaves of a job.
+// What a step leaves of a job. Note and job are apart, since a job that was refused memory stays.
 struct AfterStep {
     note: Result<Note, NoMemory>,
     job: Option<ActorJob>,
@@ -85,7 +87,7 @@ fn called(answer: &Answer) -> Note
     Note::Called(*answer)
 }
 
-// A job that is over is gone.
+// A job that is over is gone, so that its actor can be launched again.
 fn kept(job: ActorJob) -> Option<ActorJob>
     ensures { result ≡ kept job }
 {
@@ -116,6 +118,7 @@ fn step_job<T: Tablet>(
             job.took(answer);
             left(Ok(note), kept(job))
         }
+        // The job ends as by a crash: what its transaction left stays for others to clear.
         Some(Err(NotCalled::Refused(code))) => left(Ok(Note::Refused(code)), None),
         Some(Err(NotCalled::NoMemory)) => left(Err(NoMemory), Some(job)),
     }
@@ -132,6 +135,7 @@ pub fn step_actor<T: Tablet>(
         ((shared.new ≡ shared.old)
         × (seat.new ≡ seat.old) × (actor.new ≡ actor.old) × ActorMayWant shared.old seat.old.number actor.old) }
 {
+    // The job is taken out, since the step may end it.
     match actor.job.take() {
         None => Ok(Note::Idle),
         Some(job) => {
@@ -150,7 +154,7 @@ pub fn launch(actor: &mut Actor, said: usize, job: ActorJob)
     actor.job = Some(job);
 }
 
-/// An actor loses its job, if it has one.
+/// An actor loses its job, if it has one. The table isn't told, so that its locks stay for others to clear.
 pub fn crash(actor: &mut Actor) -> Note
     ensures note { result ≡ crash_note actor.old.job }
     ensures job { actor.new ≡ crashed actor.old }

@@ -1,4 +1,5 @@
-//! Faults of events.
+//! Faults of events. Each is found before the event does anything, so that the world stays as the events before it
+//! left it.
 ghost use Rattle.std.specs.Prelude.{◌≡◌};
 ghost use Rattle.pb_world.specs.Faults.{fault_code};
 

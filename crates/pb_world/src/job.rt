@@ -1,4 +1,5 @@
-//! The job of an actor: a change or a run of an observer.
+//! The job of an actor: a change or a run of an observer, by what both have in common, so that events step them
+//! alike.
 use pb_base::NoMemory;
 use pb_notify::{Need, ObserverJob};
 use pb_steps::{Answer, Step};
@@ -57,7 +58,8 @@ impl ActorJob {
         }
     }
 
-    /// Does one instruction of its machine. Refused for memory, which the first and the exit alone can be, it is as before.
+    /// Does one instruction of its machine. Refused for memory, which the first and the exit alone can be, it is as
+    /// before.
     pub(crate) fn local(&mut self, alloc: Global) -> Result<(), NoMemory>
         requires { is_local self.old ≡ true }
         ensures ok { OnOk result (Computes self.old self.new) }

@@ -1,5 +1,10 @@
+<<<<<<< HEAD
 //! Notes of events.
 use pb_steps::Answer;
+=======
+//! Notes of events: what each did, as a story tells it.
+use pb_core::Answer;
+>>>>>>> 524b824a8d7916b77eb5fb355ba10e98d7dc1091
 
 /// What an event did.
 #[derive(Clone, Copy, Debug, PartialEq, Eq)]
@@ -8,7 +13,8 @@ pub enum Note {
     Launched,
     /// The table answered a step.
     Called(Answer),
-    /// The table refused a step with this number, 40 to 47 or 49. If it was an actor's, its job ended there as by a crash.
+    /// The table refused a step with this number, 40 to 47 or 49. If it was an actor's, its job ended there as by a
+    /// crash.
     Refused(u8),
     /// The actor's machine did one instruction, or came to one that asks.
     Instruction,

@@ -18,8 +18,8 @@ use std::alloc::Global;
 use std::marker::Model;
 use std::sync::Arc;
 
-/// A shared table with its seats, the changes that may be launched, and an actor for each seat but the first, by whose number
-/// it goes. Seat 0 takes the steps of no actor.
+/// A shared table with its seats, the changes that may be launched, and an actor for each seat but the first, by whose
+/// number it goes. Seat 0 takes the steps of no actor.
 ///
 /// A world ends by `close` alone.
 pub struct World<T: Tablet> {
@@ -43,7 +43,7 @@ impl<T: Tablet> Model for World<T> {
     ghost invariant = { λ w. IsWorld (record { shared = w.shared; seats = w.seats.items; actors = w.actors.items; batches = w.batches.items }) };
 }
 
-// So many actors without job.
+// So many actors without job. Seat 0 has one too, so that an actor stands at the place of its seat.
 fn idle_actors(alloc: Global, count: usize) -> Result<Vec<Actor>, NoMemory>
     ensures { IfOk result (λ v. v.items ≡ idle_actors count) }
 {
@@ -57,7 +57,7 @@ fn idle_actors(alloc: Global, count: usize) -> Result<Vec<Actor>, NoMemory>
     Ok(actors)
 }
 
-// Room for so many notes.
+// Room for so many notes, made before the first event, so that none is refused once its event has happened.
 fn room_for(alloc: Global, count: usize) -> Result<Vec<Note>, NoMemory>
     ensures items { IfOk result (λ v. v.items ≡ []) }
     ensures room { IfOk result (λ v. count ≤ vec_capacity v) }
@@ -67,6 +67,7 @@ fn room_for(alloc: Global, count: usize) -> Result<Vec<Note>, NoMemory>
     Ok(notes)
 }
 
+// One item more, where there is room for it.
 fn append<X: Drop>(list: &mut Vec<X>, item: X)
     requires { vec_len list.old < vec_capacity list.old }
     ensures items { list.new.items ≡ list.old.items ++ item ∷ [] }
@@ -140,7 +141,7 @@ impl<T: Tablet> World<T> {
         (shared, seats)
     }
 
-    // The actor of this number, from 1.
+    // The actor of this number, from 1, since seat 0 takes no actor's steps.
     fn actor(&self, number: u32) -> Option<&Actor>
         ensures { MatchOption result (actor_of self.now number ≡ None) (λ a. actor_of self.now number ≡ Some a.now) }
     {
@@ -182,7 +183,7 @@ impl<T: Tablet> World<T> {
         }
     }
 
-    // Why a launch can't happen, if it can't.
+    // Why a launch can't happen, if it can't: the lowest number that applies.
     fn no_launch(&self, number: u32, job: &Job) -> Option<EventFault>
         ensures { result ≡ no_launch (actor_of self.now number) (job_for self.now job.now) }
     {
@@ -211,6 +212,7 @@ impl<T: Tablet> World<T> {
                     None
                 }
             }
+            // The world's own steps name neither an actor nor a job.
             _ => None,
         }
     }
@@ -226,6 +228,7 @@ impl<T: Tablet> World<T> {
                 let Some(batch) = self.change(*number) else {
                     unreachable!()
                 };
+                // A copy, since the same change may be launched again.
                 let batch = batch.copy()?;
                 // For the proof: a batch has some cells, each named once.
                 let _ = batch.len();
@@ -246,6 +249,7 @@ impl<T: Tablet> World<T> {
         }
     }
 
+    // An actor gets a job. It is made first, so that a refused growth leaves the actor as it was.
     fn launch(&mut self, alloc: Global, number: u32, job: &Job) -> Result<Note, NoMemory>
         requires { no_launch (actor_of self.old number) (job_for self.old job.now) ≡ None }
         ensures { OnNote result (λ n. Launches self.old number job.now n self.new) (self.new ≡ self.old) }
@@ -256,6 +260,7 @@ impl<T: Tablet> World<T> {
         Ok(Note::Launched)
     }
 
+    // One step of an actor, by the seat of its number.
     fn step(&mut self, alloc: Global, number: u32) -> Result<Note, NoMemory>
         requires { no_actor (actor_of self.old number) ≡ None }
         ensures { OnNote result (λ n. StepsActor self.old number n self.new)
@@ -269,6 +274,7 @@ impl<T: Tablet> World<T> {
         }
     }
 
+    // An actor loses its job; table and seats stay.
     fn crash(&mut self, number: u32) -> Note
         requires { no_actor (actor_of self.old number) ≡ None }
         ensures { CrashesActor self.old number result self.new }
@@ -288,6 +294,7 @@ impl<T: Tablet> World<T> {
         }
     }
 
+    // What an event does that isn't at fault.
     fn does(&mut self, alloc: Global, event: &Event) -> Result<Note, NoMemory>
         requires { fault_of self.old event.now ≡ None }
         ensures { OnNote result (λ n. Does self.old event.now n self.new)
@@ -303,7 +310,7 @@ impl<T: Tablet> World<T> {
         }
     }
 
-    // One event. At fault, it did nothing.
+    // One event. At fault, it did nothing, since faults are looked for before it does anything.
     fn event(&mut self, alloc: Global, event: &Event) -> Result<Note, EventFault>
         ensures { MatchResult result (λ n. Happens self.old event.now n self.new) (λ f. (self.new ≡ self.old)
             × (((f ≡ faults.NoMemory) × Wants self.old event.now) ⊎ (fault_of self.old event.now ≡ Some f))) }
@@ -319,12 +326,12 @@ impl<T: Tablet> World<T> {
 
     /// Lets the events happen in order, and answers a note for each.
     ///
-    /// The fault tells the first event that can't happen: 60 there is no such actor, 61 the actor of a launch has a job, 63
-    /// there is no such change or observer, 1 memory was refused. The events before it stand, and it did nothing. A launch
-    /// makes the job and takes no step; a step is one instruction of the job's machine, or the one call of the table that
-    /// comes next, which the table answers or, refusing it, ends the job; a crash loses the job alone; `settle`, `clear`
-    /// and `sweep` are calls of seat 0. Nothing else changes. Want of memory is told for the notes at the first event, and
-    /// else at one that could happen and may want some.
+    /// The fault tells the first event that can't happen: 60 there is no such actor, 61 the actor of a launch has a
+    /// job, 63 there is no such change or observer, 1 memory was refused. The events before it stand, and it did
+    /// nothing. A launch makes the job and takes no step; a step is one instruction of the job's machine, or the one
+    /// call of the table that comes next, which the table answers or, refusing it, ends the job; a crash loses the job
+    /// alone; `settle`, `clear` and `sweep` are calls of seat 0. Nothing else changes. Want of memory is told for the
+    /// notes at the first event, and else at one that could happen and may want some.
     pub fn run(&mut self, alloc: Global, events: &[Event]) -> Result<Vec<Note>, WorldFault>
         ensures ok { IfOk result (λ ns. RunsTo self.old events.now ns.items self.new) }
         ensures err { IfErr result (λ f. StopsAtEvent self.old events.now f.event f.code self.new) }
@@ -342,6 +349,7 @@ impl<T: Tablet> World<T> {
     }
 }
 
+// The fault of the event at this place of the list.
 fn stopped(event: usize, fault: EventFault) -> WorldFault
     ensures { result ≡ record { event = event; code = fault_code fault } }
 {

@@ -1,4 +1,5 @@
-//! One instruction of a run's machine, and all up to its next ask or exit.
+//! One instruction of a run's machine, and all up to its next ask or exit. Both are done where the machine stands,
+//! since to move it in and out costs more than an instruction.
 ghost use Rattle.std.specs.Prelude.{◌≡◌, ℕ, IfOk, IfErr, MatchOption};
 ghost use Rattle.pb_notify.specs.Machines.{exit_at, Leaves};
 ghost use Rattle.pb_notify.specs.Steps.{Steps, MovesOn, FollowsOn, IsAtExit};
@@ -24,7 +25,8 @@ pub enum Stepped {
     Ended(u64, Declaration),
 }
 
-// Declares what it left. Refused, it stands at its exit.
+// Declares what it left. Refused, it stands at its exit: both growths hand back what they were given, so that nothing
+// is lost.
 fn declare(
     alloc: Global,
     observer: ObserverNo,
@@ -58,8 +60,8 @@ fn declare(
 }
 
 impl Machine {
-    /// Does all instructions up to the next ask or the exit where it stands, and tells what the last one did; nothing at an
-    /// exit that was refused.
+    /// Does all instructions up to the next ask or the exit where it stands, and tells what the last one did; nothing
+    /// at an exit that was refused.
     pub fn follow(&mut self) -> Option<Moved>
         requires { self.old.phase ≡ Going }
         ensures { MatchOption result (IsAtExit self.old × (self.new ≡ self.old))
@@ -91,6 +93,7 @@ impl Machine {
         match self.standing {
             Standing::Running(vm) => {
                 let slot = vm.slot();
+                // The exit is counted already, and `Exited` keeps the count before it.
                 let taken = vm.taken() - 1;
                 let finished = vm.finish();
                 // For the proof: result and writes are what the program means.
@@ -114,6 +117,7 @@ impl Machine {
             Standing::Running(mut vm) => {
                 let slot = vm.slot();
                 let taken = vm.taken();
+                // Slot and count are read before, since the exit uses the machine up.
                 match vm.step() {
                     Moved::Went => Ok(Stepped::Went(Machine {
                         standing: Standing::Running(vm),
