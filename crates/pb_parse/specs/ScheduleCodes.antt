@@ -1,5 +1,4 @@
--- The numbers by which a schedule's faults are told. The reading speaks of codes by their names; `ScheduleFault::at`
--- cites these.
+-- The numbers by which a schedule's faults are told. Readers speak of codes by name; `ScheduleFault::at` cites these.
 use Rattle.std.specs.Prelude.{ℕ, Bool, true, false}
 use Rattle.pb_parse.specs.declared.schedule.fault.Code.{Code}
 use Rattle.pb_parse.specs.declared.schedule.fault.Code.TheVariants.{Memory, Form, Range, TooMany, NoObserver}

@@ -1,5 +1,4 @@
--- How the codes of a manifest's faults are told. Reading speaks of codes by their names, of which three have one
--- number.
+-- How the codes of a manifest's faults are told. Readers speak of codes by name; three have one number.
 use Rattle.std.specs.Prelude.{ℕ, Bool, true, false, Option, Some, None}
 use Rattle.pb_base.specs.declared.refusal.Refused.{Refused}
 use Rattle.pb_registry.specs.declared.code.Code.{Code}

@@ -1,5 +1,4 @@
--- How the fault of a manifest is told, behind `manifest: ` in a line of standard error. `Display` of `RegistryFault`
--- cites it.
+-- How the fault of a manifest is told, behind `manifest: ` in its line. `Display` of `RegistryFault` cites it.
 use Rattle.std.specs.Prelude.{ℕ, List, ◌++◌, codes, Option, Some, None}
 use Rattle.std.specs.Fmt.{decimal}
 use Rattle.pb_base.specs.declared.refusal.Refused.{Refused}

@@ -103,8 +103,7 @@ fn has_members(value: &Value) -> bool
         && has_text(value, "code")
 }
 
-// Whether the version of the change record is named. In profile 1 there is no such member, so that one there is too
-// many.
+// Whether the version of the change record is named. Profile 1 has no such member, so that one there is too many.
 fn has_record(profile: Profile, value: &Value) -> bool
     ensures { result ≡ has_record profile (view value.now) }
 {

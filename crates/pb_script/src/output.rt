@@ -1,5 +1,4 @@
-//! The report of a table: the committed writes and runs of its journal, gathered entry by entry, and written as a
-//! whole.
+//! The report of a table: the committed writes and runs of its journal, gathered entry by entry, and written.
 ghost use Rattle.std.specs.Prelude.{◌≡◌, ◌++◌, IfOk, OnOk, List, map, string_bytes, false};
 ghost use Rattle.pb_script.specs.Puts.{put_by, puts_by};
 ghost use Rattle.pb_script.specs.Committed.{AreSeen, HasNewest};

@@ -15,8 +15,7 @@ fn phase_is_committed(phase: Option<Phase>) -> bool
     matches!(phase, Some(Phase::Committed(_)))
 }
 
-// Whether the entry begins a run of the observer that is committed. The begin is looked for, since each run has just
-// one.
+// Whether the entry begins a run of the observer that is committed. Begins are counted, since a run has one.
 fn begins_committed_run<T: Tablet>(shared: &Shared<T>, number: usize, entry: &Entry) -> bool
     ensures { result ≡ begins_committed_run shared.now.state number entry.now.step entry.now.answer }
 {

@@ -27,8 +27,7 @@ fn append(events: &mut Vec<Event>, order: Order) -> Result<(), Code>
     Ok(())
 }
 
-// Adds what one line asks for. That the events are too many comes last, since `append` is reached by a line that is
-// read.
+// Adds what one line asks for. That the events are too many comes last, since only a line that is read adds any.
 #[tactic(auto, unfolding(crate::specs::Schedules::with_event_line))]
 fn add_line(observers: &[Observer], events: &mut Vec<Event>, line: &str) -> Result<(), Code>
     requires few { length observers.now ≤ MAX_OBSERVERS }
