@@ -21,7 +21,7 @@ own_place profile before input text line code told_line told_code e bad r =
     let same : (told_line, told_code) ≡ (line, code) = cc in
     (ap (λ (x : ℕ × ℕ). x.0) same, ap (λ (x : ℕ × ℕ). x.1) same)
 
--- a text that is refused isn't written, be OUT writable or not
+-- a refused text makes no bytes, so none of them fail to be written
 not_assembled : (profile : Profile) (before after : Held) (input output text : Text) (line code : ℕ) → before input ≡ Some (Ok text) → program_of_text profile text ≡ Err (line, code) → Unwritten profile before after input output → ⊥
 not_assembled profile before after input output text line code e bad w =
     let a = w.assembles in

@@ -376,7 +376,7 @@ on_fault make r cause h =
       | inr a ↦ inl (once_fault (make a.0.0) a.0.1 cause a.2)
     ]
 
--- the same fields of both verbs that name any cell
+-- where a verb that names any cell may stop: at a row, a column, a name, or a row behind a name
 record CellFields (observers : List ObserverOf) (verb : List ℕ) : Type 0 where
   blame_row : (words rest : List (List ℕ)) (word : List ℕ) (cause : Code) → words ≡ verb ∷ word ∷ rest → IsNoRow word cause → StopsAtField observers words cause
   blame_column : (words rest : List (List ℕ)) (row : Row) (word : List ℕ) (cause : Code) → words ≡ verb ∷ decimal row.0 ∷ word ∷ rest → IsRow row → IsNoColumn word cause → StopsAtField observers words cause

@@ -31,7 +31,7 @@ content_is w out full short lower len h =
     let d : decode_of w ≡ Ok out = sym (sized w) ∙ h in
     rw (full, short, lower, d, len) refl
 
--- the same of the bytes of the word and of half their number, which the code names
+-- and so they are where the code names the word's bytes and half their number
 pub content_at : (w d out : List ℕ) (n : ℕ) → d ≡ w → n ≡ length d / 2 → (length d == 0) ≡ false → nat_lt 64 (length d) ≡ false → list_any is_ascii_uppercase d ≡ false
     → length out ≡ n → decode_sized w n ≡ Ok out → content_of w ≡ Ok (out ++ drop (length d / 2) (replicate 32 0))
 content_at w d out n e half full short lower len h =

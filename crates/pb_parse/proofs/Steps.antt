@@ -98,7 +98,7 @@ pub record TakesNumber (least greatest n : ℕ) (words rest : List (List ℕ)) :
   pub low : least ≤ n
   pub high : n ≤ greatest
 
--- the same of the next word, and the words after it
+-- the next word is read as a number from its spelling alone, and the words after it are left
 pub next_number_is : (least greatest : ℕ) (words : List (List ℕ)) (x : ℕ × List (List ℕ)) → greatest < 2 ^ 64 → next_number least greatest words ≡ Ok x → TakesNumber least greatest x.0 words x.1
 unfolding next_number
 next_number_is least greatest words x lt h =
@@ -202,7 +202,7 @@ pub record TakesName (observers : List ObserverOf) (o : ℕ) (words rest : List 
   pub written : words ≡ name_of observers o ∷ rest
   pub named : IsNamed observers o
 
--- the same of the next word; a word has no blank, since lines are cut there
+-- the next word is read as a name that a line can have, since a line's words have no blank
 pub next_observer_is : (observers : List ObserverOf) (words : List (List ℕ)) (x : ℕ × List (List ℕ)) → AreWords words → next_observer observers words ≡ Ok x → TakesName observers x.0 words x.1
 unfolding next_observer
 next_observer_is observers words x some h =

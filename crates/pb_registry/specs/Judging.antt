@@ -77,7 +77,7 @@ pub record IsFirstElementFault (p : Profile) (ds : List Data) (place : ℕ) (cod
 abbrev pub fault_with : Option ℕ → Code → RegistryFault
 fault_with place c = record { observer = place; code = number_of c; program = refusal_of c }
 
--- the same of an observer, where want of memory has no place
+-- how a code is told of the observer at a place; want of memory has no place, since it is no observer's fault
 abbrev pub fault_at : ℕ → Code → RegistryFault
 fault_at place c = if is_memory c then fault_with None Memory else fault_with (Some place) c
 

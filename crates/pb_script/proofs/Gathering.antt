@@ -49,7 +49,7 @@ goes_on f xs i x old now e h =
     ∙ append_assoc old (map f (take i xs)) (f x ∷ [])
     ∙ ap (λ l. old ++ l) (sym (map-append f (take i xs) (x ∷ [])) ∙ ap (map f) (sym (rw add-one (one_more xs i x e))))
 
--- the same where the code has the element itself, and not its place
+-- and so it is where the code has the write itself, and not its place
 pub goes_on_at : {A B : Type 0} (f : A → B) (xs : List A) (i : ℕ) (x : A) (old : List B) → i < length xs → x ≡ get_or xs i x → (old ++ map f (take i xs)) ++ f x ∷ [] ≡ old ++ map f (take (i + 1) xs)
 goes_on_at f xs i x old lt is =
     append_assoc old (map f (take i xs)) (f x ∷ [])
