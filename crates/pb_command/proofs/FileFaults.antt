@@ -17,10 +17,12 @@ run_no_text before [] f e = e
 run_no_text before (path ∷ paths) f (inl n) = n.no_text
 run_no_text before (path ∷ paths) f (inr more) = run_no_text before paths f more.1
 
+-- no fault of a file is one of a run
 no_run : (before : Held) (paths : List Text) (f : RunFault) → IsFileFault before paths (faults.Run f) → ⊥
 no_run before paths f (inl unread) = run_unread before paths f unread
 no_run before paths f (inr read) = run_no_text before paths f read.1
 
+-- so a file's fault is the replay's, and nothing was written
 pub file_fails : (before : Held) (manifest script schedule : Text) (clock : ℕ) (old : Option (List ℕ)) (failed : Bool) (f : Fault) → failed ≡ false → IsFileFault before (manifest ∷ script ∷ schedule ∷ []) f → ReplayFails before manifest script schedule clock old old failed f
 file_fails before m s e clock old failed (faults.Unreadable p) quiet is = (refl, quiet, is)
 file_fails before m s e clock old failed (faults.TooLarge p) quiet is = (refl, quiet, is)

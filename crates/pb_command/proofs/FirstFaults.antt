@@ -10,10 +10,12 @@ use Rattle.pb_command.specs.PathFaults.{AreRead, IsFirstUnread, IsFirstNoText}
 use Rattle.pb_command.specs.FirstFaults.{IsKnownRead, IsKnownText, TellsUnread, TellsNoText, FirstUnreadIsTold, FirstNoTextIsTold, TextsAreNoFault}
 use Rattle.pb_command.proofs.KnownFiles.{own_fault, not_read, only_memory, own_text, text_is_text, not_text}
 
+-- where a path is known not to be read, not all are read
 not_all_read : (before : Held) (front back : List Text) (path : Text) (fault : PathFault) → before path ≡ Some (Err fault) → AreRead before (front ++ (path ∷ back)) → ⊥
 not_all_read before [] back path fault e r = not_read (before path) fault e r.0
 not_all_read before (q ∷ front) back path fault e r = not_all_read before front back path fault e r.1
 
+-- behind paths that are read, the first that isn't is told with its own fault
 first_unread : (before : Held) (front back : List Text) (path : Text) (fault : PathFault) (f : Fault) → All (IsKnownRead before) front → before path ≡ Some (Err fault) → IsFirstUnread before (front ++ (path ∷ back)) f → TellsUnread path fault f
 first_unread before [] back path fault f all e (inl u) = own_fault (before path) path fault f e u
 first_unread before [] back path fault f all e (inr more) = absurd (not_read (before path) fault e more.0)
@@ -23,10 +25,12 @@ first_unread before (q ∷ front) back path fault f all e (inl u) =
 first_unread before (q ∷ front) back path fault f all e (inr more) =
     first_unread before front back path fault f (All-tail (IsKnownRead before) q front all) e more.1
 
+-- whatever stands behind it, as files are read in order
 pub first_unread_is_told : FirstUnreadIsTold
 first_unread_is_told before front back path fault f all e (inl unread) = first_unread before front back path fault f all e unread
 first_unread_is_told before front back path fault f all e (inr read) = absurd (not_all_read before front back path fault e read.0)
 
+-- paths that are known to be read fail for memory alone
 read_memory : (before : Held) (paths : List Text) (f : Fault) → All (IsKnownRead before) paths → IsFirstUnread before paths f → f ≡ faults.NoMemory
 read_memory before [] f all u = absurd u
 read_memory before (q ∷ paths) f all (inl u) = let k = All-head (IsKnownRead before) q paths all in only_memory (before q) k.0 q f k.1 u
@@ -39,6 +43,7 @@ memory_among before (q ∷ front) back path bytes f all e rest (inl u) = let k =
 memory_among before (q ∷ front) back path bytes f all e rest (inr more) =
     memory_among before front back path bytes f (All-tail (IsKnownText before) q front all) e rest more.1
 
+-- behind paths that are text, the first that isn't is told
 first_no_text : (before : Held) (front back : List Text) (path : Text) (bytes : List ℕ) (f : Fault) → All (IsKnownText before) front → before path ≡ Some (Ok bytes) → (IsUtf8 bytes → ⊥) → IsFirstNoText before (front ++ (path ∷ back)) f → TellsNoText path f
 first_no_text before [] back path bytes f all e bad (inl n) = own_text (before path) path f n
 first_no_text before [] back path bytes f all e bad (inr more) = absurd (not_text (before path) bytes e bad more.0)
@@ -47,6 +52,7 @@ first_no_text before (q ∷ front) back path bytes f all e bad (inl n) =
 first_no_text before (q ∷ front) back path bytes f all e bad (inr more) =
     first_no_text before front back path bytes f (All-tail (IsKnownText before) q front all) e bad more.1
 
+-- where all are read, since reading comes first
 pub first_no_text_is_told : FirstNoTextIsTold
 first_no_text_is_told before front back path bytes f all e bad rest (inl unread) =
     subst (λ (g : Fault). TellsNoText path g) (sym (memory_among before front back path bytes f all e rest unread)) tt
@@ -62,6 +68,7 @@ all_text before [] f all n = n
 all_text before (q ∷ paths) f all (inl n) = let k = All-head (IsKnownText before) q paths all in text_is_text (before q) k.0 q f k.1 k.2 n
 all_text before (q ∷ paths) f all (inr more) = all_text before paths f (All-tail (IsKnownText before) q paths all) more.1
 
+-- and where all are text, nothing but memory is refused
 pub texts_are_no_fault : TextsAreNoFault
 texts_are_no_fault before paths f all (inl unread) = text_memory before paths f all unread
 texts_are_no_fault before paths f all (inr read) = absurd (all_text before paths f all read.1)

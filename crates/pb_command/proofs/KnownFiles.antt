@@ -8,9 +8,11 @@ use Rattle.pb_command.specs.Files.{Text, ReadAnswer, IsKnownAs}
 use Rattle.pb_command.specs.PathFaults.{IsUnreadAt, IsRead, IsText, IsNoText}
 use Rattle.pb_command.specs.FirstFaults.{TellsUnread, TellsNoText}
 
+-- where it is known what a reading answers, it answers that
 known_as : (known : Option ReadAnswer) (answer told : ReadAnswer) → known ≡ Some answer → IsKnownAs known told → told ≡ answer
 known_as known answer told e k = subst (λ (x : Option ReadAnswer). IsKnownAs x told) e k
 
+-- a path that is known not to be read is told with its own fault, unless memory ran out
 pub own_fault : (known : Option ReadAnswer) (path : Text) (fault : PathFault) (f : Fault) → known ≡ Some (Err fault) → IsUnreadAt known path f → TellsUnread path fault f
 own_fault known path fault (faults.Unreadable p) e u = let k : Err Failed ≡ Err fault = known_as known (Err fault) (Err Failed) e u.1 in (u.0, cc)
 own_fault known path fault (faults.TooLarge p) e u = let k : Err TooLarge ≡ Err fault = known_as known (Err fault) (Err TooLarge) e u.1 in (u.0, cc)
@@ -22,9 +24,11 @@ own_fault known path fault (faults.Undone r) e u = u
 own_fault known path fault faults.Output e u = u
 own_fault known path fault faults.NoMemory e u = u
 
+-- and bytes are not read of it
 pub not_read : (known : Option ReadAnswer) (fault : PathFault) → known ≡ Some (Err fault) → IsRead known → ⊥
 not_read known fault e r = let k : Ok r.bytes ≡ Err fault = known_as known (Err fault) (Ok r.bytes) e r.bytes_held in cc
 
+-- a path that is known to be read fails for memory alone
 pub only_memory : (known : Option ReadAnswer) (bytes : List ℕ) (path : Text) (f : Fault) → known ≡ Some (Ok bytes) → IsUnreadAt known path f → f ≡ faults.NoMemory
 only_memory known bytes path (faults.Unreadable p) e u = let k : Err Failed ≡ Ok bytes = known_as known (Ok bytes) (Err Failed) e u.1 in cc
 only_memory known bytes path (faults.TooLarge p) e u = let k : Err TooLarge ≡ Ok bytes = known_as known (Ok bytes) (Err TooLarge) e u.1 in cc
@@ -36,9 +40,11 @@ only_memory known bytes path (faults.Undone r) e u = absurd u
 only_memory known bytes path faults.Output e u = absurd u
 only_memory known bytes path faults.NoMemory e u = refl
 
+-- what is read of it are its bytes
 pub same_bytes : (known : Option ReadAnswer) (bytes told : List ℕ) → known ≡ Some (Ok bytes) → IsKnownAs known (Ok told) → told ≡ bytes
 same_bytes known bytes told e k = let same : Ok told ≡ Ok bytes = known_as known (Ok bytes) (Ok told) e k in cc
 
+-- bytes that are no text are told of their own path
 pub own_text : (known : Option ReadAnswer) (path : Text) (f : Fault) → IsNoText known path f → TellsNoText path f
 own_text known path (faults.NotText p) n = n.no_text.0
 own_text known path (faults.Unreadable p) n = n.no_text
@@ -50,6 +56,7 @@ own_text known path (faults.Undone r) n = n.no_text
 own_text known path faults.Output n = n.no_text
 own_text known path faults.NoMemory n = absurd n.no_text
 
+-- bytes that are text are not told as none
 pub text_is_text : (known : Option ReadAnswer) (bytes : List ℕ) (path : Text) (f : Fault) → known ≡ Some (Ok bytes) → IsUtf8 bytes → IsNoText known path f → ⊥
 text_is_text known bytes path (faults.NotText p) e utf8 n = n.no_text.1 (subst IsUtf8 (sym (same_bytes known bytes n.bytes e n.bytes_held)) utf8)
 text_is_text known bytes path (faults.Unreadable p) e utf8 n = n.no_text

@@ -14,18 +14,21 @@ use Rattle.pb_command.proofs.KnownFiles.{only_memory, same_bytes, text_is_text}
 unread_is_none : (before : Held) (input text : Text) (line code : ℕ) (f : Fault) → before input ≡ Some (Ok text) → IsUnreadAt (before input) input f → TellsPlace line code f
 unread_is_none before input text line code f e u = subst (λ (g : Fault). TellsPlace line code g) (sym (only_memory (before input) text input f e u)) tt
 
+-- a known text has one first fault, so its place is the one that is told
 own_place : (profile : Profile) (before : Held) (input text : Text) (line code told_line told_code : ℕ) → before input ≡ Some (Ok text) → program_of_text profile text ≡ Err (line, code) → IsFaultyText profile (before input) told_line told_code → (told_line ≡ line) × (told_code ≡ code)
 own_place profile before input text line code told_line told_code e bad r =
     let told : program_of_text profile text ≡ Err (told_line, told_code) = subst (λ t. program_of_text profile t ≡ Err (told_line, told_code)) (same_bytes (before input) text r.text e r.text_held) r.fault in
     let same : (told_line, told_code) ≡ (line, code) = cc in
     (ap (λ (x : ℕ × ℕ). x.0) same, ap (λ (x : ℕ × ℕ). x.1) same)
 
+-- a refused text makes no bytes, so none of them fail to be written
 not_assembled : (profile : Profile) (before after : Held) (input output text : Text) (line code : ℕ) → before input ≡ Some (Ok text) → program_of_text profile text ≡ Err (line, code) → Unwritten profile before after input output → ⊥
 not_assembled profile before after input output text line code e bad w =
     let a = w.assembles in
     let read : program_of_text profile text ≡ Ok a.program = subst (λ t. program_of_text profile t ≡ Ok a.program) (same_bytes (before input) text a.text e a.text_held) a.read in
     cc
 
+-- so of a refused text its place is told, or that memory was refused
 pub faulty_text_is_told : FaultyTextIsTold
 faulty_text_is_told profile before after was failed input output text line code (faults.Text f) e utf8 bad fails = own_place profile before input text line code f.line f.code e bad fails.2
 faulty_text_is_told profile before after was failed input output text line code (faults.Unreadable p) e utf8 bad fails = unread_is_none before input text line code (faults.Unreadable p) e fails.2
@@ -63,6 +66,7 @@ checked profile version bytes path old now failed (faults.Run r) fails = inr fai
 checked profile version bytes path old now failed (faults.Undone r) fails = inr fails.2
 checked profile version bytes path old now failed faults.NoMemory fails = inr fails.2
 
+-- bytes that are known are listed and checked, unless a write or memory fails
 pub known_bytes_are_answered : KnownBytesAreAnswered
 known_bytes_are_answered profile version bytes path old now failed f (inl fails) = only_output bytes path old now failed f (listed profile bytes path old now failed f fails)
 known_bytes_are_answered profile version bytes path old now failed f (inr fails) = only_output bytes path old now failed f (checked profile version bytes path old now failed f fails)

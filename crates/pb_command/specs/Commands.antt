@@ -1,4 +1,5 @@
--- What a command leaves: its status, its output, the lines of its fault, and what the paths hold.
+-- What a command leaves: its status, its output, the lines of its fault, and what the paths hold. `command` promises
+-- it for all five, and `sequential_command` for those that wait for nothing.
 use Rattle.std.specs.Prelude.{◌≡◌, ℕ, Bool, false, List, [], ◌∷◌, Option, None, Result, Ok, Err}
 use Rattle.std.specs.List.{All}
 use Rattle.pb_texts.specs.declared.words.choice.Options.{Options}
@@ -43,6 +44,7 @@ RunFails before manifest script workers spares old now failed (faults.Undone lef
 RunFails before manifest script workers spares old now failed (faults.Run f) = RanFrom before manifest script workers spares old now failed (Err f)
 RunFails before manifest script workers spares old now failed f = (now ≡ old) × (failed ≡ false) × IsFileFault before (manifest ∷ script ∷ []) f
 
+-- what `run` leaves: the whole report where all is done, or a fault; it refuses nothing that it is given
 abbrev pub RunLeaves : Held → Text → Text → ℕ → List Spare → Option (List ℕ) → Option (List ℕ) → Bool → Result Verdict Fault → Type 0
 RunLeaves before manifest script workers spares old now failed (Ok Accepted) = RanWhole before manifest script workers spares old now failed
 RunLeaves before manifest script workers spares old now failed (Ok Refused) = ⊥
@@ -65,6 +67,7 @@ abbrev pub ReplayFails : Held → Text → Text → Text → ℕ → Option (Lis
 ReplayFails before manifest script schedule clock old now failed (faults.Run f) = ReplayedFrom before manifest script schedule clock old now failed (Err f)
 ReplayFails before manifest script schedule clock old now failed f = (now ≡ old) × (failed ≡ false) × IsFileFault before (manifest ∷ script ∷ schedule ∷ []) f
 
+-- what `replay` leaves: the report of what the events left, or a fault
 abbrev pub ReplayLeaves : Held → Text → Text → Text → ℕ → Option (List ℕ) → Option (List ℕ) → Bool → Result Verdict Fault → Type 0
 ReplayLeaves before manifest script schedule clock old now failed (Ok Accepted) = ReplayedFrom before manifest script schedule clock old now failed (Ok tt)
 ReplayLeaves before manifest script schedule clock old now failed (Ok Refused) = ⊥

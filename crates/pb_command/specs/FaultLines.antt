@@ -1,4 +1,4 @@
--- How a fault is told.
+-- How a fault is told, byte by byte, on standard error. The functions of src/fault.rt cite these.
 use Rattle.std.specs.Prelude.{◌≡◌, ℕ, ◌+◌, ◌⊎◌, Bool, true, false, List, [], ◌++◌, codes, Option, Some, None}
 use Rattle.std.specs.List.{enumerate_from, flat_map}
 use Rattle.std.specs.Fmt.{decimal}
@@ -16,9 +16,11 @@ use Rattle.pb_command.specs.declared.fault.Fault.TheVariants as faults
 abbrev pub place_line : ℕ → ℕ → List ℕ
 place_line line code = codes "line " ++ (decimal line ++ (codes " code " ++ (decimal code ++ codes "\n")))
 
+-- a line of the script, from 1, and the code of its fault
 abbrev pub script_line : ℕ → ℕ → List ℕ
 script_line line code = codes "script: " ++ place_line line code
 
+-- a line of the schedule, from 1, and the code of its fault
 abbrev pub schedule_line : ℕ → ℕ → List ℕ
 schedule_line line code = codes "schedule: " ++ place_line line code
 
@@ -41,6 +43,7 @@ abbrev pub worker_line : ℕ → Option Refusal → List ℕ
 worker_line seat None = []
 worker_line seat (Some r) = codes "worker " ++ (decimal seat ++ (codes " code " ++ (decimal r.0 ++ codes "\n")))
 
+-- the lines of the seats that were refused, by their numbers
 abbrev pub worker_lines : List (Option Refusal) → List ℕ
 worker_lines refusals = flat_map (λ s. worker_line s.0 s.1) (enumerate_from 0 refusals)
 

@@ -1,8 +1,10 @@
--- What reading the paths of files answers, where that is known.
+-- What reading the paths of files answers, where that is known. Of a system's file it isn't, as another program may
+-- change it between two readings; of files in memory it is. All contracts of commands speak of this.
 use Rattle.std.specs.Prelude.{◌≡◌, ◌≢◌, ◌⊎◌, ℕ, List, Option, Some, None, Result, Err}
 use Rattle.pb_command.specs.declared.paths.PathFault.{PathFault}
 use Rattle.pb_command.specs.declared.paths.PathFault.TheVariants.{NoMemory}
 
+-- the bytes of a path, as of any text
 abbrev pub Text : Type 0
 Text = List ℕ
 

@@ -1,4 +1,5 @@
--- Where it is known of files what reading them answers, the first that is at fault is told.
+-- Where it is known of files what reading them answers, the first that is at fault is told: the statements of the law
+-- `first_file_fault_is_told`, for any number of files.
 use Rattle.std.specs.Prelude.{◌≡◌, ℕ, List, ◌∷◌, ◌++◌, Some, Ok, Err, IsUtf8}
 use Rattle.std.specs.List.{All}
 use Rattle.pb_command.specs.declared.paths.PathFault.{PathFault}

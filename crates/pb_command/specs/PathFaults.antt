@@ -1,4 +1,5 @@
--- What is told of the first file that can't be read, or isn't text.
+-- What is told of the first file that can't be read, or isn't text. Every file is read before any is taken as text, so
+-- there are two ways to be first. Each command cites it for its own files.
 use Rattle.std.specs.Prelude.{◌≡◌, ◌⊎◌, ℕ, List, [], ◌∷◌, Option, Ok, Err, IsUtf8}
 use Rattle.pb_command.specs.declared.paths.PathFault.TheVariants.{Failed, TooLarge}
 use Rattle.pb_command.specs.declared.fault.Fault.{Fault}

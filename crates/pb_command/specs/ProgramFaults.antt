@@ -1,4 +1,5 @@
--- Where it is known what reading a program's file answers, its own fault is told.
+-- Where it is known what reading a program's file answers, its own fault is told: the statements of the law
+-- `known_programs_are_judged`.
 use Rattle.std.specs.Prelude.{◌≡◌, ◌⊎◌, ℕ, Bool, List, Option, Some, Ok, Err, IsUtf8}
 use Rattle.pb_isa.specs.declared.profile.Profile.{Profile}
 use Rattle.pb_helpers.specs.declared.change.Version.{Version}

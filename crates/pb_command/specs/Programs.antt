@@ -1,4 +1,5 @@
--- What is left where a program is assembled, listed or checked.
+-- What is left where a program is assembled, listed or checked. `dis` and `check` have one shape, a verdict and its
+-- text on standard output, so they share one definition; `asm` writes a file, and a refused text of it is a fault.
 use Rattle.std.specs.Prelude.{◌≡◌, ◌≢◌, ℕ, ◌⊎◌, Bool, true, false, List, ◌++◌, codes, Option, Result, Ok, Err}
 use Rattle.std.specs.Fmt.{decimal}
 use Rattle.std.specs.Io.KnownBytes.{Appends}
@@ -63,6 +64,7 @@ AsmFails profile before after was failed input output faults.NoMemory =
     ((after ≡ before) × (failed ≡ was)) ⊎ (Unwritten profile before after input output × (failed ≡ true))
 AsmFails profile before after was failed input output f = (after ≡ before) × (failed ≡ was) × IsNoProgramText profile (before input) input f
 
+-- what `asm` leaves: OUT with the bytes, or a fault; a text is refused as a fault and no answer
 abbrev pub AsmLeaves : Profile → Held → Held → Bool → Bool → Text → Text → Result Verdict Fault → Type 0
 AsmLeaves profile before after was failed input output (Ok Accepted) = Assembled profile before after input output × (failed ≡ was)
 AsmLeaves profile before after was failed input output (Ok Refused) = ⊥
@@ -111,10 +113,12 @@ pub record Cut (judges : Judges) (held : Option ReadAnswer) (old now : Option (L
   pub part : AppendsPart old now text
   pub unwritten : failed ≡ true
 
+-- why no whole answer was written: a write failed, or nothing was read and so nothing written
 abbrev pub AnswerFails : Judges → Option ReadAnswer → Text → Option (List ℕ) → Option (List ℕ) → Bool → Fault → Type 0
 AnswerFails judges held path old now failed faults.Output = Cut judges held old now failed
 AnswerFails judges held path old now failed f = (now ≡ old) × (failed ≡ false) × IsUnreadAt held path f
 
+-- what a command on a program's bytes leaves, whichever way it judges
 abbrev pub AnswerLeaves : Judges → Option ReadAnswer → Text → Option (List ℕ) → Option (List ℕ) → Bool → Result Verdict Fault → Type 0
 AnswerLeaves judges held path old now failed (Ok verdict) = Answered judges held old now failed verdict
 AnswerLeaves judges held path old now failed (Err f) = AnswerFails judges held path old now failed f

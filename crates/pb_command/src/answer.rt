@@ -1,4 +1,4 @@
-//! What a command tells of what it was given.
+//! What a command tells of what it was given. A refusal is an answer and no fault, so that it goes to standard output.
 
 /// Whether what a command was given is accepted.
 #[derive(Clone, Copy, Debug, PartialEq, Eq, Drop)]

@@ -1,4 +1,4 @@
-//! A command carried out.
+//! A command carried out: its files read, its work done, and its outcome told as a status.
 ghost use Rattle.std.specs.Prelude.{◌≡◌, ◌≤◌, ◌<◌, ◌↔◌, false, vec_len, IsTrue};
 ghost use Rattle.pb_base.specs.declared.limits.TheConstants.{MAX_SEATS};
 ghost use Rattle.pb_store.specs.Contents.{nothing};
@@ -20,7 +20,7 @@ use std::alloc::Global;
 use std::sync::Wait;
 use std::thread::Threads;
 
-// Whether a run left nothing undone.
+// Whether a run left nothing undone: no seat refused, and no change unfinished.
 fn is_all_done(ran: &Ran) -> bool
     ensures { IsTrue result ↔ IsAllDone ran.now }
 {
@@ -65,6 +65,7 @@ fn run_files<'a, R: Threads + Wait + Sync, T: Tablet + Send, P: Paths, O: Sink>(
                 Ok(ran) => ran,
                 Err(fault) => return Err(Fault::Run(fault)),
             };
+            // The report is written whatever was left undone, so that this is told behind it.
             if is_all_done(&ran) {
                 Ok(Verdict::Accepted)
             } else {
@@ -139,9 +140,10 @@ pub fn status_of<'a, E: Sink>(
     }
 }
 
-/// Does what a command line asked for, on an empty table, and answers the status: 0, or 1 where what it was given is refused
-/// or a fault was told. It ends the table on every path, and the spares, which only `run` puts in. It waits for nothing and
-/// starts no thread: `run` is for [`command`].
+/// Does what a command line asked for, on an empty table, and answers the status: 0, or 1 where what it was given is
+/// refused or a fault was told. It ends the table on every path, and the spares, which only `run` puts in. It waits
+/// for nothing and starts no thread: `run` is for [`command`], since a call that may wait meets any contract by never
+/// returning.
 ///
 /// All files are read first, in the order given, and then taken as text, parsed and replayed. Results go to `out`, and the
 /// line of the first fault to `err`. A program's bytes that are refused are a result. Where `replay` answers 0, its three
@@ -166,6 +168,7 @@ pub fn sequential_command<T: Tablet, P: Paths, O: Sink, E: Sink>(
         (P.failed paths.old) (P.failed paths.new) (O.taken out.old) (O.taken out.new) (O.failed out.new)
         (E.taken err.old) (E.taken err.new) (E.failed err.new) result }
 {
+    // None of these commands swaps, and tablets are linear, so that the spares are ended at once.
     end_spares(spares);
     let outcome = match options {
         Options::Run { .. } => unreachable!(),

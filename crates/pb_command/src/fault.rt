@@ -1,4 +1,4 @@
-//! Why a command failed, and the lines that tell it.
+//! Why a command failed, and the lines that tell it, each made whole before it is written.
 ghost use Rattle.std.specs.Prelude.{◌≡◌, ◌+◌, false, IfOk, string_bytes};
 ghost use Rattle.pb_command.specs.FaultLines.{place_line, script_line, schedule_line, event_line, run_fault_line, worker_line, worker_lines, change_line, change_lines, undone_lines, fault_lines, Tells};
 ghost use Rattle.pb_command.specs.declared.fault.Fault.TheVariants as faults;
@@ -113,10 +113,11 @@ fn worker_lines(alloc: Global, refusals: &[Option<Refusal>]) -> Result<String, A
     Ok(text)
 }
 
-// The line that tells that no try of a change committed. A script's first change is told as 1.
+// The line that tells that no try of a change committed. A script's first change is told as 1, as a schedule names it.
 fn change_line(alloc: Global, number: usize) -> Result<String, AllocError>
     ensures { IfOk result (λ s. string_bytes s ≡ change_line (number + 1)) }
 {
+    // In 128 bits, since nothing bounds the numbers of the list.
     let told = number as u128 + 1;
     format!(in alloc; "change {told} conflicts\n")
 }
@@ -160,7 +161,8 @@ fn lines_of(alloc: Global, fault: &Fault) -> Result<String, AllocError>
     }
 }
 
-/// Tells a fault, or that there is no memory for its lines. Where even that can't be written, the status says it alone.
+/// Tells a fault, or that there is no memory for its lines, which takes none itself. Where even that can't be written,
+/// the status says it alone.
 pub fn tell<E: Sink>(alloc: Global, fault: &Fault, err: &mut E)
     requires unfailed { E.failed err.old ≡ false }
     ensures { Tells fault.now (E.taken err.old) (E.taken err.new) (E.failed err.new) }

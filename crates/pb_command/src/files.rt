@@ -1,11 +1,11 @@
-//! The real files.
+//! The real files: nothing is known of what they hold, since no contract of the standard library says it.
 ghost use Rattle.std.specs.Prelude.{None};
 
 use crate::paths::{PathFault, Paths};
 use std::fs;
 use std::io::{self, ErrorKind, Read};
 
-/// The most bytes that a file may have.
+/// The most bytes that a file may have: 16 MiB.
 const LIMIT: u64 = 16_777_216;
 
 /// The files of the system. No contract says what they hold, and they may change between two readings: so of none is it
@@ -22,7 +22,7 @@ impl<'a> Files<'a> {
         Files { rt, failed: false }
     }
 
-    // The bytes of a file, as far as one more than it may have.
+    // The bytes of a file, as far as one more than it may have: by the one more it is known that there are too many.
     fn bytes(&self, path: &str) -> io::Result<Vec<u8>> {
         let mut bytes = Vec::new(self.rt.alloc());
         let file = fs::open(self.rt, path)?;

@@ -1,4 +1,5 @@
-//! Laws on faults of files.
+//! Laws on faults of files: what the command's contract comes to where it is known what each reading answers. They say
+//! it without the command, so that nobody has to unfold its definition to see which file is told.
 ghost use Rattle.pb_command.specs.FirstFaults.{FirstUnreadIsTold, FirstNoTextIsTold, TextsAreNoFault};
 ghost use Rattle.pb_command.specs.ProgramFaults.{FaultyTextIsTold, KnownBytesAreAnswered};
 

@@ -1,7 +1,10 @@
 //! What a command line asks for, done over paths and sinks.
 //!
-//! Where a command answers 0, it did so for what its files hold, and `run` left nothing undone; only `asm` writes a
-//! path, OUT.
+//! It knows files by their paths alone (`Paths`), so that files in memory do as well, and its contracts speak wherever
+//! it is known what a reading answers. `percobpf` calls it with the system's (`Files`), and the story program takes
+//! its reading, its faults and its status. Where a command answers 0, it did so for what its files hold, and `run`
+//! left nothing undone; only `asm` writes a path, OUT. So `check` of an empty file writes `refused slot 0 code 10` and
+//! answers 1, and of a file that isn't there `cannot read PATH` is told as a fault.
 #![tactic(auto)]
 
 mod answer;

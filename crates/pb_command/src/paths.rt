@@ -1,4 +1,4 @@
-//! Where files are read and written.
+//! Where files are read and written: the one thing that commands ask of a system, so that all else is proved over any.
 ghost use Rattle.std.specs.Prelude.{◌≡◌, true, Bool, IfOk, IfErr, OnOk, OnErr};
 ghost use Rattle.pb_command.specs.Files.{Held, IsKnownAs, IsFaultKnownAs, KeepsOthers};
 

@@ -1,4 +1,4 @@
-//! Programs assembled, listed and checked.
+//! Programs assembled, listed and checked. A file's bytes are judged, and the text made, before any of it is written.
 ghost use Rattle.std.specs.Io.KnownBytes.{Appends};
 ghost use Rattle.std.specs.Prelude.{◌≡◌, true, false, IfOk, IfErr, string_bytes};
 ghost use Rattle.pb_base.specs.Sink.{AppendsPart};
@@ -21,7 +21,7 @@ use pb_registry::accept_in;
 use pb_verify::VerifyFault;
 use std::alloc::{AllocError, Global};
 
-// The fault of a text.
+// The fault of a text. Want of memory has no line, so that it is told as such.
 fn text_fault<'a>(fault: AsmFault) -> Fault<'a>
     ensures { IsTextFault fault result }
 {
@@ -133,6 +133,7 @@ fn verdict_of<'a>(
     ensures told { IfOk result (λ a. Checks profile version bytes.now a.verdict (string_bytes a.text)) }
     ensures fault { IfErr result IsMemoryFault }
 {
+    // All helpers, since a program alone has no manifest that names its own.
     match accept_in(alloc, profile, version, bytes, HelperTable::all()) {
         Ok(accepted) => acceptance_of(alloc, accepted.slots()),
         Err(VerifyFault::Refused(refused)) => refusal_of(alloc, refused),

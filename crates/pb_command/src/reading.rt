@@ -1,4 +1,5 @@
-//! Files as bytes and as text.
+//! Files as bytes and as text. All files of a command are read before one is taken as text, so that a missing file is
+//! told before a malformed one.
 ghost use Rattle.std.specs.Prelude.{◌≡◌, ◌∷◌, [], IfOk, IfErr, IsUtf8, string_bytes};
 ghost use Rattle.pb_command.specs.Files.{IsKnownAs};
 ghost use Rattle.pb_command.specs.PathFaults.{IsUnreadAt, IsNoTextAt, IsFileFault};
@@ -33,7 +34,7 @@ pub fn text_of<'a>(bytes: Vec<u8>, path: &'a str) -> Result<String, Fault<'a>>
     }
 }
 
-/// Two files as text. Both are read before the first is taken as text.
+/// Two files as text. Both are read before the first is taken as text; of both at fault the first is told.
 pub fn texts_at<'a, P: Paths>(
     paths: &mut P,
     manifest: &'a str,

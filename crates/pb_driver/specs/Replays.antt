@@ -1,4 +1,5 @@
--- Replays: a schedule's events in a world of a manifest's observers and a script's changes, and the report of what they left.
+-- Replays: a schedule's events in a world of a manifest's observers and a script's changes, and the report of what
+-- they left. `replay_texts` promises it; where an event is at fault, nothing is reported.
 use Rattle.std.specs.Prelude.{◌≡◌, ◌≢◌, ℕ, ◌==◌, if◌then◌else◌, Bool, true, false, List, length, Option, Result, Ok, Err}
 use Rattle.pb_base.specs.declared.limits.TheConstants.{MAX_SEATS}
 use Rattle.pb_base.specs.declared.refusal.Reason.TheVariants.{NoMemory}
@@ -53,6 +54,7 @@ EventsEnd w events old now failed (Err _) = ⊥
 abbrev pub opened_world : SharedOf → List SeatOf → List Writes → WorldOf
 opened_world shared seats batches = record { shared = shared; seats = seats; actors = idle_actors (length seats); batches = batches }
 
+-- how events ended in the world that such a table is opened as
 abbrev pub Replays : SharedOf → List SeatOf → List Writes → List Event → Option (List ℕ) → Option (List ℕ) → Bool → Result (Unit {0}) RunFault → Type 0
 Replays shared seats batches events old now failed result = EventsEnd (opened_world shared seats batches) events old now failed result
 

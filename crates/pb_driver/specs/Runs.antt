@@ -1,4 +1,6 @@
 -- Runs: workers make a script's changes and run a manifest's observers on them, and the report is of what they left.
+-- Threads may take their turns in any way, so it is a relation: what they leave is told by their seats and the
+-- journal. `run_texts` cites it.
 use Rattle.std.specs.Prelude.{◌≡◌, ℕ, ◌+◌, ◌-◌, Bool, true, false, List, [], length, Option, Result, Ok, Err}
 use Rattle.pb_base.specs.declared.refusal.Refusal.{Refusal}
 use Rattle.pb_base.specs.Batch.{Writes}

@@ -1,4 +1,6 @@
--- What the texts of a run and of a replay are read as, and which fault is told of them.
+-- What the texts of a run and of a replay are read as, and which fault is told of them. Each text's reading is defined
+-- where it is read; here stands that they are read in turn, and only so far as they are read. Both drivers cite it,
+-- and the story program.
 use Rattle.std.specs.Prelude.{◌≡◌, ℕ, List, [], Ok, Err}
 use Rattle.pb_base.specs.declared.limits.TheConstants.{MAX_ENTRIES}
 use Rattle.pb_base.specs.Batch.{Writes}
@@ -27,11 +29,13 @@ IsBadManifest manifest (faults.Manifest f) = ReadsManifest manifest (Err f)
 IsBadManifest manifest faults.NoMemory = Unit {0}
 IsBadManifest manifest _ = ⊥
 
+-- the script is refused with this fault, or memory was refused
 abbrev pub IsBadScript : List ℕ → RunFault → Type 0
 IsBadScript script (faults.Script f) = script_of script ≡ Err (f.line, f.code)
 IsBadScript script faults.NoMemory = Unit {0}
 IsBadScript script _ = ⊥
 
+-- the schedule is refused with this fault, for these observers, or memory was refused
 abbrev pub IsBadSchedule : List ObserverOf → List ℕ → RunFault → Type 0
 IsBadSchedule observers schedule (faults.Schedule f) = schedule_of observers schedule ≡ Err (f.line, f.code)
 IsBadSchedule observers schedule faults.NoMemory = Unit {0}
@@ -39,6 +43,7 @@ IsBadSchedule observers schedule _ = ⊥
 
 -- ---- the texts of a run
 
+-- a manifest is read as these observers, and a script as these changes
 pub record IsRunRead (manifest script : List ℕ) (observers : List ObserverOf) (batches : List Writes) : Type 0 where
   pub manifest_read : ReadsManifest manifest (Ok observers)
   pub script_read : script_of script ≡ Ok batches
@@ -52,6 +57,7 @@ IsRunUnread manifest script _ = ⊥
 
 -- ---- the texts of a replay
 
+-- and a schedule as these events, whose names are those of the manifest's observers
 pub record IsReplayRead (manifest script schedule : List ℕ) (observers : List ObserverOf) (batches : List Writes) (events : List Event) : Type 0 where
   pub run_read : IsRunRead manifest script observers batches
   pub schedule_read : schedule_of observers schedule ≡ Ok events

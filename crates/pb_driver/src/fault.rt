@@ -1,4 +1,4 @@
-//! Why a run or a replay ended early.
+//! Why a run or a replay ended early: one type for both, so that they are told by the same lines.
 ghost use Rattle.std.specs.Prelude.{◌≡◌};
 ghost use Rattle.pb_driver.specs.Texts.{of_report};
 

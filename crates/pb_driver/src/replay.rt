@@ -14,7 +14,7 @@ use pb_store::{Table, Tablet};
 use pb_world::{World, WorldFault};
 use std::alloc::Global;
 
-// The fault of an event as one of the replay.
+// The fault of an event as one of the replay. Want of memory is no event's own, so that it is told without a number.
 fn fault_of(fault: WorldFault) -> RunFault
     ensures { result ≡ Rattle.pb_driver.specs.Replays.of_event fault }
 {
@@ -44,7 +44,7 @@ fn run<T: Tablet, S: Sink>(
     }
 }
 
-// The same in a world of this table, which is ended.
+// Lets them happen in a world of this table, which is ended whatever came of it, since tablets are linear.
 fn run_on<T: Tablet, S: Sink>(
     alloc: Global,
     shared: Shared<T>,
@@ -99,6 +99,7 @@ pub fn replay_texts<T: Tablet, S: Sink>(
             return Err(fault);
         }
     };
+    // All seats there are, since a schedule may name each of their actors.
     match Shared::open(alloc, table, observers, MAX_SEATS, last, MAX_ENTRIES) {
         Ok((shared, seats)) => run_on(alloc, shared, seats, batches, &events, sink),
         Err(

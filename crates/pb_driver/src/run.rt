@@ -26,7 +26,8 @@ pub struct Ran {
     pub unfinished: Vec<usize>,
 }
 
-// Writes the report of a table whose seats agree with its journal, and ends the table.
+// Writes the report of a table whose seats agree with its journal, and ends the table. They are compared first, so that
+// nothing is reported of a journal that a seat doesn't know.
 fn conclude<T: Tablet, S: Sink>(
     alloc: Global,
     worked: Worked<T>,
@@ -92,6 +93,7 @@ fn run_on<R: Threads + Wait + Sync, T: Tablet + Send, S: Sink>(
                 spares,
             },
         ) => {
+            // Nothing was started, so that table and spares are ended here.
             shared.close();
             end_spares(spares);
             Err(RunFault::NoMemory)
@@ -134,6 +136,7 @@ pub fn run_texts<R: Threads + Wait + Sync, T: Tablet + Send, S: Sink>(
             return Err(fault);
         }
     };
+    // A seat for each worker, and the main one, which makes passes once they have ended.
     match Shared::open(alloc, table, observers, workers + 1, last, MAX_ENTRIES) {
         Ok((shared, seats)) => run_on(rt, alloc, shared, seats, batches, spares, sink),
         Err(

@@ -1,4 +1,5 @@
-//! The texts of a run and of a replay.
+//! The texts of a run and of a replay, read in the order in which their files are named. Each reader tells want of
+//! memory by a type of its own; here it becomes one fault, so that it is told alike wherever it comes.
 ghost use Rattle.std.specs.Prelude.{◌≡◌, ◌≤◌, length, Ok, IfOk, IfErr};
 ghost use Rattle.pb_base.specs.declared.limits.TheConstants.{MAX_OBSERVERS};
 ghost use Rattle.pb_registry.specs.Judging.{ReadsManifest};
@@ -51,7 +52,7 @@ fn changes_in(alloc: Global, script: &str) -> Result<Vec<Batch>, RunFault>
     }
 }
 
-// The schedule's events, for these observers.
+// The schedule's events, for these observers: it is read last, since it names the manifest's observers.
 fn events_in(alloc: Global, schedule: &str, observers: &[Observer]) -> Result<Vec<Event>, RunFault>
     requires { length observers.now ≤ MAX_OBSERVERS }
     ensures ok { IfOk result (λ v. schedule_of observers.now schedule.now ≡ Ok v.items) }
@@ -69,7 +70,7 @@ fn events_in(alloc: Global, schedule: &str, observers: &[Observer]) -> Result<Ve
     }
 }
 
-/// What the texts of a run are read as, each in turn.
+/// What the texts of a run are read as, each in turn: where both are at fault, the manifest's fault is told.
 pub fn read_run(
     alloc: Global,
     manifest: &str,
@@ -84,7 +85,7 @@ pub fn read_run(
     Ok((observers, batches))
 }
 
-/// What the texts of a replay are read as, each in turn.
+/// What the texts of a replay are read as, each in turn: those of a run, and then the schedule.
 pub fn read_replay(
     alloc: Global,
     manifest: &str,

@@ -21,6 +21,7 @@ use Rattle.pb_parse.specs.ScriptWords.{put_of, del_of, write_of, operation, cell
 use Rattle.pb_parse.specs.ScriptLines.{cut, with_operation, batch_of}
 use Rattle.pb_parse.specs.Operations.{Say}
 
+-- where two readings in turn succeed, the first does, and the second with what it read
 pub bind_ok : {A B : Type 0} (r : Result A Code) (f : A → Result B Code) (y : B) → (r >>= f) ≡ Ok y → (x : A) × (r ≡ Ok x) × (f x ≡ Ok y)
 bind_ok (Ok x) f y h = (x, refl, h)
 bind_ok (Err e) f y h = absurd cc
@@ -28,10 +29,12 @@ bind_ok (Err e) f y h = absurd cc
 pub ok_same : {A E : Type 0} (x y : A) → ◌≡◌ {A = Result A E} (Ok x) (Ok y) → x ≡ y
 ok_same x y h = cc
 
+-- a choice that came to something came by the one way or the other
 pub chosen : {A : Type 0} (b : Bool) (x y z : A) → cond b x y ≡ z → ((b ≡ true) × (x ≡ z)) ⊎ ((b ≡ false) × (y ≡ z))
 chosen true x y z h = inl (refl, h)
 chosen false x y z h = inr (refl, h)
 
+-- the cells of a script are data cells, since no word of it names another
 cell_is_data : (words : List (List ℕ)) (c : Cell × List (List ℕ)) → cell_at words ≡ Ok c → is_data c.0 ≡ true
 unfolding cell_at
 cell_is_data words c h =
@@ -41,9 +44,11 @@ cell_is_data words c h =
     let e = bind_ok (number_upto 15 d.0.0) _ c d.2 in
     sym (ap (λ (p : Cell × List (List ℕ)). is_data p.0) (ok_same {E = Code} (Data (record { 0 = b.0 }) e.0, d.0.1) c e.2))
 
+-- a value or a deletion of a data cell is what a batch may have
 is_written : (x : Cell) (k : Content) (w : Cell × Content) → is_data x ≡ true → is_unstamped k ≡ true → ◌≡◌ {A = Result (Cell × Content) Code} (Ok (x, k)) (Ok w) → is_data_write w ≡ true
 is_written x k w place plain h = sym (ap is_data_write (ok_same {E = Code} (x, k) w h)) ∙ (rw (place, plain) refl)
 
+-- so `put` writes what a batch may have
 plain_put : (words : List (List ℕ)) (w : Cell × Content) → put_of words ≡ Ok w → is_data_write w ≡ true
 unfolding put_of
 plain_put words w h =
@@ -82,6 +87,7 @@ not_some : {A : Type 0} (o : Option A) → is_some o ≡ false → o ≡ None
 not_some None h = refl
 not_some (Some x) h = absurd cc
 
+-- a cell that none of the writes names isn't named after one more of another cell
 lack_more : (ws : Writes) (w : Cell × Content) (x : Cell) → content_in ws x ≡ None → eq_by_cmp cell_cmp x w.0 ≡ false → content_in (ws ++ w ∷ []) x ≡ None
 lack_more [] w x n e = rw e refl
 lack_more (v ∷ vs) w x n e = elim (chosen (eq_by_cmp cell_cmp x v.0) (Some v.1) (content_in vs x) None n) [
@@ -89,6 +95,7 @@ lack_more (v ∷ vs) w x n e = elim (chosen (eq_by_cmp cell_cmp x v.0) (Some v.1
   | inr there ↦ rw there.0 (lack_more vs w x there.1 e)
 ]
 
+-- distinct cells stay distinct with one more that none of them is
 distinct_more : (ws : Writes) (w : Cell × Content) → are_distinct ws ≡ true → content_in ws w.0 ≡ None → are_distinct (ws ++ w ∷ []) ≡ true
 distinct_more [] w d n = refl
 distinct_more (v ∷ vs) w d n =
@@ -99,6 +106,7 @@ distinct_more (v ∷ vs) w d n =
           rw (lack_more vs w v.0 (none_of (content_in vs v.0) p.0) apart, distinct_more vs w p.1 there.1) refl
     ]
 
+-- one data write more, and all are
 plain_more : (ws : Writes) (w : Cell × Content) → list_all is_data_write ws ≡ true → is_data_write w ≡ true → list_all is_data_write (ws ++ w ∷ []) ≡ true
 plain_more [] w h p = rw p refl
 plain_more (v ∷ vs) w h p = let q = and_parts (is_data_write v) (list_all is_data_write vs) h in rw (q.0, plain_more vs w q.1 p) refl
@@ -118,6 +126,7 @@ pub record IsAdded (before after : Writes) (text : List ℕ) : Type 0 where
   pub room : length before < MAX_CELLS
   pub all : before ++ write ∷ [] ≡ after
 
+-- an operation that is taken is read, of a cell not named before, and there was room for it
 added : (before after : Writes) (text : List ℕ) → with_operation before text ≡ Ok after → IsAdded before after text
 unfolding with_operation
 added before after text h =
@@ -136,9 +145,11 @@ added before after text h =
       ]
     ]
 
+-- one more operation says one more write
 say_more : (texts : List (List ℕ)) (ws : Writes) (text : List ℕ) (w : Cell × Content) → Say texts ws → operation text ≡ Ok w → Say (texts ++ text ∷ []) (ws ++ w ∷ [])
 say_more texts ws text w said read = simp map-append (rw (said, read) refl)
 
+-- a line that is open stays so with one more operation
 grown : (texts : List (List ℕ)) (before after : Writes) (text : List ℕ) → IsOpen texts before → IsAdded before after text → IsOpen (texts ++ text ∷ []) after
 grown texts before after text o a =
     subst (IsOpen (texts ++ text ∷ [])) a.all (record {
@@ -150,6 +161,7 @@ grown texts before after text o a =
 
 -- ---- operations in turn
 
+-- operations in turn are read only where the first of them is
 turn_open : (texts : List (List ℕ)) (after : Writes) (r : Result Writes Code) (more : Writes → Result Writes Code) → ((s : Writes) → r ≡ Ok s → more s ≡ Ok after → IsOpen texts after) → (r >>= more) ≡ Ok after → IsOpen texts after
 turn_open texts after (Ok s) more f h = f s refl h
 turn_open texts after (Err e) more f h = absurd cc
@@ -161,6 +173,7 @@ all_open n front before after (t ∷ ts) o h =
     turn_open (front ++ t ∷ ts) after (with_operation before t) (λ s. in_turn (λ _. with_operation) (n + 1) s ts)
     (λ s is k. subst (λ (texts : List (List ℕ)). IsOpen texts after) (append_assoc front (t ∷ []) ts) (all_open (n + 1) (front ++ t ∷ []) s after ts (grown front before s t o (added before s t is)) k)) h
 
+-- a line of which nothing is read is open: it says no writes yet
 pub nothing_open : IsOpen [] []
 nothing_open = record { said = refl; few = omega arith; plain = refl; distinct = refl }
 
@@ -172,11 +185,13 @@ cut_choice : (k : Bool) (x y : List (List ℕ)) → (a : List ℕ) × (ys : List
 cut_choice true x y h = ([], x, refl)
 cut_choice false x y h = h
 
+-- a line has an operation at least, be it empty, so what is read is never an empty batch
 cut_some : (line : List ℕ) → (x : List ℕ) × (ys : List (List ℕ)) × (cut line ≡ x ∷ ys)
 cut_some [] = ([], [], refl)
 cut_some (b ∷ []) = (b ∷ [], [], refl)
 cut_some (b ∷ c ∷ bs) = cut_choice ((b == 59) && (c == 32)) (cut bs) (onto_first b (cut (c ∷ bs))) (onto_some b (cut (c ∷ bs)))
 
+-- an open line with an operation is a batch
 closed : (texts : List (List ℕ)) (ws : Writes) → IsOpen texts ws → 0 < length texts → is_batch ws ≡ true
 closed texts ws o some =
     let same : length ws ≡ length texts = sym (length-map {B = Result (Cell × Content) Code} ws (λ w. Ok w)) ∙ sym (ap length o.said) ∙ length-map texts operation in

@@ -24,6 +24,7 @@ use Rattle.pb_parse.proofs.Blanks.{AreWords, words_are}
 use Rattle.pb_parse.proofs.Steps.{chosen, same_text, next_is, next_row_is, next_observer_is, some_named}
 use Rattle.pb_parse.proofs.OrdersWritten.{actor_is}
 
+-- a fault of one reading after another is the first's, or the second's after what the first read
 pub bind_err : {A B : Type 0} (r : Result A Code) (f : A → Result B Code) (e : Code) → (r >>= f) ≡ Err e → (r ≡ Err e) ⊎ ((x : A) × (r ≡ Ok x) × (f x ≡ Err e))
 bind_err (Ok x) f e h = inr (x, refl, h)
 bind_err {A} {B} (Err d) f e h = inl (ap Err (err_is {A = B} d e h))
@@ -34,6 +35,7 @@ bind_err {A} {B} (Err d) f e h = inl (ap Err (err_is {A = B} d e h))
 err_same : {A : Type 0} (d e : Code) → ◌≡◌ {A = Result A Code} (Err d) (Err e) → e ≡ d
 err_same d e h = cc
 
+-- a word that is missing is a fault of the form
 next_fault : (words : List (List ℕ)) (cause : Code) → next_word Form words ≡ Err cause → cause ≡ Form
 next_fault [] cause h = err_same {A = List ℕ × List (List ℕ)} Form cause h
 next_fault (w ∷ ws) cause h = absurd cc
@@ -44,6 +46,7 @@ end_fault (w ∷ ws) cause h = err_same {A = Unit {0}} Form cause h
 
 -- ---- numbers
 
+-- a number is refused for its form, or as digits out of its range
 number_fault : (least greatest : ℕ) (word : List ℕ) (cause : Code) → number_between least greatest word ≡ Err cause → (cause ≡ Form) ⊎ IsOutside least greatest word cause
 number_fault least greatest word cause h =
     elim (bind_err (numeral_upto Form Range greatest word) _ cause h) [
@@ -71,6 +74,7 @@ number_fault least greatest word cause h =
     ok_same : (x y : ℕ) → ◌≡◌ {A = Result ℕ Code} (Ok x) (Ok y) → x ≡ y
     ok_same x y h = cc
 
+-- the first word is digits out of this range
 record BadNumber (least greatest : ℕ) (words : List (List ℕ)) (cause : Code) : Type 0 where
   word : List ℕ
   rest : List (List ℕ)
@@ -101,12 +105,14 @@ next_row_fault words cause h =
 
 -- ---- names
 
+-- the first word names no observer
 record BadName (observers : List ObserverOf) (words : List (List ℕ)) (cause : Code) : Type 0 where
   word : List ℕ
   rest : List (List ℕ)
   cut : words ≡ word ∷ rest
   nobody : IsNobody observers word cause
 
+-- a name is refused only where no observer has it
 named_fault : (observers : List ObserverOf) (name : List ℕ) (cause : Code) → observer_named observers name ≡ Err cause → IsNobody observers name cause
 named_fault observers name cause h =
     elim (chosen (nat_lt (first_named observers name) (length observers)) (Ok (first_named observers name)) (Err NoObserver) (Err cause) h) [
@@ -165,16 +171,19 @@ name_and_row observers words cause make some h =
 
 -- ---- jobs
 
+-- `change` and a number out of its range
 record BadChange (words : List (List ℕ)) (cause : Code) : Type 0 where
   behind : List (List ℕ)
   written : words ≡ codes "change" ∷ behind
   number : BadNumber 1 MAX_CHANGES behind cause
 
+-- `run` with a name that nobody has, or a row out of range behind a name
 record BadRun (observers : List ObserverOf) (words : List (List ℕ)) (cause : Code) : Type 0 where
   behind : List (List ℕ)
   written : words ≡ codes "run" ∷ behind
   field : BadName observers behind cause ⊎ BadRowBehind observers behind cause
 
+-- why a job isn't read: its form, or one of its fields
 abbrev BadJob : List ObserverOf → List (List ℕ) → Code → Type 0
 BadJob observers words cause = (cause ≡ Form) ⊎ (BadChange words cause ⊎ BadRun observers words cause)
 
@@ -193,6 +202,7 @@ run_fault observers words cause some h = name_and_row observers words cause Run 
 in_front : (words : List (List ℕ)) (x : List ℕ × List (List ℕ)) (word : List ℕ) → words ≡ x.0 ∷ x.1 → bytes_eq x.0 word ≡ true → words ≡ word ∷ x.1
 in_front words x word cut is = cut ∙ ap (λ (w : List ℕ). w ∷ x.1) (same_text x.0 word is)
 
+-- a job that isn't read is at fault for one of these
 job_fault : (observers : List ObserverOf) (words : List (List ℕ)) (cause : Code) → AreWords words → next_job observers words ≡ Err cause → BadJob observers words cause
 unfolding next_job
 job_fault observers words cause some h =
@@ -217,6 +227,7 @@ job_fault observers words cause some h =
 
 -- ---- cells
 
+-- a row, and digits that are no column behind it
 record BadColumn (words : List (List ℕ)) (cause : Code) : Type 0 where
   row : Row
   behind : List (List ℕ)
@@ -257,6 +268,7 @@ record BadAcknowledgment (observers : List ObserverOf) (words : List (List ℕ))
 abbrev BadCell : List ObserverOf → List (List ℕ) → Code → Type 0
 BadCell observers words cause = BadDataCell words cause ⊎ BadAcknowledgment observers words cause
 
+-- a cell that isn't read is at fault for its form, or for one of its fields
 cell_fault : (observers : List ObserverOf) (words : List (List ℕ)) (cause : Code) → AreWords words → next_cell observers words ≡ Err cause → BadCell observers words cause
 cell_fault observers [] cause some h = inl (inl (err_same {A = Cell × List (List ℕ)} Form cause h))
 cell_fault observers (word ∷ words) cause some h = elim (chosen (bytes_eq word (codes "ack")) (next_acknowledgment observers words) _ (Err cause) h) [
@@ -269,9 +281,11 @@ cell_fault observers (word ∷ words) cause some h = elim (chosen (bytes_eq word
 
 -- ---- orders
 
+-- a line's fault: its form, or the field at which its words stop
 abbrev Blames : List ObserverOf → List (List ℕ) → Code → Type 0
 Blames observers words cause = (cause ≡ Form) ⊎ StopsAtField observers words cause
 
+-- what stands behind a whole order is a fault of the form
 once_fault : (event : Event) (words : List (List ℕ)) (cause : Code) → once event words ≡ Err cause → cause ≡ Form
 unfolding once
 once_fault event words cause h =
@@ -293,6 +307,7 @@ launch_job observers actor words rest cause may is (inr (inr run)) =
           inr (record { field = RunRow actor row.observer; word = n.word; rest = n.rest; cut = front ∙ ap (λ (ws : List (List ℕ)). codes "launch" ∷ decimal actor ∷ codes "run" ∷ ws) (row.written ∙ ap (λ (ws : List (List ℕ)). name_of observers row.observer ∷ ws) n.cut); fits = (may, row.named); refused = n.outside })
     ]
 
+-- a launch that isn't read is at fault for its form or for a field, and so with each verb below
 launch_fault : (observers : List ObserverOf) (words : List (List ℕ)) (cause : Code) → AreWords words → launch_of observers words ≡ Err cause → Blames observers (codes "launch" ∷ words) cause
 unfolding launch_of
 launch_fault observers words cause some h =
@@ -361,7 +376,7 @@ on_fault make r cause h =
       | inr a ↦ inl (once_fault (make a.0.0) a.0.1 cause a.2)
     ]
 
--- the same fields of both verbs that name any cell
+-- where a verb that names any cell may stop: at a row, a column, a name, or a row behind a name
 record CellFields (observers : List ObserverOf) (verb : List ℕ) : Type 0 where
   blame_row : (words rest : List (List ℕ)) (word : List ℕ) (cause : Code) → words ≡ verb ∷ word ∷ rest → IsNoRow word cause → StopsAtField observers words cause
   blame_column : (words rest : List (List ℕ)) (row : Row) (word : List ℕ) (cause : Code) → words ≡ verb ∷ decimal row.0 ∷ word ∷ rest → IsRow row → IsNoColumn word cause → StopsAtField observers words cause
@@ -397,6 +412,7 @@ bad_cell observers verb words cause f (inr a) =
           inr (f.blame_ack_row (verb ∷ words) n.rest r.observer n.word cause (ap (λ (ws : List (List ℕ)). verb ∷ ws) (a.written ∙ ap (λ (ws : List (List ℕ)). codes "ack" ∷ ws) (r.written ∙ ap (λ (ws : List (List ℕ)). name_of observers r.observer ∷ ws) n.cut))) r.named n.outside)
     ]
 
+-- `settle` and `clear` have the same fields, so one lemma serves both
 any_cell_fault : (observers : List ObserverOf) (verb : List ℕ) (make : Cell → Event) (words : List (List ℕ)) (cause : Code) → AreWords words → CellFields observers verb → once_on make (next_cell observers words) ≡ Err cause → Blames observers (verb ∷ words) cause
 any_cell_fault observers verb make words cause some f h =
     elim (on_fault make (next_cell observers words) cause h) [
@@ -435,10 +451,12 @@ by_verb observers verb words cause some h =
     (λ h. verb_fault verb (codes "clear") _ _ cause P h (any_cell_fault observers (codes "clear") Clear words cause some (clear_fields observers))
     (λ h. verb_fault verb (codes "sweep") _ _ cause P h (sweep_fault observers words cause) (λ h. inl (err_same {A = Order} Form cause h)))))))
 
+-- whatever a line's words begin with, its fault is its form or a field's
 words_blamed : (observers : List ObserverOf) (words : List (List ℕ)) (cause : Code) → AreWords words → order_of_words observers words ≡ Err cause → Blames observers words cause
 unfolding order_of_words
 words_blamed observers [] cause some h = inl (err_same {A = Order} Form cause h)
 words_blamed observers (verb ∷ words) cause some h = by_verb observers verb words cause some.1 h
 
+-- so a line that isn't of a wrong form stops at a field
 pub blamed : (observers : List ObserverOf) (line : List ℕ) (cause : Code) → order_of observers line ≡ Err cause → (cause ≡ Form) ⊎ StopsAtField observers (words_of line) cause
 blamed observers line cause h = words_blamed observers (words_of line) cause (words_are line) h

@@ -25,6 +25,7 @@ refused {A} e cause is = ap (λ (c : Code). Err c) (sym is)
 
 -- ---- numbers
 
+-- digits out of the range are refused as such
 outside_is : (least greatest : ℕ) (word : List ℕ) (cause : Code) → IsOutside least greatest word cause → number_between least greatest word ≡ Err cause
 outside_is least greatest word cause out =
     elim (cases_lt greatest (digits_value 10 word)) [
@@ -45,6 +46,7 @@ row_refused word rest cause out = rw (number_refused 0 (2 ^ 64 - 1) word rest ca
 
 -- ---- names
 
+-- a name that no observer has is found nowhere
 nobody_there : (observers : List ObserverOf) (word : List ℕ) (cause : Code) (b : Bool) → nat_lt (first_named observers word) (length observers) ≡ b → IsNobody observers word cause → b ≡ false
 nobody_there observers word cause false is none = refl
 nobody_there observers word cause true is none =
@@ -52,6 +54,7 @@ nobody_there observers word cause true is none =
     let f = first_is observers word lt in
     absurd (none.nobody (first_named observers word) lt f.same)
 
+-- so it is refused, and told as no observer's
 name_refused : (observers : List ObserverOf) (word : List ℕ) (rest : List (List ℕ)) (cause : Code) → IsNobody observers word cause → next_observer observers (word ∷ rest) ≡ Err cause
 unfolding next_observer
 name_refused observers word rest cause none = rw (nobody_there observers word cause _ refl none) (refused {A = ℕ × List (List ℕ)} NoObserver cause none.told)
@@ -70,6 +73,7 @@ run_row_refused : (observers : List ObserverOf) (o : ℕ) (word : List ℕ) (res
 unfolding next_run
 run_row_refused observers o word rest cause named out = rw (next_observer_back observers o (word ∷ rest) named, row_refused word rest cause out) refl
 
+-- behind an actor, a job that is refused is the launch's fault
 launch_job_refused : (observers : List ObserverOf) (actor : ℕ) (words : List (List ℕ)) (cause : Code) → IsActor actor → next_job observers words ≡ Err cause → launch_of observers (decimal actor ∷ words) ≡ Err cause
 unfolding launch_of
 launch_job_refused observers actor words cause may is = rw (actor_back actor words may, is) refl
@@ -125,6 +129,7 @@ crash_refused : (word : List ℕ) (rest : List (List ℕ)) (cause : Code) → Is
 unfolding crash_of
 crash_refused word rest cause out = rw (number_refused 1 (MAX_SEATS - 1) word rest cause out) refl
 
+-- a word that can't stand in its field is refused there, behind words that may stand in front
 field_refused : (observers : List ObserverOf) (field : Field) (word : List ℕ) (rest : List (List ℕ)) (cause : Code) → FitsInFront observers field → IsRefusedAt observers field word cause → order_of_words observers (words_in_front observers field ++ word ∷ rest) ≡ Err cause
 unfolding order_of_words next_job
 field_refused observers LaunchActor word rest cause fits out = launch_actor_refused observers word rest cause out
@@ -145,5 +150,6 @@ field_refused observers (ClearAckRow o) word rest cause fits out = on_refused Cl
 field_refused observers SweepRow word rest cause fits out = on_refused Sweep _ cause (data_row_refused word rest cause out)
 field_refused observers (SweepColumn row) word rest cause fits out = on_refused Sweep _ cause (column_refused row word rest cause fits out)
 
+-- a line that stops at a field has the field's fault
 pub told : (observers : List ObserverOf) (line : List ℕ) (cause : Code) → StopsAtField observers (words_of line) cause → order_of observers line ≡ Err cause
 told observers line cause s = ap (order_of_words observers) s.cut ∙ field_refused observers s.field s.word s.rest cause s.fits s.refused

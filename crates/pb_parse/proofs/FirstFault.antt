@@ -23,6 +23,7 @@ onward {S} {A} {E} step n s x xs e (Ok t) others is h =
     let k : n + length (x ∷ f.front) ≡ (n + 1) + length f.front = omega arith in
     record { front = x ∷ f.front; here = f.here; after = f.after; before = f.before; parts = ap (λ (ys : List A). x ∷ ys) f.parts; read = rw is f.read; fault = rw k f.fault }
 
+-- where things taken in turn end in a fault, it is that of one of them, after all in front were taken
 pub first_fault : {S A E : Type 0} (step : ℕ → S → A → Result S E) (n : ℕ) (s : S) (xs : List A) (e : E) → in_turn step n s xs ≡ Err e → IsFirst step n s xs e
 first_fault step n s [] e h = absurd cc
 first_fault step n s (x ∷ xs) e h = onward step n s x xs e (step n s x) (λ t. first_fault step (n + 1) t xs e) refl h

@@ -19,6 +19,7 @@ use Rattle.pb_parse.proofs.OwnFaults.{err_same}
 line_by_text : (line : List ℕ) (cause : Code) → batch_of line ≡ Err cause → cause ≢ Memory
 line_by_text line cause h is = let s = stops_with line cause h in subst (IsFaultAfter s.before s.here) is s.fault
 
+-- a line is refused by its text and by how many stand before it; the definition has no want of memory
 by_text : (before : Batches) (line : List ℕ) (cause : Code) → with_line before line ≡ Err cause → cause ≢ Memory
 unfolding with_line
 by_text before line cause h is =
@@ -36,12 +37,14 @@ by_text before line cause h is =
 err_is : (p q : ℕ × ℕ) (b c : Result Batches (ℕ × ℕ)) → b ≡ Err p → c ≡ Err q → b ≡ c → p ≡ q
 err_is p q b c x y e = cc
 
+-- a fault that was numbered is of the line after those before it, with the number of its code
 numbered_err : (n line code : ℕ) (r : Result Batches Code) → numbered script_code n r ≡ Err (line, code) → (cause : Code) × (r ≡ Err cause) × (line ≡ n + 1) × (code ≡ script_code cause)
 numbered_err n line code (Ok b) h = absurd cc
 numbered_err n line code (Err c) h =
     let e : (n + 1, script_code c) ≡ (line, code) = err_is (n + 1, script_code c) (line, code) _ _ refl refl h in
     (c, refl, sym (ap (λ (p : ℕ × ℕ). p.0) e), sym (ap (λ (p : ℕ × ℕ). p.1) e))
 
+-- a script that isn't read stops at its first line at fault
 pub stops : (text : List ℕ) (line code : ℕ) → script_of text ≡ Err (line, code) → StopsAt text line code
 stops text line code h =
     let f = first_fault (λ n before l. numbered script_code n (with_line before l)) 0 [] (slice_split (λ b. b == 10) text) (line, code) h in

@@ -25,6 +25,7 @@ err_is d e h = cc
 abbrev IsFieldCause : Code → Type 0
 IsFieldCause cause = (cause ≡ Range) ⊎ (cause ≡ NoObserver)
 
+-- a field is refused as out of range, or as a name that no observer has
 field_cause : (observers : List ObserverOf) (field : Field) (word : List ℕ) (cause : Code) → IsRefusedAt observers field word cause → IsFieldCause cause
 field_cause observers LaunchActor word cause out = inl out.told
 field_cause observers (ChangeNumber actor) word cause out = inl out.told
@@ -44,12 +45,14 @@ field_cause observers (ClearAckRow o) word cause out = inl out.told
 field_cause observers SweepRow word cause out = inl out.told
 field_cause observers (SweepColumn row) word cause out = inl out.told
 
+-- so a line's own fault is its form or one of these two, and never too many events
 line_cause : (observers : List ObserverOf) (line : List ℕ) (cause : Code) → order_of observers line ≡ Err cause → (cause ≡ Form) ⊎ IsFieldCause cause
 line_cause observers line cause h = elim (blamed observers line cause h) [
   | inl form ↦ inl form
   | inr s ↦ inr (field_cause observers s.field s.word cause s.refused)
 ]
 
+-- what is none of a line's own faults isn't its cause
 other_than : (e cause : Code) → (cause ≡ Form) ⊎ IsFieldCause cause → (e ≡ Form → ⊥) → (e ≡ Range → ⊥) → (e ≡ NoObserver → ⊥) → cause ≢ e
 other_than e cause (inl form) a b c is = a (sym is ∙ form)
 other_than e cause (inr (inl range)) a b c is = b (sym is ∙ range)
@@ -57,10 +60,12 @@ other_than e cause (inr (inr name)) a b c is = c (sym is ∙ name)
 
 -- ---- one line
 
+-- why a line that isn't skipped is at fault: by itself, or since it goes past what a schedule may have
 record Faulty (observers : List ObserverOf) (before : List Event) (line : List ℕ) (cause : Code) : Type 0 where
   shown : is_skipped line ≡ false
   how : (order_of observers line ≡ Err cause) ⊎ ((order : Order) × (order_of observers line ≡ Ok order) × (MAX_EVENTS < length before + order.times) × (TooMany ≡ cause))
 
+-- events are refused for nothing but their number
 past : (before : List Event) (order : Order) (cause : Code) → with_order before order ≡ Err cause → (MAX_EVENTS < length before + order.times) × (TooMany ≡ cause)
 past before order cause h = elim (chosen (nat_lt MAX_EVENTS (length before + order.times)) (Err TooMany) (Ok (before ++ replicate order.times order.event)) (Err cause) h) [
   | inl many ↦ (ltb-true _ _ many.0, err_is {A = List Event} TooMany cause many.1)
@@ -75,6 +80,7 @@ faulty observers before line cause false is h =
       | inr a ↦ let p = past before a.0 cause a.2 in record { shown = is; how = inr (a.0, a.1, p.0, p.1) }
     ]
 
+-- a line's fault is never want of memory
 by_text : (observers : List ObserverOf) (before : List Event) (line : List ℕ) (cause : Code) → with_event_line observers before line ≡ Err cause → cause ≢ Memory
 by_text observers before line cause h =
     elim (faulty observers before line cause (is_skipped line) refl h).how [
@@ -82,6 +88,7 @@ by_text observers before line cause h =
       | inr a ↦ λ is. let e : TooMany ≡ Memory = a.3 ∙ is in absurd cc
     ]
 
+-- 92 comes only where a line is read and goes past
 goes_past : (observers : List ObserverOf) (before : List Event) (line : List ℕ) → with_event_line observers before line ≡ Err TooMany → GoesPast observers before line
 goes_past observers before line h =
     let f = faulty observers before line TooMany (is_skipped line) refl h in
@@ -90,6 +97,7 @@ goes_past observers before line h =
       | inr a ↦ record { order = a.0; shown = f.shown; read = a.1; past = a.2 }
     ]
 
+-- and a line that is read and goes past is 92
 too_many : (observers : List ObserverOf) (before : List Event) (line : List ℕ) → GoesPast observers before line → with_event_line observers before line ≡ Err TooMany
 too_many observers before line g = shown_line observers before line g.shown ∙ rw (g.read, lt-ltb MAX_EVENTS (length before + g.order.times) g.past) refl
 
@@ -107,6 +115,7 @@ numbered_err n line code (Err c) h =
     let e : (n + 1, schedule_code c) ≡ (line, code) = pair_is (n + 1, schedule_code c) (line, code) h in
     (c, refl, sym (ap (λ (p : ℕ × ℕ). p.0) e), sym (ap (λ (p : ℕ × ℕ). p.1) e))
 
+-- a schedule that isn't read stops at its first line at fault
 pub stops : (observers : List ObserverOf) (text : List ℕ) (line code : ℕ) → schedule_of observers text ≡ Err (line, code) → ScheduleStopsAt observers text line code
 stops observers text line code h =
     let f = first_fault (λ m events l. numbered schedule_code m (with_event_line observers events l)) 0 [] (lines_of text) (line, code) h in

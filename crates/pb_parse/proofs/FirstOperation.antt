@@ -14,10 +14,12 @@ use Rattle.pb_parse.proofs.FirstFault.{first_fault}
 use Rattle.pb_parse.proofs.OwnFaults.{IsOwn, err_same, own_fault}
 use Rattle.pb_parse.proofs.Batches.{chosen, nothing_open, all_open}
 
+-- a fault of one reading after another is the first's, or the second's after what the first read
 pub bind_err : {A B : Type 0} (r : Result A Code) (f : A → Result B Code) (e : Code) → (r >>= f) ≡ Err e → (r ≡ Err e) ⊎ ((x : A) × (r ≡ Ok x) × (f x ≡ Err e))
 bind_err (Ok x) f e h = inr (x, refl, h)
 bind_err {A} {B} (Err d) f e h = inl (ap Err (err_same {A = B} d e h))
 
+-- an operation's own fault is the line's, whatever stands before it
 own_after : (before : Writes) (text : List ℕ) (cause : Code) → IsOwn cause → operation text ≡ Err cause → IsFaultAfter before text cause
 own_after before text Form own h = h
 own_after before text Range own h = h
@@ -27,6 +29,7 @@ own_after before text Twice own h = absurd own
 own_after before text Seventeenth own h = absurd own
 own_after before text TooMany own h = absurd own
 
+-- what an operation is refused for is one of the reasons that the format has
 fault_after : (before : Writes) (here : List ℕ) (cause : Code) → length before ≤ MAX_CELLS → with_operation before here ≡ Err cause → IsFaultAfter before here cause
 unfolding with_operation
 fault_after before here cause few h =
@@ -41,6 +44,7 @@ fault_after before here cause few h =
       ]
     ]
 
+-- a line that isn't read stops with its first operation at fault
 pub stops_with : (line : List ℕ) (cause : Code) → batch_of line ≡ Err cause → StopsWith line cause
 stops_with line cause h =
     let f = first_fault (λ _. with_operation) 0 [] (cut line) cause h in

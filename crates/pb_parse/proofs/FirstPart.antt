@@ -8,6 +8,7 @@ use Rattle.pb_parse.specs.Left.{words_left}
 use denote.Ref.{Bor}
 
 module _ (byte : ℕ) where
+  -- a text with such a byte is cut into what stands before the first one, and the parts of what stands behind
   pub first_and_rest : (text first after : List ℕ) → first ≡ before_first (λ b. b == byte) text → after ≡ after_first (λ b. b == byte) text → position_or_len (λ b. b == byte) text < length text
       → slice_split (λ b. b == byte) text ≡ first ∷ slice_split (λ b. b == byte) after
   first_and_rest text first after e f lt = rw (e, f) (slice_split_first (λ b. b == byte) text 0 lt)
@@ -17,12 +18,14 @@ module _ (byte : ℕ) where
   one_part_by x xs true shorter h = absurd (omega (arith, h))
   one_part_by x xs false shorter h = ap (onto_first x) (shorter (omega (arith, h)))
 
+  -- a text without one is one part, also an empty text
   pub one_part : (text : List ℕ) → position_or_len (λ b. b == byte) text ≡ length text → slice_split (λ b. b == byte) text ≡ text ∷ []
   one_part [] h = refl
   one_part (x ∷ xs) h = one_part_by x xs (x == byte) (one_part xs) h
 
 -- ---- no word is left
 
+-- parts that a byte was put in front of are some
 onto_some : {E : Type 0} (form : E) (x : ℕ) (parts : List (List ℕ)) → no_word form (onto_first x parts) ≡ Err form
 onto_some form x [] = refl
 onto_some form x (p ∷ ps) = refl
@@ -31,10 +34,12 @@ has_word_by : {E : Type 0} (form : E) (x : ℕ) (xs : List ℕ) (b : Bool) → n
 has_word_by form x xs true = refl
 has_word_by form x xs false = onto_some form x (words_of xs)
 
+-- a line, be it empty, has a word, so asking that none be left fails
 has_word : {E : Type 0} (form : E) (text : List ℕ) → no_word form (words_of text) ≡ Err form
 has_word form [] = refl
 has_word form (x ∷ xs) = has_word_by form x xs (x == 32)
 
+-- where anything is left of a line, a word is left
 pub left_over : {E : Type 0} (form : E) (words : Option (Bor (List ℕ))) → is_some words ≡ true → no_word form (words_left words) ≡ Err form
 left_over form None h = absurd cc
 left_over form (Some text) h = has_word form text.now

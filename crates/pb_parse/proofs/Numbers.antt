@@ -1,3 +1,4 @@
+-- What parsing a numeral answers, as a script's fields read it.
 use Rattle.std.proofs.Common.{◌≡◌, ℕ, ◌<◌, ◌^◌, Bool, true, false, cond, ◌&&◌, List, length, Ok, Err, refl, sym, arith, rules, inl, inr}
 use Rattle.std.specs.Prelude.{nat_lt, ◌==◌, slice_index}
 use Rattle.std.specs.Char.{is_ascii_digit}
@@ -9,6 +10,7 @@ use Rattle.pb_parse.specs.declared.script.code.Code.TheVariants.{Range}
 use Rattle.pb_parse.specs.ScriptWords.{number_upto}
 use Rattle.pb_base.specs.Reading.{is_numeral}
 
+-- the digits of `is_numeral` are those that the standard library's lemmas on parsing ask for
 tells : IsDigitsTest (λ ds. list_all is_ascii_digit ds ≡ true)
 tells = search rules
 
@@ -24,14 +26,17 @@ both_fail true b x h = absurd cc
 both_fail false true x h = absurd cc
 both_fail false false x h = (refl, h)
 
+-- a numeral has digits alone, and at least one, as parsing asks
 digits_in : (w : List ℕ) → is_numeral w ≡ true → (list_all is_ascii_digit w ≡ true) × (0 < length w)
 digits_in w h =
     let a = both_fail (length w == 0) ((slice_index w 0 == 48) && nat_lt 1 (length w)) (list_all is_ascii_digit w) h in
     (a.1, not_zero (length w) a.0)
 
+-- where parsing answers a number, it is the value of the digits
 pub value_is : (E : Type 0) (w : List ℕ) (x : ℕ) → is_numeral w ≡ true → ParsesUnsigned {E = E} 64 10 w (Ok x) → digits_value 10 w ≡ x
 value_is E w x h p = sym (parse_digits own {E = E} 64 w (Ok x) p (digits_in w h).0).1
 
+-- where parsing fails, the digits are beyond 64 bits, and so beyond any range of a field
 pub none_fits : (E : Type 0) (greatest : ℕ) (w : List ℕ) (e : E) → greatest < 2 ^ 64 → is_numeral w ≡ true → ParsesUnsigned {E = E} 64 10 w (Err e) → number_upto greatest w ≡ Err Range
 none_fits E greatest w e lt h p =
     let d = digits_in w h in

@@ -13,6 +13,7 @@ use Rattle.pb_base.specs.Reading.{is_numeral}
 tells : IsDigitsTest (λ ds. list_all is_ascii_digit ds ≡ true)
 tells = search rules
 
+-- `digits_value` is the value that parsing answers, so that its lemmas hold of these words
 own : IsNumeralModel (λ ds. list_all is_ascii_digit ds ≡ true) (digits_value 10)
 own = numerals_by_value _ tells
 
@@ -33,9 +34,11 @@ digits_in w h =
 
 -- ---- what parsing answers
 
+-- where parsing answers a number, it is the value of the digits
 pub value_is : (E : Type 0) (w : List ℕ) (x : ℕ) → is_numeral w ≡ true → ParsesUnsigned {E = E} 64 10 w (Ok x) → digits_value 10 w ≡ x
 value_is E w x h p = sym (parse_digits own {E = E} 64 w (Ok x) p (digits_in w h).0).1
 
+-- where parsing fails, nothing is wrong with the digits but that they are beyond 64 bits
 pub too_large : (E : Type 0) (w : List ℕ) (e : E) → is_numeral w ≡ true → ParsesUnsigned {E = E} 64 10 w (Err e) → 2 ^ 64 ≤ digits_value 10 w
 too_large E w e h p =
     let d = digits_in w h in
@@ -47,6 +50,7 @@ too_large E w e h p =
 
 -- ---- a number and its digits
 
+-- digits that begin with a zero are a zero alone
 zero_alone : (x m : ℕ) → ((x == 48) && nat_lt 1 m) ≡ false → 0 < m → x ≡ 48 → m ≡ 1
 zero_alone x m h some e =
     elim (cases_lt 1 m) [
@@ -54,6 +58,7 @@ zero_alone x m h some e =
       | inr few ↦ omega (arith, few, some)
     ]
 
+-- a numeral within 64 bits is the spelling of its value, since no other spelling is a numeral
 pub decimal_of : (w : List ℕ) → is_numeral w ≡ true → digits_value 10 w < 2 ^ 64 → w ≡ decimal (digits_value 10 w)
 decimal_of w h lt = let d = digits_in w h in sym (decimal-digits_value own w d.0 d.2 (zero_alone (slice_index w 0) (length w) d.1 d.2) lt)
 
@@ -71,8 +76,10 @@ no_zero (suc n) lt =
     let e : (slice_index (decimal (suc n)) 0 == 48) ≡ false = grind (arith, f) in
     rw e refl
 
+-- the spelling of a number is a numeral
 pub numeral_of : (n : ℕ) → n < 2 ^ 64 → is_numeral (decimal n) ≡ true
 numeral_of n lt = tests (length (decimal n) == 0) (slice_index (decimal n) 0 == 48) (nat_lt 1 (length (decimal n))) (list_all is_ascii_digit (decimal n)) (not_empty _ (decimal_nonempty n lt)) (no_zero n lt) (digits_decimal own n lt)
 
+-- a number is the value of its spelling
 pub value_of : (n : ℕ) → n < 2 ^ 64 → digits_value 10 (decimal n) ≡ n
 value_of n lt = digits_value-decimal own n lt

@@ -22,6 +22,7 @@ use Rattle.pb_parse.proofs.Blanks.{IsWord, AreWords, joined_words, decimal_word}
 use Rattle.pb_parse.proofs.Numerals.{numeral_of}
 use Rattle.pb_parse.proofs.Steps.{same_text, number_back, next_number_back, next_row_back, next_observer_back}
 
+-- each actor is read from the spelling of its number
 pub actor_back : (actor : ℕ) (rest : List (List ℕ)) → IsActor actor → next_actor (decimal actor ∷ rest) ≡ Ok (actor, rest)
 actor_back actor rest fits = let low = fits.0 in let high = fits.1 in next_number_back 1 (MAX_SEATS - 1) actor rest (omega arith) low (omega (arith, high))
 
@@ -33,11 +34,13 @@ run_back : (observers : List ObserverOf) (o : ℕ) (row : Row) (rest : List (Lis
 unfolding next_run
 run_back observers o row rest named fits = rw (next_observer_back observers o (decimal row.0 ∷ rest) named, next_row_back row rest fits) refl
 
+-- each job is read from its words
 job_back : (observers : List ObserverOf) (job : Job) → FitsJob observers job → next_job observers (job_words observers job) ≡ Ok (job, [])
 unfolding next_job
 job_back observers (Change number) fits = change_back number [] fits.0 fits.1
 job_back observers (Run o row) fits = run_back observers o row [] fits.0 fits.1
 
+-- each data cell is read from its words
 data_back : (row : Row) (column : ℕ) (rest : List (List ℕ)) → IsRow row → column < COLUMNS → next_data_cell (decimal row.0 ∷ decimal column ∷ rest) ≡ Ok (Data row column, rest)
 unfolding next_data_cell
 data_back row column rest fits lt = rw (next_row_back row (decimal column ∷ rest) fits, next_number_back 0 (COLUMNS - 1) column rest (omega arith) (omega arith) (omega (arith, lt))) refl
@@ -51,6 +54,7 @@ pub not_ack : (n : ℕ) (b : Bool) → n < 2 ^ 64 → bytes_eq (decimal n) (code
 not_ack n false lt is = refl
 not_ack n true lt is = let e : is_numeral (codes "ack") ≡ true = subst (λ (w : List ℕ). is_numeral w ≡ true) (same_text (decimal n) (codes "ack") is) (numeral_of n lt) in absurd cc
 
+-- each cell is read from its words: a row is no `ack`, so the forms aren't mixed up
 cell_back : (observers : List ObserverOf) (x : Cell) → FitsCell observers x → next_cell observers (cell_words observers x) ≡ Ok (x, [])
 cell_back observers (Data row column) fits = rw (not_ack row.0 (bytes_eq (decimal row.0) (codes "ack")) fits.0 refl) (data_back row column [] fits.0 fits.1)
 cell_back observers (Ack o row column) fits = acknowledgment_back observers o row [] fits.0 fits.1 ∙ ap (λ (k : ℕ). Ok (Ack o row k, [])) (sym fits.2)
@@ -81,6 +85,7 @@ sweep_back : (observers : List ObserverOf) (x : Cell) → IsRowCell x → FitsCe
 sweep_back observers (Data row column) data_cell fits = once_on_back Sweep _ (Data row column) (data_back row column [] fits.0 fits.1)
 sweep_back observers (Ack o row column) data_cell fits = absurd data_cell
 
+-- each event that may stand in a line is read from its words, once
 event_back : (observers : List ObserverOf) (e : Event) → FitsEvent observers e → order_of_words observers (event_words observers e) ≡ Ok (record { event = e; times = 1 })
 unfolding order_of_words
 event_back observers (Launch actor job) fits = launch_back observers actor job fits.0 fits.1
@@ -90,6 +95,7 @@ event_back observers (Settle x) fits = once_on_back Settle _ x (cell_back observ
 event_back observers (Clear x) fits = once_on_back Clear _ x (cell_back observers x fits)
 event_back observers (Sweep x) fits = sweep_back observers x fits.0 fits.1
 
+-- and a step as often as the last word says
 steps_back : (observers : List ObserverOf) (actor n : ℕ) → IsActor actor → 1 ≤ n → n ≤ MAX_EVENTS → order_of_words observers (codes "step" ∷ decimal actor ∷ decimal n ∷ []) ≡ Ok (record { event = Step actor; times = n })
 unfolding order_of_words step_of times_of
 steps_back observers actor n fits low high = rw (actor_back actor (decimal n ∷ []) fits, number_back 1 MAX_EVENTS n (omega arith) low high) refl
@@ -106,10 +112,12 @@ job_are : (observers : List ObserverOf) (job : Job) → FitsJob observers job �
 job_are observers (Change number) fits = let high = fits.1 in (refl, (decimal_word number (omega (arith, high)), tt))
 job_are observers (Run o row) fits = (refl, (fits.0.word, (row_word row fits.1, tt)))
 
+-- the words of a cell have no blanks, so they are cut apart as they were joined
 cell_are : (observers : List ObserverOf) (x : Cell) → FitsCell observers x → AreWords (cell_words observers x)
 cell_are observers (Data row column) fits = let lt = fits.1 in (row_word row fits.0, (decimal_word column (omega (arith, lt)), tt))
 cell_are observers (Ack o row column) fits = (refl, (fits.0.word, (row_word row fits.1, tt)))
 
+-- an event's line is cut into its words
 event_cut : (observers : List ObserverOf) (e : Event) → FitsEvent observers e → words_of (join_with_byte 32 (event_words observers e)) ≡ event_words observers e
 event_cut observers (Launch actor job) fits = joined_words (codes "launch") (decimal actor ∷ job_words observers job) refl (actor_word actor fits.0, job_are observers job fits.1)
 event_cut observers (Step actor) fits = joined_words (codes "step") (decimal actor ∷ []) refl (actor_word actor fits, tt)
@@ -133,6 +141,7 @@ steps_line observers (Settle x) n line words fits step low high are is = absurd 
 steps_line observers (Clear x) n line words fits step low high are is = absurd step
 steps_line observers (Sweep x) n line words fits step low high are is = absurd step
 
+-- each line of the format is read, as the order that it is of
 pub line_read : (observers : List ObserverOf) (line : List ℕ) (order : Order) → IsLineOf observers order line → order_of observers line ≡ Ok order
 line_read observers line order h = elim h.1 [
   | inl one ↦ once_line observers order.event order.times line h.0 h.2 one.0 one.1 h.3

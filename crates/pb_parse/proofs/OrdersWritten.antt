@@ -22,10 +22,12 @@ use Rattle.pb_parse.specs.EventLines.{name_of, cell_words, job_words, event_word
 use Rattle.pb_parse.proofs.Blanks.{AreWords, words_are}
 use Rattle.pb_parse.proofs.Steps.{then_ok, ok_is, chosen, same_text, next_is, none_left, once_is, number_is, next_number_is, next_row_is, next_observer_is}
 
+-- the first word is the spelling of an actor's number
 pub record TakesActor (actor : ℕ) (words rest : List (List ℕ)) : Type 0 where
   pub written : words ≡ decimal actor ∷ rest
   pub fits : IsActor actor
 
+-- an actor is read from the spelling of its number alone
 pub actor_is : (words : List (List ℕ)) (x : ℕ × List (List ℕ)) → next_actor words ≡ Ok x → TakesActor x.0 words x.1
 actor_is words x h =
     let n = next_number_is 1 (MAX_SEATS - 1) words x (omega arith) h in
@@ -34,10 +36,12 @@ actor_is words x h =
 
 -- ---- jobs
 
+-- the words in front are those of a job that may stand there
 record TakesJob (observers : List ObserverOf) (job : Job) (words rest : List (List ℕ)) : Type 0 where
   written : words ≡ job_words observers job ++ rest
   fits : FitsJob observers job
 
+-- a change is read from its words alone
 change_is : (observers : List ObserverOf) (words : List (List ℕ)) (x : Job × List (List ℕ)) → next_change words ≡ Ok x → TakesJob observers x.0 (codes "change" ∷ words) x.1
 unfolding next_change
 change_is observers words x h =
@@ -46,6 +50,7 @@ change_is observers words x h =
     subst (λ (y : Job × List (List ℕ)). TakesJob observers y.0 (codes "change" ∷ words) y.1) (ok_is (Change a.0.0, a.0.1) x a.2)
     (record { written = ap (λ (ws : List (List ℕ)). codes "change" ∷ ws) n.written; fits = (n.low, n.high) })
 
+-- a run is read from its words alone
 run_is : (observers : List ObserverOf) (words : List (List ℕ)) (x : Job × List (List ℕ)) → AreWords words → next_run observers words ≡ Ok x → TakesJob observers x.0 (codes "run" ∷ words) x.1
 unfolding next_run
 run_is observers words x some h =
@@ -76,6 +81,7 @@ job_is observers words x some h =
 
 -- ---- cells
 
+-- the words in front are those of a cell that may stand there
 record TakesCell (observers : List ObserverOf) (x : Cell) (words rest : List (List ℕ)) : Type 0 where
   written : words ≡ cell_words observers x ++ rest
   fits : FitsCell observers x
@@ -84,6 +90,7 @@ record TakesDataCell (observers : List ObserverOf) (x : Cell) (words rest : List
   cell : TakesCell observers x words rest
   data_cell : IsRowCell x
 
+-- a data cell is read from its row and column alone
 data_is : (observers : List ObserverOf) (words : List (List ℕ)) (x : Cell × List (List ℕ)) → next_data_cell words ≡ Ok x → TakesDataCell observers x.0 words x.1
 unfolding next_data_cell
 data_is observers words x h =
@@ -105,6 +112,7 @@ acknowledgment_is observers words x some h =
     subst (λ (y : Cell × List (List ℕ)). TakesCell observers y.0 (codes "ack" ∷ words) y.1) (ok_is (acknowledgment observers a.0.0 b.0.0, b.0.1) x b.2)
     (record { written = ap (λ (ws : List (List ℕ)). codes "ack" ∷ ws) (n.written ∙ ap (λ (ws : List (List ℕ)). name_of observers a.0.0 ∷ ws) r.0); fits = (n.named, r.1, refl) })
 
+-- a cell is read from its words alone, whichever of two forms it has
 cell_is : (observers : List ObserverOf) (words : List (List ℕ)) (x : Cell × List (List ℕ)) → AreWords words → next_cell observers words ≡ Ok x → TakesCell observers x.0 words x.1
 cell_is observers [] x some h = absurd cc
 cell_is observers (word ∷ words) x some h = elim (chosen (bytes_eq word (codes "ack")) (next_acknowledgment observers words) _ (Ok x) h) [
@@ -114,6 +122,7 @@ cell_is observers (word ∷ words) x some h = elim (chosen (bytes_eq word (codes
 
 -- ---- orders
 
+-- the words are the order's, and what they name may stand there
 record IsWritten (observers : List ObserverOf) (order : Order) (words : List (List ℕ)) : Type 0 where
   written : AreWordsOf observers order words
   fits : FitsEvent observers order.event
@@ -136,6 +145,7 @@ launch_is observers words order some h =
     once_written observers (Launch a.0.0 b.0.0) (codes "launch" ∷ words) b.0.1 order b.2
     (ap (λ (ws : List (List ℕ)). codes "launch" ∷ ws) (n.written ∙ ap (λ (ws : List (List ℕ)). decimal a.0.0 ∷ ws) j.written)) (n.fits, j.fits)
 
+-- how often is said by no word, or by the spelling of a number
 times_is : (words : List (List ℕ)) (n : ℕ) → times_of words ≡ Ok n → ((n ≡ 1) × (words ≡ [])) ⊎ ((1 ≤ n) × (n ≤ MAX_EVENTS) × (words ≡ decimal n ∷ []))
 unfolding times_of
 times_is [] n h = inl (sym (ok_is 1 n h), refl)
@@ -196,6 +206,7 @@ verb_is verb this r others order P h mine rest = elim (chosen (bytes_eq verb thi
   | inr q ↦ rest q.1
 ]
 
+-- an order is read from its words alone, whichever verb they begin with
 by_verb : (observers : List ObserverOf) (verb : List ℕ) (words : List (List ℕ)) (order : Order) → AreWords words → order_by observers verb words ≡ Ok order → IsWritten observers order (verb ∷ words)
 by_verb observers verb words order some h =
     let P = λ (v : List ℕ). IsWritten observers order (v ∷ words) in
@@ -211,6 +222,7 @@ unfolding order_of_words
 words_written observers [] order some h = absurd cc
 words_written observers (verb ∷ words) order some h = by_verb observers verb words order some.1 h
 
+-- a line that is read is the order's, joined by single blanks, since joining undoes the cut
 pub line_written : (observers : List ObserverOf) (line : List ℕ) (order : Order) → order_of observers line ≡ Ok order → IsLineOf observers order line
 line_written observers line order h =
     let w = words_written observers (words_of line) order (words_are line) h in

@@ -8,6 +8,7 @@ use Rattle.pb_parse.specs.declared.script.code.Code.TheVariants.{Memory, Form, R
 use Rattle.pb_base.specs.Reading.{◌>>=◌, next_word, no_word}
 use Rattle.pb_parse.specs.ScriptWords.{number_upto, padded, content_of, cell_at, put_of, del_of, write_of, operation}
 
+-- a fault that an operation can have by itself: 70, 71 or 72
 abbrev pub IsOwn : Code → Type 0
 IsOwn Form = Unit {0}
 IsOwn Range = Unit {0}
@@ -17,6 +18,7 @@ IsOwn Twice = ⊥
 IsOwn Seventeenth = ⊥
 IsOwn TooMany = ⊥
 
+-- what reads a part of an operation fails with none but these
 abbrev FaultIsOwn : {A : Type 0} → Result A Code → Type 0
 FaultIsOwn r = (e : Code) → r ≡ Err e → IsOwn e
 
@@ -29,6 +31,7 @@ good x e is = absurd cc
 own : {A : Type 0} (d : Code) → IsOwn d → FaultIsOwn {A = A} (Err d)
 own d o e is = subst IsOwn (err_same d e is) o
 
+-- two such readings one after the other are one
 bind : {A B : Type 0} (r : Result A Code) (f : A → Result B Code) → FaultIsOwn r → ((x : A) → FaultIsOwn (f x)) → FaultIsOwn (r >>= f)
 bind (Ok x) f g h = h x
 bind (Err d) f g h = own d (g d refl)
@@ -37,6 +40,7 @@ either : {A : Type 0} (b : Bool) (r s : Result A Code) → FaultIsOwn r → Faul
 either true r s g h = g
 either false r s g h = h
 
+-- a number is out of form or out of range
 number : (greatest : ℕ) (word : List ℕ) → FaultIsOwn (number_upto greatest word)
 number greatest word = either _ _ _ (either _ _ _ (good _) (own Range tt)) (own Form tt)
 
@@ -44,6 +48,7 @@ pads : {E : Type 0} (r : Result (List ℕ) E) → FaultIsOwn (padded r)
 pads (Ok bytes) = good _
 pads (Err e) = own Hex tt
 
+-- a value is refused by 72 alone
 content : (word : List ℕ) → FaultIsOwn (content_of word)
 content word = either _ _ _ (own Hex tt) (pads (decode_of word))
 
@@ -71,5 +76,6 @@ write : (words : List (List ℕ)) → FaultIsOwn (write_of words)
 unfolding write_of
 write words = bind (next_word Form words) _ (next words) (λ a. either _ _ _ (put a.1) (either _ _ _ (del a.1) (own Form tt)))
 
+-- so an operation has no fault that depends on those before it
 pub own_fault : (text : List ℕ) (cause : Code) → operation text ≡ Err cause → IsOwn cause
 own_fault text cause h = write (slice_split (λ b. b == 32) text) cause h

@@ -20,6 +20,7 @@ any_number step n m s (x ∷ xs) = same_then (λ t. in_turn (λ _. step) (n + 1)
 abbrev pub from_here : Writes → List ℕ → Result Writes Code
 from_here writes rest = in_turn (λ _. with_operation) 0 writes (cut rest)
 
+-- what a line gives from here is what its first part gives, and then the rest from what that left
 first_part : (w : Writes) (rest first after : List ℕ) (r : Result Writes Code) → SplitsAroundMatch (FindsText joint) rest first after → with_operation w first ≡ r → from_here w rest ≡ (r >>= λ t. from_here t after)
 first_part w rest first after r split one =
     ap (λ (xs : List (List ℕ)). in_turn (λ _. with_operation) 0 w xs) (cut_some rest first after split)
@@ -41,5 +42,6 @@ same_end : (r : Result Writes Code) → (r >>= λ t. Ok t) ≡ r
 same_end (Ok t) = refl
 same_end (Err e) = refl
 
+-- where no joint is left, what is left is one operation, and ends the line
 pub last_part : (w : Writes) (rest : List ℕ) (total : Result Writes Code) → ((i : ℕ) → i ≤ length rest → LacksTextAt joint rest i) → from_here w rest ≡ total → total ≡ with_operation w rest
 last_part w rest total none before = sym before ∙ ap (λ (xs : List (List ℕ)). in_turn (λ _. with_operation) 0 w xs) (cut_none rest none) ∙ same_end (with_operation w rest)

@@ -13,6 +13,7 @@ use Rattle.pb_parse.specs.ScriptLines.{Batches, batch_of, with_line, script_of}
 use Rattle.pb_parse.specs.Scripts.{AreBatches}
 use Rattle.pb_parse.proofs.Batches.{bind_ok, ok_same, chosen, line_is_batch}
 
+-- a line leaves batches, no more than a script may have, where there were such before
 next_line : (before after : Batches) (line : List ℕ) → AreBatches before → with_line before line ≡ Ok after → AreBatches after
 unfolding with_line
 next_line before after line so_far h =
@@ -27,10 +28,12 @@ next_line before after line so_far h =
           ]
     ]
 
+-- a line that is read isn't changed by its number
 next_numbered : (n : ℕ) (r : Result Batches Code) (after : Batches) → numbered script_code n r ≡ Ok after → r ≡ Ok after
 next_numbered n (Ok b) after h = ap Ok (ok_same {E = ℕ × ℕ} b after h)
 next_numbered n (Err c) after h = absurd cc
 
+-- one line more, with its fault numbered
 abbrev step : ℕ → Batches → List ℕ → Result Batches (ℕ × ℕ)
 step n before line = numbered script_code n (with_line before line)
 
@@ -40,9 +43,11 @@ line_on : (n : ℕ) (before after : Batches) (l : List ℕ) (ls : List (List ℕ
 line_on n before after l ls so_far (Err e) is others h = absurd cc
 line_on n before after l ls so_far (Ok t) is others h = others t (next_line before t l so_far (next_numbered n (with_line before l) t is)) h
 
+-- what lines leave after others are batches, no more than a script may have
 lines_on : (n : ℕ) (before after : Batches) (ls : List (List ℕ)) → AreBatches before → in_turn step n before ls ≡ Ok after → AreBatches after
 lines_on n before after [] so_far h = subst AreBatches (ok_same {E = ℕ × ℕ} before after h) so_far
 lines_on n before after (l ∷ ls) so_far h = line_on n before after l ls so_far (step n before l) refl (λ t k. lines_on (n + 1) t after ls k) h
 
+-- and a script begins with none
 pub reads_batches : (text : List ℕ) (batches : Batches) → script_of text ≡ Ok batches → AreBatches batches
 reads_batches text batches h = lines_on 0 [] batches (slice_split (λ b. b == 10) text) (omega arith, All-nil (λ (b : Writes). is_batch b ≡ true)) h

@@ -19,6 +19,7 @@ use Rattle.pb_parse.proofs.Batches.{chosen, none_of, line_is_open, line_is_batch
 
 -- where no cell is named twice, one isn't named before
 
+-- where a cell isn't among the writes, it is none of their cells
 apart : (vs ws : Writes) (w : Cell × Content) (x : Cell) → content_in (vs ++ w ∷ ws) x ≡ None → eq_by_cmp cell_cmp x w.0 ≡ false
 apart [] ws w x n = elim (chosen (eq_by_cmp cell_cmp x w.0) (Some w.1) (content_in ws x) None n) [
   | inl here ↦ let no = here.1 in absurd cc
@@ -29,6 +30,7 @@ apart (v ∷ vs) ws w x n = elim (chosen (eq_by_cmp cell_cmp x v.0) (Some v.1) (
   | inr there ↦ apart vs ws w x there.1
 ]
 
+-- among distinct cells none of those before one is its cell
 lacks : (before ws : Writes) (w : Cell × Content) → are_distinct (before ++ w ∷ ws) ≡ true → content_in before w.0 ≡ None
 lacks [] ws w d = refl
 lacks (v ∷ vs) ws w d =
@@ -36,6 +38,7 @@ lacks (v ∷ vs) ws w d =
     let other : eq_by_cmp cell_cmp w.0 v.0 ≡ false = (eq_by_cmp_equiv cell_cmp_total).symm w.0 v.0 ∙ apart vs ws w v.0 (none_of (content_in (vs ++ w ∷ ws) v.0) p.0) in
     rw other (lacks vs ws w p.1)
 
+-- an operation that is read, of a new cell, is taken where there is room
 adds : (before : Writes) (text : List ℕ) (w : Cell × Content) → operation text ≡ Ok w → content_in before w.0 ≡ None → length before < MAX_CELLS → with_operation before text ≡ Ok (before ++ w ∷ [])
 unfolding with_operation
 adds before text w read new room = rw (read, new, lt-leb MAX_CELLS (length before) room) refl
@@ -43,6 +46,7 @@ adds before text w read new room = rw (read, new, lt-leb MAX_CELLS (length befor
 first_said : (text : List ℕ) (texts : List (List ℕ)) (w : Cell × Content) (ws : Writes) → Say (text ∷ texts) (w ∷ ws) → (operation text ≡ Ok w) × Say texts ws
 first_said text texts w ws said = (cc, cc)
 
+-- so operations that say a batch are taken one after the other, from any of its beginnings
 goes : (n : ℕ) (before ws : Writes) (texts : List (List ℕ)) → Say texts ws → length (before ++ ws) ≤ MAX_CELLS → are_distinct (before ++ ws) ≡ true → in_turn (λ _. with_operation) n before texts ≡ Ok (before ++ ws)
 goes n before [] [] said few distinct = ap Ok (sym (append-nil before))
 goes n before (w ∷ ws) [] said few distinct = absurd cc
@@ -54,6 +58,7 @@ goes n before (w ∷ ws) (t ∷ ts) said few distinct =
     let rest : in_turn (λ _. with_operation) (n + 1) (before ++ w ∷ []) ts ≡ Ok ((before ++ w ∷ []) ++ ws) = goes (n + 1) (before ++ w ∷ []) ws ts p.1 (rw same few) (rw same distinct) in
     rw (adds before t w p.0 (lacks before ws w distinct) room) (rest ∙ ap Ok same)
 
+-- a line whose operations say a batch is read as that batch
 is_read : (line : List ℕ) (batch : Writes) → Say (cut line) batch → is_batch batch ≡ true → batch_of line ≡ Ok batch
 is_read line batch said h =
     let p = and_parts _ (are_distinct batch) h in
@@ -61,5 +66,6 @@ is_read line batch said h =
     let r = and_parts (nat_lt 0 (length batch)) (nat_le (length batch) MAX_CELLS) q.0 in
     goes 0 [] batch (cut line) said (leb-true _ _ r.1) p.1
 
+-- and one that is read says a batch: there is no other way to be read
 pub reads_operations : (line : List ℕ) (batch : Writes) → (batch_of line ≡ Ok batch) ↔ (Say (cut line) batch × (is_batch batch ≡ true))
 reads_operations line batch = (λ h. let o = line_is_open line batch h in (o.said, line_is_batch line batch h), λ p. is_read line batch p.0 p.1)

@@ -19,6 +19,7 @@ use Rattle.pb_parse.specs.EventLines.{name_of, IsRow, IsNamed}
 use Rattle.pb_parse.proofs.Blanks.{IsWord, AreWords}
 use Rattle.pb_parse.proofs.Numerals.{decimal_of, numeral_of, value_of}
 
+-- where two readings in turn succeed, the first does, and the second with what it read
 pub then_ok : {A B : Type 0} (r : Result A Code) (f : A → Result B Code) (y : B) → (r >>= f) ≡ Ok y → (x : A) × (r ≡ Ok x) × (f x ≡ Ok y)
 then_ok (Ok x) f y h = (x, refl, h)
 then_ok (Err e) f y h = absurd cc
@@ -30,25 +31,31 @@ if_ok : {A : Type 0} (b : Bool) (r : Result A Code) (e : Code) (x : A) → cond 
 if_ok true r e x h = (refl, h)
 if_ok false r e x h = absurd cc
 
+-- what is read behind a test wasn't refused by it
 pub else_ok : {A : Type 0} (b : Bool) (r : Result A Code) (e : Code) (x : A) → cond b (Err e) r ≡ Ok x → (b ≡ false) × (r ≡ Ok x)
 else_ok true r e x h = absurd cc
 else_ok false r e x h = (refl, h)
 
+-- a choice that came to something came by the one way or the other
 pub chosen : {A : Type 0} (b : Bool) (x y z : A) → cond b x y ≡ z → ((b ≡ true) × (x ≡ z)) ⊎ ((b ≡ false) × (y ≡ z))
 chosen true x y z h = inl (refl, h)
 chosen false x y z h = inr (refl, h)
 
+-- words that compare alike are the same word
 pub same_text : (a b : List ℕ) → bytes_eq a b ≡ true → a ≡ b
 same_text a b h = (bytes_eq-Decides a b).0 h
 
+-- the next word was the first of the words
 pub next_is : (words : List (List ℕ)) (x : List ℕ × List (List ℕ)) → next_word Form words ≡ Ok x → words ≡ x.0 ∷ x.1
 next_is [] x h = absurd cc
 next_is (w ∷ ws) x h = ap (λ (p : List ℕ × List (List ℕ)). p.0 ∷ p.1) (ok_is (w, ws) x h)
 
+-- no word is left only where there is none
 pub none_left : (words : List (List ℕ)) (x : Unit {0}) → no_word Form words ≡ Ok x → words ≡ []
 none_left [] x h = refl
 none_left (w ∷ ws) x h = absurd cc
 
+-- what is asked for once has no word behind it
 pub once_is : (event : Event) (words : List (List ℕ)) (order : Order) → once event words ≡ Ok order → (words ≡ []) × (record { event = event; times = 1 } ≡ order)
 unfolding once
 once_is event words order h =
@@ -57,11 +64,13 @@ once_is event words order h =
 
 -- ---- numbers
 
+-- the word is the spelling of a number in this range
 pub record IsBetween (least greatest n : ℕ) (word : List ℕ) : Type 0 where
   pub written : word ≡ decimal n
   pub low : least ≤ n
   pub high : n ≤ greatest
 
+-- a word that is read as a number is its spelling: no other digits, signs or zeros are read
 pub number_is : (least greatest n : ℕ) (word : List ℕ) → greatest < 2 ^ 64 → number_between least greatest word ≡ Ok n → IsBetween least greatest n word
 number_is least greatest n word lt h =
     let a = then_ok (numeral_upto Form Range greatest word) _ n h in
@@ -74,6 +83,7 @@ number_is least greatest n word lt h =
     let low : least ≤ a.0 = ltb-false _ _ b.0 in
     record { written = decimal_of word p.0 (omega (arith, le, lt)) ∙ ap decimal value; low = omega (arith, low, same); high = omega (arith, le, value) }
 
+-- and each number in the range is read from its spelling
 pub number_back : (least greatest n : ℕ) → greatest < 2 ^ 64 → least ≤ n → n ≤ greatest → number_between least greatest (decimal n) ≡ Ok n
 number_back least greatest n lt low high =
     let small : n < 2 ^ 64 = omega (arith, lt, high) in
@@ -88,6 +98,7 @@ pub record TakesNumber (least greatest n : ℕ) (words rest : List (List ℕ)) :
   pub low : least ≤ n
   pub high : n ≤ greatest
 
+-- the next word is read as a number from its spelling alone, and the words after it are left
 pub next_number_is : (least greatest : ℕ) (words : List (List ℕ)) (x : ℕ × List (List ℕ)) → greatest < 2 ^ 64 → next_number least greatest words ≡ Ok x → TakesNumber least greatest x.0 words x.1
 unfolding next_number
 next_number_is least greatest words x lt h =
@@ -101,6 +112,7 @@ pub next_number_back : (least greatest n : ℕ) (rest : List (List ℕ)) → gre
 unfolding next_number
 next_number_back least greatest n rest lt low high = rw (number_back least greatest n lt low high) refl
 
+-- a row is read from its spelling alone, and has 64 bits
 pub next_row_is : (words : List (List ℕ)) (x : Row × List (List ℕ)) → next_row words ≡ Ok x → (words ≡ decimal x.0.0 ∷ x.1) × IsRow x.0
 unfolding next_row
 next_row_is words x h =
@@ -109,12 +121,14 @@ next_row_is words x h =
     let high = n.high in
     subst (λ (y : Row × List (List ℕ)). (words ≡ decimal y.0.0 ∷ y.1) × IsRow y.0) (ok_is (record { 0 = a.0.0 }, a.0.1) x a.2) (n.written, omega (arith, high))
 
+-- and each row is read from it
 pub next_row_back : (row : Row) (rest : List (List ℕ)) → IsRow row → next_row (decimal row.0 ∷ rest) ≡ Ok (row, rest)
 unfolding next_row
 next_row_back row rest lt = rw (next_number_back 0 (2 ^ 64 - 1) row.0 rest (omega arith) (omega arith) (omega (arith, lt))) refl
 
 -- ---- names
 
+-- an observer that has the name, with none before it
 pub record IsFirstNamed (observers : List ObserverOf) (name : List ℕ) (o : ℕ) : Type 0 where
   pub same : name_of observers o ≡ name
   pub first : (before : ℕ) → before < o → name_of observers before ≢ name
@@ -126,6 +140,7 @@ not_before : (x : ObserverOf) (xs : List ObserverOf) (name : List ℕ) (o : ℕ)
 not_before x xs name o apart later zero lt = apart
 not_before x xs name o apart later (suc k) lt = later k (omega (arith, lt))
 
+-- a list's first observer of a name is its head, or the first among the others
 named_from : (x : ObserverOf) (xs : List ObserverOf) (name : List ℕ) (b : Bool) → bytes_eq x.name name ≡ b → (first_named xs name < length xs → IsFirstNamed xs name (first_named xs name)) → cond (not b) (1 + first_named xs name) 0 < length (x ∷ xs) → IsFirstNamed (x ∷ xs) name (cond (not b) (1 + first_named xs name) 0)
 named_from x xs name true is others lt = record { same = same_text x.name name is; first = λ k less. absurd (omega (arith, less)) }
 named_from x xs name false is others lt =
@@ -133,6 +148,7 @@ named_from x xs name false is others lt =
     let next : 1 + first_named xs name ≡ suc (first_named xs name) = omega arith in
     subst (IsFirstNamed (x ∷ xs) name) (sym next) (record { same = f.same; first = not_before x xs name (first_named xs name) (differs x.name name is) f.first })
 
+-- the place that is found is of the first observer of the name
 pub first_is : (observers : List ObserverOf) (name : List ℕ) → first_named observers name < length observers → IsFirstNamed observers name (first_named observers name)
 first_is [] name lt = absurd (omega (arith, lt))
 first_is (x ∷ xs) name lt = named_from x xs name (bytes_eq x.name name) refl (first_is xs name) lt
@@ -144,6 +160,7 @@ other_text : (b : Bool) (x y : List ℕ) → bytes_eq x y ≡ b → x ≢ y → 
 other_text true x y is apart = absurd (apart (same_text x y is))
 other_text false x y is apart = is
 
+-- and the first of the name is the place that is found
 pub first_back : (observers : List ObserverOf) (name : List ℕ) (o : ℕ) → o < length observers → IsFirstNamed observers name o → first_named observers name ≡ o
 first_back [] name o lt f = absurd (omega (arith, lt))
 first_back (x ∷ xs) name zero lt f = rw (equal_text x.name name f.same) refl
@@ -159,10 +176,12 @@ place_there xs x name o true e others lt is = omega arith
 place_there xs x name zero false e others lt is = absurd (differs x.name name e is)
 place_there xs x name (suc k) false e others lt is = let f = others k (omega (arith, lt)) is in omega (arith, f)
 
+-- where any observer has the name, a place is found
 pub some_named : (observers : List ObserverOf) (name : List ℕ) (o : ℕ) → o < length observers → name_of observers o ≡ name → first_named observers name < length observers
 some_named [] name o lt is = absurd (omega (arith, lt))
 some_named (x ∷ xs) name o lt is = place_there xs x name o (bytes_eq x.name name) refl (some_named xs name) lt is
 
+-- a name that is read is the observer's own, and a name without blanks names it in a line
 pub named_is : (observers : List ObserverOf) (name : List ℕ) (o : ℕ) → observer_named observers name ≡ Ok o → (name_of observers o ≡ name) × (IsWord name → IsNamed observers o)
 named_is observers name o h =
     let p = if_ok (nat_lt (first_named observers name) (length observers)) (Ok (first_named observers name)) NoObserver o h in
@@ -171,6 +190,7 @@ named_is observers name o h =
     subst (λ (k : ℕ). (name_of observers k ≡ name) × (IsWord name → IsNamed observers k)) (ok_is (first_named observers name) o p.1)
     (f.same, λ word. record { there = lt; first = λ k less is. f.first k less (is ∙ f.same); word = ap (list_all (λ b. not (b == 32))) f.same ∙ word })
 
+-- an observer that is the first of its name is read from it
 pub named_back : (observers : List ObserverOf) (o : ℕ) → IsNamed observers o → observer_named observers (name_of observers o) ≡ Ok o
 named_back observers o n =
     let e : first_named observers (name_of observers o) ≡ o = first_back observers (name_of observers o) o n.there (record { same = refl; first = n.first }) in
@@ -182,6 +202,7 @@ pub record TakesName (observers : List ObserverOf) (o : ℕ) (words rest : List 
   pub written : words ≡ name_of observers o ∷ rest
   pub named : IsNamed observers o
 
+-- the next word is read as a name that a line can have, since a line's words have no blank
 pub next_observer_is : (observers : List ObserverOf) (words : List (List ℕ)) (x : ℕ × List (List ℕ)) → AreWords words → next_observer observers words ≡ Ok x → TakesName observers x.0 words x.1
 unfolding next_observer
 next_observer_is observers words x some h =

@@ -17,6 +17,7 @@ use Rattle.pb_parse.specs.Schedules.{with_order, with_event_line, events_of_line
 use Rattle.pb_parse.specs.EventLines.{AreOrders, events_of, IsSchedule}
 use Rattle.pb_parse.proofs.Steps.{then_ok, ok_is, else_ok}
 
+-- the lines that say something
 abbrev kept : List (List ℕ) → List (List ℕ)
 kept ls = filter (λ l. not (is_skipped l)) ls
 
@@ -31,16 +32,20 @@ asked order = replicate order.times order.event
 
 -- ---- one line
 
+-- a skipped line leaves the events as they are
 pub skip_line : (observers : List ObserverOf) (before : List Event) (l : List ℕ) → is_skipped l ≡ true → with_event_line observers before l ≡ Ok before
 unfolding with_event_line
 skip_line observers before l is = rw is refl
 
+-- any other adds what it asks for
 pub shown_line : (observers : List ObserverOf) (before : List Event) (l : List ℕ) → is_skipped l ≡ false → with_event_line observers before l ≡ (order_of observers l >>= with_order before)
 unfolding with_event_line
 shown_line observers before l is = rw is refl
 
+-- what one line added, with as many events as a schedule may have at most
 record Taken (observers : List ObserverOf) (before after : List Event) (l : List ℕ) : Type 0 where
   order : Order
+  -- lines that are read add the events of their orders, in order
   read : order_of observers l ≡ Ok order
   few : length after ≤ MAX_EVENTS
   whole : before ++ asked order ≡ after
@@ -50,9 +55,11 @@ taken before after order h =
     let p = else_ok (nat_lt MAX_EVENTS (length before + order.times)) (Ok (before ++ asked order)) TooMany after h in
     (ltb-false _ _ p.0, ok_is (before ++ asked order) after p.1)
 
+-- an order asks for so many events
 length_asked : (order : Order) → length (asked order) ≡ order.times
 length_asked order = length-replicate order.times order.event
 
+-- a line that is read adds its order's events, and goes not past
 take_line : (observers : List ObserverOf) (before after : List Event) (l : List ℕ) → is_skipped l ≡ false → with_event_line observers before l ≡ Ok after → Taken observers before after l
 take_line observers before after l is h =
     let a = then_ok (order_of observers l) _ after (sym (shown_line observers before l is) ∙ h) in
@@ -62,6 +69,7 @@ take_line observers before after l is h =
 
 -- ---- what has been read
 
+-- what lines added to the events of those before them: the events of their orders
 record Reading (observers : List ObserverOf) (before after : List Event) (ls : List (List ℕ)) : Type 0 where
   orders : List Order
   lines : AreOrders observers (kept ls) orders
@@ -109,6 +117,7 @@ go_on observers n before p after l ls is h = ap (λ (r : Result (List Event) Cod
 heads : (r : Result Order Code) (rs : List (Result Order Code)) (q : Result Order Code) (qs : List (Result Order Code)) → r ∷ rs ≡ q ∷ qs → (r ≡ q) × (rs ≡ qs)
 heads r rs q qs h = (cc, cc)
 
+-- an order that fits is added whole
 added : (before : List Event) (order : Order) → length before + order.times ≤ MAX_EVENTS → with_order before order ≡ Ok (before ++ asked order)
 added before order most = rw (le-ltb MAX_EVENTS (length before + order.times) most) refl
 
@@ -127,6 +136,7 @@ back_line observers n before (o ∷ os) l ls false is lines most others =
     go_on observers n before (before ++ asked o) (before ++ events_of (o ∷ os)) l ls (shown_line observers before l is ∙ ap (λ (r : Result Order Code). r >>= with_order before) h.0 ∙ added before o room)
     (others (before ++ asked o) os h.1 whole ∙ ap Ok grouped)
 
+-- lines that are orders, and fit together, are read on from any events
 back : (observers : List ObserverOf) (n : ℕ) (ls : List (List ℕ)) → ReadOn observers n ls
 back observers n [] before [] lines most = ap Ok (sym (append-nil before))
 back observers n [] before (o ∷ os) lines most = absurd cc
@@ -138,5 +148,6 @@ whole observers text events h = let f = read observers 0 [] events (lines_of tex
 back_whole : (observers : List ObserverOf) (text : List ℕ) (events : List Event) → IsSchedule observers text events → schedule_of observers text ≡ Ok events
 back_whole observers text events s = back observers 0 (lines_of text) [] s.orders s.lines (subst (λ (es : List Event). length es ≤ MAX_EVENTS) s.whole s.few) ∙ ap Ok (sym s.whole)
 
+-- both ways: a text is read as events exactly where its lines ask for them
 pub text_is : (observers : List ObserverOf) (text : List ℕ) (events : List Event) → (schedule_of observers text ≡ Ok events) ↔ IsSchedule observers text events
 text_is observers text events = (whole observers text events, back_whole observers text events)

@@ -1,8 +1,10 @@
--- The numbers by which faults are told.
+-- The numbers by which a script's faults are told. They stand apart from the reading, which speaks of codes by their
+-- names; `Code::code`, `parse_script` and the laws of first faults cite them.
 use Rattle.std.specs.Prelude.{ℕ, Bool, true, false}
 use Rattle.pb_parse.specs.declared.script.code.Code as script
 use Rattle.pb_parse.specs.declared.script.code.Code.TheVariants as script_codes
 
+-- 1 where memory ran out, else the number that docs/CODES.md explains
 abbrev pub script_code : script.Code → ℕ
 script_code script_codes.Memory = 1
 script_code script_codes.Form = 70

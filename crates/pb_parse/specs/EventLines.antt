@@ -1,4 +1,5 @@
--- The lines of a schedule, as they are written.
+-- The lines of a schedule, as they are written: the words of each event, and what may stand there. Nothing is read
+-- here, so that a reader and a definition that are loose in one way are refused by `event_lines_are_read_as_written`.
 use Rattle.std.specs.Prelude.{◌≡◌, ◌≢◌, ◌⊎◌, ℕ, ◌^◌, ◌<◌, ◌≤◌, ◌==◌, not, true, List, [], ◌∷◌, ◌++◌, length, map, codes, Option, Some, None, slice_get, Ok, replicate}
 use Rattle.std.specs.Fmt.{decimal}
 use Rattle.std.specs.List.{filter, flat_map, join_with_byte, list_all}
@@ -15,6 +16,7 @@ use Rattle.pb_parse.specs.declared.event.Event.TheVariants.{Launch, Step, Crash,
 use Rattle.pb_parse.specs.declared.schedule.words.Order.{Order}
 use Rattle.pb_parse.specs.ScheduleWords.{order_of}
 
+-- an observer's name, and no letters where there is no observer
 abbrev pub name_or_none : Option ObserverOf → List ℕ
 name_or_none None = []
 name_or_none (Some o) = o.name
@@ -25,14 +27,17 @@ name_of observers o = name_or_none (slice_get observers o)
 
 -- ---- the words of a line
 
+-- a data cell by row and column; an acknowledgment by the observer's name, which tells its column too
 abbrev pub cell_words : List ObserverOf → Cell → List (List ℕ)
 cell_words observers (Data row column) = decimal row.0 ∷ decimal column ∷ []
 cell_words observers (Ack o row column) = codes "ack" ∷ name_of observers o ∷ decimal row.0 ∷ []
 
+-- the words of a launch behind its actor
 abbrev pub job_words : List ObserverOf → Job → List (List ℕ)
 job_words observers (Change number) = codes "change" ∷ decimal number ∷ []
 job_words observers (Run o row) = codes "run" ∷ name_of observers o ∷ decimal row.0 ∷ []
 
+-- the words of a line that asks for the event once
 abbrev pub event_words : List ObserverOf → Event → List (List ℕ)
 event_words observers (Launch actor job) = codes "launch" ∷ decimal actor ∷ job_words observers job
 event_words observers (Step actor) = codes "step" ∷ decimal actor ∷ []
@@ -43,9 +48,11 @@ event_words observers (Sweep x) = codes "sweep" ∷ cell_words observers x
 
 -- ---- what may stand there
 
+-- an actor's number is that of its seat, and the main seat, 0, has no actor that a text could name
 abbrev pub IsActor : ℕ → Type 0
 IsActor actor = (1 ≤ actor) × (actor < MAX_SEATS)
 
+-- rows have 64 bits; a number of the definitions has no bound of its own
 abbrev pub IsRow : Row → Type 0
 IsRow row = row.0 < 2 ^ 64
 
@@ -55,18 +62,22 @@ pub record IsNamed (observers : List ObserverOf) (o : ℕ) : Type 0 where
   pub first : (before : ℕ) → before < o → name_of observers before ≢ name_of observers o
   pub word : list_all (λ b. not (b == 32)) (name_of observers o) ≡ true
 
+-- a change has a number that some script may have, and a run's observer can be named
 abbrev pub FitsJob : List ObserverOf → Job → Type 0
 FitsJob observers (Change number) = (1 ≤ number) × (number ≤ MAX_CHANGES)
 FitsJob observers (Run o row) = IsNamed observers o × IsRow row
 
+-- the cell is in the table, and an acknowledgment is of the column that its observer observes
 abbrev pub FitsCell : List ObserverOf → Cell → Type 0
 FitsCell observers (Data row column) = IsRow row × (column < COLUMNS)
 FitsCell observers (Ack o row column) = IsNamed observers o × IsRow row × (column ≡ observed_column observers o)
 
+-- a data cell, the one sort of cell that has marks to sweep
 abbrev pub IsRowCell : Cell → Type 0
 IsRowCell (Data row column) = Unit {0}
 IsRowCell (Ack o row column) = ⊥
 
+-- what an event names may stand in a line
 abbrev pub FitsEvent : List ObserverOf → Event → Type 0
 FitsEvent observers (Launch actor job) = IsActor actor × FitsJob observers job
 FitsEvent observers (Step actor) = IsActor actor
@@ -77,6 +88,7 @@ FitsEvent observers (Sweep x) = IsRowCell x × FitsCell observers x
 
 -- ---- lines
 
+-- a step, the only event that a line may ask for several times
 abbrev pub IsStep : Event → Type 0
 IsStep (Step actor) = Unit {0}
 IsStep (Launch actor job) = ⊥

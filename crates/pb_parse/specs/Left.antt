@@ -1,4 +1,6 @@
--- What is left to read of a text.
+-- What is left to read of a text, behind a newline or a blank. After the last one nothing is left, which isn't the
+-- same as an empty text: that is one empty line, or one empty word. The loops and cursors of src/ keep their
+-- invariants by these.
 use Rattle.std.specs.Prelude.{ℕ, List, [], Option, Some, None}
 use Rattle.pb_base.specs.Reading.{lines_of, words_of}
 use denote.Ref.{Bor}

@@ -1,4 +1,5 @@
--- What the operations of a line say, and which of them is at fault.
+-- What the operations of a line say, and which of them is at fault. Said of all at once, without an order of reading,
+-- since a looseness of the reading in turn would stand in definition and reader alike. The laws of lines cite it.
 use Rattle.std.specs.Prelude.{◌≡◌, ℕ, ◌≤◌, true, false, is_some, List, ◌∷◌, ◌++◌, length, map, Ok, Err}
 use Rattle.pb_base.specs.declared.limits.TheConstants.{MAX_CELLS}
 use Rattle.pb_base.specs.declared.cell.Cell.{Cell}

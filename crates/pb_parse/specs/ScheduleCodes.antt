@@ -1,8 +1,9 @@
--- The numbers by which a schedule's faults are told.
+-- The numbers by which a schedule's faults are told. Readers speak of codes by name; `ScheduleFault::at` cites these.
 use Rattle.std.specs.Prelude.{ℕ, Bool, true, false}
 use Rattle.pb_parse.specs.declared.schedule.fault.Code.{Code}
 use Rattle.pb_parse.specs.declared.schedule.fault.Code.TheVariants.{Memory, Form, Range, TooMany, NoObserver}
 
+-- 1 where memory ran out, else the number that docs/CODES.md explains
 abbrev pub schedule_code : Code → ℕ
 schedule_code Memory = 1
 schedule_code Form = 90

@@ -1,4 +1,5 @@
--- Where a schedule is at fault.
+-- Where a schedule is at fault, said by the words of a line up to one that can't stand there, and not by what a reader
+-- meets first. The laws of schedules cite it.
 use Rattle.std.specs.Prelude.{◌≡◌, ◌≢◌, ◌⊎◌, ℕ, ◌-◌, ◌^◌, ◌<◌, ◌+◌, true, false, List, [], ◌∷◌, ◌++◌, length, codes, Ok, Err}
 use Rattle.std.specs.Fmt.{decimal}
 use Rattle.std.specs.Str.Parse.{digits_value}
@@ -51,6 +52,7 @@ pub data Field : Type 0 where
   SweepRow : Field
   SweepColumn : Row → Field
 
+-- the words of a line up to its field, character for character
 abbrev pub words_in_front : List ObserverOf → Field → List (List ℕ)
 words_in_front observers LaunchActor = codes "launch" ∷ []
 words_in_front observers (ChangeNumber actor) = codes "launch" ∷ decimal actor ∷ codes "change" ∷ []
@@ -96,12 +98,15 @@ pub record IsOutside (least greatest : ℕ) (word : List ℕ) (cause : Code) : T
   pub outside : (digits_value 10 word < least) ⊎ (greatest < digits_value 10 word)
   pub told : cause ≡ Range
 
+-- digits that are no actor's number; a word that is no number at all has no form, and is no field's fault
 abbrev pub IsNoActor : List ℕ → Code → Type 0
 IsNoActor word cause = IsOutside 1 (MAX_SEATS - 1) word cause
 
+-- digits of 2^64 and more
 abbrev pub IsNoRow : List ℕ → Code → Type 0
 IsNoRow word cause = IsOutside 0 (2 ^ 64 - 1) word cause
 
+-- digits above the last column
 abbrev pub IsNoColumn : List ℕ → Code → Type 0
 IsNoColumn word cause = IsOutside 0 (COLUMNS - 1) word cause
 

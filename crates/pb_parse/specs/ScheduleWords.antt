@@ -1,4 +1,5 @@
--- The words of a schedule's line, each read from left to right.
+-- The words of a schedule's line, each read from left to right: what is read, and the words after it. Each method of
+-- the cursor `Words` cites the one of its name; what they read together is said without an order in EventLines.
 use Rattle.std.specs.Prelude.{ℕ, ◌-◌, ◌^◌, nat_lt, if◌then◌else◌, List, [], ◌∷◌, length, codes, Result, Ok, Err}
 use Rattle.std.specs.List.{position_or_len}
 use Rattle.std.specs.Str.{bytes_eq}
@@ -31,6 +32,7 @@ next_number least greatest words = do
 abbrev pub next_actor : List (List ℕ) → Result (ℕ × List (List ℕ)) Code
 next_actor words = next_number 1 (MAX_SEATS - 1) words
 
+-- the next word as a row, of 64 bits, and the words after it
 unfoldable pub next_row : List (List ℕ) → Result (Row × List (List ℕ)) Code
 next_row words = do
   number ← next_number 0 (2 ^ 64 - 1) words
@@ -40,6 +42,7 @@ next_row words = do
 abbrev pub first_named : List ObserverOf → List ℕ → ℕ
 first_named observers name = position_or_len (λ o. bytes_eq o.name name) observers
 
+-- the number of the first observer of this name; that there is none is a fault of its own, 93
 abbrev pub observer_named : List ObserverOf → List ℕ → Result ℕ Code
 observer_named observers name = if nat_lt (first_named observers name) (length observers) then Ok (first_named observers name) else Err NoObserver
 
@@ -50,17 +53,20 @@ next_observer observers words = do
   o ← observer_named observers word.0
   Ok (o, word.1)
 
+-- the number of a change behind `change`, from 1 on; whether the script has so many is asked where it is launched
 unfoldable pub next_change : List (List ℕ) → Result (Job × List (List ℕ)) Code
 next_change words = do
   number ← next_number 1 MAX_CHANGES words
   Ok (Change number.0, number.1)
 
+-- the name of an observer and a row, behind `run`; the run is on the cell of the observer's column there
 unfoldable pub next_run : List ObserverOf → List (List ℕ) → Result (Job × List (List ℕ)) Code
 next_run observers words = do
   observer ← next_observer observers words
   row ← next_row observer.1
   Ok (Run observer.0 row.0, row.1)
 
+-- what an actor is launched for, by its word, and the words after it
 unfoldable pub next_job : List ObserverOf → List (List ℕ) → Result (Job × List (List ℕ)) Code
 next_job observers words = do
   sort ← next_word Form words
@@ -72,6 +78,7 @@ once event words = do
   end ← no_word Form words
   Ok (record { event = event; times = 1 })
 
+-- behind `launch` an actor and its job, and no word more
 unfoldable pub launch_of : List ObserverOf → List (List ℕ) → Result Order Code
 launch_of observers words = do
   actor ← next_actor words
@@ -86,23 +93,27 @@ times_of (word ∷ words) = do
   end ← no_word Form words
   Ok n
 
+-- behind `step` an actor, and how often its job goes on
 unfoldable pub step_of : List (List ℕ) → Result Order Code
 step_of words = do
   actor ← next_actor words
   times ← times_of actor.1
   Ok (record { event = Step actor.0; times = times })
 
+-- behind `crash` an actor, and no word more
 unfoldable pub crash_of : List (List ℕ) → Result Order Code
 crash_of words = do
   actor ← next_actor words
   once (Crash actor.0) actor.1
 
+-- a row and a column, and the words after them
 unfoldable pub next_data_cell : List (List ℕ) → Result (Cell × List (List ℕ)) Code
 next_data_cell words = do
   row ← next_row words
   column ← next_number 0 (COLUMNS - 1) row.1
   Ok (Data row.0 column.0, column.1)
 
+-- behind `ack` a name and a row; the column is the one that the observer observes, so no word tells it
 unfoldable pub next_acknowledgment : List ObserverOf → List (List ℕ) → Result (Cell × List (List ℕ)) Code
 next_acknowledgment observers words = do
   observer ← next_observer observers words
@@ -129,6 +140,7 @@ order_by observers verb words =
     else if bytes_eq verb (codes "sweep") then once_on Sweep (next_data_cell words)
     else Err Form
 
+-- what a line's words ask for; a line is never without a word, but a word may be empty
 unfoldable pub order_of_words : List ObserverOf → List (List ℕ) → Result Order Code
 order_of_words observers words = do
   verb ← next_word Form words

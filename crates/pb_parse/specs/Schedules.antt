@@ -1,4 +1,5 @@
--- A text of lines, each an event or several.
+-- A text of lines, each an event or several, and the first line at fault. `parse_schedule` promises it; the same is
+-- said of all lines at once in EventLines, by a law.
 use Rattle.std.specs.Prelude.{◌≡◌, ◌⊎◌, ℕ, ◌+◌, nat_lt, replicate, if◌then◌else◌, List, [], ◌++◌, length, Result, Ok, Err}
 use Rattle.std.specs.Global.{Vec}
 use Rattle.pb_base.specs.declared.limits.TheConstants.{MAX_EVENTS}
@@ -28,6 +29,7 @@ events_of_lines observers n before lines = in_turn (λ m events line. numbered s
 abbrev pub schedule_of : List ObserverOf → List ℕ → Result (List Event) (ℕ × ℕ)
 schedule_of observers text = events_of_lines observers 0 [] (lines_of text)
 
+-- the fault of want of memory: no line has number 0, so it is taken for no other
 abbrev pub no_memory_told : ScheduleFault
 no_memory_told = record { line = 0; code = 1 }
 

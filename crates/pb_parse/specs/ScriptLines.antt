@@ -1,4 +1,5 @@
--- A line, and a text of lines.
+-- A line, and a text of lines: each operation after those before it in its line, and each line after those before it,
+-- up to the first at fault. `parse_script` cites it, and so do all laws of scripts.
 use Rattle.std.specs.Prelude.{ℕ, ◌&&◌, ◌==◌, nat_le, if◌then◌else◌, is_some, List, [], ◌∷◌, ◌++◌, length, Result, Ok, Err}
 use Rattle.std.specs.List.{onto_first}
 use Rattle.pb_base.specs.declared.limits.TheConstants.{MAX_CELLS, MAX_CHANGES}
@@ -21,10 +22,11 @@ with_operation before text = do
   w ← operation text
   if is_some (content_in before w.0) then Err Twice else if nat_le MAX_CELLS (length before) then Err Seventeenth else Ok (before ++ w ∷ [])
 
--- one transaction
+-- the transaction that a line is: what its operations write, in their order
 abbrev pub batch_of : List ℕ → Result Writes Code
 batch_of line = in_turn (λ _. with_operation) 0 [] (cut line)
 
+-- what a script is read as: of each transaction what it writes, in the order of the lines
 abbrev pub Batches : Type 0
 Batches = List Writes
 
@@ -34,6 +36,7 @@ with_line before line = if is_skipped line then Ok before else do
   batch ← batch_of line
   if nat_le MAX_CHANGES (length before) then Err TooMany else Ok (before ++ batch ∷ [])
 
+-- the transactions of these lines; skipped ones are counted too, since a fault is told by the line's number
 abbrev pub lines_read : List (List ℕ) → Result Batches (ℕ × ℕ)
 lines_read ls = in_turn (λ n before line. numbered script_code n (with_line before line)) 0 [] ls
 

@@ -1,4 +1,5 @@
--- The words of one operation, each read from left to right.
+-- The words of one operation, each read from left to right, since the first field at fault is the one that is told.
+-- Each reader of src/script/words.rt cites the one of its name.
 use Rattle.std.specs.Prelude.{ℕ, ◌-◌, ◌^◌, replicate, ◌||◌, ◌==◌, nat_lt, if◌then◌else◌, List, ◌++◌, length, drop, codes, Result, Ok, Err}
 use Rattle.std.specs.Char.{is_ascii_uppercase}
 use Rattle.std.specs.List.{list_any}
@@ -34,6 +35,7 @@ cell_at words = do
   column ← number_upto 15 second.0
   Ok (Data (record { 0 = row }) column, second.1)
 
+-- `put ROW COL HEX`, behind its verb: the content is read before it is asked whether a word is left
 unfoldable pub put_of : List (List ℕ) → Result (Cell × Content) Code
 put_of words = do
   cell ← cell_at words
@@ -42,12 +44,14 @@ put_of words = do
   end ← no_word Form word.1
   Ok (cell.0, Value content)
 
+-- `del ROW COL`, behind its verb
 unfoldable pub del_of : List (List ℕ) → Result (Cell × Content) Code
 del_of words = do
   cell ← cell_at words
   end ← no_word Form cell.1
   Ok (cell.0, Deleted)
 
+-- an operation by its verb; an unknown one is of no form, whatever stands behind it
 unfoldable pub write_of : List (List ℕ) → Result (Cell × Content) Code
 write_of words = do
   verb ← next_word Form words

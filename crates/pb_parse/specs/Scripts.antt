@@ -1,4 +1,4 @@
--- What a whole script is read as.
+-- What a whole script is read as, and where it stops: what `parse_script` promises, and the laws that follow from it.
 use Rattle.std.specs.Prelude.{◌≡◌, ◌≢◌, ℕ, ◌+◌, ◌≤◌, ◌==◌, ◌⊎◌, true, List, ◌∷◌, ◌++◌, length, Result, Ok, Err}
 use Rattle.std.specs.Global.{Vec}
 use Rattle.std.specs.List.{slice_split, All}
@@ -11,6 +11,7 @@ use Rattle.pb_parse.specs.declared.script.lines.ScriptFault.{ScriptFault}
 use Rattle.pb_parse.specs.Codes.{script_code}
 use Rattle.pb_parse.specs.ScriptLines.{Batches, with_line, lines_read}
 
+-- the fault of want of memory: no line has number 0, so it is taken for no other
 abbrev pub no_memory : ScriptFault
 no_memory = record { line = 0; code = 1 }
 

@@ -1,4 +1,4 @@
-//! What a schedule asks for.
+//! What a schedule asks for, which is also what worlds let happen.
 use pb_base::{Cell, ObserverNo, Row};
 
 /// What an actor is launched for.
@@ -19,10 +19,11 @@ pub enum Event {
     Step(u32),
     /// The actor's job is gone; what it did in the table stays.
     Crash(u32),
-    /// The step of this name on the cell, by the main seat (OSDI 2010, section 2.2).
+    /// The step of this name on the cell, by the main seat, since it is no actor's (OSDI 2010, section 2.2): the
+    /// transaction whose primary is locked there is decided against.
     Settle(Cell),
-    /// The same.
+    /// Likewise: a lock that another transaction left on the cell is taken off, as its primary says.
     Clear(Cell),
-    /// The same.
+    /// Likewise: the mark is taken off the cell where no observer is behind on it.
     Sweep(Cell),
 }

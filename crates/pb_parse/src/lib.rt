@@ -1,6 +1,10 @@
 //! Scripts and schedules, as their texts are read.
 //!
-//! Scripts and schedules are read as defined, line by line, or refused with the first fault, told where it is.
+//! A script is the changes of a run, and a schedule the events of a replay. One crate reads both, so that lines, words
+//! and numbers are cut in one way, and worlds take its `Event` without anything of reports. `pb_driver` reads its texts
+//! by the names that `pb_script` hands on. A text is read exactly as its format says, line by line, or its first line
+//! at fault is told, by that line's first fault, unless memory ran out. So `put 7 0 2a; del 7 1` is one batch of two
+//! cells, and a second line `put 7 16 2a` is told as line 2 code 71, since there is no column above 15.
 #![tactic(auto)]
 
 mod event;

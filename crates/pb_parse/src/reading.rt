@@ -1,4 +1,5 @@
-//! Texts cut into lines and these into words, and numbers.
+//! Texts cut into lines and these into words, and numbers. The front of a text is taken off and no list of its parts is
+//! made, so that reading takes no memory. Scripts and schedules both read by it.
 ghost use Rattle.std.specs.Prelude.{◌≡◌, ◌==◌, ◌∷◌};
 ghost use Rattle.std.specs.Char.{is_ascii_digit};
 ghost use Rattle.std.specs.List.{list_all};
@@ -40,7 +41,8 @@ fn all_digits(digits: &[u8]) -> bool
     digits.iter().all(|b| b.is_ascii_digit())
 }
 
-/// Whether a word is decimal digits without a leading zero.
+/// Whether a word is decimal digits without a leading zero. One before another digit is refused, so that each number
+/// has one spelling, and a line is what it is written as.
 pub fn is_numeral(word: &str) -> bool
     ensures { result ≡ is_numeral word.now }
 {
@@ -64,7 +66,8 @@ pub enum Numeral {
     Value(u64),
 }
 
-/// The number that a word is.
+/// The number that a word is. What is too large is told apart from what is no number, since callers refuse the one as
+/// out of its range, and the other for its form.
 pub fn number_of(word: &str) -> Numeral
     ensures { IsRead result word.now }
 {
@@ -73,6 +76,7 @@ pub fn number_of(word: &str) -> Numeral
     }
     match word.parse::<u64>() {
         Ok(number) => Numeral::Value(number),
+        // Digits alone came so far, so that nothing but the size is left to refuse.
         Err(_) => Numeral::TooLarge,
     }
 }

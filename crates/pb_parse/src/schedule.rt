@@ -1,4 +1,4 @@
-//! A schedule's text, read exactly.
+//! A schedule's text, read exactly: its lines, the words of these, and the laws of both.
 mod fault;
 mod laws;
 mod lines;

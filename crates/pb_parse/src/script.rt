@@ -1,4 +1,4 @@
-//! A script's text, read exactly.
+//! A script's text, read exactly: its lines, their operations and the words of these.
 mod code;
 mod lines;
 mod words;

@@ -5,10 +5,12 @@ use Rattle.serde_json.specs.View.{view, items_view, members_view}
 use Rattle.serde_json.specs.declared.value.Value.{Value}
 use Rattle.pb_registry.specs.Manifests.{members_count, elements}
 
+-- an object has as many members as the library's map has entries
 pub members_counted : (es : List (String Global × Value)) → members_count (members_view es) ≡ length es
 members_counted [] = refl
 members_counted (e ∷ es) = ap suc (members_counted es)
 
+-- an array's elements are the views of its values
 pub elements_viewed : (vs : List Value) → elements (items_view vs) ≡ map view vs
 elements_viewed [] = refl
 elements_viewed (v ∷ vs) = ap (λ ds. view v ∷ ds) (elements_viewed vs)

@@ -17,6 +17,7 @@ use Rattle.pb_registry.specs.declared.fault.RegistryFault.{RegistryFault}
 use Rattle.pb_registry.specs.Codes.{is_memory}
 use Rattle.pb_registry.specs.Judging.{IsObserver, AreObservers, HasOneMore, IsLowestAfter, IsFirstElementFault, TellsFault, names_of, fault_with, fault_at}
 
+-- before the first element there are no observers
 pub no_observers : (p : Profile) (os : List ObserverOf) → os ≡ [] → AreObservers p [] os
 unfolding IsDistinct
 no_observers p os none = subst (AreObservers p []) (sym none) (record { each = tt; apart = tt })

@@ -11,9 +11,11 @@ use Rattle.pb_registry.specs.Helpers.{is_helper, is_named, are_helpers, helper_s
 use Rattle.pb_registry.specs.Manifests.{number_in, numbers_of}
 use Rattle.pb_registry.proofs.HelperNumbers.{one_more, one_fault, declared_is, added, not_added, not_second}
 
+-- the number of a value, 0 where it is none
 abbrev pub number_of : Value → ℕ
 number_of v = unwrap_or (number_in (view v)) 0
 
+-- the numbers of these values
 abbrev pub numbers : List Value → List ℕ
 numbers vs = numbers_of (map view vs)
 
@@ -21,6 +23,7 @@ numbers_pushed : (vs : List Value) (v : Value) → numbers (vs ++ v ∷ []) ≡ 
 numbers_pushed [] v = refl
 numbers_pushed (w ∷ vs) v = ap (λ ns. number_of w ∷ ns) (numbers_pushed vs v)
 
+-- an element's number stands among all of them, behind those of the elements before it
 parted : (vs : List Value) (i : ℕ) (d : Value) → i < length vs → (rest : List ℕ) × (numbers vs ≡ numbers (take i vs) ++ number_of (get_or vs i d) ∷ rest)
 parted [] i d lt = absurd (omega (arith, lt))
 parted (v ∷ vs) zero d lt = (numbers vs, refl)

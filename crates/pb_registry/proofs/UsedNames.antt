@@ -17,6 +17,7 @@ use Rattle.pb_registry.specs.Manifests.{WrittenOf, is_name, name_in, text_at, co
 use Rattle.pb_registry.specs.Observers.{observers_of}
 use Rattle.pb_registry.specs.Judging.{IsObserver, is_among, is_used, names_of}
 
+-- a name is a key of the map exactly where an observer has it
 pub found_name : (s : List ℕ) (es : List (String Global × Held)) → is_some (lookup (λ k. bytes_eq s (string_bytes k)) es) ≡ list_any (bytes_eq s) (names_of (observers_of es))
 found_name s [] = refl
 found_name s (e ∷ es) = at (bytes_eq s (string_bytes e.0)) (found_name s es)
@@ -29,6 +30,7 @@ abbrev name_read : Result WrittenOf Code → Option (List ℕ)
 name_read (Ok w) = Some w.name
 name_read (Err c) = None
 
+-- the members of an observer read one after the other, each of them given
 abbrev written : Result (List ℕ) Code → Result ℕ Code → Result HelperSet Code → Result Version Code → Result (List ℕ) Code → Result WrittenOf Code
 written n a h v b = do
   name ← n
@@ -51,6 +53,7 @@ name_of : (t : Option (List ℕ)) (a : Result ℕ Code) (h : Result HelperSet Co
 name_of None a h v b w e = absurd (true≢false (sym (ap is_ok e)))
 name_of (Some s) a h v b w e = name_kept s (is_name s) a h v b w e
 
+-- what is read of an element has the name that the element has
 named : (d : Data) (w : WrittenOf) → members_of d ≡ Ok w → text_at (codes "name") d ≡ Some w.name
 unfolding members_of
 named d w e = name_of (text_at (codes "name") d) (column_in (number_at (codes "column") d)) (helpers_in (elements_at (codes "helpers") d)) (version_in (number_at (codes "record") d)) (bytes_in (text_at (codes "code") d)) w e
@@ -66,6 +69,7 @@ new_name p es d o k (w, written, is) same new =
     let unlike : list_any (bytes_eq (string_bytes k)) (names_of (observers_of es)) ≡ false = sym (ap (is_among (names_of (observers_of es))) name) ∙ new in
     nothing_found (lookup (λ y. bytes_eq (string_bytes k) (string_bytes y)) es) (found_name (string_bytes k) es ∙ unlike)
 
+-- a name that is none of the keys is none of the names
 apart_from : (s : List ℕ) (es : List (String Global × Held)) → AllByRecursion (λ y. bytes_eq s (string_bytes y) ≡ false) (keys_of es) → AllByRecursion (λ y. bytes_eq s y ≡ false) (names_of (observers_of es))
 apart_from s [] h = h
 apart_from s (e ∷ es) h = (h.0, apart_from s es h.1)

@@ -1,4 +1,6 @@
--- The program that an observer's code is: its bytes are read in a profile, and the rules accept what they encode.
+-- The program that an observer's code is: its bytes are read in a profile, and the rules accept what they encode. It
+-- is a relation, since decoder and verifier speak of programs by relations; that there is one program follows from
+-- their laws. `accept_in` cites it, and through it each manifest and `check`.
 use Rattle.std.specs.Prelude.{◌≡◌, ◌⊎◌, ℕ, List}
 use Rattle.pb_isa.specs.declared.profile.Profile.{Profile}
 use Rattle.pb_isa.specs.Programs.{ProgramOf, JudgedOf}

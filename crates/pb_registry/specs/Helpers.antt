@@ -1,4 +1,5 @@
--- The helpers of an observer, by their numbers.
+-- The helpers of an observer, by their numbers. A set is named by a list, so that a helper which is named twice is a
+-- fault and not one name too many.
 use Rattle.std.specs.Prelude.{ℕ, Bool, true, not, ◌&&◌, ◌==◌, nat_lt, nat_le, if◌then◌else◌, List, [], ◌∷◌, Option, Some, None}
 use Rattle.std.specs.List.{list_any}
 use Rattle.pb_isa.specs.Helpers.{HelperSet}
@@ -7,6 +8,7 @@ use Rattle.pb_isa.specs.Helpers.{HelperSet}
 abbrev pub is_helper : ℕ → Bool
 is_helper n = nat_lt 0 n && nat_le n 4
 
+-- whether a number stands in the list
 abbrev pub is_named : ℕ → List ℕ → Bool
 is_named n ns = list_any (λ m. m == n) ns
 

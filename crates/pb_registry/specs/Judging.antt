@@ -1,4 +1,5 @@
--- What reading a manifest answers.
+-- What reading a manifest answers: a relation of elements and observers, place by place. A function that reads from
+-- left to right would hide which fault is the first, and which code is the lowest. `Registry::from_json` promises it.
 use Rattle.std.specs.Prelude.{◌≡◌, ◌⊎◌, ℕ, Bool, true, false, if◌then◌else◌, List, [], ◌∷◌, ◌++◌, map, take, slice_get, codes, Option, Some, None, Result, Ok, Err}
 use Rattle.std.specs.List.{AllZip, IsDistinct, list_any}
 use Rattle.std.specs.Str.{bytes_eq}
@@ -33,9 +34,11 @@ IsProgramFault p version bytes helpers c = ⊥
 abbrev pub IsOwnFault : Profile → Data → Code → Type 0
 IsOwnFault p d c = (members_of d ≡ Err c) ⊎ ((w : WrittenOf) × (members_of d ≡ Ok w) × IsProgramFault p w.version w.bytes w.helpers c)
 
+-- the names of these observers, in their order
 abbrev pub names_of : List ObserverOf → List (List ℕ)
 names_of os = map (λ o. o.name) os
 
+-- whether a text is one of the names; where there is no text it is none
 abbrev pub is_among : List (List ℕ) → Option (List ℕ) → Bool
 is_among names None = false
 is_among names (Some s) = list_any (bytes_eq s) names
@@ -44,6 +47,7 @@ is_among names (Some s) = list_any (bytes_eq s) names
 abbrev pub is_used : List (List ℕ) → Data → Bool
 is_used names d = is_among names (text_at (codes "name") d)
 
+-- a used name is 53 whatever else is wrong, as no own fault of an element has a lower number
 abbrev pub FaultAfter : Bool → Profile → Data → Code → Type 0
 FaultAfter true p d c = c ≡ Name
 FaultAfter false p d c = IsOwnFault p d c
@@ -73,10 +77,11 @@ pub record IsFirstElementFault (p : Profile) (ds : List Data) (place : ℕ) (cod
 abbrev pub fault_with : Option ℕ → Code → RegistryFault
 fault_with place c = record { observer = place; code = number_of c; program = refusal_of c }
 
--- the same of an observer, where want of memory has no place
+-- how a code is told of the observer at a place; want of memory has no place, since it is no observer's fault
 abbrev pub fault_at : ℕ → Code → RegistryFault
 fault_at place c = if is_memory c then fault_with None Memory else fault_with (Some place) c
 
+-- observers are taken only where the whole has no fault
 abbrev pub AreTaken : Result ManifestOf Code → List ObserverOf → Type 0
 AreTaken (Ok m) os = AreObservers m.profile m.elements os
 AreTaken (Err c) os = ⊥

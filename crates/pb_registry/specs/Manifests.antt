@@ -1,4 +1,5 @@
--- What a manifest says, by the value that its text is read as.
+-- What a manifest says, by the value that its text is read as: so spaces, the order of members and one that is named
+-- twice are `serde_json`'s. The readers of src/form.rt and src/observer.rt cite these, each the one of its name.
 use Rattle.std.specs.Prelude.{ℕ, suc, Bool, false, not, ◌&&◌, ◌||◌, ◌==◌, nat_lt, nat_le, if◌then◌else◌, List, [], ◌∷◌, map, length, codes, Option, Some, None, is_some, option_map, option_and_then, unwrap_or, Result, Ok, Err}
 use Rattle.std.specs.List.{list_all, list_any}
 use Rattle.std.specs.Char.{is_ascii_digit, is_ascii_lowercase, is_ascii_uppercase}
@@ -17,10 +18,12 @@ use Rattle.pb_registry.specs.declared.code.Code.{Code}
 use Rattle.pb_registry.specs.declared.code.Code.TheVariants.{Text, Form, TooMany, Name, Column, Helpers, Record, Digits}
 use Rattle.pb_registry.specs.Helpers.{helpers_of}
 
+-- how many members there are, by going over them
 abbrev pub members_count : Members → ℕ
 members_count no_members = 0
 members_count (member k d ms) = suc (members_count ms)
 
+-- how many members an object has, and 0 where there is no object
 abbrev pub count_in : Option Members → ℕ
 count_in None = 0
 count_in (Some ms) = members_count ms
@@ -33,15 +36,19 @@ member_count d = count_in (as_object d)
 abbrev pub number_in : Data → Option ℕ
 number_in d = option_and_then as_u64 (as_number d)
 
+-- a value that is a number here: without sign, fraction and exponent
 abbrev pub is_json_number : Data → Bool
 is_json_number d = is_some (number_in d)
 
+-- the number of the member of this name, where it has one
 abbrev pub number_at : List ℕ → Data → Option ℕ
 number_at name d = option_and_then number_in (get name d)
 
+-- the text of the member of this name, where it is a text
 abbrev pub text_at : List ℕ → Data → Option (List ℕ)
 text_at name d = option_and_then as_str (get name d)
 
+-- the member of this name is a text
 abbrev pub has_text : List ℕ → Data → Bool
 has_text name d = is_some (text_at name d)
 
@@ -50,13 +57,16 @@ abbrev pub elements : Items → List Data
 elements no_items = []
 elements (item d ds) = d ∷ elements ds
 
+-- the elements of the member of this name, where it is an array
 abbrev pub elements_at : List ℕ → Data → Option (List Data)
 elements_at name d = option_map elements (option_and_then as_array (get name d))
 
+-- each element of an array is such, and there is an array
 abbrev pub all_in : (Data → Bool) → Option (List Data) → Bool
 all_in p None = false
 all_in p (Some ds) = list_all p ds
 
+-- the member of this name is an array of numbers
 abbrev pub has_numbers : List ℕ → Data → Bool
 has_numbers name d = all_in is_json_number (elements_at name d)
 
@@ -82,6 +92,7 @@ pub record ManifestOf : Type 0 where
   pub profile : Profile
   pub elements : List Data
 
+-- a manifest has both a profile and an array
 abbrev pub manifest_of : Option Profile → Option (List Data) → Option ManifestOf
 manifest_of None ds = None
 manifest_of (Some p) None = None
@@ -98,6 +109,7 @@ whole_in (Some m) = if not (list_all (is_observer m.profile) m.elements) then Er
 
 -- ---- one observer
 
+-- a to z, 0 to 9 and `-`: a name is a word of schedules and reports, so it has no blank
 abbrev pub is_name_letter : ℕ → Bool
 is_name_letter b = is_ascii_lowercase b || (is_ascii_digit b || (b == 45))
 
@@ -105,6 +117,7 @@ is_name_letter b = is_ascii_lowercase b || (is_ascii_digit b || (b == 45))
 abbrev pub is_name : List ℕ → Bool
 is_name s = nat_lt 0 (length s) && (nat_le (length s) 32 && list_all is_name_letter s)
 
+-- an observer's name, of its letters and length
 abbrev pub name_in : Option (List ℕ) → Result (List ℕ) Code
 name_in None = Err Form
 name_in (Some s) = if is_name s then Ok s else Err Name
@@ -118,6 +131,7 @@ column_in (Some n) = if nat_lt n COLUMNS then Ok n else Err Column
 abbrev pub numbers_of : List Data → List ℕ
 numbers_of ds = map (λ d. unwrap_or (number_in d) 0) ds
 
+-- the set that the numbers name, or that they name none
 abbrev pub helpers_or_fault : Option HelperSet → Result HelperSet Code
 helpers_or_fault None = Err Helpers
 helpers_or_fault (Some h) = Ok h
@@ -127,6 +141,7 @@ abbrev pub helpers_in : Option (List Data) → Result HelperSet Code
 helpers_in None = Err Form
 helpers_in (Some ds) = helpers_or_fault (helpers_of (numbers_of ds))
 
+-- bytes, or digits that aren't pairs of hexadecimal ones
 abbrev pub decoded : {E : Type 0} → Result (List ℕ) E → Result (List ℕ) Code
 decoded (Ok bytes) = Ok bytes
 decoded (Err e) = Err Digits
@@ -159,6 +174,7 @@ members_of d = do
   bytes ← bytes_in (text_at (codes "code") d)
   Ok (record { name = name; column = column; helpers = helpers; version = version; bytes = bytes })
 
+-- a text that isn't JSON is 50, before anything of its form is asked
 abbrev pub manifest_read : Option Data → Result ManifestOf Code
 manifest_read None = Err Text
 manifest_read (Some d) = whole_in (manifest_in d)

@@ -1,4 +1,5 @@
-//! Code that is accepted: its bytes are read, and the rules accept the program.
+//! Code that is accepted: its bytes are read, and the rules accept the program. It stands in one place, so that a
+//! manifest and the command `check` can't judge by different rules.
 ghost use Rattle.std.specs.Prelude.{IfOk, IfErr};
 ghost use Rattle.pb_isa.specs.declared.profile.Profile.TheVariants as profiles;
 ghost use Rattle.pb_helpers.specs.declared.change.Version.TheVariants as versions;
@@ -29,7 +30,7 @@ pub fn accept_in(
     }
 }
 
-/// The same of profile 1, for change records of version 1.
+/// As `accept_in` in profile 1, for change records of version 1, since a manifest of that profile has no others.
 pub fn accept(alloc: Global, bytes: &[u8], helpers: HelperTable) -> Result<Accepted, VerifyFault>
     ensures accepted { IfOk result (IsAcceptedCode profiles.One versions.First bytes.now helpers) }
     ensures fault { IfErr result (IsAcceptFault profiles.One versions.First bytes.now helpers) }

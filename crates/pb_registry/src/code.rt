@@ -1,4 +1,4 @@
-//! Why a manifest is refused.
+//! Why a manifest is refused: codes apart inside, also where three of them are told by one number.
 ghost use Rattle.std.specs.Prelude.{◌≡◌};
 ghost use Rattle.pb_registry.specs.Codes.{number_of, refusal_of};
 
@@ -15,13 +15,13 @@ pub enum Code {
     Form,
     /// Over 32 observers.
     TooMany,
-    /// An observer's name.
+    /// An observer's name: not of the letters or the length of one, or used before.
     Name,
-    /// Its column.
+    /// Its column: over 15.
     Column,
-    /// Its helpers.
+    /// Its helpers: one that there isn't, or one named twice.
     Helpers,
-    /// The version of its change record.
+    /// The version of its change record: neither 1 nor 2.
     Record,
     /// The digits of its code.
     Digits,

@@ -1,4 +1,4 @@
-//! How the fault of a manifest is told.
+//! How the fault of a manifest is told: by numbers, since the names of codes stay inside.
 ghost use Rattle.std.specs.Prelude.{◌≡◌};
 ghost use Rattle.pb_registry.specs.Judging.{fault_with, fault_at};
 
@@ -53,7 +53,7 @@ pub fn fault_with(observer: Option<u8>, code: Code) -> RegistryFault
     }
 }
 
-/// The same of the observer at a place, where want of memory has none.
+/// A code as it is told of the observer at a place. Want of memory has none, since it isn't that observer's fault.
 pub fn fault_at(place: u8, code: Code) -> RegistryFault
     ensures { result ≡ fault_at place code }
 {

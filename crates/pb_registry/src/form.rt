@@ -1,4 +1,4 @@
-//! The form of a manifest.
+//! The form of a manifest: which members there are, and of which types. What they say is judged behind it.
 ghost use Rattle.std.specs.Prelude.{◌≡◌, ◌≢◌, ◌≤◌, map, length, Some, None, IfOk, IfErr, option_map};
 ghost use Rattle.std.specs.List.{list_all};
 ghost use Rattle.serde_json.specs.Read.{read};
@@ -23,7 +23,7 @@ pub struct Manifest<'a> {
     pub elements: &'a [Value],
 }
 
-/// The value that the text is read as.
+/// The value that the text is read as. Of a member that is named twice the last one counts, as `serde_json` reads it.
 pub fn value_of(alloc: Global, text: &str) -> Result<Value, Code>
     ensures ok { IfOk result (λ v. read text.now ≡ Some (view v)) }
     ensures err { IfErr result (λ e. e ≢ Memory → (e ≡ Text) × (read text.now ≡ None)) }
@@ -37,6 +37,7 @@ pub fn value_of(alloc: Global, text: &str) -> Result<Value, Code>
     }
 }
 
+// A value that is no object has none, so that it has the form of nothing.
 fn member_count(value: &Value) -> usize
     ensures { result ≡ member_count (view value.now) }
 {
@@ -46,7 +47,7 @@ fn member_count(value: &Value) -> usize
     }
 }
 
-/// The number of a member.
+/// The number of a member: digits alone, below 2^64.
 pub fn number_at(value: &Value, name: &str) -> Option<u64>
     ensures { result ≡ number_at name.now (view value.now) }
 {
@@ -102,7 +103,7 @@ fn has_members(value: &Value) -> bool
         && has_text(value, "code")
 }
 
-// Whether the version of the change record is named, which profile 1 has no member for.
+// Whether the version of the change record is named. Profile 1 has no such member, so that one there is too many.
 fn has_record(profile: Profile, value: &Value) -> bool
     ensures { result ≡ has_record profile (view value.now) }
 {
@@ -115,6 +116,7 @@ fn has_record(profile: Profile, value: &Value) -> bool
 fn is_observer(profile: Profile, value: &Value) -> bool
     ensures { result ≡ is_observer profile (view value.now) }
 {
+    // A count and the names, so that there is no member besides.
     let members = if has_record(profile, value) { 5 } else { 4 };
     member_count(value) == members && has_members(value)
 }
@@ -161,6 +163,7 @@ pub fn whole_in(value: &Value) -> Result<Manifest<'_>, Code>
     let Some(manifest) = manifest_in(value) else {
         return Err(Code::Form);
     };
+    // The form of all elements comes before their number, since 51 is lower than 52.
     if !are_observers(manifest.profile, manifest.elements) {
         Err(Code::Form)
     } else if manifest.elements.len() > MAX_OBSERVERS {

@@ -1,4 +1,4 @@
-//! The observers of a manifest, one after the other.
+//! The observers of a manifest, one after the other, in a map by name that keeps their order: a used name is a look-up.
 ghost use Rattle.std.specs.Prelude.{◌≡◌, ◌≢◌, ◌≤◌, ◌⊎◌, map, length, None, Ok, IfOk, IfErr, OnOk};
 ghost use Rattle.std.specs.List.{IsDistinct};
 ghost use Rattle.std.specs.Str.{bytes_eq};
@@ -18,6 +18,7 @@ use pb_verify::Observer;
 use serde_json::Value;
 use std::alloc::Global;
 
+// Asked of the element as it is written, since a used name is told before anything of the element is read.
 fn is_used(observers: &IndexMap<String, Held>, element: &Value) -> bool
     ensures { result ≡ is_used (names_of (observers_of observers.now.entries)) (view element.now) }
 {
@@ -69,6 +70,7 @@ pub fn observers_in(
     let mut observers = IndexMap::new(alloc);
     for (place, element) in elements.iter().enumerate() {
         if let Err(code) = add_observer(alloc, profile, &mut observers, element) {
+            // A place is below 32 by what is asked, so that it has a byte.
             return Err(fault_at(place as u8, code));
         }
     }

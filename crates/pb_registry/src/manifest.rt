@@ -1,4 +1,4 @@
-//! A manifest's text, read exactly.
+//! A manifest's text, read exactly: its value, the form of the whole, and then observer by observer.
 ghost use Rattle.std.specs.Prelude.{◌≡◌, ◌≤◌, length, IfOk, IfErr};
 ghost use Rattle.pb_registry.specs.Judging.{IsJudged};
 
@@ -59,6 +59,7 @@ impl Registry {
         ensures same { IfOk result (λ v. v.items ≡ self) }
         ensures kept { IfErr result (λ r. r ≡ self) }
     {
+        // The one growth comes before anything moves, so that a refused one leaves the registry whole.
         let Ok(mut observers) = Vec::with_capacity(alloc, self.observers.len()) else {
             return Err(self);
         };

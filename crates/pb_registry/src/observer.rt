@@ -1,4 +1,4 @@
-//! One observer of a manifest.
+//! One observer of a manifest: its members in the order of their codes, so that the first fault has the lowest.
 ghost use Rattle.std.specs.Prelude.{◌≡◌, ◌≢◌, Ok, map, IfOk, IfErr, string_bytes, codes};
 ghost use Rattle.std.specs.List.{list_all, list_any};
 ghost use Rattle.std.specs.Char.{is_ascii_uppercase};
@@ -24,14 +24,15 @@ use serde_json::Value;
 use std::alloc::Global;
 use std::sync::Arc;
 
-/// What a registry keeps of an observer beside its name.
+/// What a registry keeps of an observer beside its name, which is the map's key. The program is shared as it is read,
+/// so that taking the observers out copies none.
 #[derive(Drop)]
 pub struct Held {
     pub column: Column,
     pub program: Arc<Accepted>,
 }
 
-// An observer as it is written.
+// An observer as it is written, before its program is judged, since code 56 is the highest.
 #[derive(Drop)]
 struct Written {
     name: String,
@@ -78,6 +79,7 @@ fn column_in(value: &Value) -> Result<Column, Code>
     let Some(number) = number_at(value, "column") else {
         return Err(Code::Form);
     };
+    // Before the number is made a byte, so that 256 isn't column 0.
     if number >= u64::from(COLUMNS) {
         return Err(Code::Column);
     }
@@ -94,6 +96,7 @@ fn helpers_of(elements: &[Value]) -> Option<HelperTable>
     let mut helpers = HelperTable::none();
     for element in elements {
         let number = element.as_u64().unwrap_or(0);
+        // Above 4 first, so that no larger number is taken for a helper's once it is made an `i32`.
         if number > 4 || helpers.declares(number as i32) {
             return None;
         }
@@ -136,6 +139,7 @@ fn bytes_in(alloc: Global, value: &Value) -> Result<Vec<u8>, Code>
     let Some(digits) = text_at(value, "code") else {
         return Err(Code::Form);
     };
+    // `hex` takes capitals too, so that they are looked for here.
     if has_upper(digits.as_bytes()) {
         return Err(Code::Digits);
     }
@@ -175,7 +179,7 @@ fn copy_of(alloc: Global, text: &str) -> Result<String, Code>
     }
 }
 
-// Reads an observer as it is written.
+// Reads an observer as it is written. The name is copied last, where memory alone can be refused.
 #[tactic(auto, unfolding(crate::specs::Manifests::members_of))]
 fn members_of(alloc: Global, value: &Value) -> Result<Written, Code>
     ensures { Gives is_memory written_of result (members_of (view value.now)) }
@@ -195,7 +199,8 @@ fn members_of(alloc: Global, value: &Value) -> Result<Written, Code>
     })
 }
 
-/// Reads an observer, its program in this profile. The fault that is told has the lowest code.
+/// Reads an observer, its program in this profile. The fault that is told has the lowest code, since members come by
+/// their codes and the program last.
 pub fn observer_in(alloc: Global, profile: Profile, value: &Value) -> Result<Observer, Code>
     ensures ok { IfOk result (IsObserver profile (view value.now)) }
     ensures err { IfErr result (λ c. c ≢ Memory → IsOwnFault profile (view value.now) c) }

@@ -35,18 +35,21 @@ use Rattle.pb_script.specs.Puts.{put_by, if_committed, written_in, writes_by, pu
 abbrev pub all_puts : StateOf → List Entry → List Put
 all_puts state es = flat_map (puts_by state) es
 
+-- one element more of a list is that element behind those before it
 one_more : {A : Type 0} (xs : List A) (i : ℕ) (x : A) → slice_get xs i ≡ Some x → take (suc i) xs ≡ take i xs ++ x ∷ []
 one_more [] zero x e = cc
 one_more [] (suc i) x e = cc
 one_more (y ∷ xs) zero x e = let h : y ≡ x = cc in ap (λ z. z ∷ []) h
 one_more (y ∷ xs) (suc i) x e = ap (λ l. y ∷ l) (one_more xs i x e)
 
+-- one more write of a list is noted behind those before it
 pub goes_on : {A B : Type 0} (f : A → B) (xs : List A) (i : ℕ) (x : A) (old now : List B) → slice_get xs i ≡ Some x → now ≡ old ++ map f (take i xs) → now ++ f x ∷ [] ≡ old ++ map f (take (i + 1) xs)
 goes_on f xs i x old now e h =
     ap (λ l. l ++ f x ∷ []) h
     ∙ append_assoc old (map f (take i xs)) (f x ∷ [])
     ∙ ap (λ l. old ++ l) (sym (map-append f (take i xs) (x ∷ [])) ∙ ap (map f) (sym (rw add-one (one_more xs i x e))))
 
+-- and so it is where the code has the write itself, and not its place
 pub goes_on_at : {A B : Type 0} (f : A → B) (xs : List A) (i : ℕ) (x : A) (old : List B) → i < length xs → x ≡ get_or xs i x → (old ++ map f (take i xs)) ++ f x ∷ [] ≡ old ++ map f (take (i + 1) xs)
 goes_on_at f xs i x old lt is =
     append_assoc old (map f (take i xs)) (f x ∷ [])
@@ -58,6 +61,7 @@ all_one_more : {A B : Type 0} (f : A → List B) (xs : List A) (y : A) → flat_
 all_one_more f [] y = append-nil (f y)
 all_one_more f (x ∷ xs) y = ap (λ l. f x ++ l) (all_one_more f xs y) ∙ sym (append_assoc (f x) (flat_map f xs) (f y))
 
+-- one more entry adds its writes behind those of the entries before it
 pub gathers_on : {A B : Type 0} (f : A → List B) (xs : List A) (y : A) (now new : List B) → now ≡ flat_map f xs → new ≡ now ++ f y → new ≡ flat_map f (xs ++ y ∷ [])
 gathers_on f xs y now new h e = e ∙ ap (λ l. l ++ f y) h ∙ sym (all_one_more f xs y)
 
@@ -77,6 +81,7 @@ has_which [] ys z h = inr h
 has_which (x ∷ xs) ys z (inl e) = inl (inl e)
 has_which (x ∷ xs) ys z (inr h) = elim (has_which xs ys z h) [ inl k ↦ inl (inr k) | inr k ↦ inr k ]
 
+-- what one entry adds is among what all add
 in_block : {A B : Type 0} (f : A → List B) (xs : List A) (x : A) (y : B) → Has xs x → Has (f x) y → Has (flat_map f xs) y
 in_block f [] x y h k = absurd h
 in_block f (z ∷ xs) x y (inl e) k = has_left (f z) (flat_map f xs) y (subst (λ w. Has (f w) y) (sym e) k)
@@ -111,6 +116,7 @@ both : (a b : Bool) → (a && b) ≡ true → (a ≡ true) × (b ≡ true)
 both true b e = (refl, e)
 both false b e = cc
 
+-- cells that compare alike are one cell
 cell_is : (x y : Cell) → eq_by_cmp cell_cmp x y ≡ true → x ≡ y
 cell_is x y e = cell_cmp-IsAntisymmetric x y ((Equal-is (cell_cmp x y)).0 e)
 
@@ -118,6 +124,7 @@ found_or : (b : Bool) (k : Content) (rest : Option Content) (c : Content) → co
 found_or true k rest c e = inl (refl, cc)
 found_or false k rest c e = inr e
 
+-- what a cell gets from a transaction is one of its writes
 pub content_has : (ws : Writes) (x : Cell) (c : Content) → content_in ws x ≡ Some c → Has ws (x, c)
 content_has [] x c e = cc
 content_has (w ∷ ws) x c e = elim (found_or (eq_by_cmp cell_cmp x w.0) w.1 (content_in ws x) c e) [
@@ -147,6 +154,7 @@ distinct_content (v ∷ ws) d w (inr h) =
 
 -- ---- committed writes
 
+-- a transaction that is told as committed is
 phase_there : (state : StateOf) (start : ℕ) (t : TransactionOf) (c : Ts) → finmap.get state.transactions start ≡ Some t → phase_in state start ≡ Some (phases.Committed c) → t.phase ≡ phases.Committed c
 phase_there state start t c there p = let q : Some t.phase ≡ Some (phases.Committed c) = ap (option_map (λ (u : TransactionOf). u.phase)) (sym there) ∙ p in cc
 

@@ -1,3 +1,4 @@
+-- What is newest at each cell, as writes come one by one.
 use Rattle.std.specs.BTreeMap as tree
 use Rattle.std.proofs.Common.{◌≡◌, ◌≢◌, ℕ, ◌≤◌, ◌<◌, ◌⊎◌, inl, inr, Bool, true, false, cond, List, [], ◌∷◌, ◌++◌, Option, Some, None, refl, sym, ap, subst, ◌∙◌, arith}
 use Rattle.std.specs.Prelude.{◌&&◌, Contains}
@@ -18,6 +19,7 @@ is_equal Less h = absurd cc
 is_equal Equal h = refl
 is_equal Greater h = absurd cc
 
+-- a key that is found is the cell itself, as cells that compare alike are one
 same_cell : (a b : Cell) → tree.is_at (cell_cmp a) b ≡ true → a ≡ b
 same_cell a b h = cell_cmp-IsAntisymmetric a b (is_equal (cell_cmp a b) h)
 
@@ -45,15 +47,17 @@ lower puts p (Some n) later h =
     let le : p.commit.0 ≤ n.commit.0 = ltb-false _ _ later in
     (Contains-append_left puts (p ∷ []) _ h.0, λ q k e. elim (Contains-push_cases puts p q k) [ inl m ↦ h.1 q m e | inr s ↦ let c : p.commit.0 ≡ q.commit.0 = ap (λ (y : Put). y.commit.0) s in omega arith ])
 
--- what is told goes by what is newest, and of old data cell nothing is told
+-- what is told goes by what is newest, and of an acknowledgment nothing is told
 pub told_by : (M N : Cell → Option Newest → Type 0) (x : Cell) (r : Option Newest) → (M x r → N x r) → IsTold M x r → IsTold N x r
 told_by M N (Data row column) r f h = f h
 told_by M N (Ack observer row column) r f h = h
 
+-- of a data cell what is newest is told
 told_data : (M N : Cell → Option Newest → Type 0) (x : Cell) (r s : Option Newest) → is_data x ≡ true → (M x r → N x s) → IsTold M x r → IsTold N x s
 told_data M N (Data row column) r s d f h = f h
 told_data M N (Ack observer row column) r s d f h = absurd cc
 
+-- and of an acknowledgment nothing, whatever is newest there
 told_none : (M N : Cell → Option Newest → Type 0) (x : Cell) (r : Option Newest) → is_data x ≡ false → IsTold M x r → IsTold N x r
 told_none M N (Data row column) r d h = absurd cc
 told_none M N (Ack observer row column) r d h = h
@@ -66,9 +70,11 @@ one_false : (a b : Bool) → (a && b) ≡ false → (a ≡ false) ⊎ (b ≡ fal
 one_false true b h = inr h
 one_false false b h = inl refl
 
+-- of each cell is told what is newest of these writes
 abbrev AreTold : List Put → (Cell → Option Newest) → Type 0
 AreTold puts f = (x : Cell) → IsTold (IsNewestPut puts) x (f x)
 
+-- a newer write takes the place of what is at its cell, and no other cell changes
 newest_more : (puts : List Put) (p : Put) (f g : Cell → Option Newest) → AreTold puts f → (is_data p.cell && is_later (f p.cell) p.commit) ≡ true
     → ((x : Cell) → g x ≡ cond (tree.is_at (cell_cmp p.cell) x) (Some (newest_in p)) (f x)) → AreTold (puts ++ p ∷ []) g
 newest_more puts p f g h news is x =
@@ -90,6 +96,7 @@ stays_here puts p r old h = elim (one_false _ _ old) [
   | inr low ↦ told_by (IsNewestPut puts) (IsNewestPut (puts ++ p ∷ [])) p.cell r (lower puts p r low) h
 ]
 
+-- a write that isn't newer, or is no data, changes nothing that is told
 newest_same : (puts : List Put) (p : Put) (f : Cell → Option Newest) → AreTold puts f → (is_data p.cell && is_later (f p.cell) p.commit) ≡ false → AreTold (puts ++ p ∷ []) f
 newest_same puts p f h old x =
     elim (cases_Bool (tree.is_at (cell_cmp p.cell) x)) [
@@ -99,6 +106,7 @@ newest_same puts p f h old x =
 
 -- ---- one write more
 
+-- so a write to a data cell is noted where the table keeps the newer one
 pub noted : (puts : List Put) (p : Put) (f g : Cell → Option Newest) → is_data p.cell ≡ true → (is_later (f p.cell) p.commit ≡ true → (x : Cell) → g x ≡ cond (tree.is_at (cell_cmp p.cell) x) (Some (newest_in p)) (f x))
     → (is_later (f p.cell) p.commit ≡ false → (x : Cell) → g x ≡ f x) → AreTold puts f → AreTold (puts ++ p ∷ []) g
 noted puts p f g held newer older h x =
@@ -107,5 +115,6 @@ noted puts p f g held newer older h x =
       | inr late ↦ subst (IsTold (IsNewestPut (puts ++ p ∷ [])) x) (sym (older late x)) (newest_same puts p f h (ap (λ b. b && is_later (f p.cell) p.commit) held ∙ late) x)
     ]
 
+-- and one of an acknowledgment is passed over
 pub passed : (puts : List Put) (p : Put) (f : Cell → Option Newest) → is_data p.cell ≡ false → AreTold puts f → AreTold (puts ++ p ∷ []) f
 passed puts p f no_data h = newest_same puts p f h (ap (λ b. b && is_later (f p.cell) p.commit) no_data)

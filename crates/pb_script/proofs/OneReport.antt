@@ -1,3 +1,4 @@
+-- One report: where one thing is newest at each cell, the text is settled.
 use Rattle.std.specs.BTreeMap as tree
 use Rattle.std.proofs.Common.{◌≡◌, ℕ, ◌≤◌, Bool, true, false, cond, T, List, [], ◌∷◌, ◌++◌, map, Option, Some, None, refl, sym, ap, subst, ◌∙◌, arith}
 use Rattle.std.specs.Prelude.{◌&&◌}
@@ -45,9 +46,11 @@ pub same_by_lookup : (es fs : Entries) → IsStrictlySortedBy cell_cmp (map (λ 
     → ((x : Cell) → lookup (tree.is_at (cell_cmp x)) es ≡ lookup (tree.is_at (cell_cmp x)) fs) → es ≡ fs
 same_by_lookup es fs g h is = same_entries cell_cmp cell_cmp_total cell_cmp-IsAntisymmetric es fs (sorted es g) (sorted fs h) (λ x. found x es ∙ is x ∙ sym (found x fs))
 
+-- of no cell two different things are newest
 abbrev IsOne : (Cell → Option Newest → Type 0) → Type 0
 IsOne newest = (x : Cell) (r s : Option Newest) → newest x r → newest x s → r ≡ s
 
+-- and then of no cell two are told
 told_one : (newest : Cell → Option Newest → Type 0) → IsOne newest → IsOne (IsTold newest)
 told_one newest one (Data row column) r s g h = one (Data row column) r s g h
 told_one newest one (Ack observer row column) r s g h = g ∙ sym h
@@ -65,6 +68,7 @@ said_by M N runs marks locks text f h = record { entries = h.entries; rising = h
 same_number : (a b : ℕ) → a ≤ b → b ≤ a → a ≡ b
 same_number a b g h = omega arith
 
+-- where no cell has two writes of one commit, one of them is the greatest
 one_newest : (puts : List Put) → AreApart puts → IsOne (IsNewestPut puts)
 one_newest puts apart x None None g h = refl
 one_newest puts apart x None (Some n) g h = absurd (g _ h.0 refl)
@@ -75,5 +79,6 @@ one_newest puts apart x (Some m) (Some n) g h =
     let e = apart (record { cell = x; commit = m.commit; content = m.content }) (record { cell = x; commit = n.commit; content = n.content }) g.0 h.0 refl commits in
     ap (λ (p : Put). Some (record { commit = p.commit; content = p.content })) e
 
+-- so there is one report of such writes
 pub one : (puts : List Put) (runs : Tallies) (marks locks : ℕ) (s t : List ℕ) → AreApart puts → IsReport puts runs marks locks s → IsReport puts runs marks locks t → s ≡ t
 one puts runs marks locks s t apart g h = same_report (IsNewestPut puts) runs marks locks s t (one_newest puts apart) g h

@@ -1,4 +1,5 @@
--- What is reported of a table.
+-- What is reported of a table, said by its history and by snapshots, as reads are: a walk over the journal that gathers
+-- wrongly would make a definition by such a walk wrong alike. `report` rests on it.
 use Rattle.std.specs.Prelude.{◌≡◌, ℕ, ◌≤◌, List, Contains, Option, Some, None}
 use Rattle.std.specs.BTreeMap.{BTreeMap}
 use Rattle.pb_base.specs.declared.names.Row.{Row}

@@ -1,4 +1,5 @@
--- The committed writes of a table, as they are gathered.
+-- The committed writes of a table, as they are gathered: entry by entry. The functions of src/output.rt cite these,
+-- and a lemma says that they are the writes of the history.
 use Rattle.std.specs.Prelude.{List, [], map, Option, Some}
 use Rattle.pb_base.specs.Batch.{Writes}
 use Rattle.pb_base.specs.declared.names.Ts.{Ts}
@@ -16,6 +17,7 @@ use Rattle.pb_steps.specs.State.{StateOf, phase_in}
 use Rattle.pb_history.specs.declared.entry.Entry.{Entry}
 use Rattle.pb_script.specs.declared.reports.newest.Put.{Put}
 
+-- a write of a transaction with this commit
 abbrev pub put_by : Ts → Cell × Content → Put
 put_by commit w = record { cell = w.0; commit = commit; content = w.1 }
 
@@ -34,5 +36,6 @@ abbrev pub writes_by : StateOf → Step → Answer → List Put
 writes_by state (steps.Declare start what) answers.Done = if_committed (phase_in state start.0) (written_in what)
 writes_by state _ _ = []
 
+-- what an entry adds to the gathered writes; none but a declaration that was answered adds any
 abbrev pub puts_by : StateOf → Entry → List Put
 puts_by state e = writes_by state e.step e.answer

@@ -1,4 +1,5 @@
--- What a report says of a history.
+-- What a report says of a history. What is newest at a cell is a parameter, since a table says it by a snapshot at its
+-- clock, and `report_of` by the writes that it is given.
 use Rattle.std.specs.BTreeMap as tree
 use Rattle.std.specs.BTreeMap.{BTreeMap}
 use Rattle.std.specs.Prelude.{◌≡◌, ◌≢◌, ℕ, ◌≤◌, Bool, true, nat_lt, List, ◌++◌, map, Contains, Option, Some, None}
@@ -47,6 +48,7 @@ pub record AreNewest (puts : List Put) (table : BTreeMap Cell Newest) : Type 0 w
 abbrev pub newest_in : Put → Newest
 newest_in p = record { commit = p.commit; content = p.content }
 
+-- whether a write with this commit is newer than what is there, where anything is
 abbrev pub is_later : Option Newest → Ts → Bool
 is_later None commit = true
 is_later (Some n) commit = nat_lt n.commit.0 commit.0

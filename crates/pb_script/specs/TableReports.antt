@@ -1,4 +1,4 @@
--- The report of a table, written to a sink.
+-- The report of a table, written to a sink: what `report` promises, also where a write fails.
 use Rattle.std.specs.Prelude.{◌≡◌, ℕ, Bool, true, false, List, Option, Result, Ok, Err}
 use Rattle.std.specs.FinMap as finite
 use Rattle.std.specs.Io.KnownBytes.{Appends}

@@ -1,4 +1,4 @@
--- How often each observer ran.
+-- How often each observer ran, counted as members of the history and not as entries. The report's lines tell it.
 use Rattle.std.specs.Prelude.{◌≡◌, ℕ, ◌+◌, List, [], ◌∷◌}
 use Rattle.pb_verify.specs.Observers.{ObserverOf}
 use Rattle.pb_history.specs.declared.entry.Entry.{Entry}

@@ -1,4 +1,4 @@
-//! Why a report ended early.
+//! Why a report ended early: by a write, or by memory before any write.
 ghost use Rattle.std.specs.Prelude.{◌≡◌};
 ghost use Rattle.pb_script.specs.declared.fault.ReportFault.TheVariants as ends;
 
@@ -11,7 +11,7 @@ pub enum ReportFault {
     /// A write failed, or took no byte.
     #[error("cannot write the output")]
     Output,
-    /// A growth was refused. Nothing was written.
+    /// A growth was refused. Nothing was written, since the text is made whole before its first write.
     #[error("no memory")]
     NoMemory,
 }

@@ -1,4 +1,4 @@
-//! The report of a table.
+//! The report of a table: the committed writes and runs of its journal, gathered entry by entry, and written.
 ghost use Rattle.std.specs.Prelude.{◌≡◌, ◌++◌, IfOk, OnOk, List, map, string_bytes, false};
 ghost use Rattle.pb_script.specs.Puts.{put_by, puts_by};
 ghost use Rattle.pb_script.specs.Committed.{AreSeen, HasNewest};
@@ -58,7 +58,8 @@ fn note_writes(
     Ok(())
 }
 
-// Notes what an entry's transaction wrote to data cells, if the entry declares it and it is committed.
+// Notes what an entry's transaction wrote to data cells, if the entry declares it and it is committed. The
+// acknowledgment of a run isn't among the writes of its program, so that none is noted here.
 fn note_entry<T: Tablet>(
     table: &mut BTreeMap<Cell, Newest>,
     shared: &Shared<T>,
@@ -67,12 +68,14 @@ fn note_entry<T: Tablet>(
     ensures { OnOk result ((puts : List Put) → AreNewest puts table.old
         → AreNewest (puts ++ puts_by shared.now.state entry.now) table.new) }
 {
+    // So a declaration is answered, and other steps too, which are told apart next.
     if entry.answer.get() != Answer::Done {
         return Ok(());
     }
     let Step::Declare(start, what) = &entry.step else {
         return Ok(());
     };
+    // The entry of a commit tells no writes, so that declarations are looked at, with what became of each.
     let Some(Phase::Committed(commit)) = shared.phase(*start) else {
         return Ok(());
     };
@@ -82,7 +85,7 @@ fn note_entry<T: Tablet>(
     }
 }
 
-// The newest committed write of each data cell of a table.
+// The newest committed write of each data cell of a table, kept by cells, so that the lines come out by row and column.
 fn newest_of<T: Tablet>(
     alloc: Global,
     shared: &Shared<T>,
@@ -97,7 +100,7 @@ fn newest_of<T: Tablet>(
     Ok(table)
 }
 
-// The text of the report.
+// The text of the report, whole before anything is written, so that a refusal for memory leaves no beginning of it.
 fn text_of<T: Tablet>(alloc: Global, shared: &Shared<T>) -> Result<String, NoMemory>
     ensures { IfOk result (λ s. IsReportIn shared.now (string_bytes s)) }
 {

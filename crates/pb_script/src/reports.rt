@@ -1,4 +1,5 @@
-//! The report of a history: what is newest at each data cell, and what is left to do.
+//! The report of a history: what is newest at each data cell, and what is left to do. It takes writes and counts from
+//! anywhere, so that its lines are said without a table.
 mod lines;
 mod newest;
 mod tally;
@@ -39,7 +40,7 @@ pub fn report_of(
     Ok(text)
 }
 
-/// Where no cell has two writes of one commit, there is only one report.
+/// Where no cell has two writes of one commit, there is only one report: the lines leave nothing open.
 pub fn one_report()
     ensures { (puts : List Put) (runs : Tallies) (marks locks : ℕ) (s t : List ℕ) → AreApart puts
         → IsReport puts runs marks locks s → IsReport puts runs marks locks t → s ≡ t }

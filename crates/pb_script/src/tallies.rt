@@ -1,4 +1,4 @@
-//! How often each observer ran.
+//! How often each observer ran: its committed runs, by the entries that began them.
 ghost use Rattle.std.specs.Prelude.{◌≡◌, IfOk};
 ghost use Rattle.pb_script.specs.Tallies.{AreTallies, IsTally};
 ghost use Rattle.pb_history.specs.RunCounts.{IsRunCount, begins_committed_run, phase_is_committed};
@@ -18,7 +18,7 @@ fn phase_is_committed(phase: Option<Phase>) -> bool
     matches!(phase, Some(Phase::Committed(_)))
 }
 
-// Whether the entry begins a run of the observer that is committed.
+// Whether the entry begins a run of the observer that is committed. Begins are counted, since a run has one.
 fn begins_committed_run<T: Tablet>(shared: &Shared<T>, number: usize, entry: &Entry) -> bool
     ensures { result ≡ begins_committed_run shared.now.state number entry.now.step entry.now.answer }
 {

@@ -16,6 +16,7 @@ use Rattle.pb_story.specs.Stories.{Recounts, IsTold, IsAtFault, IsUntold, EventE
 
 -- ---- one event more
 
+-- a story of some events grows by the line of the one that happens next
 recounts_more : (w : WorldOf) (number : ℕ) (es : List Event) (text : List ℕ) (v u : WorldOf) (e : Event) (line : List ℕ)
     → Recounts w number es text v → IsTold v (number + length es) e u line → Recounts w number (es ++ e ∷ []) (text ++ line) u
 recounts_more w number [] text v u e line r t =
@@ -27,6 +28,7 @@ recounts_more w number (f ∷ es) text v u e line r t =
     let more = recounts_more r.1 (number + 1) es r.3 v u e line r.6 (subst (λ k. IsTold v k e u line) at t) in
     (r.0, r.1, r.2, r.3 ++ line, r.4, r.5, more, ap (λ (x : List ℕ). x ++ line) r.7 ∙ append_assoc r.2 r.3 line)
 
+-- the first events with one more are those and that one
 next_is : (es : List Event) (i : ℕ) (e : Event) → slice_get es i ≡ Some e → take (i + 1) es ≡ take i es ++ e ∷ []
 next_is es i e h = take_more es i e (slice_get_within es i e h) ∙ ap (λ (x : Event). take i es ++ x ∷ []) (get_or_from_slice_get es i e e h)
 
@@ -43,6 +45,7 @@ part_after a b c xs ys h p = (p.0, (xs ++ p.1.0, ap (λ (z : List ℕ). xs ++ z)
 
 -- ---- the lines
 
+-- one more event that was told makes the told ones one more
 pub told_more : (w : WorldOf) (es : List Event) (i : ℕ) (v u : WorldOf) (e : Event) (old mid now : Option (List ℕ)) (failed : Bool)
     → slice_get es i ≡ Some e → AreTold w (take i es) v old mid → EventEnds v i e u mid now failed (Ok tt) → AreTold w (take (i + 1) es) u old now
 told_more w es i v u e old mid now failed is t end =
@@ -75,6 +78,7 @@ told_to w es i v u e old mid now failed (faults.Event f) is t end =
 
 -- ---- the story
 
+-- behind the lines of all events, a report that was written makes the story whole
 pub reported : (w : WorldOf) (es : List Event) (v : WorldOf) (old mid now : Option (List ℕ)) (failed : Bool) → AreTold w es v old mid → Reports v.shared mid now failed (Ok tt) → StoryEnds w es v old now failed (Ok tt)
 reported w es v old mid now failed t r = (
   record {
@@ -85,6 +89,7 @@ reported w es v old mid now failed t r = (
   r.1,
 )
 
+-- and one that was cut short makes a beginning of it
 pub report_cut : (w : WorldOf) (es : List Event) (v : WorldOf) (old mid now : Option (List ℕ)) (failed : Bool) → AreTold w es v old mid → Reports v.shared mid now failed (Err ends.Output) → StoryEnds w es v old now failed (Err faults.Output)
 report_cut w es v old mid now failed t r = (
   inr (record {
@@ -95,12 +100,14 @@ report_cut w es v old mid now failed t r = (
   r.1,
 )
 
+-- where there is no memory for the report, all lines stand and no report follows
 pub report_unmade : (w : WorldOf) (es : List Event) (v : WorldOf) (old mid now : Option (List ℕ)) (failed : Bool) → AreTold w es v old mid → Reports v.shared mid now failed (Err ends.NoMemory) → StoryEnds w es v old now failed (Err faults.NoMemory)
 report_unmade w es v old mid now failed t r =
     let all : take (length es) es ≡ es = take_all (length es) es (omega arith) in
     let told = subst (λ (s : Option (List ℕ)). AreTold w (take (length es) es) v old s) (sym r.0) (subst (λ (xs : List Event). AreTold w xs v old mid) (sym all) t) in
     (record { count = length es; before = v; told = told; rest = inl (refl, refl) }, r.1)
 
+-- lines that ended early are a story that did
 pub lines_cut : (w : WorldOf) (es : List Event) (v : WorldOf) (old now : Option (List ℕ)) (failed : Bool) (f : StoryFault) → LinesEnd w es v old now failed (Err f) → StoryEnds w es v old now failed (Err f)
 lines_cut w es v old now failed faults.Output h = (inl h.0, h.1)
 lines_cut w es v old now failed faults.NoMemory h = h

@@ -7,6 +7,7 @@ use Rattle.pb_base.specs.declared.cell.Cell.{Cell}
 use Rattle.pb_base.specs.declared.content.Content.{Content}
 use Rattle.pb_base.specs.Batch.{Writes}
 
+-- what is left to tell is the next write and what is left behind it
 drop_next : (ws : Writes) (i : ℕ) (w : Cell × Content) → slice_get ws i ≡ Some w → drop i ws ≡ w ∷ drop (i + 1) ws
 drop_next ws i w h =
     let inside = slice_get_within ws i w h in

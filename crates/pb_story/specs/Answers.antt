@@ -1,4 +1,4 @@
--- Answers of the shared table in words.
+-- Answers of the shared table in words. `add_answer` cites it; docs/FORMATS.md lists them by their steps.
 use Rattle.std.specs.Prelude.{ℕ, List, ◌++◌, codes}
 use Rattle.std.specs.Fmt.{decimal}
 use Rattle.pb_base.specs.declared.names.Ts.{Ts}
@@ -13,6 +13,7 @@ use Rattle.pb_story.specs.Steps.{start_text, on_cell_text, at_cell_text}
 abbrev pub found_text : Ts → Ts → Content → List ℕ
 found_text s c content = codes "found " ++ (decimal s.0 ++ (codes " " ++ (decimal c.0 ++ (codes " " ++ content_text content))))
 
+-- an answer by its word, and behind it what it tells: timestamps, a cell, a content
 abbrev pub answer_text : List ObserverOf → Answer → List ℕ
 answer_text observers (At t) = start_text (codes "at") t
 answer_text observers (Locked s x) = at_cell_text observers (codes "locked") s x

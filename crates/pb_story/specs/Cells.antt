@@ -1,4 +1,5 @@
--- Cells, and what they hold, in words.
+-- Cells, and what they hold, in words. Observers are told by their names and not by their numbers, as in schedules, so
+-- each text takes the list of them.
 use Rattle.std.specs.Prelude.{ℕ, List, [], ◌++◌, codes, Option, Some, None, slice_get}
 use Rattle.std.specs.List.{flat_map}
 use Rattle.std.specs.Fmt.{decimal}
@@ -12,6 +13,7 @@ use Rattle.pb_base.specs.declared.content.Content.TheVariants.{Value, Deleted, S
 use Rattle.pb_verify.specs.Observers.{ObserverOf}
 use Rattle.pb_script.specs.ReportLines.{trimmed}
 
+-- an observer's name, and no letters where there is no observer
 abbrev pub name_in : Option ObserverOf → List ℕ
 name_in None = []
 name_in (Some x) = x.name
@@ -20,6 +22,7 @@ name_in (Some x) = x.name
 abbrev pub observer_name : List ObserverOf → ℕ → List ℕ
 observer_name observers o = name_in (slice_get observers o)
 
+-- a place as scripts name it
 abbrev pub row_and_column : Row → ℕ → List ℕ
 row_and_column row column = decimal row.0 ++ (codes " " ++ decimal column)
 
@@ -34,6 +37,7 @@ content_text (Value bytes) = codes "value " ++ encode_lower (trimmed bytes)
 content_text Deleted = codes "deleted"
 content_text (Stamp t) = codes "stamp " ++ decimal t.0
 
+-- a write behind its semicolon: the cell and what is left there
 abbrev pub write_text : List ObserverOf → Cell × Content → List ℕ
 write_text observers w = codes "; " ++ (cell_text observers w.0 ++ (codes " " ++ content_text w.1))
 

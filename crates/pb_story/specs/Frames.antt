@@ -1,4 +1,5 @@
--- What is known before each slot of a program, in words.
+-- What is known before each slot of a program, in words: kinds of registers and runs of written stack bytes, as the
+-- verifier knows them (`known_at`), whether the program is accepted or not. `frames_text` promises it.
 use Rattle.std.specs.Prelude.{ℕ, zero, suc, ◌+◌, ◌-◌, ℤ, pos, negsuc, Bool, true, false, not, ◌&&◌, if◌then◌else◌, List, [], ◌∷◌, ◌++◌, drop, codes, Option, Some, None, slice_index_or}
 use Rattle.std.specs.List.{enumerate_from, flat_map}
 use Rattle.std.specs.Fmt.{decimal}
@@ -24,6 +25,7 @@ register_text r Number = codes " r" ++ (decimal r ++ codes "=number")
 register_text r (Stack k) = codes " r" ++ (decimal r ++ (codes "=stack" ++ distance_text k))
 register_text r (Record k) = codes " r" ++ (decimal r ++ (codes "=record" ++ distance_text k))
 
+-- the registers that aren't unset, by their numbers
 abbrev pub registers_text : List Kind → List ℕ
 registers_text kinds = flat_map (λ e. register_text e.0 e.1) (enumerate_from 0 kinds)
 
@@ -52,11 +54,13 @@ run_text i n = codes " written=-" ++ (decimal (STACK_BYTES - i) ++ (codes "..-" 
 abbrev pub run_at : List Bool → ℕ → List ℕ
 run_at written i = if begins_run written i then run_text i (run_length (drop i written)) else []
 
+-- each run of written bytes once, at its lowest byte, from the lowest on
 abbrev pub runs_text : List Bool → List ℕ
 runs_text written = flat_map (λ b. run_at written b.0) (enumerate_from 0 written)
 
 -- ---- slots
 
+-- what a frame says: registers, and then stack bytes
 abbrev pub frame_text : Frame → List ℕ
 frame_text f = registers_text f.kinds ++ runs_text f.written
 
@@ -66,6 +70,7 @@ line_at n None f = []
 line_at n (Some i) None = decimal n ++ codes " unreachable\n"
 line_at n (Some i) (Some f) = decimal n ++ (frame_text f ++ codes "\n")
 
+-- the line of a slot in a program, with what is known before it
 abbrev pub slot_line : List Insn → ℕ → List ℕ
 slot_line p n = line_at n (insn_at p n) (known_at p n)
 
@@ -74,5 +79,6 @@ abbrev pub lines_below : List Insn → ℕ → List ℕ
 lines_below p zero = []
 lines_below p (suc n) = lines_below p n ++ slot_line p n
 
+-- the lines of all slots, in their order
 abbrev pub frames_text : List Insn → List ℕ
 frames_text p = lines_below p (slots p)

@@ -1,4 +1,5 @@
--- The line of an event: its number, its seat, what it does and its note.
+-- The line of an event: its number, its seat, what it does and its note. What it does is said by the world before it,
+-- which knows the job's next step, and the note by what came of it. `open_line` and `end_line` cite these.
 use Rattle.std.specs.Prelude.{◌≡◌, ℕ, List, [], ◌++◌, codes, Option, Some, None}
 use Rattle.std.specs.Fmt.{decimal}
 use Rattle.pb_verify.specs.Observers.{ObserverOf}
@@ -30,6 +31,7 @@ seat_of (events.Step k) = k
 seat_of (events.Crash k) = k
 seat_of e = 0
 
+-- what an actor is launched for, in a schedule's words
 abbrev pub job_text : List ObserverOf → Job → List ℕ
 job_text observers (jobs.Change k) = codes "change " ++ decimal k
 job_text observers (jobs.Run o row) = codes "run " ++ (observer_name observers o ++ (codes " " ++ decimal row.0))

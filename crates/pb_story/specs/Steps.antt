@@ -1,4 +1,4 @@
--- Steps of the shared table in words.
+-- Steps of the shared table in words: one word each, with a transaction's start or a cell. `add_step` cites it.
 use Rattle.std.specs.Prelude.{ℕ, List, ◌++◌, codes, Option, Some, None}
 use Rattle.std.specs.Fmt.{decimal}
 use Rattle.pb_base.specs.declared.names.Ts.{Ts}
@@ -12,6 +12,7 @@ use Rattle.pb_steps.specs.declared.step.Step.{Step}
 use Rattle.pb_steps.specs.declared.step.Step.TheVariants as steps
 use Rattle.pb_story.specs.Cells.{observer_name, cell_text, writes_text}
 
+-- what a transaction is for, in a schedule's words
 abbrev pub work_text : List ObserverOf → Work → List ℕ
 work_text observers works.Script = codes "script"
 work_text observers (works.Run o row) = codes "run " ++ (observer_name observers o ++ (codes " " ++ decimal row.0))
@@ -33,10 +34,12 @@ on_cell_text observers word x = word ++ (codes " " ++ cell_text observers x)
 abbrev pub at_cell_text : List ObserverOf → List ℕ → Ts → Cell → List ℕ
 at_cell_text observers word s x = word ++ (codes " " ++ (decimal s.0 ++ (codes " " ++ cell_text observers x)))
 
+-- a search for a marked cell, from the beginning or behind a cell; no actor's job asks it, but journals have it
 abbrev pub next_mark_text : List ObserverOf → Option Cell → List ℕ
 next_mark_text observers None = codes "next mark"
 next_mark_text observers (Some x) = on_cell_text observers (codes "next mark after") x
 
+-- a step by its word; commits of a primary and of another cell have one word, told apart by the cell
 abbrev pub step_text : List ObserverOf → Step → List ℕ
 step_text observers (steps.Begin work) = codes "begin " ++ work_text observers work
 step_text observers (steps.Read s x) = at_cell_text observers (codes "read") s x

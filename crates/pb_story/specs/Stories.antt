@@ -1,4 +1,5 @@
--- Stories: the lines of a list of events, and how they are written.
+-- Stories: the lines of a list of events, and how they are written. A line is written at once, so a story that ends
+-- early has lines of the first events; each ending says which. `tell_story` promises it.
 use Rattle.std.specs.Prelude.{◌≡◌, ℕ, ◌+◌, ◌≤◌, ◌⊎◌, Bool, true, false, List, [], ◌∷◌, ◌++◌, length, take, Option, Some, slice_get, Result, Ok, Err}
 use Rattle.std.specs.Io.KnownBytes.{Appends}
 use Rattle.pb_parse.specs.declared.event.Event.{Event}
@@ -86,6 +87,7 @@ pub record LeftOff (w : WorldOf) (es : List Event) (v : WorldOf) (old now : Opti
   pub told : AreTold w (take count es) before old now
   pub rest : ((count ≡ length es) × (v ≡ before)) ⊎ IsUntoldAt before es count v
 
+-- how the lines ended, before any report: all of them, or up to a write, an event or a growth that failed
 abbrev pub LinesEnd : WorldOf → List Event → WorldOf → Option (List ℕ) → Option (List ℕ) → Bool → Result (Unit {0}) StoryFault → Type 0
 LinesEnd w es v old now failed (Ok _) = AreTold w es v old now × (failed ≡ false)
 LinesEnd w es v old now failed (Err faults.Output) = BeganLines w es v old now × (failed ≡ true)
@@ -94,6 +96,7 @@ LinesEnd w es v old now failed (Err faults.NoMemory) = LeftOff w es v old now ×
 
 -- ---- the story of events in a world: their lines, and then the report of what they left
 
+-- the lines of events that happened one after the other, and then the report of the world that they led to
 pub record IsStory (w : WorldOf) (es : List Event) (v : WorldOf) (text : List ℕ) : Type 0 where
   pub lines : List ℕ
   pub recounts : Recounts w 0 es lines v
@@ -101,6 +104,7 @@ pub record IsStory (w : WorldOf) (es : List Event) (v : WorldOf) (text : List �
   pub reported : IsReportIn v.shared report
   pub text_is : text ≡ lines ++ report
 
+-- the story was written whole
 pub record WroteStory (w : WorldOf) (es : List Event) (v : WorldOf) (old now : Option (List ℕ)) : Type 0 where
   pub text : List ℕ
   pub story : IsStory w es v text

@@ -1,4 +1,4 @@
-//! Cells, and what they hold, in words.
+//! Cells, and what they hold, in words: those of scripts and reports, so that a cell is told alike in all of them.
 ghost use Rattle.std.specs.Prelude.{◌≡◌, ◌++◌, OnOk, string_bytes};
 ghost use Rattle.pb_story.specs.Cells.{observer_name, cell_text, content_text, write_text, writes_text};
 

@@ -1,4 +1,4 @@
-//! Why a story ended early.
+//! Why a story ended early: its lines up to there were written, since each is written when its event has happened.
 ghost use Rattle.std.specs.Prelude.{◌≡◌};
 ghost use Rattle.pb_story.specs.declared.fault.StoryFault.TheVariants as faults;
 

@@ -1,4 +1,5 @@
-//! What is known before each slot of a program, in words.
+//! What is known before each slot of a program, in words. It is told also of a program that is refused, since that is
+//! when it is asked for.
 ghost use Rattle.std.specs.Prelude.{◌≡◌, ◌<◌, ◌≤◌, ◌+◌, ◌++◌, length, drop, IfOk, OnOk, string_bytes};
 ghost use Rattle.pb_isa.specs.declared.limits.TheConstants.{STACK_BYTES};
 ghost use Rattle.pb_story.specs.Frames.{distance_text, register_text, registers_text, run_length, begins_run, run_text, run_at, runs_text, frame_text, line_at, frames_text};
@@ -48,7 +49,7 @@ fn add_registers(text: &mut String, kinds: &[Kind]) -> Result<(), AllocError>
     Ok(())
 }
 
-// How many bytes are written before the first that isn't.
+// How many bytes are written before the first that isn't: how long a run is that begins with the first.
 fn run_length(written: &[bool]) -> usize
     ensures count { result ≡ run_length written.now }
     ensures few { result ≤ length written.now }
@@ -59,7 +60,7 @@ fn run_length(written: &[bool]) -> usize
     }
 }
 
-// Whether a byte is written and the one below it isn't.
+// Whether a byte is written and the one below it isn't, so that a run is told at its lowest byte alone.
 fn begins_run(written: &[bool], place: usize) -> bool
     requires { place < length written.now }
     ensures { result ≡ begins_run written.now place }
@@ -74,6 +75,7 @@ fn add_run(text: &mut String, place: usize, count: usize) -> Result<(), AllocErr
     ensures { OnOk result (string_bytes text.new ≡ string_bytes text.old ++ run_text place count) }
 {
     let first = STACK_BYTES - place;
+    // One more, since the distance is that of the last byte and not of the byte behind it.
     let last = STACK_BYTES + 1 - (place + count);
     write!(text, " written=-{first}..-{last}")
 }
@@ -110,7 +112,8 @@ fn add_frame(text: &mut String, frame: &Frame) -> Result<(), AllocError>
     add_runs(text, &frame.written)
 }
 
-// Adds the line of a slot with this instruction and this frame before it. A second slot has none.
+// Adds the line of a slot with this instruction and this frame before it. The second slot of a wide instruction has
+// none, since nothing begins there.
 fn add_line(
     text: &mut String,
     slot: usize,

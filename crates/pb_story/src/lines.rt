@@ -1,4 +1,5 @@
-//! The line of an event: its number, its seat, what it does and its note.
+//! The line of an event: its number, its seat, what it does and its note. It is made in two parts, since what an event
+//! does is told of the world before it, and its note of what came of it.
 ghost use Rattle.std.specs.Prelude.{◌≡◌, ◌++◌, OnOk, IfOk, string_bytes, codes};
 ghost use Rattle.pb_story.specs.Lines.{GrowsBy, seat_of, job_text, IsTurn, IsDeed, note_text, IsOpenLine};
 
@@ -11,6 +12,7 @@ use pb_verify::Observer;
 use pb_world::{ActorJob, Note, World};
 use std::alloc::{AllocError, Global};
 
+// What no actor does, the main seat does.
 fn seat_of(event: &Event) -> u32
     ensures { result ≡ seat_of event.now }
 {
@@ -45,6 +47,7 @@ fn add_turn(text: &mut String, observers: &[Observer], job: &ActorJob) -> Result
     ensures { OnOk result
         (GrowsBy (IsTurn observers.now (Some job.now)) (string_bytes text.old) (string_bytes text.new)) }
 {
+    // Asked first, since a job whose machine is on its way has no step of the table next.
     if let Some(slot) = job.slot() {
         return write!(text, "instruction {slot}");
     }
@@ -75,7 +78,8 @@ fn add_deed<T: Tablet>(text: &mut String, world: &World<T>, event: &Event) -> Re
     }
 }
 
-/// The line of an event that is to happen, up to its note.
+/// The line of an event that is to happen, up to its note. It is made before the event, since a step that has been
+/// taken is no longer its job's next one.
 pub fn open_line<T: Tablet>(
     alloc: Global,
     world: &World<T>,

@@ -1,4 +1,4 @@
-//! Steps of the shared table in words.
+//! Steps of the shared table in words, each with the start of its transaction or the cell that it is about.
 ghost use Rattle.std.specs.Prelude.{◌≡◌, ◌++◌, OnOk, string_bytes};
 ghost use Rattle.pb_story.specs.Steps.{work_text, declared_text, start_text, on_cell_text, at_cell_text, next_mark_text, step_text};
 

@@ -1,4 +1,5 @@
-//! The story of a list of events, as it is written while they happen.
+//! The story of a list of events, as it is written while they happen. One event at a time is let happen by the call
+//! that a replay makes, so that there is no second way for events to happen.
 ghost use Rattle.std.specs.Prelude.{◌≡◌, false, IfOk, IfErr};
 ghost use Rattle.pb_world.specs.Events.{Happens};
 ghost use Rattle.pb_story.specs.Stories.{IsEventFault, EventEnds, LinesEnd, StoryEnds};
@@ -50,6 +51,7 @@ fn tell_event<T: Tablet, S: Sink>(
     ensures { EventEnds world.old number event.now world.new (S.taken sink.old) (S.taken sink.new) (S.failed sink.new)
         result }
 {
+    // Before the event, since what it does is told of the world before it.
     let mut line = open_line(alloc, world, number, event)?;
     let note = happen(alloc, world, number, event)?;
     end_line(&mut line, world.shared().observers(), &note)?;

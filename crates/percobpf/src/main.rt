@@ -1,7 +1,11 @@
-//! The program: `run MANIFEST SCRIPT [--workers N] [--swaps M]` has N workers make a script's changes and run the observers
-//! while M tablets are replaced, and prints the committed cells and the work that is left; `replay MANIFEST SCRIPT SCHEDULE`
-//! does the same for a schedule's events; `asm IN OUT` writes the bytes of a program's text, `dis FILE` lists a program's
-//! bytes, and `check FILE` tells whether they are accepted, each with `--profile N`.
+//! The program: `run MANIFEST SCRIPT [--workers N] [--swaps M]` has N workers make a script's changes and run the
+//! observers while M tablets are replaced, and prints the committed cells and the work that is left;
+//! `replay MANIFEST SCRIPT SCHEDULE` lets a schedule's events happen, and nothing else, and prints the same of what
+//! they left; `asm IN OUT` writes the bytes of a program's text, `dis FILE` lists a program's bytes, and `check FILE`
+//! tells whether they are accepted, each with `--profile N`.
+//!
+//! It is main alone, since the crate of a program can't be called by another, nor tested as a library: `pb_command`
+//! does what the words ask. Here the tablets are made, and the words taken from the system.
 #![tactic(auto)]
 
 ghost use Rattle.std.specs.Prelude.{◌≡◌, vec_len};
@@ -21,7 +25,7 @@ use std::sync::Wait;
 use std::thread::Threads;
 use std::{env, io};
 
-// Tells that there is no memory.
+// Tells that there is no memory. Where even that can't be told, the status says it alone.
 fn no_memory(rt: &HostRuntime) -> u8 {
     let _ = eprintln!(rt; "no memory");
     1
@@ -33,7 +37,7 @@ fn not_text(rt: &HostRuntime) -> u8 {
     2
 }
 
-// Clears and ends tablets.
+// Clears and ends tablets, one by one, since they are linear and no table took them.
 fn end_all<T: Tablet>(mut parts: Vec<(Row, T)>) {
     while let Some((_, mut tablet)) = parts.pop() {
         tablet.clear();
@@ -42,8 +46,8 @@ fn end_all<T: Tablet>(mut parts: Vec<(Row, T)>) {
     parts.destroy_empty();
 }
 
-// Carries out a command over the real files, on a table of these tablets and with these spares, with workers in threads of
-// this handle.
+// Carries out a command over the real files, on a table of these tablets and with these spares, with workers in
+// threads of this handle. Its contract doesn't know the tablets' rows, so that a table which is refused is told too.
 fn carry_out<R: Threads + Wait + Sync, T: Tablet + Send>(
     threads: &R,
     rt: &HostRuntime,
@@ -128,6 +132,7 @@ fn status<R: Threads + Wait + Sync>(threads: &R, rt: &HostRuntime) -> Result<u8,
     Ok(obey(threads, rt, &words))
 }
 
+// The handle goes down twice, as the host and as what may wait, since a `HostRuntime` may wait in `main` alone.
 fn main(rt: HostRuntime) -> ExitCode {
     match status(&rt, &rt) {
         Ok(status) => ExitCode::from(status),

@@ -1,4 +1,5 @@
-//! The tablets of the program's table, and the spares that replace them.
+//! The tablets of the program's table, and the spares that replace them: of two sorts, in turn. Programs alone know
+//! which sorts there are, since the libraries over tablets are generic in them.
 ghost use Rattle.std.specs.Prelude.{◌≡◌, ◌+◌, ◌/◌, ◌%◌, ◌∷◌, [], false, true, map, vec_len, IfOk};
 ghost use Rattle.pb_memtablet.specs.Either.{is_slab as sort_of};
 ghost use Rattle.pb_store.specs.TableOf.{firsts_of};

@@ -14,6 +14,7 @@ use Rattle.pb_story.specs.declared.fault.StoryFault.TheVariants as ends
 use Rattle.pb_story.specs.Stories.{AreTold, StoryEnds}
 use Rattle.percobpf_story.specs.Replays.{StoryEndsFrom, ToldOn}
 
+-- no event has no line
 none_written : (w : WorldOf) (old : Option (List ℕ)) → AreTold w [] w old old
 none_written w old = record { lines = []; recounts = (refl, refl); written = Appends-nil old }
 

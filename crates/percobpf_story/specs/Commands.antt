@@ -30,6 +30,7 @@ TellFails before manifest script schedule clock old now failed f =
     (IsFileFault before (manifest ∷ script ∷ schedule ∷ []) f × (now ≡ old) × (failed ≡ false)) ⊎
     ((g : RunFault) × (f ≡ faults.Run g) × ToldFrom before manifest script schedule clock old now failed (Err g))
 
+-- what the story of a replay leaves: the whole story, or a fault; it refuses nothing that it is given
 abbrev pub TellLeaves : Held → Text → Text → Text → ℕ → Option (List ℕ) → Option (List ℕ) → Bool → Result Verdict Fault → Type 0
 TellLeaves before manifest script schedule clock old now failed (Ok Accepted) = ToldFrom before manifest script schedule clock old now failed (Ok tt)
 TellLeaves before manifest script schedule clock old now failed (Ok Refused) = ⊥

@@ -1,4 +1,4 @@
--- What is told of a file's program.
+-- What is told of a file's program, as one more way to judge bytes, beside those of `dis` and `check`.
 use Rattle.std.specs.Prelude.{◌≡◌, ℕ}
 use Rattle.pb_isa.specs.declared.profile.Profile.{Profile}
 use Rattle.pb_isa.specs.Programs.{ProgramOf}

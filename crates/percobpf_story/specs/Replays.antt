@@ -1,4 +1,5 @@
--- The story of a replay: a schedule's events in a world of a manifest's observers and a script's changes.
+-- The story of a replay: a schedule's events in a world of a manifest's observers and a script's changes. It is that
+-- of a replay with the ending of a story in place of that of a report. `tell_texts` promises it.
 use Rattle.std.specs.Prelude.{◌≡◌, ◌⊎◌, ℕ, Bool, false, List, Option, Result, Ok, Err}
 use Rattle.pb_base.specs.declared.limits.TheConstants.{MAX_SEATS}
 use Rattle.pb_base.specs.Batch.{Writes}

@@ -1,4 +1,5 @@
-//! What the words of the story program ask for, done.
+//! What the words of the story program ask for, done. It takes no leave to wait, so that all of it is proved of calls
+//! that return.
 ghost use Rattle.std.specs.Prelude.{◌≡◌, false};
 ghost use Rattle.pb_store.specs.Contents.{nothing};
 ghost use Rattle.percobpf_story.specs.Commands.{TellLeaves, StoryCommands};
@@ -73,6 +74,7 @@ pub fn story_command<T: Tablet, P: Paths, O: Sink, E: Sink>(
         result }
 {
     let outcome = match options {
+        // The version isn't asked, since what is known before a slot is the same for records of each.
         StoryOptions::Frames {
             file,
             profile,

@@ -1,5 +1,9 @@
-//! The story program: `frames FILE` prints what is known before each slot of a program, and `replay MANIFEST SCRIPT SCHEDULE`
-//! does a schedule's events, prints what each did, and then the report.
+//! The story program: `frames FILE` prints what is known before each slot of a program, and
+//! `replay MANIFEST SCRIPT SCHEDULE` does a schedule's events, prints what each did, and then the report.
+//!
+//! It stands beside `percobpf`, which prints neither, so that no contract of the command has a case for lines and
+//! frames. It reads files, tells faults and answers its status as `percobpf` does, by the calls of `pb_command`.
+//! `frames` of the bytes of examples/watch.s begins with `0 r1=record+0 r10=stack+0`.
 #![tactic(auto)]
 
 mod carry;
@@ -16,7 +20,7 @@ use pb_texts::{StoryOptions, story_options};
 use std::process::ExitCode;
 use std::{env, io};
 
-// Tells that there is no memory.
+// Tells that there is no memory. Where even that can't be told, the status says it alone.
 fn no_memory(rt: &HostRuntime) -> u8 {
     let _ = eprintln!(rt; "no memory");
     1
@@ -28,7 +32,7 @@ fn not_text(rt: &HostRuntime) -> u8 {
     2
 }
 
-// Carries out a command over the real files, on a table of one tablet.
+// Carries out a command over the real files, on a table of one tablet, since a story swaps none.
 fn carry_out(rt: &HostRuntime, options: &StoryOptions) -> Result<u8, NoMemory> {
     let alloc = rt.alloc();
     let mut parts = Vec::new(alloc);

@@ -1,4 +1,5 @@
-//! The story of a replay, from its texts to its report.
+//! The story of a replay, from its texts to its report: the way of `replay_texts`, which stands apart, so that no
+//! contract of the command has a case for lines.
 ghost use Rattle.std.specs.Prelude.{◌≡◌, false};
 ghost use Rattle.pb_store.specs.Contents.{nothing};
 ghost use Rattle.pb_core.specs.Calls.{AreSeats};
@@ -25,7 +26,7 @@ fn of_story(fault: StoryFault) -> RunFault
     }
 }
 
-// Tells the story of the events in a world of this table, which is ended.
+// Tells the story of the events in a world of this table, which is ended whatever came of it, since tablets are linear.
 fn tell_on<T: Tablet, S: Sink>(
     alloc: Global,
     shared: Shared<T>,

@@ -1,4 +1,4 @@
-//! Why a text is no schedule.
+//! Why a text is no schedule: a code inside, and at the public edge its number with the line.
 ghost use Rattle.std.specs.Prelude.{◌≡◌, ◌≢◌, ◌<◌, ◌+◌};
 ghost use Rattle.pb_parse.specs.ScheduleCodes.{schedule_code};
 ghost use Rattle.pb_parse.specs.declared.schedule.fault.Code.TheVariants.{Memory};
@@ -54,12 +54,13 @@ pub struct ScheduleFault {
 }
 
 impl ScheduleFault {
-    /// At the line of this index.
+    /// The fault of the line of this index, which counts from 0 where the told number counts from 1.
     pub fn at(index: usize, code: Code) -> ScheduleFault
         requires { index < usize.MAX }
         ensures memory { code ≡ Memory → result ≡ record { line = 0; code = 1 } }
         ensures other { code ≢ Memory → result ≡ record { line = index + 1; code = schedule_code code } }
     {
+        // Want of memory is told at no line, since none is at fault.
         let line = match code {
             Code::Memory => 0,
             _ => index + 1,

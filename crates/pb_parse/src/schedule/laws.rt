@@ -1,4 +1,5 @@
-//! What a schedule is read as, and where it is at fault, in the words of its format.
+//! What a schedule is read as, and where it is at fault, in the words of its format. Reader and definition go from
+//! left to right alike, so that a looseness could stand in both; these laws say the same without an order of reading.
 ghost use Rattle.std.specs.Prelude.{◌≡◌, ◌⊎◌, ◌↔◌, ℕ, List, Ok, Err};
 ghost use Rattle.pb_base.specs.Reading.{words_of};
 ghost use Rattle.pb_verify.specs.Observers.{ObserverOf};

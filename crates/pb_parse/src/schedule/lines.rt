@@ -1,4 +1,4 @@
-//! A text of lines.
+//! A schedule's lines, each added to the events of those before it.
 ghost use Rattle.std.specs.Prelude.{◌≡◌, ◌≤◌, length, vec_len, IfOk};
 ghost use Rattle.pb_base.specs.declared.limits.TheConstants.{MAX_EVENTS, MAX_OBSERVERS};
 ghost use Rattle.pb_base.specs.Reading.{Gives};
@@ -13,12 +13,13 @@ use pb_base::{MAX_EVENTS, MAX_OBSERVERS};
 use pb_verify::Observer;
 use std::alloc::Global;
 
-// Adds what an order asks for.
+// Adds what an order asks for, by one growth however often it asks.
 fn append(events: &mut Vec<Event>, order: Order) -> Result<(), Code>
     requires { vec_len events.old ≤ MAX_EVENTS }
     ensures read { Gives is_memory (λ _. events.new.items) result (with_order events.old.items order) }
     ensures most { vec_len events.new ≤ MAX_EVENTS }
 {
+    // What is left is compared, since a sum with any `times` may go beyond its type.
     if order.times > MAX_EVENTS - events.len() {
         return Err(Code::TooMany);
     }
@@ -26,7 +27,7 @@ fn append(events: &mut Vec<Event>, order: Order) -> Result<(), Code>
     Ok(())
 }
 
-// Adds what one line asks for.
+// Adds what one line asks for. That the events are too many comes last, since only a line that is read adds any.
 #[tactic(auto, unfolding(crate::specs::Schedules::with_event_line))]
 fn add_line(observers: &[Observer], events: &mut Vec<Event>, line: &str) -> Result<(), Code>
     requires few { length observers.now ≤ MAX_OBSERVERS }
@@ -38,14 +39,16 @@ fn add_line(observers: &[Observer], events: &mut Vec<Event>, line: &str) -> Resu
     if is_skipped(line) {
         return Ok(());
     }
+    // A match and no `?`, since the toolchain doesn't find the type `Job` in an order that `?` hands on.
     match order_of(observers, line) {
         Ok(order) => append(events, order),
         Err(code) => Err(code),
     }
 }
 
-/// The events of a schedule, one a line, or as many as a line with `step` says. Of several observers of one name the first
-/// is meant. Of another text the first line at fault is told, with its code, or want of memory at line 0 with code 1.
+/// The events of a schedule, one a line, or as many as a line with `step` says. There are no more observers than a
+/// table may have, so that each is told by its number; of several of one name the first is meant. Of another text the
+/// first line at fault is told, with its code, or want of memory at line 0 with code 1.
 pub fn parse_schedule(
     alloc: Global,
     text: &str,

@@ -1,4 +1,4 @@
-//! The words of a line, read from left to right.
+//! The words of a line, read from left to right by a cursor, so that the first field at fault is the one that is told.
 ghost use Rattle.std.specs.Prelude.{◌≡◌, ◌≤◌, ◌-◌, ◌^◌, IfOk, MatchOption, length, Ok, Err};
 ghost use Rattle.pb_base.specs.declared.limits.TheConstants.{MAX_OBSERVERS};
 ghost use Rattle.pb_base.specs.Reading.{Gives, next_word, no_word};
@@ -41,14 +41,14 @@ fn number_between(least: u64, greatest: u64, word: &str) -> Result<u64, Code>
     Ok(number)
 }
 
-// An observer by its number, with the column that it observes.
+// An observer by its number, with the column that it observes, since the name of its acknowledgments has both.
 #[derive(Clone, Copy)]
 struct Named {
     number: ObserverNo,
     column: Column,
 }
 
-// The first observer of this name.
+// The first observer of this name. A manifest has none of one name; other code may hand in several.
 fn observer_named(observers: &[Observer], name: &str) -> Option<Named>
     requires { length observers.now ≤ MAX_OBSERVERS }
     ensures number { MatchOption result (observer_named observers.now name.now ≡ Err code.NoObserver)
@@ -62,6 +62,7 @@ fn observer_named(observers: &[Observer], name: &str) -> Option<Named>
                     number,
                     column: observer.column,
                 }),
+                // A place is below 32, as many as a table may have, so that it is a number.
                 None => unreachable!(),
             };
         }
@@ -69,7 +70,8 @@ fn observer_named(observers: &[Observer], name: &str) -> Option<Named>
     None
 }
 
-// What is left of a line, if anything is.
+// What is left of a line, if anything is: a cursor that goes on by `&mut`, since the borrow checker doesn't cover a
+// pair of what was read and the words left, where what was read has a model.
 #[derive(Drop)]
 struct Words<'a> {
     rest: Option<&'a str>,
@@ -113,6 +115,7 @@ impl<'a> Words<'a> {
         number_between(least, greatest, word)
     }
 
+    // Seat 0 is the main one, which asks what is no actor's, so that a text names actors from 1 on.
     fn actor(&mut self) -> Result<u32, Code>
         ensures { Gives is_memory (λ x. (x, words_left self.new.rest)) result (next_actor (words_left self.old.rest)) }
     {
@@ -128,7 +131,7 @@ impl<'a> Words<'a> {
         Ok(Row(number))
     }
 
-    // The name of an observer.
+    // The name of an observer. Any other word here is told as no observer's name, whatever it looks like.
     #[tactic(auto, unfolding(crate::specs::ScheduleWords::next_observer))]
     fn observer(&mut self, observers: &[Observer]) -> Result<Named, Code>
         requires { length observers.now ≤ MAX_OBSERVERS }
@@ -190,7 +193,7 @@ impl<'a> Words<'a> {
         })
     }
 
-    // How often: once where no word says it.
+    // How often: once where no word says it. So `next_word`, which misses a word, isn't called.
     #[tactic(auto, unfolding(crate::specs::ScheduleWords::times_of))]
     fn times(&mut self) -> Result<usize, Code>
         ensures { Gives is_memory (λ n. n) result (times_of (words_left self.old.rest)) }
@@ -238,6 +241,7 @@ impl<'a> Words<'a> {
         let number = self.number(0, u64::from(COLUMNS - 1))?;
         match Column::new(number as u8) {
             Some(column) => Ok(Cell::Data(row, column)),
+            // A number below `COLUMNS` was read, so that it is a column.
             None => unreachable!(),
         }
     }
@@ -253,7 +257,8 @@ impl<'a> Words<'a> {
         Ok(Cell::Ack(observer.number, row, observer.column))
     }
 
-    // A data cell, or behind `ack` an acknowledgment.
+    // A data cell, or behind `ack` an acknowledgment. The word is looked at before it is taken, since one that isn't
+    // `ack` is read again as the row.
     fn cell(&mut self, observers: &[Observer]) -> Result<Cell, Code>
         requires { length observers.now ≤ MAX_OBSERVERS }
         ensures { Gives is_memory (λ x. (x, words_left self.new.rest)) result
@@ -330,7 +335,7 @@ impl<'a> Words<'a> {
     }
 }
 
-/// What a line asks for.
+/// What a line asks for: the whole line is one order, so that a word behind its last one is a fault too.
 pub fn order_of(observers: &[Observer], line: &str) -> Result<Order, Code>
     requires { length observers.now ≤ MAX_OBSERVERS }
     ensures { Gives is_memory (λ o. o) result (order_of observers.now line.now) }

@@ -1,4 +1,4 @@
-//! Why a script could not be read.
+//! Why a script could not be read: a code inside, of which `ScriptFault` tells the number.
 ghost use Rattle.std.specs.Prelude.{◌≡◌};
 ghost use Rattle.pb_parse.specs.Codes.{script_code};
 ghost use Rattle.pb_parse.specs.declared.script.code.Code.TheVariants.{Memory};

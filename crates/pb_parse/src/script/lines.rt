@@ -1,4 +1,4 @@
-//! A line, and a text of lines.
+//! A line of operations, which is one transaction, and a text of lines, with the laws of what they are read as.
 ghost use Rattle.std.specs.Prelude.{◌≡◌, ◌≢◌, ◌==◌, ◌+◌, ◌<◌, ◌↔◌, IfOk, true, is_some, ℕ, List, Ok, Err};
 ghost use Rattle.pb_base.specs.Batch.{Writes, writes_of, content_in, is_batch};
 ghost use Rattle.pb_parse.specs.Codes.{script_code};
@@ -18,7 +18,7 @@ use pb_base::{Batch, Cell, MAX_CELLS, MAX_CHANGES};
 use std::alloc::{AllocError, Global};
 use thiserror::Error;
 
-// Whether the cell is named.
+// Whether an operation before names the cell.
 fn names(writes: &[Change], cell: Cell) -> bool
     ensures { result ≡ is_some (content_in (writes_of writes.now) cell) }
 {
@@ -37,6 +37,7 @@ fn add(writes: &mut Vec<Change>, text: &str) -> Result<(), Code>
         (with_operation (writes_of writes.old.items) text.now) }
 {
     let write = operation(text)?;
+    // Before the count, so that a 17th operation that names a cell of the line again is 73 and not 74.
     if names(writes, Cell::Data(write.0, write.1)) {
         return Err(Code::Twice);
     }
@@ -47,7 +48,7 @@ fn add(writes: &mut Vec<Change>, text: &str) -> Result<(), Code>
     Ok(())
 }
 
-// What its operations write, which are joined by `; `. Mostly it is one.
+// What its operations write, which are joined by `; `. Room is made for one, since most lines have no more.
 fn writes_in(alloc: Global, line: &str) -> Result<Vec<Change>, Code>
     ensures { Gives is_memory (λ v. writes_of v.items) result (batch_of line.now) }
 {
@@ -66,6 +67,7 @@ fn batch_of(alloc: Global, line: &str) -> Result<Batch, Code>
 {
     match Batch::new(writes_in(alloc, line)?) {
         Ok(batch) => Ok(batch),
+        // What is read has 1 to 16 distinct data cells, so that it is a batch.
         Err(_) => unreachable!(),
     }
 }
@@ -79,6 +81,7 @@ fn add_line(alloc: Global, batches: &mut Vec<Batch>, line: &str) -> Result<(), C
         return Ok(());
     }
     let batch = batch_of(alloc, line)?;
+    // After the line is read, since 75 comes last of its faults.
     if batches.len() >= MAX_CHANGES {
         return Err(Code::TooMany);
     }
@@ -97,12 +100,13 @@ pub struct ScriptFault {
 }
 
 impl ScriptFault {
-    // At the line of this index.
+    // The fault of the line of this index, which counts from 0.
     fn at(index: usize, code: Code) -> ScriptFault
         requires { index < usize.MAX }
         ensures memory { code ≡ Memory → result ≡ record { line = 0; code = 1 } }
         ensures other { code ≢ Memory → result ≡ record { line = index + 1; code = script_code code } }
     {
+        // Want of memory is told at no line, since none is at fault.
         let line = match code {
             Code::Memory => 0,
             _ => index + 1,

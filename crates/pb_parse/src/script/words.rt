@@ -1,4 +1,4 @@
-//! The words of one operation.
+//! The words of one operation, from left to right. What is left goes from call to call, so that nothing is collected.
 ghost use Rattle.std.specs.Prelude.{◌≡◌, ◌<◌, ◌≤◌, IfOk};
 ghost use Rattle.std.specs.Char.{is_ascii_uppercase};
 ghost use Rattle.std.specs.List.{list_any};
@@ -16,7 +16,8 @@ use pb_base::{Column, Content, Row, Value};
 /// What an operation writes.
 pub type Change = (Row, Column, Content);
 
-// The numbers of a cell.
+// The numbers of a cell, and not its names: a `Column` has a model, and the borrow checker doesn't cover a pair of what
+// has one and the words left.
 #[derive(Clone, Copy, Drop)]
 struct Place {
     row: u64,
@@ -30,6 +31,7 @@ impl Place {
     {
         match Column::new(self.column) {
             Some(column) => (Row(self.row), column, content),
+            // Callers read a number up to 15, so that it is a column.
             None => unreachable!(),
         }
     }
@@ -60,7 +62,8 @@ fn has_upper(digits: &[u8]) -> bool
     digits.iter().any(|b| b.is_ascii_uppercase())
 }
 
-// Up to 32 bytes in lower-case hexadecimal digits, followed by zeros.
+// Up to 32 bytes in lower-case hexadecimal digits, followed by zeros. Capitals are looked for here, since `hex` reads
+// them too; an odd number of digits it refuses by itself.
 fn content_of(word: &str) -> Result<Value, Code>
     ensures { Gives is_memory (λ b. b) result (content_of word.now) }
 {
@@ -70,6 +73,7 @@ fn content_of(word: &str) -> Result<Value, Code>
     }
     let mut content = [0; 32];
     let count = digits.len() / 2;
+    // Into the front alone, so that the bytes that no digit tells stay zero.
     match hex::decode_to_slice(word, &mut content[..count]) {
         Ok(()) => Ok(content),
         Err(_) => Err(Code::Hex),
@@ -131,7 +135,7 @@ fn del_of(words: Option<&str>) -> Result<Change, Code>
     Ok(place.with(Content::Deleted))
 }
 
-/// One operation.
+/// One operation, `put ROW COL HEX` or `del ROW COL`, by its first field at fault where it is none.
 #[tactic(auto, unfolding(crate::specs::ScriptWords::write_of))]
 pub fn operation(text: &str) -> Result<Change, Code>
     ensures { Gives is_memory (λ w. (Data w.0 w.1, w.2)) result (operation text.now) }

@@ -1,4 +1,4 @@
-//! The lines of a report.
+//! The lines of a report, each of its own form.
 ghost use Rattle.std.specs.Prelude.{◌≡◌, ◌≤◌, ◌++◌, length, IfOk, OnOk, string_bytes};
 ghost use Rattle.hex.specs.Hex.{encode_lower};
 ghost use Rattle.pb_script.specs.ReportLines.{trimmed, cell_line, last_line};
@@ -13,7 +13,7 @@ pub struct Newest {
     pub content: Content,
 }
 
-// The bytes without zeros at the end, but for the first.
+// The bytes without zeros at the end, but for the first, so that a value of zeros alone is told as `00`.
 fn trimmed(bytes: &[u8]) -> &[u8]
     ensures bytes { result.now ≡ trimmed bytes.now }
     ensures no_longer { length result.now ≤ length bytes.now }
@@ -30,17 +30,20 @@ fn trimmed(bytes: &[u8]) -> &[u8]
     trimmed(front)
 }
 
-/// Two hexadecimal digits for each byte of a value, but for the zeros at its end; at least one byte is told.
+/// Two hexadecimal digits for each byte of a value, but for the zeros at its end; at least one byte is told. They are
+/// written into room of the caller's on the stack, so that a line takes no memory but its text's.
 pub fn digits_of<'a>(value: &Value, room: &'a mut [u8; 64]) -> &'a str
     ensures { result.now ≡ encode_lower (trimmed value.now) }
 {
     let bytes = trimmed(value);
     let digits = &mut room[..2 * bytes.len()];
     if hex::encode_to_slice(bytes, digits).is_err() {
+        // The room has two digits for each byte, so that it fits.
         unreachable!();
     }
     match std::str::from_utf8(digits) {
         Ok(text) => text,
+        // Hexadecimal digits are ASCII, so that they are UTF-8.
         Err(_) => unreachable!(),
     }
 }
@@ -58,6 +61,7 @@ pub fn add_cell_line(text: &mut String, cell: &Cell, newest: &Newest) -> Result<
             let digits = digits_of(value, &mut room);
             write!(text, "cell {row} {column} commit {commit} value {digits}\n")
         }
+        // No data cell has a stamp, so that what isn't a value is a deletion.
         _ => write!(text, "cell {row} {column} commit {commit} deleted\n"),
     }
 }

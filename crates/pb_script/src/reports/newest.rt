@@ -1,4 +1,4 @@
-//! What is newest at each data cell.
+//! What is newest at each data cell, of writes that come in any order of their commits.
 ghost use Rattle.std.specs.BTreeMap as tree;
 ghost use Rattle.std.specs.Prelude.{◌≡◌, true, false, cond, Some, IfOk, OnOk, List, [], ◌∷◌, ◌++◌, string_bytes};
 ghost use Rattle.pb_base.specs.Cell.{cell_cmp, is_data};
@@ -52,7 +52,7 @@ fn put_newest(table: &mut BTreeMap<Cell, Newest>, put: &Put) -> Result<(), Alloc
     Ok(())
 }
 
-/// Notes one more committed write.
+/// Notes one more committed write. One of an acknowledgment is passed over, since a report tells data cells alone.
 pub fn note(table: &mut BTreeMap<Cell, Newest>, put: &Put) -> Result<(), AllocError>
     ensures { OnOk result ((puts : List Put) → AreNewest puts table.old → AreNewest (puts ++ put.now ∷ []) table.new) }
 {

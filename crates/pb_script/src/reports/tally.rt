@@ -1,4 +1,4 @@
-//! How often observers ran.
+//! The lines on how often observers ran.
 ghost use Rattle.std.specs.Prelude.{◌≡◌, IfOk, string_bytes};
 ghost use Rattle.pb_script.specs.ReportLines.{run_line, run_lines};
 
