@@ -1,10 +1,5 @@
-<<<<<<< HEAD
-//! What is called before each call of the table.
-use pb_steps::Step;
-=======
 //! The gate: what is called before each call of the table, so that a test may hold a worker between two of its steps.
-use pb_core::Step;
->>>>>>> 524b824a8d7916b77eb5fb355ba10e98d7dc1091
+use pb_steps::Step;
 
 /// What is called before each call of the table, with the seat that asks and the step that it asks, while the caller
 /// holds no lock. It may wait.

@@ -1,10 +1,5 @@
-<<<<<<< HEAD
-//! Notes of events.
-use pb_steps::Answer;
-=======
 //! Notes of events: what each did, as a story tells it.
-use pb_core::Answer;
->>>>>>> 524b824a8d7916b77eb5fb355ba10e98d7dc1091
+use pb_steps::Answer;
 
 /// What an event did.
 #[derive(Clone, Copy, Debug, PartialEq, Eq)]
