@@ -15,6 +15,7 @@ fresh_from from (seat ∷ seats) h =
           h (suc k) d (omega arith) ∙ (λ i. record { number = m i; received = [] })),
     )
 
+-- seats just made are those of a table just opened
 pub fresh_seats : (shared : SharedOf) (count : ℕ) (seats : List SeatOf) → shared.journal ≡ [] → shared.state.seats ≡ count → IsFresh count seats → AreSeats shared seats
 fresh_seats shared count seats empty counted f = record {
   counted = f.counted ∙ sym counted;

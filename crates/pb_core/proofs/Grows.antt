@@ -27,6 +27,7 @@ no_more : (b : Bool) (n k : ℕ) → k ≡ cond b (n - 1) n → k ≤ n
 no_more true n k is = omega arith
 no_more false n k is = omega arith
 
+-- a put makes at most one entry more
 len_put : (m : Entries) (k : Slot) (v : Item) → map.len (map.insert m k v) ≤ map.len m + 1
 len_put m k v = at_most _ _ _ (map.len-insert slot_cmp_total m k v)
 
@@ -49,6 +50,7 @@ len_if_locked s false x n c = omega arith
 same_len : (m n : Entries) → n ≡ m → map.len n ≤ map.len m + 2
 same_len m n is = rw is (omega arith)
 
+-- a step makes at most two entries more: data and lock of a prewrite
 case_entries : (s : StateOf) (seat : ℕ) (step : Step) (a : Answer) (t : StateOf) → StepCase s seat step a t → map.len t.entries ≤ map.len s.entries + 2
 case_entries s seat (steps.Begin work) (answers.At n) t c = same_len _ _ (ap (λ (x : StateOf). x.entries) c.new_is)
 case_entries s seat (steps.Read n x) (answers.Locked u p) t c = same_len _ _ (ap (λ (x : StateOf). x.entries) c.new_is)
@@ -78,6 +80,7 @@ case_entries s seat (steps.Sweep x) answers.StillBehind t c = same_len _ _ (ap (
 case_entries s seat (steps.Sweep x) answers.Done t c = same_len _ _ (ap (λ (x : StateOf). x.entries) c.new_is)
 case_entries s seat _ _ t c = absurd c
 
+-- so many steps make at most twice as many
 run_entries : (s : StateOf) (es : List Entry) (t : StateOf) → JournalLeads s es t → map.len t.entries ≤ map.len s.entries + 2 * length es
 run_entries s [] t r = subst (λ (x : StateOf). map.len x.entries ≤ map.len s.entries + 0) (sym r) (omega arith)
 run_entries s (e ∷ es) t r =
@@ -85,6 +88,7 @@ run_entries s (e ∷ es) t r =
     let more = run_entries r.0 es t r.2 in
     omega arith
 
+-- and at most as many marks
 run_marks : (s : StateOf) (es : List Entry) (t : StateOf) → JournalLeads s es t → map.len t.marks ≤ map.len s.marks + length es
 run_marks s [] t r = subst (λ (x : StateOf). map.len x.marks ≤ map.len s.marks + 0) (sym r) (omega arith)
 run_marks s (e ∷ es) t r =
@@ -99,6 +103,7 @@ few_entries j bs s o l k =
     let none : map.len (opening s.observers s.seats o).entries ≡ 0 = map.len-empty slot_cmp _ in
     omega (arith, grown, none, k.room, k.bounded)
 
+-- so few that they can be counted, since a journal has a limit
 pub few_marks : (j : List Entry) (bs : List (List ℕ)) (s : StateOf) (o l : ℕ) → SharedKeeps j bs s o l → map.len s.marks < 2 ^ 64
 few_marks j bs s o l k =
     let grown = run_marks (opening s.observers s.seats o) j s k.legal.run in

@@ -20,9 +20,11 @@ pub run_more : (s : StateOf) (es : List Entry) (t : StateOf) (e : Entry) (u : St
 run_more s [] t e u r m = (u, subst (λ x. TableStep x e.seat e.step e.answer u) r m, refl)
 run_more s (d ∷ es) t e u r m = (r.0, r.1, run_more r.0 es t e u r.2 m)
 
+-- no step changes the number of seats
 pub machine_seats : (s : StateOf) (seat : ℕ) (step : Step) (a : Answer) (t : StateOf) → TableStep s seat step a t → t.seats ≡ s.seats
 machine_seats s seat step a t m = (case_kept s seat step a t m.taken).seats
 
+-- and none the observers
 pub machine_observers : (s : StateOf) (seat : ℕ) (step : Step) (a : Answer) (t : StateOf) → TableStep s seat step a t → t.observers ≡ s.observers
 machine_observers s seat step a t m = (case_kept s seat step a t m.taken).observers
 
@@ -51,6 +53,7 @@ places_same at seat (d ∷ es) e is =
     let n : (at + 1) + length es ≡ at + suc (length es) = omega arith in
     places_head at seat d _ _ _ (h ∙ ap (λ k. places_from (at + 1) seat es ++ k ∷ []) n)
 
+-- an entry of another seat leaves a book as it is
 pub places_other : (at seat : ℕ) (es : List Entry) (e : Entry) → e.seat ≢ seat → places_from at seat (es ++ e ∷ []) ≡ places_from at seat es
 places_other at seat [] e is = rw (ne_eqb e.seat seat is) refl
 places_other at seat (d ∷ es) e is =

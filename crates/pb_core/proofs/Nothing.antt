@@ -8,6 +8,7 @@ both : (a b : Bool) → (a && b) ≡ true → (a ≡ true) × (b ≡ true)
 both true b e = (cc, e)
 both false b e = cc
 
+-- what passes the test for nothing has no entry and no mark
 pub nothing_if : (c : Contents) → is_nothing c ≡ true → c ≡ nothing
 nothing_if c e =
     let p = both (map.len c.entries == 0) (map.len c.marks == 0) e in

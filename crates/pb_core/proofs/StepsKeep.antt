@@ -14,6 +14,7 @@ use Rattle.pb_steps.specs.Marks.{is_observed, with_mark}
 use Rattle.pb_steps.specs.CommitSecondary.{if_locked}
 use Rattle.pb_steps.specs.Steps.{StepCase}
 
+-- what stays whatever the step is, and how far the marks may grow
 pub record KeepsRest (s t : StateOf) : Type 0 where
   pub observers : t.observers ≡ s.observers
   pub seats : t.seats ≡ s.seats
@@ -32,6 +33,7 @@ put_mark : (b : Bool) (n k : ℕ) → k ≡ cond b n (n + 1) → k ≤ n + 1
 put_mark true n k is = omega (arith, is)
 put_mark false n k is = omega (arith, is)
 
+-- a write record marks one cell at most
 marked : (observers : List ObserverOf) (m : Marks) (x : Cell) → map.len (with_mark observers m x) ≤ map.len m + 1
 marked observers m x = by (is_observed observers x)
   where
@@ -50,6 +52,7 @@ kept_if_locked : (s : StateOf) (b : Bool) (x : Cell) (n c : ℕ) → KeepsRest s
 kept_if_locked s true x n c = record { observers = refl; seats = refl; marks = marked s.observers s.marks x }
 kept_if_locked s false x n c = record { observers = refl; seats = refl; marks = same_rest s }
 
+-- each kind of step keeps it
 pub case_kept : (s : StateOf) (seat : ℕ) (step : Step) (a : Answer) (t : StateOf) → StepCase s seat step a t → KeepsRest s t
 case_kept s seat (steps.Begin work) (answers.At n) t c = kept_as s t _ c.new_is (record { observers = refl; seats = refl; marks = same_rest s })
 case_kept s seat (steps.Read n x) (answers.Locked u p) t c = kept_as s t _ c.new_is (record { observers = refl; seats = refl; marks = same_rest s })

@@ -1,4 +1,5 @@
--- What a call does.
+-- What a call does, and what table and seats are to those who call. `Shared::open` and `Shared::call` promise it, and
+-- whoever shares a table promises what its calls were.
 use Rattle.std.specs.Prelude.{◌≡◌, ℕ, ◌+◌, ◌<◌, Bool, ◌==◌, nat_lt, if◌then◌else◌, List, [], ◌∷◌, ◌++◌, length, Option, Some, None, slice_index_or}
 use Rattle.pb_base.specs.declared.refusal.Reason.{Reason}
 use Rattle.pb_base.specs.declared.refusal.Reason.TheVariants.{JournalFull}
@@ -58,6 +59,7 @@ abbrev pub AreSeatsFrom : ℕ → List Entry → List SeatOf → Type 0
 AreSeatsFrom from journal [] = Unit {0}
 AreSeatsFrom from journal (seat ∷ seats) = (seat.number ≡ from) × (seat.received ≡ entries_of from journal) × AreSeatsFrom (from + 1) journal seats
 
+-- every seat of the table has exactly the journal's entries of its number
 pub record AreSeats (shared : SharedOf) (seats : List SeatOf) : Type 0 where
   pub counted : length seats ≡ shared.state.seats
   pub each : AreSeatsFrom 0 shared.journal seats

@@ -1,4 +1,4 @@
--- How a model keeps the table.
+-- The shared table as a tree of numbers, as what is kept in a model has to have one.
 use Rattle.std.specs.Prelude.{ℕ, List, refl}
 use Rattle.std.specs.Coded.{Coded, code_by, coded×, coded_ℕ, coded_list}
 use Rattle.pb_steps.specs.State.{StateOf, state_code}
@@ -6,6 +6,7 @@ use Rattle.pb_history.specs.declared.entry.Entry.{Entry}
 use Rattle.pb_history.specs.contracts.entry.Entry as entry
 use Rattle.pb_core.specs.Calls.{SharedOf}
 
+-- journal, state, clock as opened, and limit
 abbrev pub shared_code : Coded SharedOf
 shared_code =
     code_by (List Entry × (StateOf × (ℕ × ℕ))) (coded× (coded_list entry.the_row.coded) (coded× state_code (coded× coded_ℕ coded_ℕ)))

@@ -1,4 +1,5 @@
--- What holds of a table's journal and state (OSDI 2010, sections 2.2 to 2.4).
+-- What holds of a table's journal and state (OSDI 2010, sections 2.2 to 2.4): the laws of legal journals in three
+-- groups, as `Shared::journal` promises them.
 use Rattle.pb_history.specs.Journals.{IsLegal}
 use Rattle.pb_history.specs.Timestamps.{TellsTimestamps}
 use Rattle.pb_history.specs.CommitOrder.{TellsCommitOrder}

@@ -1,4 +1,4 @@
--- What the shared table keeps.
+-- What the shared table keeps between calls: the invariant of `Shared`. By its limit, entries and marks can be counted.
 use Rattle.std.specs.Prelude.{◌≡◌, ℕ, ◌<◌, ◌≤◌, List, [], length, slice_index_or}
 use Rattle.pb_base.specs.declared.limits.TheConstants.{MAX_ENTRIES}
 use Rattle.pb_steps.specs.State.{StateOf}

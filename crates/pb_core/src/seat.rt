@@ -4,7 +4,7 @@ ghost use Rattle.std.specs.Prelude.{◌≡◌};
 use pb_history::Received;
 use std::marker::Model;
 
-/// The places of one seat's entries in the journal.
+/// The places of one seat's entries in the journal, in 4 bytes each, since a journal has at most 1,000,000 entries.
 #[derive(Drop)]
 pub(crate) struct Book {
     pub(crate) places: Vec<u32>,
@@ -18,7 +18,8 @@ impl Model for Book {
     ghost view = { λ b. b.places.items };
 }
 
-/// A seat at a shared table: its number, and the list of its steps and answers. Only the table adds to that list.
+/// A seat at a shared table: its number, and the list of its steps and answers. Only the table adds to that list, so
+/// that it is what the table answered, whoever has it.
 #[derive(Drop)]
 pub struct Seat {
     pub(crate) number: u32,

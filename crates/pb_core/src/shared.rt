@@ -26,7 +26,7 @@ pub struct Shared<T: Tablet> {
     books: Vec<Book>,
     opened: u64,
     limit: usize,
-    // Room for the next answer of the journal, and of a seat.
+    // Room for the next answer of the journal, and of a seat, made before the step, so that no answer is lost.
     journal_room: AnswerRoom,
     seat_room: AnswerRoom,
 }
@@ -54,6 +54,7 @@ pub struct OpenRefused<T: Tablet> {
     pub code: u8,
 }
 
+// Room for one item more. Inlined, as those below are, since each call of the table goes through all of them.
 #[inline(always)]
 fn make_room<X>(list: &mut Vec<X>) -> Result<(), NoMemory>
     ensures items { list.new.items ≡ list.old.items }
@@ -187,6 +188,7 @@ impl<T: Tablet> Shared<T> {
         ensures full { is_nothing table.contents ≡ false → IfErr result (λ e. e.code ≡ reason_code reasons.NotEmpty) }
         ensures memory { is_nothing table.contents ≡ true → IfErr result (λ e. e.code ≡ reason_code reasons.NoMemory) }
     {
+        // Before any growth, since 4 is told of every table that has something, also where there is no memory.
         if !table.is_empty() {
             return Err(OpenRefused {
                 table,
@@ -264,6 +266,7 @@ impl<T: Tablet> Shared<T> {
         ensures records { TellsRecords self.now.journal self.now.state }
         ensures once { HandlesOnce self.now }
     {
+        // For the proof: each law of legal journals is one clause.
         histories_are_told();
         reads_are_told();
         runs_are_counted();
@@ -355,6 +358,7 @@ impl<T: Tablet> Shared<T> {
     fn reason(&self, seat: u32, step: &Step) -> Option<Reason>
         ensures { result ≡ call_reason self.now seat step.now }
     {
+        // 44 lies between the state's own numbers, so that it is told before those above it.
         let by_state = self.state.reason(seat, step);
         let is_full = self.journal.len() == self.limit;
         match by_state {
@@ -399,7 +403,8 @@ impl<T: Tablet> Shared<T> {
         }
     }
 
-    // All growths come before the first change.
+    // All growths come before the first change, so that a refused one leaves table and seat as they were. The step is
+    // copied for each of both lists, since one copy behind a shared pointer would take more memory than two.
     fn keep(&mut self, seat: &mut Seat, step: &Step) -> Result<Answer, NoMemory>
         requires { call_reason self.old seat.old.number step.now ≡ None }
         ensures taken { IfOk result (λ a. Calls self.old seat.old step.now a self.new seat.new) }

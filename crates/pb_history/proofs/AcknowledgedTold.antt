@@ -29,6 +29,7 @@ module _ (journal : List Entry) (state : StateOf) (a : Agrees journal state) (i 
       omega arith
   earlier s o row column _ h = omega arith
 
+-- an acknowledgment in a snapshot is of a run committed up to there, whose start is lower still
 pub tells_acknowledged : (observers : List ObserverOf) (seats clock : ℕ) (journal : List Entry) (state : StateOf) → IsLegal observers seats clock journal state → TellsAcknowledged journal
 tells_acknowledged observers seats clock journal state l seat s o row column answer e =
     earlier journal state (legal_agrees observers seats clock journal state l) (legal_sound observers seats clock journal state l) s.0 o row column answer

@@ -34,6 +34,7 @@ pub record Acknowledges (observers : List ObserverOf) (work : Work) (s : ℕ) (o
   pub place : column ≡ observed_column observers o
   pub stamp : k ≡ Stamp (ts s)
 
+-- an acknowledgment that a run writes is its own, with its start as the stamp
 own_ack : (observers : List ObserverOf) (p : ℕ) (r : Row) (s o : ℕ) (row : Row) (column : ℕ) (k : Content) → Ack o row column ≡ acknowledgment observers p r → Stamp (ts s) ≡ k → Acknowledges observers (works.Run p r) s o row column k
 own_ack observers p r s o row column k e stamp =
     let po : o ≡ p = cc in
@@ -41,6 +42,7 @@ own_ack observers p r s o row column k e stamp =
     let pc : column ≡ observed_column observers p = cc in
     record { run = λ i. works.Run (sym po i) (sym pr i); place = pc ∙ ap (observed_column observers) (sym po); stamp = sym stamp }
 
+-- a run writes no acknowledgment but that, since its program's writes are data cells
 run_acks : (observers : List ObserverOf) (p : ℕ) (r : Row) (s : ℕ) (ws : Writes) (o : ℕ) (row : Row) (column : ℕ) (k : Content) → AreRunWrites ws
     → content_in ((acknowledgment observers p r, Stamp (ts s)) ∷ ws) (Ack o row column) ≡ Some k → Acknowledges observers (works.Run p r) s o row column k
 run_acks observers p r s ws o row column k few e =
@@ -49,6 +51,7 @@ run_acks observers p r s ws o row column k few e =
       | false ↦ λ t f. let none = no_ack ws o row column (run_plain ws few) in absurd cc
     ] refl e
 
+-- so whoever declares an acknowledgment is a run of its observer
 ack_declared : (observers : List ObserverOf) (work : Work) (s : ℕ) (reads : List RecordedRead) (what : Declared) → MayDeclare observers work s reads what → IsKnown what
     → (o : ℕ) (row : Row) (column : ℕ) (k : Content) → content_in (cells_of observers work s what) (Ack o row column) ≡ Some k → Acknowledges observers work s o row column k
 ack_declared observers works.Script s reads (declared.Script batch) may known o row column k e = let none = no_ack batch o row column (batch_plain batch known) in absurd cc

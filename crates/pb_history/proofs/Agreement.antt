@@ -22,6 +22,7 @@ use Rattle.pb_history.specs.History.{Has, IsEntry, IsForWork}
 use Rattle.pb_history.proofs.OnlyEntries.{OnlyEntries}
 use Rattle.pb_history.proofs.Updates.{same_number, not_true, has_front, has_more}
 
+-- a number as a timestamp
 abbrev pub ts : ℕ → Ts
 ts n = record { 0 = n }
 
@@ -34,6 +35,7 @@ abbrev pub step_by : ℕ → Cell → Option Ts → Step
 step_by s x None = Read (ts s) x
 step_by s x (Some t) = ReadAt (ts s) x t
 
+-- the transaction of a start, if there is one
 abbrev pub got : StateOf → ℕ → Option TransactionOf
 got state s = map.get state.transactions s
 
@@ -63,6 +65,7 @@ pub record Logged (observers : List ObserverOf) (journal : List Entry) (s : ℕ)
   pub stamped : (c : ℕ) → (t.phase ≡ phases.Stamped (ts c)) ⊎ (t.phase ≡ phases.Committed (ts c)) → IsEntry journal t.seat (Stamp (ts s)) (At (ts c))
   pub committed : (c : ℕ) → t.phase ≡ phases.Committed (ts c) → IsEntry journal t.seat (CommitPrimary (ts s)) Committed
 
+-- what each entry said still holds of its transaction, and what a transaction has done stands in the journal
 pub record Agrees (journal : List Entry) (state : StateOf) : Type 0 where
   pub early : (s : ℕ) (t : TransactionOf) → got state s ≡ Some t → s ≤ state.clock
   pub told : (e : Entry) → Has journal e → Told state e.seat e.step e.answer
@@ -77,12 +80,15 @@ pub record Later (t u : TransactionOf) : Type 0 where
   pub stamped : (c : ℕ) → PastStamp t.phase c → PastStamp u.phase c
   pub committed : (c : ℕ) → t.phase ≡ phases.Committed (ts c) → u.phase ≡ phases.Committed (ts c)
 
+-- a transaction that isn't touched goes on as it is
 later_same : (t : TransactionOf) → Later t t
 later_same t = record { seat = refl; work = refl; past = λ h. (h, refl); reads = λ r h. h; stamped = λ c h. h; committed = λ c h. h }
 
+-- no transaction is forgotten, and each goes on only as one may
 abbrev Grows : StateOf → StateOf → Type 0
 Grows old new = (s : ℕ) (t : TransactionOf) → got old s ≡ Some t → (u : TransactionOf) × (got new s ≡ Some u) × Later t u
 
+-- what an entry said holds on, since transactions only go on
 told_on : (old new : StateOf) → new.observers ≡ old.observers → Grows old new → (seat : ℕ) (step : Step) (answer : Answer) → Told old seat step answer → Told new seat step answer
 told_on old new obs g seat (Begin work) (At s) t = let u = g s.0 t.0 t.1 in (u.0, u.1, u.2.seat ∙ t.2, u.2.work ∙ t.3)
 told_on old new obs g seat (Read s x) (Found start commit content) t = let u = g s.0 t.0 t.1 in (u.0, u.1, u.2.reads _ t.2)
@@ -94,6 +100,7 @@ told_on old new obs g seat (Stamp s) (At c) t = let u = g s.0 t.0 t.1 in (u.0, u
 told_on old new obs g seat (CommitPrimary s) Committed t = let u = g s.0 t.0 t.1 in (u.0, u.1, t.2, u.2.committed t.2 t.3)
 told_on old new obs g seat _ _ t = tt
 
+-- one entry more leaves the others where they were
 logged_front : (observers : List ObserverOf) (journal : List Entry) (e : Entry) (s : ℕ) (t : TransactionOf) → Logged observers journal s t → Logged observers (journal ++ e ∷ []) s t
 logged_front observers journal e s t l = record {
   begun = has_front journal e _ l.begun;

@@ -30,6 +30,7 @@ Has state s = (t : TransactionOf) × (got state s ≡ Some t)
 abbrev pub Owns : StateOf → ℕ → ℕ → Type 0
 Owns state seat s = (t : TransactionOf) × (got state s ≡ Some t) × (t.seat ≡ seat)
 
+-- nothing is both there and not
 pub both : (o : Option TransactionOf) (t : TransactionOf) → o ≡ Some t → o ≡ None → ⊥
 both o t p q = cc
 
@@ -102,9 +103,11 @@ stays_by observers seat step answer o h b = subst (λ z. IsOf h.0.seat (transact
 
 -- ---- a run of steps
 
+-- a transaction that is there began up to the clock
 pub early : (state : StateOf) (s : ℕ) → IsSoundTable state → Has state s → s ≤ state.clock
 early state s i h = i.begun s h.0.phase (ap (option_map (λ (u : TransactionOf). u.phase)) h.1)
 
+-- no later entry begins a transaction that is there, since a fresh start is above the clock
 none_later : (old : StateOf) (es : List Entry) (new : StateOf) (s : ℕ) → IsSoundTable old → Has old s → JournalLeads old es new → list_any (λ d. is_begin d.step) (entries_naming s es) ≡ false
 none_later old [] new s i h r = refl
 none_later old (e ∷ es) new s i h r =
@@ -119,6 +122,7 @@ none_later old (e ∷ es) new s i h r =
       | false ↦ λ n. on (h.0, after ∙ ap told n ∙ h.1) r.2
     ] refl
 
+-- the first entry that names a start begins it, since no other step is allowed before
 begins_first : (old : StateOf) (es : List Entry) (new : StateOf) (s : ℕ) → IsSoundTable old → got old s ≡ None → JournalLeads old es new → BeginsOnce (entries_naming s es)
 begins_first old [] new s i h r = tt
 begins_first old (e ∷ es) new s i h r =

@@ -32,10 +32,12 @@ use Rattle.pb_history.proofs.MarksCover.{IsCovered, legal_covers}
 lower : (a b : ℕ) → (a < b) ⊎ (b ≤ a)
 lower a b = grind arith
 
+-- the first of some writes is what they write to its cell
 own_content : (x : Cell) (k : Content) (ws : Writes) → content_in ((x, k) ∷ ws) x ≡ Some k
 unfolding same_cell
 own_content x k ws = ap (λ b. cond b (Some k) (content_in ws x)) (same_cell_itself x)
 
+-- two stamps alike are of one timestamp
 same_stamps : (a b : ℕ) → Stamp (ts a) ≡ Stamp (ts b) → a ≡ b
 same_stamps a b e = let same : ts a ≡ ts b = cc in ap (λ (t : Ts). t.0) same
 

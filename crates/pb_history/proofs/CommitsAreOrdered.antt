@@ -20,6 +20,7 @@ use Rattle.pb_history.proofs.JournalParts.{split}
 use Rattle.pb_history.proofs.JournalsAreSound.{legal_sound}
 use Rattle.pb_history.proofs.TimestampsRise.{run_rises, behind}
 
+-- a start that is given out is above all that were given out before
 start_above : (low high seat : ℕ) (work : Work) (s : Ts) (es : List Entry) → IsEntry es seat (Begin work) (At s) → AreRising low high (timestamps es) → low < s.0
 start_above low high seat work s [] has r = absurd has
 start_above low high seat work s (e ∷ es) (inl q) r = (subst (λ (d : Entry). AreRising low high (with_timestamp d.step d.answer (timestamps es))) q r).0

@@ -20,6 +20,7 @@ use Rattle.pb_verify.specs.Observers.{ObserverOf, observed_column}
 use Rattle.pb_steps.specs.Declarations.{IsKnown}
 use Rattle.pb_steps.specs.State.{cells_of}
 
+-- a data cell is no acknowledgment
 no_data : (y : Cell) (o : ℕ) (row : Row) (column : ℕ) → is_data y ≡ true → Ack o row column ≡ y → ⊥
 no_data (Data r c) o row column h e = cc
 no_data (Ack p r c) o row column h e = cc
@@ -35,11 +36,13 @@ no_ack (w ∷ ws) o row column h =
       | false ↦ λ t. no_ack ws o row column q.1
     ] refl
 
+-- a batch writes data cells alone
 pub batch_plain : (ws : Writes) → is_batch ws ≡ true → list_all is_data_write ws ≡ true
 batch_plain ws h =
     let p = and_parts (nat_lt 0 (length ws) && nat_le (length ws) MAX_CELLS && list_all is_data_write ws) (are_distinct ws) h in
     (and_parts (nat_lt 0 (length ws) && nat_le (length ws) MAX_CELLS) (list_all is_data_write ws) p.0).1
 
+-- and so does a program, so that an acknowledgment comes in by its run only
 pub run_plain : (ws : Writes) → AreRunWrites ws → list_all is_data_write ws ≡ true
 run_plain ws (inl e) = ap (list_all is_data_write) e
 run_plain ws (inr h) = batch_plain ws h
@@ -51,6 +54,7 @@ run_distinct : (ws : Writes) → AreRunWrites ws → are_distinct ws ≡ true
 run_distinct ws (inl e) = ap are_distinct e
 run_distinct ws (inr h) = batch_distinct ws h
 
+-- what is declared names no cell twice: a run's acknowledgment isn't among its program's writes
 pub cells_distinct : (observers : List ObserverOf) (work : Work) (s : ℕ) (what : Declared) → IsKnown what → are_distinct (cells_of observers work s what) ≡ true
 cells_distinct observers work s (declared.Script batch) known = batch_distinct batch known
 cells_distinct observers works.Script s (declared.Run o f) known = run_distinct f.writes known.1

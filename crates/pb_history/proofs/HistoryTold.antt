@@ -17,9 +17,11 @@ use Rattle.pb_history.proofs.Agreement.{ts, got, Agrees, PastStamp}
 use Rattle.pb_history.proofs.StepsAgree.{legal_agrees}
 use Rattle.pb_history.proofs.DeclaredCells.{cells_distinct}
 
+-- under a start there is one transaction
 pub one : (o : Option TransactionOf) (t u : TransactionOf) → o ≡ Some t → o ≡ Some u → u ≡ t
 one o t u p q = cc
 
+-- a committed transaction has one commit
 pub same_stamp : (h : Phase) (c d : ℕ) → h ≡ phases.Committed (ts c) → PastStamp h d → c ≡ d
 same_stamp h c d e p = elim p [
   | inl q ↦ cc

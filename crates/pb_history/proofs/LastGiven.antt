@@ -13,6 +13,7 @@ given : (clock n last : ℕ) (ts : List ℕ) → n ≤ last → IsLastGiven n ts
 given clock n last [] low h = (inl (sym h), λ u has. elim has [ inl q ↦ subst (λ k. k ≤ last) q low | inr q ↦ absurd q ])
 given clock n last (t ∷ ts) low h = (inr h.0, λ u has. elim has [ inl q ↦ subst (λ k. k ≤ last) q low | inr q ↦ h.1 u q ])
 
+-- after a run of steps the clock is the greatest that they gave out, since each is above the one before
 run_given : (old : StateOf) (es : List Entry) (new : StateOf) → JournalLeads old es new → IsLastGiven old.clock (timestamps es) new.clock
 run_given old [] new r = ap (λ (z : StateOf). z.clock) r
 run_given old (e ∷ es) new r =

@@ -14,6 +14,7 @@ use Rattle.pb_history.specs.Sound.{HasStamp, LacksPrimary, ReadTells, IsSoundVie
 use Rattle.pb_history.proofs.Updates.{set1, set2, Apart, same_cell, same_cell_is, same_cell_itself, changed, set1_there, set1_here, set2_here, set2_there, set2_none, placed, cleared, decide, same_number}
 use Rattle.pb_history.proofs.PhasesKeepSound.{stamped_at, committed_at, same_commit}
 
+-- data and lock on one cell more
 abbrev pub with_prewrite : TableView → ℕ → Cell → Cell → Content → TableView
 with_prewrite v s x p k = record v { prewritten = set1 v.prewritten s (λ y. v.prewritten s y || same_cell x y); lock = set2 v.lock x s (Some p); stored = set2 v.stored x s (Some k) }
 
@@ -128,6 +129,7 @@ module _ (v : TableView) (i : IsSoundView v) (s : ℕ) (x p : Cell) (k : Content
     ];
   }
 
+-- lock and data of a start gone from a cell
 abbrev pub without_lock : TableView → ℕ → Cell → TableView
 without_lock v s x = record v { lock = set2 v.lock x s None; stored = set2 v.stored x s None }
 

@@ -49,6 +49,7 @@ Covers observers marked write =
     (o : ℕ) (observer : ObserverOf) → slice_get observers o ≡ Some observer → (row : Row) → marked (Data row observer.column) ≡ false
     → (c u : ℕ) → write (Data row observer.column) c ≡ Some u → (d : ℕ) × (s : ℕ) × (write (Ack o row observer.column) d ≡ Some s) × (c ≤ s)
 
+-- where an observed cell isn't marked, each of its write records has a later run's acknowledgment
 pub record IsCovered (state : StateOf) : Type 0 where
   pub covers : Covers state.observers (is_marked state.marks) (write_at state.entries)
 
@@ -58,6 +59,7 @@ or_true : (a b : Bool) → b ≡ true → (a || b) ≡ true
 or_true true b h = refl
 or_true false b h = h
 
+-- a column that one of the observers has is observed
 observed_one : (observers : List ObserverOf) (o : ℕ) (observer : ObserverOf) → slice_get observers o ≡ Some observer → list_any (λ z. z.column == observer.column) observers ≡ true
 observed_one [] o observer e = cc
 observed_one (z ∷ zs) zero observer e =

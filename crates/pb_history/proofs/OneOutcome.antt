@@ -50,6 +50,7 @@ value_of_some x y e = ap (λ o. unwrap_or o x) e
 one_value : {A : Type 0} (o : Option A) (x y : A) → o ≡ Some x → o ≡ Some y → x ≡ y
 one_value o x y p q = value_of_some x y (sym p ∙ q)
 
+-- a start names one transaction
 one_transaction : (state : StateOf) (seat s : ℕ) (t u : TransactionOf) → IsOwn state seat s t → IsOwn state seat s u → t ≡ u
 one_transaction state seat s t u p q = one_value (map.get state.transactions s) t u p.there q.there
 
@@ -63,6 +64,7 @@ some_none o x p q = cc
 some_none_test : {A : Type 0} (o : Option A) → is_some o ≡ true → o ≡ None → ⊥
 some_none_test o p q = let no = ap is_some q in cc
 
+-- a snapshot has one newest version of a cell
 one_version : (e : Entries) (x : Cell) (s : ℕ) (v w : Revision) → IsVersion e x s v → IsVersion e x s w → v ≡ w
 one_version e x s v w p q =
     let commit : v.commit.0 ≡ w.commit.0 = ordered v.commit.0 w.commit.0 (λ lt. some_none _ _ q.written (p.newest w.commit.0 lt q.low)) (λ lt. some_none _ _ p.written (q.newest v.commit.0 lt p.low)) in
@@ -70,20 +72,24 @@ one_version e x s v w p q =
     let content : v.content ≡ w.content = one_value (data_at e x v.start.0) v.content w.content p.content (ap (data_at e x) start ∙ q.content) in
     λ i. record { start = record { 0 = start i }; commit = record { 0 = commit i }; content = content i }
 
+-- or none, and not both
 version_or_none : (e : Entries) (x : Cell) (s : ℕ) (v : Revision) → IsVersion e x s v → NoVersion e x s → ⊥
 version_or_none e x s v p none = some_none _ _ p.written (none v.commit.0 p.low)
 
+-- a cell has one newest version, if it has any
 one_newest : (e : Entries) (x : Cell) (v w : Option Revision) → IsNewestVersion e x v → IsNewestVersion e x w → v ≡ w
 one_newest e x None None p q = refl
 one_newest e x None (Some w) p q = absurd (version_or_none e x last_timestamp w q p)
 one_newest e x (Some v) None p q = absurd (version_or_none e x last_timestamp v p q)
 one_newest e x (Some v) (Some w) p q = ap Some (one_version e x last_timestamp v w p q)
 
+-- the newest lock on a cell is one
 one_lock_on : (e : Entries) (x : Cell) (s u : ℕ) (p q : Cell) → IsLockOn e x s p → IsLockOn e x u q → (s ≡ u) × (p ≡ q)
 one_lock_on e x s u p q a b =
     let start : s ≡ u = ordered s u (λ lt. some_none _ _ b.locked (a.newest u lt b.fits)) (λ lt. some_none _ _ a.locked (b.newest s lt a.fits)) in
     (start, one_value (lock_at e x s) p q a.locked (ap (lock_at e x) start ∙ b.locked))
 
+-- a lock stands, or none does
 lock_or_none : (e : Entries) (x : Cell) (s : ℕ) (p : Cell) → IsLockOn e x s p → NoLock e x → ⊥
 lock_or_none e x s p a none = some_none _ _ a.locked (none s a.fits)
 
@@ -96,12 +102,14 @@ other_or_own e x s u p a other b =
     itself : (y : Cell) → eq_by_cmp cell_cmp y y ≡ true
     itself y = same_cell_itself y
 
+-- the first mark after a cell is one
 one_mark : (marks : Marks) (after : Option Cell) (x y : Cell) → IsNextMark marks after (Some x) → IsNextMark marks after (Some y) → x ≡ y
 one_mark marks after x y p q = elim (first_of_two x y) [
   | inl low ↦ elim low [ inl is ↦ sym is | inr lt ↦ absurd (let unmarked = p.2 y q.1 lt in let marked = q.0 in cc) ]
   | inr lt ↦ absurd (let unmarked = q.2 x p.1 lt in let marked = p.0 in cc)
 ]
 
+-- an observer is behind, or all are up to date
 behind_or_not : (observers : List ObserverOf) (e : Entries) (x : Cell) → SomeBehind observers e x → AllUpToDate observers e x → ⊥
 behind_or_not observers e (Data row column) b all =
     let o = b.1.acknowledges in

@@ -23,6 +23,7 @@ and_first : (seat : ℕ) (e : Entry) (es : List Entry) → e.seat ≡ seat → A
 and_first seat e es is are d (inl q) = ap (λ (z : Entry). z.seat) (sym q) ∙ is
 and_first seat e es is are d (inr on) = are d on
 
+-- a transaction keeps its seat
 same_seat : (o : Option TransactionOf) (t u : TransactionOf) → o ≡ Some t → o ≡ Some u → u.seat ≡ t.seat
 same_seat o t u p q = cc
 

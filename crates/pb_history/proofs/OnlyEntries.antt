@@ -19,6 +19,7 @@ only_entries old new to is o = record {
   observers = ap (λ (z : StateOf). z.observers) is ∙ o.observers;
 }
 
+-- also where there is no lock left to replace
 if_locked_keeps : (old : StateOf) (locked : Bool) (x : Cell) (s c : ℕ) → OnlyEntries old (if_locked old locked x s c)
 if_locked_keeps old true x s c = record { transactions = refl; clock = refl; observers = refl }
 if_locked_keeps old false x s c = record { transactions = refl; clock = refl; observers = refl }

@@ -13,6 +13,7 @@ use Rattle.pb_steps.specs.Readings.{data_of, primary_of, start_of}
 use Rattle.pb_history.specs.TableView.{TableView, declared_by, prewritten_by, reads_by, view_of}
 use Rattle.pb_history.specs.Sound.{HasStamp, IsSoundView, IsSoundTable}
 
+-- a table without entries and transactions
 empty_view : ℕ → TableView
 empty_view clock = record { clock = clock; phase = λ s. None; content = λ s x. None; primary = λ s. None; prewritten = λ s x. false; reads = λ s. []; lock = λ x s. None; stored = λ x s. None; write = λ x c. None }
 
@@ -30,6 +31,7 @@ view_at_opening observers seats clock i = record {
   write = λ x c. start_of (map.get-empty slot_cmp (slot_at x sorts.Write c) i);
 }
 
+-- nothing has a commit timestamp there
 no_stamp : (clock s c : ℕ) → HasStamp (empty_view clock) s c → ⊥
 unfolding empty_view
 no_stamp clock s c (inl e) = cc

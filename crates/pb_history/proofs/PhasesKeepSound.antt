@@ -26,15 +26,18 @@ one_commit c d e = cc
 one_stamp : (c d : Ts) → Some (Stamped c) ≡ Some (Stamped d) → c ≡ d
 one_stamp c d e = cc
 
+-- a phase has one commit
 pub same_commit : (c d : ℕ) → Some (committed_at c) ≡ Some (committed_at d) → c ≡ d
 same_commit c d e = ap (λ (t : Ts). t.0) (one_commit (record { 0 = c }) (record { 0 = d }) e)
 
 pub same_stamp : (c d : ℕ) → Some (stamped_at c) ≡ Some (stamped_at d) → c ≡ d
 same_stamp c d e = ap (λ (t : Ts). t.0) (one_stamp (record { 0 = c }) (record { 0 = d }) e)
 
+-- a phase without a commit timestamp: Reading, Declared or Failed
 abbrev pub IsPlain : Phase → Type 0
 IsPlain h = (c : ℕ) → (h ≢ stamped_at c) × (h ≢ committed_at c)
 
+-- one transaction in another phase, and the clock perhaps later
 abbrev pub with_phase : TableView → ℕ → Phase → ℕ → TableView
 with_phase v s h k = record v { clock = k; phase = set1 v.phase s (Some h) }
 
@@ -85,6 +88,7 @@ module _ (v : TableView) (i : IsSoundView v) (s : ℕ) (h : Phase) (plain : IsPl
     settled = λ u r w c k' e f l g. elim (i.settled u r w c k' e (stamp_back w c f) l g) [ inl a ↦ inl a | inr b ↦ inr (λ z. b.0 (complete_back w c z), b.1) ];
   }
 
+-- one recorded read more
 abbrev pub has_read : TableView → ℕ → RecordedRead → TableView
 has_read v s r = record v { reads = set1 v.reads s (v.reads s ++ r ∷ []) }
 
@@ -142,6 +146,7 @@ module _ (v : TableView) (i : IsSoundView v) (s : ℕ) (x : Cell) (at : Option T
     ];
   }
 
+-- what a transaction writes, and its primary
 abbrev pub with_declared : TableView → ℕ → (Cell → Option Content) → Option Cell → TableView
 with_declared v s f p = record v { content = set1 v.content s f; primary = set1 v.primary s p }
 
@@ -189,6 +194,7 @@ module _ (v : TableView) (i : IsSoundView v) (s : ℕ) (f : Cell → Option Cont
     ];
   }
 
+-- a fresh commit timestamp, which is the clock from then on
 abbrev pub with_stamp : TableView → ℕ → ℕ → TableView
 with_stamp v s c = record v { clock = c; phase = set1 v.phase s (Some (stamped_at c)) }
 

@@ -35,9 +35,11 @@ use Rattle.pb_history.proofs.Updates.{none_if, some_if}
 
 -- ---- each item stands under its sort
 
+-- no slot holds an item of another sort, so that what is counted as a lock is one
 abbrev AreOfSort : Entries → Type 0
 AreOfSort e = (k : Slot) (item : Item) → map.get e k ≡ Some item → IsOfSort k.sort item
 
+-- what a change of entries has to keep of that
 abbrev Keeps : Entries → Entries → Type 0
 Keeps e d = AreOfSort e → AreOfSort d
 
@@ -107,6 +109,7 @@ module _ (old : StateOf) (seat : ℕ) (new : StateOf) (h : AreOfSort old.entries
   case_sorts (Sweep x) Done m = stays (ap (λ (z : StateOf). z.entries) m.new_is)
   case_sorts _ _ m = absurd m
 
+-- a run of steps keeps it, since each puts items under their sorts
 run_sorts : (old : StateOf) (es : List Entry) (new : StateOf) → AreOfSort old.entries → JournalLeads old es new → AreOfSort new.entries
 run_sorts old [] new h r = subst (λ (z : StateOf). AreOfSort z.entries) (sym r) h
 run_sorts old (e ∷ es) new h r = run_sorts r.0 es new (case_sorts old e.seat r.0 h e.step e.answer r.1.taken) r.2
@@ -119,6 +122,7 @@ nothing_stands k item there = let none = map.get-empty {X = Item} slot_cmp k in 
 counted_one_more : (p : Slot × Item) (es : List (Slot × Item)) → count_by (λ q. is_lock q.0.sort) (p ∷ es) ≡ cond (is_lock p.0.sort) 1 0 + count_by (λ q. is_lock q.0.sort) es
 counted_one_more p es = sum_by-cons (λ q. cond (is_lock q.0.sort) 1 0) p es
 
+-- a lock that stands is counted
 counted_none : (es : List (Slot × Item)) (k : Slot) (item : Item) → is_lock k.sort ≡ true → map.find slot_cmp k es ≡ Some item → count_by (λ p. is_lock p.0.sort) es ≡ 0 → ⊥
 counted_none [] k item lock found none = cc
 counted_none (p ∷ es) k item lock found none = by (counted_none es k item lock) (eq_by_cmp slot_cmp k p.0) refl found
@@ -131,10 +135,12 @@ counted_none (p ∷ es) k item lock found none = by (counted_none es k item lock
         omega (arith, one)
     by rest false same is = let more = counted_one_more p es in rest is (omega (arith, more, none))
 
+-- where no entry is a lock, none is counted
 none_counted : (es : List (Slot × Item)) → ((p : Slot × Item) → Has es p → is_lock p.0.sort ≡ false) → count_by (λ p. is_lock p.0.sort) es ≡ 0
 none_counted [] h = refl
 none_counted (p ∷ es) h = counted_one_more p es ∙ ap (λ b. cond b 1 0 + count_by (λ q. is_lock q.0.sort) es) (h p (inl refl)) ∙ (let rest = none_counted es (λ q has. h q (inr has)) in let none : 0 + count_by (λ q. is_lock q.0.sort) es ≡ 0 = omega (arith, rest) in none)
 
+-- an entry of a list is found there by its slot
 found_again : (es : List (Slot × Item)) (p : Slot × Item) → Has es p → (item : Item) × (map.find slot_cmp p.0 es ≡ Some item)
 found_again [] p has = absurd has
 found_again (q ∷ es) p has = by (found_again es p) (eq_by_cmp slot_cmp p.0 q.0) refl has
@@ -151,6 +157,7 @@ lock_item : (o : Option Item) (p : Cell) → primary_of o ≡ Some p → o ≡ S
 lock_item (Some (items.Lock q)) p e = ap (λ (c : Option Cell). elim c as (λ _. Option Item) [ None ↦ None | Some z ↦ Some (items.Lock z) ]) e
 lock_item _ p e = absurd cc
 
+-- a map without a marked cell has no length
 no_marks : (marks : Marks) → ((x : Cell) → is_marked marks x ≡ false) → map.len marks ≡ 0
 no_marks marks h = by (map.entries marks) refl
   where

@@ -12,6 +12,7 @@ by_transaction : (low : ℕ) → low < 41 → (why : TransactionOf → Reasons) 
 by_transaction low small why rise None = (small, tt)
 by_transaction low small why rise (Some t) = rise t
 
+-- whose transaction it is, 41, comes before what is asked of it
 own_rise : (state : StateOf) (seat start low : ℕ) → low < 41 → (why : TransactionOf → Reasons) → ((t : TransactionOf) → RiseAbove low (why t)) → RiseAbove low (own_reasons state seat start why)
 own_rise state seat start low small why rise = by_transaction low small why rise (own_transaction state seat start)
 

@@ -27,6 +27,7 @@ both : (a b : Bool) → (a && b) ≡ true → (a ≡ true) × (b ≡ true)
 both true b e = (refl, e)
 both false b e = cc
 
+-- a phase that tests as committed has its commit
 committed_at : (h : Option Phase) → phase_is_committed h ≡ true → (c : Ts) × (h ≡ Some (phases.Committed c))
 committed_at None e = cc
 committed_at (Some phases.Reading) e = cc
@@ -47,6 +48,7 @@ same_time c d h p q = let k : ts c ≡ ts d = cc in ap (λ (t : Ts). t.0) k
 same_answer : (c d : ℕ) (a : Answer) → a ≡ At (ts c) → a ≡ At (ts d) → c ≡ d
 same_answer c d a p q = let k : ts c ≡ ts d = cc in ap (λ (t : Ts). t.0) k
 
+-- starts that rise from one number rise from a lower one
 lower_starts : (low to : ℕ) (ms : List Member) → low ≤ to → RiseByStart to ms → RiseByStart low ms
 lower_starts low to [] le r = tt
 lower_starts low to (m ∷ ms) le r = let lt = r.0 in (omega (arith, le, lt), r.1)

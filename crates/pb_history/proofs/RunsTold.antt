@@ -43,6 +43,7 @@ use Rattle.pb_history.proofs.Acknowledgments.{acknowledged_by}
 
 -- ---- reads
 
+-- what a read is answered stands in the table when it is made
 case_tells : (old : StateOf) (seat : ℕ) (step : Step) (answer : Answer) (new : StateOf) → StepCase old seat step answer new → TellsVersion old step answer
 case_tells old seat (Read s x) (Found start commit content) new c = c.version
 case_tells old seat (Read s x) Absent new c = c.none

@@ -139,6 +139,7 @@ read_in_time old seat s x t (Found start commit content) new c = c.in_time
 read_in_time old seat s x t Absent new c = c.in_time
 read_in_time old seat s x t _ new c = absurd c
 
+-- a read at a timestamp names none above its transaction's start, else it is refused
 reads_in_time : (old : StateOf) (journal : List Entry) (new : StateOf) → JournalLeads old journal new → (seat : ℕ) (s : Ts) (x : Cell) (t : Ts) (answer : Answer) → IsEntry journal seat (ReadAt s x t) answer → t.0 ≤ s.0
 reads_in_time old [] new r seat s x t answer e = absurd e
 reads_in_time old (d ∷ ds) new r seat s x t answer (inl is) =

@@ -40,6 +40,7 @@ use Rattle.pb_history.proofs.Agreement.{ts, read_of, step_by, got, PastStamp, To
 abbrev entry : ℕ → Step → Answer → Entry
 entry seat step answer = record { seat = seat; step = step; answer = answer }
 
+-- what a transaction may declare is for its work
 for_work : (observers : List ObserverOf) (work : Work) (s : ℕ) (reads : List RecordedRead) (what : Declared) → MayDeclare observers work s reads what → IsForWork observers work what
 for_work observers works.Script s reads (declared.Script batch) may = tt
 for_work observers (works.Run p row) s reads (declared.Run o f) may = (may.0, _, may.1.seen.version, may.1.seen.acknowledged.0, may.1.seen.old, may.1.bytes)
@@ -298,6 +299,7 @@ run_agrees before old (e ∷ es) new a r =
     subst (λ b. Agrees b new) (append_one before e es)
     (run_agrees (before ++ e ∷ []) r.0 es new (case_agrees before e.seat old r.0 a e.step e.answer m.taken) r.2)
 
+-- an empty journal agrees with a table as opened
 nothing_agrees : (observers : List ObserverOf) (seats clock : ℕ) → Agrees [] (opening observers seats clock)
 nothing_agrees observers seats clock = record {
   early = λ s t h. let none = map.get-empty {X = TransactionOf} nat_cmp s in cc;
@@ -305,5 +307,6 @@ nothing_agrees observers seats clock = record {
   logged = λ s t h. let none = map.get-empty {X = TransactionOf} nat_cmp s in absurd cc;
 }
 
+-- a legal journal agrees with its state, since each step keeps that
 pub legal_agrees : (observers : List ObserverOf) (seats clock : ℕ) (journal : List Entry) (state : StateOf) → IsLegal observers seats clock journal state → Agrees journal state
 legal_agrees observers seats clock journal state l = run_agrees [] (opening observers seats clock) journal state (nothing_agrees observers seats clock) l.run

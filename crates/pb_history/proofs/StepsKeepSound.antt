@@ -97,6 +97,7 @@ one_more xs x y = list_any-append (λ z. eq_by_cmp cell_cmp z y) xs (x ∷ []) �
 one_more_here : (xs : List Cell) (x : Cell) → ◌≡◌ {A = Cell → Bool} (is_in (xs ++ x ∷ [])) (λ y. is_in xs y || same_cell x y)
 one_more_here xs x i y = one_more xs x y i
 
+-- cells that compare alike are one
 cell_is : (x y : Cell) → eq_by_cmp cell_cmp x y ≡ true → x ≡ y
 unfolding same_cell
 cell_is x y e = same_cell_is x y e
@@ -129,9 +130,11 @@ newest_at_most c d n = elim (compared c d) [ inl l ↦ l | inr g ↦ absurd (n g
     compared : (a b : ℕ) → (a ≤ b) ⊎ (b < a)
     compared a b = grind arith
 
+-- below the last timestamp there is one more
 not_last : (clock : ℕ) → (clock == 18446744073709551615) ≡ false → clock ≢ 18446744073709551615
 not_last clock left is = let z : (clock == 18446744073709551615) ≡ true = eq-eqb clock 18446744073709551615 is in cc
 
+-- a cell that isn't too early is the primary, or comes when that is prewritten
 primary_or_after : (x : Cell) (prewritten : List Cell) (p : Cell) (writes : Writes) → primary_in writes ≡ Some p → is_before_primary (primary_in writes) prewritten x ≡ false → (x ≡ p) ⊎ (is_in prewritten p ≡ true)
 primary_or_after x prewritten p writes is order =
     elim (neither (eq_by_cmp cell_cmp x p) (is_in prewritten p) (sym (ap (λ o. is_before_primary o prewritten x) is) ∙ order)) [ inl a ↦ inl (cell_is x p a) | inr b ↦ inr b ]

@@ -49,6 +49,7 @@ module _ (old : StateOf) (seat : ℕ) (new : StateOf) (P : ℕ → List ℕ → 
   case_timestamps (Sweep x) Done m = same (ap (λ (z : StateOf). z.clock) m.new_is)
   case_timestamps _ _ m = absurd m
 
+-- what a run of steps gives out rises from its first clock to its last
 pub run_rises : (old : StateOf) (es : List Entry) (new : StateOf) → JournalLeads old es new → AreRising old.clock new.clock (timestamps es)
 run_rises old [] new r = let clock : new.clock ≡ old.clock = ap (λ (z : StateOf). z.clock) r in omega (arith, clock)
 run_rises old (e ∷ es) new r =
@@ -73,6 +74,7 @@ behind low high (Begin work) (At s) ts r = let lt = r.0 in lower low s.0 high ts
 behind low high (Stamp s) (At c) ts r = let lt = r.0 in lower low c.0 high ts (omega (arith, lt)) r.1
 behind low high _ _ ts r = r
 
+-- a commit that was given out is at most the clock
 commit_at_most : (low high seat : ℕ) (s c : Ts) (es : List Entry) → Has es (record { seat = seat; step = Stamp s; answer = At c }) → AreRising low high (timestamps es) → c.0 ≤ high
 commit_at_most low high seat s c [] has r = absurd has
 commit_at_most low high seat s c (e ∷ es) (inl q) r = at_most c.0 high (timestamps es) (subst (λ (d : Entry). AreRising low high (with_timestamp d.step d.answer (timestamps es))) q r).1

@@ -18,6 +18,7 @@ from_first : (observers : List ObserverOf) (s : ℕ) (e : Entry) (es : List Entr
 from_first observers s e es t true = refl
 from_first observers s e es t false = refl
 
+-- a run of steps leaves of a transaction what the entries that name it make of it
 run_tells : (old : StateOf) (es : List Entry) (new : StateOf) (s : ℕ) → JournalLeads old es new → (new.observers ≡ old.observers) × (got new s ≡ transaction_from old.observers (got old s) (entries_naming s es))
 run_tells old [] new s r = (ap (λ (z : StateOf). z.observers) r, ap (λ z. got z s) r)
 run_tells old (e ∷ es) new s r =

@@ -8,6 +8,7 @@ use Rattle.pb_base.specs.declared.cell.Cell.{Cell}
 use Rattle.pb_base.specs.Cell.{cell_cmp, cell_cmp_total, cell_cmp-IsAntisymmetric}
 use Rattle.pb_history.specs.History.{Has}
 
+-- whether two cells are one, kept folded, since proofs need only what it tells
 unfoldable pub same_cell : Cell → Cell → Bool
 same_cell x y = eq_by_cmp cell_cmp x y
 
@@ -19,9 +20,11 @@ pub same_cell_itself : (x : Cell) → same_cell x x ≡ true
 unfolding same_cell
 same_cell_itself x = ap is_eq (tied_itself cell_cmp_total x)
 
+-- whether cell and timestamp are those of a change
 abbrev pub at_place : Cell → ℕ → Cell → ℕ → Bool
 at_place y u x s = same_cell y x && nat_eq u s
 
+-- they aren't both, so that the change leaves what stands there
 abbrev pub Apart : Cell → ℕ → Cell → ℕ → Type 0
 Apart y u x s = y ≡ x → u ≡ s → ⊥
 
@@ -35,6 +38,7 @@ at_place_is y u x s e = let p = and_true _ _ e in (same_cell_is y x p.0, eqb-tru
 pub at_place_itself : (x : Cell) (s : ℕ) → at_place x s x s ≡ true
 at_place_itself x s = ap (λ b. b && nat_eq s s) (same_cell_itself x) ∙ eq-eqb s s refl
 
+-- a place is that of the change, or apart from it
 pub decide : (y : Cell) (u : ℕ) (x : Cell) (s : ℕ) → ((y ≡ x) × (u ≡ s)) ⊎ Apart y u x s
 decide y u x s =
     elim (at_place y u x s) as (λ b. at_place y u x s ≡ b → ((y ≡ x) × (u ≡ s)) ⊎ Apart y u x s) [
@@ -132,6 +136,7 @@ pub has_last : {A : Type 0} (xs : List A) (y : A) → Has (xs ++ y ∷ []) y
 has_last [] y = inl refl
 has_last (x ∷ xs) y = inr (has_last xs y)
 
+-- an item of a list with one more is that one, or was there
 pub has_more : {A : Type 0} (xs : List A) (y z : A) → Has (xs ++ y ∷ []) z → (y ≡ z) ⊎ Has xs z
 has_more [] y z (inl e) = inl e
 has_more [] y z (inr h) = absurd h

@@ -42,12 +42,14 @@ module _ {A : Type 0} (f : Option TransactionOf → A) (m : Transactions) (s : �
 
 -- ---- the entries
 
+-- two slots of one sort are one where cell and timestamp are
 same_slot : (y : Cell) (u : ℕ) (x : Cell) (s : ℕ) (so : Sort) → eq_by_cmp slot_cmp (slot_at y so u) (slot_at x so s) ≡ at_place y u x s
 same_slot y u x s so = elim (decide y u x s) [
   | inl p ↦ ap (λ (z : Slot). eq_by_cmp slot_cmp z (slot_at x so s)) (λ i. slot_at (p.0 i) so (p.1 i)) ∙ ap is_eq (tied_itself slot_cmp_total (slot_at x so s)) ∙ sym ((λ i. at_place (p.0 i) (p.1 i) x s) ∙ at_place_itself x s)
   | inr n ↦ not_true _ (λ e. let same = slot_cmp-IsAntisymmetric (slot_at y so u) (slot_at x so s) ((Equal-is (slot_cmp (slot_at y so u) (slot_at x so s))).0 e) in n (ap (λ (z : Slot). z.cell) same) (ap (λ (z : Slot). z.ts.0) same)) ∙ sym (apart_test y u x s n)
 ]
 
+-- slots of different sorts are never one, so that a lock's change leaves data and write records
 other_slot : (y : Cell) (u : ℕ) (x : Cell) (s : ℕ) (so to : Sort) → so ≢ to → eq_by_cmp slot_cmp (slot_at y so u) (slot_at x to s) ≡ false
 other_slot y u x s so to n = not_true _ (λ e. n (ap (λ (z : Slot). z.sort) (slot_cmp-IsAntisymmetric (slot_at y so u) (slot_at x to s) ((Equal-is (slot_cmp (slot_at y so u) (slot_at x to s))).0 e))))
 

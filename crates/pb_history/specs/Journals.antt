@@ -1,4 +1,5 @@
--- Legal journals.
+-- Legal journals: those that a table could have written. The invariant of `Shared` says that its journal is one, and
+-- all laws below begin from that.
 use Rattle.std.specs.Prelude.{◌≡◌, ℕ, ◌<◌, ◌^◌, List, [], ◌∷◌}
 use Rattle.pb_verify.specs.Observers.{ObserverOf}
 use Rattle.pb_steps.specs.State.{StateOf, opening}

@@ -1,10 +1,11 @@
--- The answer that a kept one is.
+-- The answer that a kept one is: what contracts see of `KeptAnswer`, so that no law knows of boxes.
 use Rattle.pb_base.specs.declared.cell.Cell.TheVariants.{Data, Ack}
 use Rattle.pb_steps.specs.declared.step.Answer.{Answer}
 use Rattle.pb_steps.specs.declared.step.Answer.TheVariants as answers
 use Rattle.pb_history.specs.declared.kept_answer.Form.{Form}
 use Rattle.pb_history.specs.declared.kept_answer.Form.TheVariants as forms
 
+-- the answer that each form stands for
 abbrev pub answer_of : Form → Answer
 answer_of (forms.At at) = answers.At at
 answer_of (forms.Told told) = told.value

@@ -1,4 +1,4 @@
--- What comes of a step.
+-- What comes of a step: its answer and the state that it leaves, together.
 use Rattle.std.specs.Prelude.{◌≡◌}
 use Rattle.pb_steps.specs.declared.step.Answer.{Answer}
 use Rattle.pb_steps.specs.State.{StateOf}

@@ -1,4 +1,4 @@
--- A seat's places in a journal, and its entries.
+-- A seat's places in a journal, and its entries: what its book has, and what the seat itself received.
 use Rattle.std.specs.Prelude.{ℕ, ◌+◌, ◌==◌, if◌then◌else◌, List, [], ◌∷◌}
 use Rattle.pb_history.specs.declared.entry.Entry.{Entry}
 use Rattle.pb_history.specs.declared.entry.Received.{Received}

@@ -24,5 +24,6 @@ pub record TellsAt (observers : List ObserverOf) (seats clock : ℕ) (before : L
   pub run : JournalLeads (opening observers seats clock) before state
   pub tells : TellsVersion state e.step e.answer
 
+-- wherever it stands in the journal
 pub record TellsReads (observers : List ObserverOf) (seats clock : ℕ) (journal : List Entry) : Type 0 where
   pub at : (before : List Entry) (e : Entry) (after : List Entry) → journal ≡ before ++ e ∷ after → TellsAt observers seats clock before e

@@ -17,6 +17,7 @@ pub record WroteAt (observers : List ObserverOf) (journal : List Entry) (x : Cel
   pub content : Content
   pub writes : WritesTo m x content
 
+-- the table has the locks and write records of the history, and no write record besides
 pub record TellsRecords (journal : List Entry) (state : StateOf) : Type 0 where
   -- a committed transaction has its write record or its lock on each cell that it wrote
   pub stands : (m : Member) → InHistory state.observers journal m → (x : Cell) (k : Content) → WritesTo m x k → (write_at state.entries x m.commit ≡ Some m.start) ⊎ ((p : Cell) × (lock_at state.entries x m.start ≡ Some p))

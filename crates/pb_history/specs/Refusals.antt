@@ -1,4 +1,4 @@
--- The order in which reasons are listed.
+-- The order in which reasons are listed, so that the first that applies has the lowest number.
 use Rattle.std.specs.Prelude.{ℕ, ◌<◌, [], ◌∷◌}
 use Rattle.pb_base.specs.Reasons.{reason_code}
 use Rattle.pb_steps.specs.Reasons.{Reasons}

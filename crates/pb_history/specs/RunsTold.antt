@@ -33,6 +33,7 @@ IsValueAt observers journal s x value =
 abbrev pub IsReplyAt : List ObserverOf → List Entry → ℕ → Ask × Reply → Type 0
 IsReplyAt observers journal s a = IsValueAt observers journal s (asked_cell a.0) a.1
 
+-- and so is each reply of a talk
 abbrev pub AreRepliesAt : List ObserverOf → List Entry → ℕ → Talk → Type 0
 AreRepliesAt observers journal s [] = Unit {0}
 AreRepliesAt observers journal s (a ∷ talk) = IsReplyAt observers journal s a × AreRepliesAt observers journal s talk
@@ -59,5 +60,6 @@ pub record IsObserverRun (observers : List ObserverOf) (journal : List Entry) (m
   pub few : AreRunWrites writes
   pub writes_are : m.writes ≡ (acknowledgment observers o row, contents.Stamp (record { 0 = m.start })) ∷ writes
 
+-- each committed transaction of a run is one as above
 pub record TellsRuns (journal : List Entry) (state : StateOf) : Type 0 where
   pub run : (m : Member) (o : ℕ) (row : Row) → InHistory state.observers journal m → m.work ≡ works.Run o row → IsObserverRun state.observers journal m o row

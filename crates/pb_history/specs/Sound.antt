@@ -47,6 +47,7 @@ ReadTells v s x (Found start commit content) = (commit.0 ≤ s) × HasRecord v x
 ReadTells v s x Absent = (c u : ℕ) → c ≤ s → HasRecord v x c u → ⊥
 ReadTells v s x _ = ⊥
 
+-- said of functions, so that a step changes few of them, and each at one timestamp or cell
 pub record IsSoundView (v : TableView) : Type 0 where
   -- ---- timestamps
 
@@ -108,6 +109,7 @@ pub record IsSoundView (v : TableView) : Type 0 where
   -- committed and never will be, since the lock on its primary is gone
   pub settled : (s : ℕ) (r : RecordedRead) (u c : ℕ) (k : Content) → Has (v.reads s) r → HasStamp v u c → c ≤ read_up_to s r.at → v.content u r.cell ≡ Some k → HasRecord v r.cell c u ⊎ ((IsCommittedAt v u c → ⊥) × LacksPrimary v u)
 
+-- what `State` keeps by its type
 abbrev pub IsSoundTable : StateOf → Type 0
 IsSoundTable state = IsSoundView (view_of state)
 
@@ -116,7 +118,7 @@ pub record HasData (e : Entries) : Type 0 where
   pub locked : (x : Cell) (s : ℕ) (p : Cell) → lock_at e x s ≡ Some p → is_some (data_at e x s) ≡ true
   pub written : (x : Cell) (c s : ℕ) → write_at e x c ≡ Some s → is_some (data_at e x s) ≡ true
 
--- what a sound state is known to have: the data of what stands, starts up to its clock, and a clock of 64 bits
+-- what code needs to know of a sound state: the data of what stands, starts up to its clock, and a clock of 64 bits
 pub record KeepsData (state : StateOf) : Type 0 where
   pub whole : HasData state.entries
   pub begun : (s : ℕ) (t : TransactionOf) → map.get state.transactions s ≡ Some t → s ≤ state.clock

@@ -10,6 +10,7 @@ use Rattle.pb_steps.specs.declared.seen.RecordedRead.{RecordedRead}
 use Rattle.pb_steps.specs.State.{StateOf, TransactionOf, phase_in, is_in}
 use Rattle.pb_steps.specs.Readings.{data_at, lock_at, write_at}
 
+-- nothing of seats, work or marks, since soundness speaks of none of them
 pub record TableView : Type 0 where
   -- the last timestamp given out
   pub clock : ℕ
@@ -26,19 +27,22 @@ pub record TableView : Type 0 where
   pub stored : Cell → ℕ → Option Content
   pub write : Cell → ℕ → Option ℕ
 
--- what a transaction declared, prewrote and read, and nothing where there is none
+-- what a transaction declared to write, and nothing where there is none
 abbrev pub declared_by : Option TransactionOf → Writes
 declared_by None = []
 declared_by (Some t) = t.declared
 
+-- the cells that it has prewritten
 abbrev pub prewritten_by : Option TransactionOf → List Cell
 prewritten_by None = []
 prewritten_by (Some t) = t.prewritten
 
+-- its recorded reads
 abbrev pub reads_by : Option TransactionOf → List RecordedRead
 reads_by None = []
 reads_by (Some t) = t.reads
 
+-- a state as these functions
 abbrev pub view_of : StateOf → TableView
 view_of state = record {
   clock = state.clock;

@@ -60,6 +60,7 @@ transaction_from observers t (e ∷ es) = transaction_from observers (transactio
 abbrev pub transaction_by : List ObserverOf → List Entry → Option TransactionOf
 transaction_by observers entries = transaction_from observers None entries
 
+-- the step begins a transaction
 abbrev pub is_begin : Step → Bool
 is_begin (Begin work) = true
 is_begin _ = false

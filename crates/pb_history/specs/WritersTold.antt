@@ -10,5 +10,6 @@ use Rattle.pb_history.specs.History.{Member, InHistory, WritesTo}
 abbrev pub DoNotOverlap : Member → Member → Type 0
 DoNotOverlap m n = (m.commit < n.start) ⊎ (n.commit < m.start)
 
+-- no two committed transactions that write one cell overlap
 pub record TellsWriters (journal : List Entry) (state : StateOf) : Type 0 where
   pub apart : (m n : Member) → InHistory state.observers journal m → InHistory state.observers journal n → m.start ≢ n.start → (x : Cell) (j k : Content) → WritesTo m x j → WritesTo n x k → DoNotOverlap m n

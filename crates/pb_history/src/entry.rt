@@ -1,4 +1,4 @@
-//! Entries of the journal.
+//! Entries of the journal, and of what a seat received.
 use crate::kept_answer::KeptAnswer;
 use pb_steps::Step;
 
@@ -10,7 +10,8 @@ pub struct Entry {
     pub answer: KeptAnswer,
 }
 
-/// A step that a seat took, and what it was answered.
+/// A step that a seat took, and what it was answered. The seat's owner has the list, so that it can be compared with
+/// the journal in the end.
 #[derive(Drop)]
 pub struct Received {
     pub step: Step,

@@ -1,4 +1,4 @@
-//! Answers as the journal and the seats keep them.
+//! Answers as the journal and the seats keep them: in less room than an answer takes, since all of them are kept.
 ghost use Rattle.std.specs.Prelude.{◌≡◌, ◌↔◌, IsTrue, OnOk, true, false};
 ghost use Rattle.pb_steps.specs.declared.step.Answer.TheVariants.{Marked};
 ghost use Rattle.pb_history.specs.KeptAnswers.{answer_of};
@@ -14,7 +14,8 @@ pub struct KeptAnswer {
     form: Form,
 }
 
-// Fields lie in the order in which they stand here: a row behind what takes a byte needs no 8 more.
+// Fields lie in the order in which they stand here: a row behind what takes a byte needs no 8 more. So a marked cell
+// stands here by its parts, since a whole cell would.
 #[derive(Drop)]
 pub(crate) enum Form {
     At(Ts),
@@ -28,6 +29,7 @@ pub(crate) enum Form {
     RolledBack,
     Waits,
     CommittedAt(Ts),
+    /// A marked cell, of either kind.
     MarkedData(Column, Row),
     MarkedAck(ObserverNo, Column, Row),
     NoMark,
@@ -43,7 +45,8 @@ impl Model for KeptAnswer {
     ghost view = { λ k. answer_of k.form };
 }
 
-/// Room on the heap for the next answer that needs some. Contracts see whether it is there.
+/// Room on the heap for the next answer that needs some, made before the step is taken, so that no answer is lost for
+/// want of memory. Contracts see whether it is there.
 #[derive(Drop)]
 pub struct AnswerRoom {
     alloc: Global,
@@ -71,6 +74,7 @@ impl AnswerRoom {
         ensures { OnOk result (self.new ≡ true) }
     {
         if self.room.is_none() {
+            // Any answer will do, since the next one is written over it.
             self.room = Some(Box::new(self.alloc, Answer::Absent)?);
         }
         Ok(())
@@ -87,11 +91,12 @@ fn told(answer: Answer, room: &mut AnswerRoom) -> Form
             *place = answer;
             Form::Told(place)
         }
+        // There is room, since every caller asks for it.
         None => unreachable!(),
     }
 }
 
-// A marked cell.
+// A marked cell, by its parts.
 fn marked(cell: Cell) -> Form
     ensures { answer_of result ≡ Marked cell }
 {
@@ -104,7 +109,7 @@ fn marked(cell: Cell) -> Form
 impl KeptAnswer {
     ghost use Rattle.std.specs.Prelude.{◌≡◌, ◌↔◌, IsTrue, true};
 
-    /// Keeps an answer. It takes the room only where it needs it.
+    /// Keeps an answer. It takes the room only where it needs it, so that most calls leave it for the next one.
     pub fn new(answer: Answer, room: &mut AnswerRoom) -> KeptAnswer
         requires { room.old ≡ true }
         ensures { result ≡ answer }
@@ -139,7 +144,7 @@ impl KeptAnswer {
         }
     }
 
-    /// The answer.
+    /// The answer, put together again.
     pub fn get(&self) -> Answer
         ensures { result ≡ self.now }
     {

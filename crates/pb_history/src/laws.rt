@@ -1,4 +1,4 @@
-//! What every step keeps, and what every legal journal tells.
+//! What every step keeps, and what every legal journal tells: empty functions, so that a caller has the law.
 ghost use Rattle.pb_history.specs.Laws.{StepsKeepSound, OpeningIsSound, SoundHasData, JournalsAreSound};
 ghost use Rattle.pb_history.specs.Laws.{TransactionsAreTold, StepsCanAnswer};
 ghost use Rattle.pb_history.specs.Laws.{ReasonsRise, ClockIsLastGiven, FirstMarksAreFound, SweepsUnmark, QuietIsCounted};
@@ -103,12 +103,13 @@ pub fn transactions_are_told()
     ensures { TransactionsAreTold }
 {}
 
-/// A cell on which an observer is behind is marked, after each legal journal.
+/// A cell on which an observer is behind is marked, after each legal journal, so that a pass finds it.
 pub fn behind_is_marked()
     ensures { BehindIsMarked }
 {}
 
-/// Each committed change is handled by at most one committed run of an observer.
+/// Each committed change is handled by at most one committed run of an observer, since all its runs write one
+/// acknowledgment and don't overlap.
 pub fn handled_at_most_once()
     ensures { HandledAtMostOnce }
 {}
@@ -119,7 +120,7 @@ pub fn handled_when_quiet()
     ensures { HandledWhenQuiet }
 {}
 
-/// The reasons to refuse a step are listed lowest number first.
+/// The reasons to refuse a step are listed lowest number first, so that the first that applies is the lowest.
 pub fn reasons_rise()
     ensures { ReasonsRise }
 {}
@@ -140,12 +141,13 @@ pub fn sweeps_unmark()
     ensures { SweepsUnmark }
 {}
 
-/// After a legal journal neither mark nor lock is counted exactly where neither stands.
+/// After a legal journal neither mark nor lock is counted exactly where neither stands, so that counts tell that.
 pub fn quiet_is_counted()
     ensures { QuietIsCounted }
 {}
 
-/// A step of a sound table has one answer, and leaves one state.
+/// A step of a sound table has one answer, and leaves one state. It is said of sound tables, since only soundness
+/// bounds the commit that `Clear` finds at a primary.
 pub fn steps_have_one_outcome()
     ensures { StepsHaveOneOutcome }
 {}

@@ -10,6 +10,7 @@ use Rattle.pb_store.specs.Contents.{IsOfSort, is_nothing, entries_after}
 use Rattle.pb_memtablet.specs.Listed.{EntryList, MarkList, contents_of, AllOfSort, AreLists}
 use Rattle.pb_memtablet.proofs.Spots.{holds}
 
+-- what a look-up in a slot finds is of the slot's sort
 pub of_sort_found : (es : EntryList) (q : Slot) → AllOfSort es → IfSome (map.find slot_cmp q es) (IsOfSort q.sort)
 of_sort_found [] q all = tt
 of_sort_found (e ∷ es) q all =
@@ -19,11 +20,13 @@ of_sort_found (e ∷ es) q all =
       | Greater ↦ λ p. of_sort_found es q all.1
     ] refl
 
+-- and so is what stands at a place
 pub of_sort_there : (es : EntryList) (i : ℕ) → AllOfSort es → IfSome (slice_get es i) (λ e. IsOfSort e.0.sort e.1)
 of_sort_there [] i all = tt
 of_sort_there (e ∷ es) zero all = all.0
 of_sort_there (e ∷ es) (suc i) all = of_sort_there es i all.1
 
+-- and what comes next in a walk
 pub of_sort_after : (after : Option Slot) (es : EntryList) → AllOfSort es → IfSome (slice_get (entries_after after es) 0) (λ e. IsOfSort e.0.sort e.1)
 of_sort_after None es all = of_sort_there es 0 all
 of_sort_after (Some slot) [] all = tt

@@ -14,6 +14,7 @@ use Rattle.pb_memtablet.specs.BlockCounts.{AreCounts, IsInBlock}
 use Rattle.pb_memtablet.proofs.Homes.{get_later}
 use Rattle.pb_memtablet.proofs.Pieces.{length-chunk_entries, length-set_in}
 
+-- a flag added as a number adds one where it holds
 pub byte_of : (b : Bool) → bool_byte b ≡ cond b 1 0
 byte_of true = refl
 byte_of false = refl
@@ -26,6 +27,7 @@ pub at_most_two : (b : Bool) → cond b 2 0 ≤ 2
 at_most_two true = omega arith
 at_most_two false = omega arith
 
+-- the block of a chunk is its place divided by the length of a block
 block_with : (i : ℕ) → IsInBlock i (i / BLOCK)
 block_with i = record { from = omega arith; before = omega arith }
 
@@ -34,6 +36,7 @@ module _ {E A : Type 0} where
   pub blocks_apart : (cs : List (Vec E A)) → chunk_entries cs ≡ chunk_entries (take BLOCK cs) ++ chunk_entries (drop BLOCK cs)
   blocks_apart cs = ap chunk_entries (sym (take-append-drop BLOCK cs)) ∙ flat_map-append (λ c. c.items) (take BLOCK cs) (drop BLOCK cs)
 
+  -- a place past the first block is counted on in the rest
   pub past_block : (cs : List (Vec E A)) (n i : ℕ) → n ≡ length (chunk_entries (take BLOCK cs)) → n ≤ i → slice_get (chunk_entries (drop BLOCK cs)) (i - n) ≡ slice_get (chunk_entries cs) i
   past_block cs n i e le =
       sym (get_later (chunk_entries (take BLOCK cs)) (chunk_entries (drop BLOCK cs)) i (i - n) (omega (arith, e, le)))
@@ -59,6 +62,7 @@ module _ {E A : Type 0} where
       let most = length-chunk_entries (take BLOCK cs) (All-take IsChunk BLOCK cs h) in
       omega (arith, most, length-take BLOCK cs)
 
+  -- the number of a block fits its type, since a block has few chunks, and a chunk few entries
   pub count_is_small : (ns : List ℕ) (cs : List (Vec E A)) (b d : ℕ) → AreCounts ns cs → All IsChunk cs → b < length ns → get_or ns b d ≤ CHUNK * BLOCK
   count_is_small [] cs b d a h lt = absurd (omega (arith, lt))
   count_is_small (n ∷ ns) cs zero d a h lt = let few = few_in_block cs h in omega (arith, few, a.0)

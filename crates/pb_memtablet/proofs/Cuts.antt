@@ -31,6 +31,7 @@ first_of_dropped [] (suc i) = refl
 first_of_dropped (e ∷ es) zero = refl
 first_of_dropped (e ∷ es) (suc i) = first_of_dropped es i
 
+-- where nothing stands, the list has ended
 pub none_past : {E : Type 0} (es : List E) (i : ℕ) → None ≡ slice_get es i → length es ≤ i
 none_past [] i p = omega arith
 none_past (e ∷ es) zero p = cc
@@ -76,6 +77,7 @@ module _ {K X : Type 0} (R : K → K → Ordering) where
       subst (IsCut R es k) end c
 
   module _ (o : IsTotalOrder R) (es : List (K × X)) (k : K) (s : T (is_sorted R es)) where
+    -- the last entry up to k stands right before the cut
     pub last_up_to_is : (e : K × X) → Some e ≡ last_or None (entries_up_to R k es) → IsLastUpTo R es k e
     last_up_to_is e p = let c = cut_of es k in last_before es k c.0 e c.1 (p ∙ ap (last_or None) (entries_up_to-cut R o es k c.0 s c.1))
 
@@ -91,5 +93,6 @@ module _ {K X : Type 0} (R : K → K → Ordering) where
         let found : slice_get es c.0 ≡ Some e = sym (p ∙ above_is c.0 c.1) in
         record { place = c.0; is = sym (get_or_from_slice_get es c.0 e e found); within = slice_get_within es c.0 e found; cut = c.1 }
 
+    -- where no entry is above k, the cut is the end
     pub none_above : None ≡ slice_get (entries_above R k es) 0 → IsCut R es k (length es)
     none_above p = let c = cut_of es k in none_behind es k c.0 c.1 (p ∙ above_is c.0 c.1)

@@ -20,6 +20,7 @@ use Rattle.pb_memtablet.proofs.Spots.{holds, inserted, removed}
 both_same : (m n : map.FinMap slot_cmp Item) (p q : map.FinMap cell_cmp (Unit {0})) → m ≡ n → p ≡ q → ◌≡◌ {A = Contents} (record { entries = m; marks = p }) (record { entries = n; marks = q })
 both_same m n p q e f = λ i. record { entries = e i; marks = f i }
 
+-- an empty list stands for an empty map
 none_listed : {K X : Type 0} (R : K → K → Ordering) → map.from_sorted {X = X} {R = R} [] ≡ map.empty
 none_listed R = map.empty_of_len _ (map.len-entries _ ∙ ap length (map.entries-from_sorted R [] tt))
 
@@ -48,6 +49,7 @@ truth true t = refl
 truth false t = absurd t
 
 -- ---- one edit
+-- fs and ns are what one edit makes of es and ms, and again lists that a tablet may have
 pub record IsDone (fs : EntryList) (ns : MarkList) (edit : Edit) (es : EntryList) (ms : MarkList) : Type 0 where
   pub lists : AreLists fs ns
   pub contents : contents_of fs ns ≡ after_edit edit (contents_of es ms)
@@ -99,6 +101,7 @@ module _ (es : EntryList) (ms : MarkList) (l : AreLists es ms) where
   }
 
 -- ---- two edits of entries
+-- edits of which the first two are known
 pub first_two : (xs : List Edit) (a b : Edit) → 2 ≤ length xs → a ≡ get_or xs 0 a → b ≡ get_or xs 1 b → xs ≡ a ∷ b ∷ drop 2 xs
 first_two [] a b le p q = absurd (omega (arith, le))
 first_two (x ∷ []) a b le p q = absurd (omega (arith, le))

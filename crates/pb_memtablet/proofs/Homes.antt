@@ -58,6 +58,7 @@ module _ {K X : Type 0} (R : K → K → Ordering) where
   find_before [] ys k a = find_none ys k a
   find_before (m ∷ ms) ys k a = ap (cond (eq_by_cmp R k m.0) (Some m.1)) (find_before ms ys k a)
 
+  -- a look-up in three parts goes to the middle one, where the others are below the key and above it
   pub find-home : (xs ms ys : List (K × X)) (k : K) → AreBelow R k xs → AreAbove R k ys → find R k (xs ++ (ms ++ ys)) ≡ find R k ms
   find-home xs ms ys k b a = find_after xs (ms ++ ys) k b ∙ find_before ms ys k a
 
@@ -80,6 +81,7 @@ module _ {K X : Type 0} (R : K → K → Ordering) where
         | Greater ↦ ap (λ l. m ∷ l) (put_before ms ys k v a)
       ]
 
+  -- and so does a put, since the parts around it keep what they have
   pub put-home : (xs ms ys : List (K × X)) (k : K) (v : X) → AreBelow R k xs → AreAbove R k ys → put R k v (xs ++ (ms ++ ys)) ≡ xs ++ (put R k v ms ++ ys)
   put-home xs ms ys k v b a = put_after xs (ms ++ ys) k v b ∙ ap (λ l. xs ++ l) (put_before ms ys k v a)
 
@@ -191,15 +193,18 @@ first_of_drop [] ys i d lt = absurd (omega (arith, lt))
 first_of_drop (e ∷ es) ys zero d lt = refl
 first_of_drop (e ∷ es) ys (suc i) d lt = first_of_drop es ys i d (omega arith)
 
+-- nothing is left past the end
 pub drop_past : {E : Type 0} (es : List E) (i : ℕ) → length es ≤ i → drop i es ≡ []
 drop_past [] zero le = refl
 drop_past [] (suc i) le = refl
 drop_past (e ∷ es) zero le = absurd (omega (arith, le))
 drop_past (e ∷ es) (suc i) le = drop_past es i (omega arith)
 
+-- what stands before a seam
 pub front_of : {E : Type 0} (xs ys zs : List E) (n : ℕ) → xs ++ ys ≡ zs → n ≡ length xs → xs ≡ take n zs
 front_of xs ys zs n e same = sym (ap (λ m. take m zs) same ∙ ap (take (length xs)) (sym e) ∙ take-append_seam xs ys)
 
+-- what stands behind it
 pub back_of : {E : Type 0} (xs ys zs : List E) (n : ℕ) → xs ++ ys ≡ zs → n ≡ length xs → ys ≡ drop n zs
 back_of xs ys zs n e same = sym (ap (λ m. drop m zs) same ∙ ap (drop (length xs)) (sym e) ∙ drop-append_seam xs ys)
 
@@ -207,11 +212,13 @@ back_of xs ys zs n e same = sym (ap (λ m. drop m zs) same ∙ ap (drop (length 
 pub made : {E : Type 0} (fs es old : List E) (b : Bool) → fs ≡ cond b es old → b ≡ true → fs ≡ es
 made fs es old b e ok = e ∙ ap (λ c. cond c es old) ok
 
+-- a place in the first part is one of the whole
 pub get_here : {E : Type 0} (es ys : List E) (i : ℕ) (d : E) → i < length es → slice_get (es ++ ys) i ≡ Some (get_or es i d)
 get_here [] ys i d lt = absurd (omega (arith, lt))
 get_here (e ∷ es) ys zero d lt = refl
 get_here (e ∷ es) ys (suc i) d lt = get_here es ys i d (omega arith)
 
+-- a place past the first part is counted on in the second
 pub get_later : {E : Type 0} (es ys : List E) (i n : ℕ) → i ≡ length es + n → slice_get (es ++ ys) i ≡ slice_get ys n
 get_later [] ys i n e = let same : i ≡ n = omega arith in ap (slice_get ys) same
 get_later (e ∷ es) ys zero n p = absurd (omega (arith, p))

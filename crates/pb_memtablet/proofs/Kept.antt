@@ -18,6 +18,7 @@ use Rattle.pb_memtablet.specs.Stored.{Items, KeyList, found_at, HasItem, item_at
 use Rattle.pb_memtablet.specs.Listed.{EntryList}
 use Rattle.pb_memtablet.proofs.Spots.{truth}
 
+-- the keys without that of the slot
 abbrev without : Name → KeyList → KeyList
 without slot ks = where_key slot_cmp (λ k. not (eq_by_cmp slot_cmp slot k)) ks
 
@@ -53,6 +54,7 @@ all_with : (P Q : ℕ → Type 0) (ks : KeyList) → ((n : ℕ) → P n → Q n)
 all_with P Q [] f all = tt
 all_with P Q (k ∷ ks) f all = (f k.1 all.0, all_with P Q ks f all.1)
 
+-- what holds of all keys holds of the one that is found
 pub of_found : (P : ℕ → Type 0) (ks : KeyList) (slot : Name) (n : ℕ) → find slot_cmp slot ks ≡ Some n → AllKeys P ks → P n
 of_found P [] slot n e all = cc
 of_found P (k ∷ ks) slot n e all =
@@ -104,6 +106,7 @@ gone_apart slot n (k ∷ ks) e a =
       | false ↦ λ p. (λ q. of_found (λ m. m ≢ k.1) ks slot n p a.0 (sym q), gone_apart slot n ks p a.1)
     ] e
 
+-- taking out what isn't there leaves all
 pub nothing_gone : (slot : Name) (ks : KeyList) → find slot_cmp slot ks ≡ None → without slot ks ≡ ks
 nothing_gone slot [] e = refl
 nothing_gone slot (k ∷ ks) e =
@@ -113,6 +116,7 @@ nothing_gone slot (k ∷ ks) e =
     ] e
 
 -- ---- the slab changed at one key
+-- the slab t has what s has at each key but n
 abbrev pub Others : Items → Items → ℕ → Type 0
 Others s t n = (other : ℕ) → other ≢ n → found_at t other ≡ found_at s other
 
@@ -187,6 +191,7 @@ module _ (s t : Items) (ks ls : KeyList) (slot : Name) (n : ℕ) (kept : AreStor
 without_slot : {X : Type 0} (slot q : Name) (es : List (Name × X)) → find slot_cmp q (where_key slot_cmp (λ k. not (eq_by_cmp slot_cmp slot k)) es) ≡ cond (not (eq_by_cmp slot_cmp slot q)) (find slot_cmp q es) None
 without_slot slot q es = find-where_key slot_cmp (λ k. not (eq_by_cmp slot_cmp slot k)) q (λ x t. ap (λ r. not (is_eq r)) (sym (alike_right slot_cmp_total q x slot t))) es
 
+-- a slot is free once its entry was taken out
 pub freed : (slot : Name) (ks : KeyList) → find slot_cmp slot (without slot ks) ≡ None
 freed slot ks = without_slot slot slot ks ∙ ap (λ r. cond (not (is_eq r)) (find slot_cmp slot ks) None) (tied_itself slot_cmp_total slot)
 
@@ -196,6 +201,7 @@ hidden false false v x y e = refl
 hidden true false v x y e = cc
 hidden false true v x y e = cc
 
+-- an entry taken out and put anew is one that was replaced
 pub put_anew : (slot : Name) (item : Item) (es : EntryList) → T (is_sorted slot_cmp es)
     → put slot_cmp slot item (where_key slot_cmp (λ k. not (eq_by_cmp slot_cmp slot k)) es) ≡ put slot_cmp slot item es
 put_anew slot item es s =
@@ -209,6 +215,7 @@ put_anew slot item es s =
     ∙ sym (find-put slot_cmp slot_cmp_total q slot item es))
 
 -- ---- the last entry up to a slot
+-- the entry that a slot and a key stand for
 abbrev pub as_entry : Items → Name × ℕ → Name × Item
 as_entry s k = (k.0, item_at s k.1)
 
@@ -223,6 +230,7 @@ last-seen s slot o (k ∷ ks) =
       | false ↦ last-seen s slot o ks
     ]
 
+-- what holds of all keys holds of the last one up to a slot
 pub last_stored : (P : ℕ → Type 0) (slot : Name) (o : Option (Name × ℕ)) (ks : KeyList) → IfSome o (λ k. P k.1) → AllKeys P ks → IfSome (last_or o (entries_up_to slot_cmp slot ks)) (λ k. P k.1)
 last_stored P slot o [] p all = p
 last_stored P slot o (k ∷ ks) p all =
@@ -231,6 +239,7 @@ last_stored P slot o (k ∷ ks) p all =
       | false ↦ last_stored P slot o ks p all.1
     ]
 
+-- and of one that may have been found
 pub found_stored : (P : ℕ → Type 0) (ks : KeyList) (slot : Name) → AllKeys P ks → IfSome (find slot_cmp slot ks) P
 found_stored P [] slot all = tt
 found_stored P (k ∷ ks) slot all =
@@ -239,6 +248,7 @@ found_stored P (k ∷ ks) slot all =
       | false ↦ found_stored P ks slot all.1
     ]
 
+-- and of one at a place
 pub stored_at : (P : ℕ → Type 0) (ks : KeyList) (i : ℕ) → AllKeys P ks → IfSome (slice_get ks i) (λ k. P k.1)
 stored_at P [] i all = tt
 stored_at P (k ∷ ks) zero all = all.0
@@ -255,6 +265,7 @@ next-seen s (Some slot) (k ∷ ks) =
       | false ↦ next-seen s (Some slot) ks
     ]
 
+-- and of the next one in a walk
 pub next_stored : (P : ℕ → Type 0) (after : Option Name) (ks : KeyList) → AllKeys P ks → IfSome (slice_get (entries_after after ks) 0) (λ k. P k.1)
 next_stored P None ks all = stored_at P ks 0 all
 next_stored P (Some slot) [] all = tt
@@ -265,6 +276,7 @@ next_stored P (Some slot) (k ∷ ks) all =
     ]
 
 -- ---- what is kept, with other slots
+-- keys are in order as the entries that they stand for are, since both go by slot
 pub sorted_keys : (s : Items) (ks : KeyList) → IsTrue (is_sorted slot_cmp (seen s ks)) → IsTrue (is_sorted slot_cmp ks)
 sorted_keys s ks e = sym (is_sorted-seen s ks) ∙ e
 
@@ -294,6 +306,7 @@ module _ (s t u : Items) (ks ls : KeyList) (gone slot : Name) (n m : ℕ) (item 
   pub stored_renewed : AreStored u ls
   stored_renewed = stored_put t u (without gone ks) ls slot m item between vacant changed others e (is_sorted-where_key slot_cmp _ ks sorted) (free_without gone slot ks free) more
 
+-- where none is there, none was found
 pub no_key : {X : Type 0} (o : Option X) → is_some o ≡ false → o ≡ None
 no_key None e = refl
 no_key (Some x) e = cc

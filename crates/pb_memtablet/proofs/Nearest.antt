@@ -40,6 +40,7 @@ up_to cell sort t high x le below =
       ]
     ]
 
+-- a slot of this cell and sort is the one at its timestamp
 same_slot : (x : Slot) (cell : Cell) (sort : Sort) → x.cell ≡ cell → x.sort ≡ sort → x ≡ slot_at cell sort x.ts.0
 same_slot x cell sort p q = λ i. record { cell = p i; sort = q i; ts = x.ts }
 
@@ -61,6 +62,7 @@ apart x cell sort high t above other =
     let one = slot_cmp-IsAntisymmetric (slot_at cell sort x.ts.0) x tie in
     other (ap (λ (s : Slot). s.cell) (sym one)) (ap (λ (s : Slot). s.sort) (sym one)))
 
+-- a slot that isn't above the highest has at most its timestamp
 not_above : (cell : Cell) (sort : Sort) (high t : ℕ) → slot_cmp (slot_at cell sort high) (slot_at cell sort t) ≢ Less → t ≤ high
 not_above cell sort high t n =
     elim (cases_order high t) [
@@ -71,6 +73,7 @@ not_above cell sort high t n =
       ]
     ]
 
+-- the item at a place is of its slot's sort
 of_sort_at : (es : EntryList) (i : ℕ) (d : Slot × Item) → AllOfSort es → i < length es → IsOfSort (get_or es i d).0.sort (get_or es i d).1
 of_sort_at [] i d all lt = absurd (omega (arith, lt))
 of_sort_at (e ∷ es) zero d all lt = all.0

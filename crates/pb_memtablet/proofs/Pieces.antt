@@ -16,6 +16,7 @@ use Rattle.pb_memtablet.specs.declared.chunks.TheConstants.{CHUNK}
 use Rattle.pb_memtablet.specs.Chunks.{chunk_entries, IsChunk, IsHome, AreBelow, AreAbove, starts_by, entries_up_to, entries_above}
 use Rattle.pb_memtablet.proofs.Homes.{sorted_left, sorted_right, above_head, below_head, at_most, is_above, above_parts, find-home, put-home, without, without-home, entries_up_to-home, entries_above-home, entries_up_to-cut, entries_above-cut, last_of_take, last_or-append, first_of_drop, drop_past}
 
+-- a list without length has nothing
 pub empty_by_length : {X : Type 0} (xs : List X) → length xs ≡ 0 → xs ≡ []
 empty_by_length [] n = refl
 empty_by_length (x ∷ xs) n = absurd (omega (arith, n))
@@ -26,6 +27,7 @@ All-insert P xs i x p h = All-append P (take i xs) (x ∷ drop i xs) (All-take P
 pub All-remove : {X : Type 0} (P : X → Type 0) (xs : List X) (i : ℕ) → All P xs → All P (remove xs i)
 All-remove P xs i h = All-append P (take i xs) (drop (suc i) xs) (All-take P i xs h) (All-drop P (suc i) xs h)
 
+-- what is written at a place is read there
 pub at_set : {X : Type 0} (xs : List X) (i : ℕ) (x d : X) → i < length xs → get_or (set xs i x) i d ≡ x
 at_set [] i x d lt = absurd (omega (arith, lt))
 at_set (y ∷ xs) zero x d lt = refl
@@ -37,10 +39,12 @@ is_zero n e = grind (arith, nat_tests)
 pub not_zero : (n : ℕ) → false ≡ (n == 0) → 0 < n
 not_zero n e = grind (arith, nat_tests)
 
+-- a put makes at most one entry more
 pub at_most_one : (b : Bool) → cond b 1 0 ≤ 1
 at_most_one true = omega arith
 at_most_one false = omega arith
 
+-- whether or not a call did something, its list is sorted
 pub sorted_if : {K X : Type 0} (R : K → K → Ordering) (b : Bool) (es fs : List (K × X)) → T (is_sorted R es) → T (is_sorted R fs) → T (is_sorted R (cond b es fs))
 sorted_if R true es fs s t = s
 sorted_if R false es fs s t = t

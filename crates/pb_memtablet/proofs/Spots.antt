@@ -51,6 +51,7 @@ not_less o g l = cc
 pub equal_not_less : (o : Ordering) → o ≡ Equal → o ≢ Less
 equal_not_less o g l = cc
 
+-- two keys compared the other way round come out reversed
 pub turned : {K : Type 0} {R : K → K → Ordering} → IsTotalOrder R → (x y : K) (r : Ordering) → R x y ≡ r → R y x ≡ ordering_reverse r
 turned o x y r e = o.antisymm y x ∙ ap ordering_reverse e
 

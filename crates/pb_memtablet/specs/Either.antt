@@ -1,13 +1,15 @@
--- A tablet of either sort.
+-- A tablet of either sort. Tables see its contents alone; its sort is told when it is made.
 use Rattle.std.specs.Prelude.{Bool, true, false}
 use Rattle.pb_store.specs.Contents.{Contents}
 use Rattle.pb_memtablet.specs.declared.either.EitherTablet.{EitherTablet}
 use Rattle.pb_memtablet.specs.declared.either.EitherTablet.TheVariants.{List, Slab}
 
+-- what the tablet inside contains
 abbrev pub contents_of : EitherTablet → Contents
 contents_of (List t) = t
 contents_of (Slab t) = t
 
+-- whether it is a slab, else a list
 abbrev pub is_slab : EitherTablet → Bool
 is_slab (List t) = false
 is_slab (Slab t) = true

@@ -1,4 +1,4 @@
--- What the parts of a sorted list in chunks keep.
+-- What the parts of a sorted list in chunks keep, between calls: the invariant of `SortedList`.
 use Rattle.std.specs.Prelude.{◌≡◌, ◌≤◌, ◌+◌, ℕ, length, vec_len, vec_capacity}
 use Rattle.std.specs.List.{All}
 use Rattle.std.specs.declared.cmp.Ordering.{Ordering}
@@ -7,7 +7,8 @@ use Rattle.pb_memtablet.specs.declared.sorted_list.TheConstants.{CHUNKS}
 use Rattle.pb_memtablet.specs.BlockCounts.{AreCounts}
 use Rattle.pb_memtablet.specs.Chunks.{chunk_entries, AreChunks, IsSpare}
 
--- sorted chunks, spares, a place for each spare among the chunks, and the numbers of entries of blocks and of all
+-- sorted chunks, spares, a place for each spare among the chunks, so that none of them has to be made room for, and the
+-- numbers of entries of blocks and of all
 pub record AreListParts {K X A B C : Type 0} (R : K → K → Ordering) (chunks spares : Vec (Vec (K × X) A) B) (counts : Vec ℕ C) (len : ℕ) : Type 0 where
   pub sorted : AreChunks R chunks.items
   pub spare : All IsSpare spares.items

@@ -1,4 +1,5 @@
--- What two sorted lists contain.
+-- What two sorted lists contain, as a tablet's contents. Both sorts of tablet are seen as such lists, so that the laws
+-- of edits and look-ups are shown once. Their models, invariants and the functions below `apply` cite them.
 use Rattle.std.specs.Prelude.{Bool, true, false, IsTrue, List, [], ◌∷◌}
 use Rattle.std.specs.FinMap as map
 use Rattle.pb_base.specs.declared.cell.Cell.{Cell}
@@ -10,12 +11,15 @@ use Rattle.pb_store.specs.declared.slot.Edit.TheVariants.{Put, Mark}
 use Rattle.pb_store.specs.Slot.{slot_cmp}
 use Rattle.pb_store.specs.Contents.{Contents, IsOfSort}
 
+-- entries by rising slot
 abbrev pub EntryList : Type 0
 EntryList = List (Slot × Item)
 
+-- marked cells in order, each with nothing
 abbrev pub MarkList : Type 0
 MarkList = List (Cell × Unit {0})
 
+-- the contents that sorted entries and marks stand for
 abbrev pub contents_of : EntryList → MarkList → Contents
 contents_of es ms = record { entries = map.from_sorted es; marks = map.from_sorted ms }
 
@@ -30,10 +34,12 @@ pub record AreLists (es : EntryList) (ms : MarkList) : Type 0 where
   pub marks : IsTrue (map.is_sorted cell_cmp ms)
   pub of_sort : AllOfSort es
 
+-- whether the edit needs room for an entry, also where it replaces one
 abbrev pub is_put : Edit → Bool
 is_put (Put slot item) = true
 is_put _ = false
 
+-- whether the edit needs room for a mark
 abbrev pub is_mark : Edit → Bool
 is_mark (Mark cell) = true
 is_mark _ = false

@@ -1,4 +1,4 @@
-//! Chunks of entries, sorted together by key.
+//! Chunks of entries, sorted together by key: look-ups and changes find the one chunk where a key belongs.
 ghost use Rattle.std.specs.Prelude.{◌≡◌, true, ℕ, List, ◌<◌, ◌≤◌, ◌+◌, ◌-◌, IsTrue, [], ◌∷◌, cond, not, length, take, drop, slice_get, vec_len, vec_capacity};
 ghost use Rattle.std.specs.List.{All, HoldsAt, last_or, remove};
 ghost use Rattle.std.specs.Ordering.{eq_by_cmp};
@@ -11,18 +11,22 @@ use crate::counts::{block_of, count_blocks};
 use crate::sorted::{look_up, place_above, put_both_in, put_in, replace_in, take_from};
 use std::cell::Cell;
 
-// How many entries a chunk holds at most.
+// How many entries a chunk holds at most. Half as many were slower, since there are twice the chunks to move and to
+// count, and twice as many won nothing, since an edit then moves more. The proofs hold at each length.
 pub(crate) const CHUNK: usize = 64;
 
-// How many entries stay in a full chunk that is parted.
+// How many entries stay in a full chunk that is parted: half, so that neither part is soon full again.
 const HALF: usize = CHUNK / 2;
 
-// How many spares there are at most for an emptied chunk to become one more.
+// How many spares there are at most for an emptied chunk to become one more; beyond, its memory is given back.
 const SPARES: usize = 64;
 
+// A chunk has the memory of a full one from the first on, so that a put into it asks for none.
 pub(crate) type Chunk<K, V> = Vec<(K, V)>;
 
-// Where the last key stood: its chunk, and its place there. The next one may stand there too. They can be any numbers.
+// Where the last key stood: its chunk, and its place there. The next key is tried there first, since a step looks at
+// lock, write records and data of one cell, and the rows of a pass rise. Both can be any numbers, since they are looked
+// at before they are taken; so no contract speaks of them.
 #[derive(Drop)]
 pub(crate) struct Likely {
     pub(crate) chunk: Cell<usize>,
@@ -61,12 +65,13 @@ fn home_of<K: Ord, V>(chunks: &[Chunk<K, V>], key: &K, likely: usize) -> usize
     if is_home(chunks, key, likely) {
         return likely;
     }
+    // A key below all belongs into the first chunk, so that 0 stands for no chunk that starts by it, too.
     chunks
         .partition_point(|chunk| does_start_by(chunk, key))
         .saturating_sub(1)
 }
 
-// The same, noted as the next likely place.
+// The place of the chunk where the key stands, or would stand, noted as the next likely one.
 fn noted_home<K: Ord, V>(chunks: &[Chunk<K, V>], key: &K, likely: &Cell<usize>) -> usize
     requires chunks { AreChunks K.cmp chunks.now }
     requires some { 0 < length chunks.now }
@@ -118,7 +123,8 @@ pub(crate) fn last_up_to<K: Ord + Copy, V: Copy>(
     }
 }
 
-// The first entry whose key is above the given one. It notes the entry's place as the next likely one.
+// The first entry whose key is above the given one. It notes the entry's place as the next likely one, so that a walk
+// over all entries finds each by three comparisons and makes no search.
 pub(crate) fn first_above<K: Ord + Copy, V: Copy>(
     chunks: &[Chunk<K, V>],
     key: &K,
@@ -170,6 +176,7 @@ fn move_half<K: Drop, V: Drop>(chunk: &mut Chunk<K, V>, empty: &mut Chunk<K, V>)
     ensures kept_capacity { vec_capacity chunk.old ≤ vec_capacity chunk.new }
     ensures moved_capacity { vec_capacity empty.old ≤ vec_capacity empty.new }
 {
+    // From the end, since nothing moves up then; so they come in turned order.
     while chunk.len() > HALF {
         let entry = chunk.pop().unwrap();
         empty.push(entry).unwrap();
@@ -177,7 +184,7 @@ fn move_half<K: Drop, V: Drop>(chunk: &mut Chunk<K, V>, empty: &mut Chunk<K, V>)
     empty.reverse();
 }
 
-// Parts a full chunk into two halves.
+// Parts a full chunk into two halves, the second in a spare, so that no memory is asked for.
 fn part_chunk<K: Drop, V: Drop>(
     chunks: &mut Vec<Chunk<K, V>>,
     spares: &mut Vec<Chunk<K, V>>,
@@ -235,6 +242,7 @@ fn roomy_home<K: Ord + Drop, V: Drop>(
         return home;
     }
     part_chunk(chunks, spares, home);
+    // All blocks are counted, since each chunk behind has moved by one place.
     count_blocks(chunks, counts);
     if does_start_by(&chunks[home + 1], key) {
         home + 1
@@ -243,7 +251,7 @@ fn roomy_home<K: Ord + Drop, V: Drop>(
     }
 }
 
-// Begins with one entry.
+// Puts the first entry, in a chunk of its own: an empty list has no chunk, since a key finds its chunk by first keys.
 fn put_alone<K: Ord + Drop, V: Drop>(
     chunks: &mut Vec<Chunk<K, V>>,
     spares: &mut Vec<Chunk<K, V>>,
@@ -348,7 +356,8 @@ pub(crate) fn put_both_among<K: Ord + Copy + Drop, V: Copy + Drop>(
 }
 
 // Puts the value at the key where another one stands, which goes. It answers whether that could be done: both belong into the
-// likely chunk, and no key stands between the two. Else nothing is changed.
+// likely chunk, and no key stands between the two. Else nothing is changed. No other chunk is tried, since the caller
+// has mostly just looked at the entry that goes. No count changes, since as many entries stand in the chunk as before.
 pub(crate) fn replace_among<K: Ord + Drop, V: Drop>(
     chunks: &mut Vec<Chunk<K, V>>,
     likely: usize,
@@ -373,7 +382,8 @@ pub(crate) fn replace_among<K: Ord + Drop, V: Drop>(
     replace_in(&mut chunks[likely], gone, key, value, place)
 }
 
-// Takes an empty chunk out, and keeps it where there is room for it and few are kept.
+// Takes an empty chunk out, and keeps it where there is room for it and few are kept. No list grows, since a removal
+// asks for no memory.
 fn retire_chunk<K: Drop, V: Drop>(
     chunks: &mut Vec<Chunk<K, V>>,
     spares: &mut Vec<Chunk<K, V>>,
@@ -422,6 +432,7 @@ pub(crate) fn take_among<K: Ord + Drop, V: Drop>(
         return false;
     }
     let home = noted_home(chunks, key, &likely.chunk);
+    // A chunk that has become empty goes, since each is found by its first key.
     let taken = take_from(&mut chunks[home], key, &likely.place);
     if chunks[home].is_empty() {
         retire_chunk(chunks, spares, home);

@@ -6,7 +6,8 @@ ghost use Rattle.pb_memtablet.specs.BlockCounts.{AreCounts, IsInBlock};
 
 use crate::chunks::{Chunk, entry_among};
 
-// How many chunks are counted together.
+// How many chunks are counted together: `at` goes over all numbers and then over the chunks of one block, so that
+// larger blocks slow walks over small lists, and smaller ones over large lists.
 const BLOCK: usize = 64;
 
 // The place of the block that has the chunk at this place.
@@ -29,7 +30,7 @@ fn count_entries<K, V>(block: &[Chunk<K, V>]) -> usize
     count
 }
 
-// Counts all blocks anew. There is room for as many numbers as there are chunks.
+// Counts all blocks anew. There is room for as many numbers as there are chunks, so that it can't fail.
 pub(crate) fn count_blocks<K, V>(chunks: &[Chunk<K, V>], counts: &mut Vec<usize>)
     requires each { All IsChunk chunks.now }
     requires room { length chunks.now ≤ vec_capacity counts.old }
@@ -45,7 +46,7 @@ pub(crate) fn count_blocks<K, V>(chunks: &[Chunk<K, V>], counts: &mut Vec<usize>
     }
 }
 
-// The entry at a place, counted over all chunks.
+// The entry at a place, counted over all chunks: over the blocks before it, and then in its block.
 pub(crate) fn entry_at<K: Copy, V: Copy>(
     chunks: &[Chunk<K, V>],
     counts: &[usize],

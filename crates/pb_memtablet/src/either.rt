@@ -1,4 +1,4 @@
-//! A tablet of either sort.
+//! A tablet of either sort: a table is generic over one type, so that one with tablets of both sorts needs this.
 ghost use Rattle.std.specs.Prelude.{◌≡◌};
 ghost use Rattle.pb_store.specs.Contents.{nothing};
 ghost use Rattle.pb_memtablet.specs.Either.{contents_of, is_slab};
@@ -30,6 +30,7 @@ impl EitherTablet {
     }
 }
 
+// Each body passes the call on, so that what it contains is what the tablet inside does.
 impl Tablet for EitherTablet {
     ghost contents = { contents_of };
 

@@ -1,4 +1,4 @@
-//! A tablet of two sorted lists.
+//! A tablet of two sorted lists, and what it has in common with a slab tablet, which keeps its marks in the same way.
 ghost use Rattle.std.specs.Prelude.{◌≡◌, ◌+◌, ◌≤◌, ◌↔◌, IsTrue, count_by, cond, drop, length, slice_get};
 ghost use Rattle.std.specs.Option.{option_map};
 ghost use Rattle.std.specs.FinMap as map;
@@ -52,7 +52,8 @@ pub(crate) fn is_beside(slot: &Slot, other: &Slot) -> bool
     slot.cell == other.cell && slot.sort == other.sort
 }
 
-// The entry with the greatest timestamp at most `high`.
+// The entry with the greatest timestamp at most `high`: the last one up to that slot, since slots of a cell and a sort
+// go by timestamp. Where that is of another cell or sort, there is none.
 fn newest_in(
     entries: &SortedList<Slot, Item>,
     cell: Cell,
@@ -108,7 +109,7 @@ pub(crate) fn entry_after<V: Copy>(
     }
 }
 
-// How many entries the edits put.
+// How many entries the edits put, which is the room that they need, since erasing takes none.
 pub(crate) fn puts_in(edits: &[Edit]) -> usize
     ensures { result ≡ count_by is_put edits.now }
 {
@@ -118,7 +119,7 @@ pub(crate) fn puts_in(edits: &[Edit]) -> usize
         .count()
 }
 
-// How many marks the edits make.
+// How many marks the edits make, for which there has to be room.
 pub(crate) fn marks_in(edits: &[Edit]) -> usize
     ensures { result ≡ count_by is_mark edits.now }
 {
@@ -148,7 +149,8 @@ fn change(entries: &mut SortedList<Slot, Item>, marks: &mut SortedList<Cell, ()>
     }
 }
 
-// Does the first two edits at once where both are of entries that may stand side by side, and answers how many are done.
+// Does the first two edits at once where both are of entries that may stand side by side, and answers how many are
+// done: a prewrite begins with two puts, and a commit puts a write record for a lock, so that each needs one search.
 fn change_pair(
     entries: &mut SortedList<Slot, Item>,
     marks: &SortedList<Cell, ()>,
@@ -200,7 +202,7 @@ fn change_each(
     }
 }
 
-// Does all edits, for which there is room.
+// Does all edits, for which there is room: a pair in front at once, and the rest one by one.
 fn change_all(
     entries: &mut SortedList<Slot, Item>,
     marks: &mut SortedList<Cell, ()>,
@@ -250,6 +252,7 @@ impl Tablet for ListTablet {
     }
 
     fn apply(&mut self, edits: &[Edit]) -> Result<(), NoMemory> {
+        // All room comes before the first change, so that a refused call leaves everything as it was.
         self.entries.reserve(puts_in(edits))?;
         self.marks.reserve(marks_in(edits))?;
         change_all(&mut self.entries, &mut self.marks, edits);

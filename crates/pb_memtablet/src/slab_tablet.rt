@@ -1,4 +1,5 @@
-//! A tablet that keeps its entries in a slab, and a sorted list of their keys.
+//! A tablet that keeps its items in a slab, and a sorted list of slots with their keys, so that no item moves for
+//! another.
 ghost use Rattle.std.specs.Prelude.{◌≡◌, ◌+◌, ◌≤◌, ◌==◌, IsTrue, IfSome, Some, None, [], OnOk, count_by, cond, drop, length, slice_get};
 ghost use Rattle.std.specs.List.{last_or};
 ghost use Rattle.std.specs.FinMap as map;
@@ -60,7 +61,8 @@ impl SlabTablet {
     }
 }
 
-// The entry whose item has this key.
+// The entry whose item has this key. Where a key was found there is one, since each key of
+// the list has an item.
 fn entry_at(items: &Slab<Item>, found: Option<(Slot, usize)>) -> Option<(Slot, Item)>
     requires { IfSome found (λ k. ContainsKey items.now k.1) }
     ensures { result ≡ option_map (λ k. (k.0, item_at items.now.slots k.1)) found }
@@ -72,7 +74,7 @@ fn entry_at(items: &Slab<Item>, found: Option<(Slot, usize)>) -> Option<(Slot, I
     }
 }
 
-// Takes the entry of a slot out.
+// Takes the entry of a slot out, of list and slab, since the slab has no item without a key in the list.
 fn take_entry(keys: &mut SortedList<Slot, usize>, items: &mut Slab<Item>, slot: &Slot)
     requires stored { AreStored items.old.slots keys.old.entries }
     requires sorted { IsTrue (is_sorted slot_cmp keys.old.entries) }
@@ -111,7 +113,7 @@ fn put_entry(keys: &mut SortedList<Slot, usize>, items: &mut Slab<Item>, slot: &
     keys.put(Slot { cell, sort, ts }, key);
 }
 
-// Puts an entry, in the place of the one that the slot has.
+// Puts an entry, in the place of the one that the slot has. That goes first, since the new one gets a key of its own.
 fn replace_entry(
     keys: &mut SortedList<Slot, usize>,
     items: &mut Slab<Item>,
@@ -161,6 +163,7 @@ fn renew_entry(
     let Some(key) = keys.get(gone) else {
         return false;
     };
+    // The slab needs no room for it, since the item that goes leaves its own.
     items.remove(key);
     let again = items.insert_reserved(*item);
     let Slot { cell, sort, ts } = *slot;
@@ -168,7 +171,8 @@ fn renew_entry(
     true
 }
 
-// Whether the slots differ, and neither has an entry.
+// Whether the slots differ, and neither has an entry: only then can two puts be done at once, since an item that is
+// replaced has to leave the slab.
 fn are_free(keys: &SortedList<Slot, usize>, first: &Slot, second: &Slot) -> bool
     ensures apart { IsTrue result → eq_by_cmp slot_cmp second.now first.now ≡ false }
     ensures first { IsTrue result → find slot_cmp first.now keys.now.entries ≡ None }
@@ -308,7 +312,7 @@ fn change_each(
     }
 }
 
-// Does all edits, for which there is room.
+// Does all edits, for which there is room: a pair in front at once, and the rest one by one.
 fn change_all(
     keys: &mut SortedList<Slot, usize>,
     items: &mut Slab<Item>,
@@ -328,7 +332,7 @@ fn change_all(
     change_each(keys, items, marks, &edits[done..]);
 }
 
-// The item under a key that was found.
+// The item under a key that was found. It is there, since the slab has one for each key of the list.
 fn item_of(items: &Slab<Item>, found: Option<usize>) -> Option<Item>
     requires { IfSome found (ContainsKey items.now) }
     ensures { result ≡ option_map (item_at items.now.slots) found }
@@ -339,7 +343,7 @@ fn item_of(items: &Slab<Item>, found: Option<usize>) -> Option<Item>
     }
 }
 
-// The last entry whose slot is at most the given one.
+// The last entry whose slot is at most the given one, by which the newest is found.
 fn last_entry(
     keys: &SortedList<Slot, usize>,
     items: &Slab<Item>,
@@ -351,7 +355,7 @@ fn last_entry(
     entry_at(items, keys.last_up_to(slot))
 }
 
-// The entry with the greatest timestamp at most `high`.
+// The entry with the greatest timestamp at most `high`, found as a list tablet finds it.
 fn newest_in(
     keys: &SortedList<Slot, usize>,
     items: &Slab<Item>,
@@ -405,10 +409,12 @@ impl Tablet for SlabTablet {
     }
 
     fn is_empty(&self) -> bool {
+        // The keys tell of the slab too, since it has no item without one.
         self.keys.is_empty() && self.marks.is_empty()
     }
 
     fn apply(&mut self, edits: &[Edit]) -> Result<(), NoMemory> {
+        // Keys, slab and marks get their room before anything changes, so that a refused call leaves all as it was.
         let puts = puts_in(edits);
         self.keys.reserve(puts)?;
         self.items.reserve(puts)?;

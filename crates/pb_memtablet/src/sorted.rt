@@ -1,4 +1,4 @@
-//! Lists of keys and values, sorted by key.
+//! Lists of keys and values, sorted by key: the searches and changes of one chunk.
 ghost use Rattle.std.specs.Prelude.{◌≡◌, ◌<◌, ◌≤◌, ◌+◌, ◌-◌, true, IfOk, IfErr, length, IsTrue, cond, vec_len, vec_capacity, not};
 ghost use Rattle.std.specs.List.{HoldsAt, insert, remove};
 ghost use Rattle.std.specs.declared.cmp.Ordering.TheVariants.{Greater};
@@ -10,7 +10,8 @@ ghost use Rattle.pb_memtablet.specs.Places.{IsFound, IsGap, IsCut};
 use std::cell::Cell;
 use std::cmp::Ordering;
 
-// How many places are looked at, one beside the other, before a search goes by halves.
+// How many places are looked at, one beside the other, before a search goes by halves. A few are enough, since the next
+// key mostly stands near the last; fewer send more searches through the halves.
 const NEAR: u32 = 8;
 
 // Where the key stands, or where it would stand. The likely place is looked at first, and then those beside it, up to a few;
@@ -40,6 +41,7 @@ fn search_from<K: Ord, V>(entries: &[(K, V)], key: &K, likely: usize) -> Result<
             }
         }
     }
+    // In a loop of its own, since one loop for both ways would ask at each turn which it is in.
     while low < high {
         let middle = low + (high - low) / 2;
         match key.cmp(&entries[middle].0) {
@@ -51,7 +53,8 @@ fn search_from<K: Ord, V>(entries: &[(K, V)], key: &K, likely: usize) -> Result<
     Err(low)
 }
 
-// The same, noted as the next likely place.
+// Where the key stands, or where it would stand, noted as the next likely place. A gap is noted too, since a put there
+// may follow.
 fn spot<K: Ord, V>(entries: &[(K, V)], key: &K, likely: &Cell<usize>) -> Result<usize, usize>
     requires { IsTrue (is_sorted K.cmp entries.now) }
     ensures found { IfOk result (IsFound K.cmp entries.now key.now) }
@@ -67,6 +70,7 @@ fn spot<K: Ord, V>(entries: &[(K, V)], key: &K, likely: &Cell<usize>) -> Result<
     spot
 }
 
+// The value at the key, if it stands there.
 pub(crate) fn look_up<K: Ord, V: Copy>(
     entries: &[(K, V)],
     key: &K,
@@ -165,7 +169,7 @@ fn fits_at<K: Ord, V>(entries: &[(K, V)], place: usize, key: &K) -> bool
 }
 
 // Puts the value at the key where another one stands, which goes. It answers whether that could be done: the other one is
-// there, and no key stands between the two. Else nothing is changed.
+// there, and no key stands between the two. Else nothing is changed, so that the caller may still take out and put.
 pub(crate) fn replace_in<K: Ord + Drop, V: Drop>(
     entries: &mut Vec<(K, V)>,
     gone: &K,
@@ -212,6 +216,7 @@ fn insert_both<T: Copy + Drop>(elements: &mut Vec<T>, place: usize, first: T, se
     ensures capacity { vec_capacity elements.old ≤ vec_capacity elements.new }
     ensures len { vec_len elements.new ≡ vec_len elements.old + 2 }
 {
+    // What is pushed only makes the list longer, since both places are written once the rest has moved.
     let end = elements.len();
     elements.push(first).unwrap();
     elements.push(second).unwrap();
@@ -221,7 +226,7 @@ fn insert_both<T: Copy + Drop>(elements: &mut Vec<T>, place: usize, first: T, se
 }
 
 // Puts two values at two keys side by side. It answers whether that could be done: neither is there, and no key stands
-// between the two. Else nothing is changed. There is room for two entries more.
+// between the two. Else nothing is changed. There is room for two entries more. It makes one search for both.
 pub(crate) fn put_both_in<K: Ord + Copy + Drop, V: Copy + Drop>(
     entries: &mut Vec<(K, V)>,
     key: K,

@@ -1,4 +1,4 @@
-//! A sorted list in chunks.
+//! A sorted list in chunks: its parts, and the room that it keeps for puts that can't fail.
 ghost use Rattle.std.specs.Prelude.{◌≡◌, ◌==◌, ◌+◌, ◌-◌, ◌<◌, ◌≤◌, IsTrue, IsOk, OnOk, [], None, length, max, not, slice_get, vec_len};
 ghost use Rattle.std.specs.List.{All, last_or};
 ghost use Rattle.std.specs.Ordering.{eq_by_cmp};
@@ -25,11 +25,12 @@ const CHUNKS: usize = usize::MAX / CHUNK;
 pub struct SortedList<K: Ord, V> {
     alloc: Global,
     chunks: Vec<Chunk<K, V>>,
-    // Empty chunks with memory of their own, of which each put takes one at most.
+    // Empty chunks with memory of their own, of which each put takes one at most, so that their number is the room.
     spares: Vec<Chunk<K, V>>,
-    // How many entries each block of chunks has.
+    // How many entries each block of chunks has, so that `at` needn't go along all chunks.
     counts: Vec<usize>,
     len: usize,
+    // Look-ups change it too, since it stands in cells: a list may be sent to another thread, and not be shared by two.
     likely: Likely,
 }
 
@@ -148,6 +149,7 @@ impl<K: Ord + Drop, V: Drop> SortedList<K, V> {
         if puts > CHUNKS - self.chunks.len() {
             return Err(AllocError);
         }
+        // Each put may make one chunk more, and counts get as much room, since they are counted anew when that happens.
         self.chunks.reserve(puts)?;
         self.counts.reserve(self.chunks.len() + puts)?;
         stock_spares(&mut self.spares, self.alloc, puts)
@@ -188,7 +190,7 @@ impl<K: Ord + Drop, V: Drop> SortedList<K, V> {
         }
     }
 
-    /// Takes all out, and keeps the room.
+    /// Takes all out, and keeps the room. The chunks themselves are given back, since only spares are counted as room.
     pub fn clear(&mut self)
         ensures entries { self.new.entries ≡ [] }
         ensures room { self.new.room ≡ self.old.room }
@@ -219,6 +221,7 @@ impl<K: Ord + Copy + Drop, V: Copy + Drop> SortedList<K, V> {
             self.len += 2;
             return;
         }
+        // Each by a search of its own, since the two belong apart, or into a chunk that is full.
         self.put(key, value);
         self.put(next, next_value);
     }
@@ -241,6 +244,7 @@ impl<K: Ord + Copy + Drop, V: Copy + Drop> SortedList<K, V> {
         ) {
             return;
         }
+        // The entry has to move, since another key stands between, or the chunk that was likely isn't the right one.
         self.take_out(gone);
         self.put(key, value);
     }

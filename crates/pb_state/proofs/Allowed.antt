@@ -28,6 +28,7 @@ use Rattle.pb_steps.specs.CommitPrimary.{commit_reasons}
 use Rattle.pb_steps.specs.CommitSecondary.{secondary_reasons}
 use Rattle.pb_steps.specs.Steps.{step_reason}
 
+-- where no reason applies, neither the first nor one of the rest does
 none_first : (r : Reason) (b : Bool) (rs : Reasons) → first_reason ((r, b) ∷ rs) ≡ None → (b ≡ false) × (first_reason rs ≡ None)
 none_first r true rs e = cc
 none_first r false rs e = (refl, e)
@@ -48,6 +49,7 @@ chosen : (b : Bool) (u t : TransactionOf) → cond b (Some u) None ≡ Some t �
 chosen true u t e = (refl, cc)
 chosen false u t e = cc
 
+-- a transaction that is found as a seat's is there, and is that seat's
 of_seat_some : (o : Option TransactionOf) (seat : ℕ) (t : TransactionOf) → if_of_seat seat o ≡ Some t → (o ≡ Some t) × (t.seat ≡ seat)
 of_seat_some None seat t e = cc
 of_seat_some (Some u) seat t e = let p = chosen (u.seat == seat) u t e in let same = p.1 in (ap Some same, ap (λ (x : TransactionOf). x.seat) (sym same) ∙ eqb-true u.seat seat p.0)
@@ -67,6 +69,7 @@ of_own : (o : Option TransactionOf) (why : TransactionOf → Reasons) → first_
 of_own None why e = cc
 of_own (Some t) why e = (t, refl, e)
 
+-- a step that isn't refused names a transaction of its seat, and none of the reasons applies to it
 owned : (s : StateOf) (seat start : ℕ) (why : TransactionOf → Reasons) → first_reason (own_reasons s seat start why) ≡ None
     → (t : TransactionOf) × IsOwn s seat start t × (first_reason (why t) ≡ None)
 owned s seat start why e =
@@ -76,6 +79,7 @@ owned s seat start why e =
 not_later : (a b : ℕ) → nat_lt a b ≡ false → b ≤ a
 not_later a b h = grind (arith, h)
 
+-- a read that isn't refused: its transaction reads, up to its start at most
 pub may_read : (s : StateOf) (seat : ℕ) (start : Ts) (x : Cell) (at : Option Ts) → step_reason s seat (read_step start x at) ≡ None
     → (t : TransactionOf) × IsOwn s seat start.0 t × (is_reading t.phase ≡ true) × (read_up_to start.0 at ≤ start.0)
 may_read s seat start x None e =
@@ -93,6 +97,7 @@ pub record MayBeDeclared (s : StateOf) (seat : ℕ) (start : Ts) (what : Declare
   pub reading : is_reading t.phase ≡ true
   pub its : is_its s.observers t.work start.0 t.reads what ≡ true
 
+-- a declaration that isn't refused: its transaction reads, and may declare this
 pub may_declare : (s : StateOf) (seat : ℕ) (start : Ts) (what : Declared) → step_reason s seat (Declare start what) ≡ None → MayBeDeclared s seat start what
 may_declare s seat start what e =
     let o = owned s seat start.0 (declare_reasons s.observers start.0 what) e in
@@ -110,6 +115,7 @@ pub record MayPrewrite (s : StateOf) (seat start : ℕ) (x : Cell) : Type 0 wher
   pub declares : content_in t.declared x ≡ Some content
   pub once : is_in t.prewritten x ≡ false
 
+-- a prewrite that isn't refused: declared, in order and for the first time
 pub may_prewrite : (s : StateOf) (seat : ℕ) (start : Ts) (x : Cell) → step_reason s seat (Prewrite start x) ≡ None → MayPrewrite s seat start.0 x
 may_prewrite s seat start x e =
     let o = owned s seat start.0 (prewrite_reasons x) e in
@@ -122,6 +128,7 @@ may_prewrite s seat start x e =
     let k = some_there _ b.0 in
     record { t = o.0; own = o.1; phase = not_false _ n.0; in_order = n.1; content = k.0; declares = k.1; once = c.0 }
 
+-- a phase that tests as stamped has its commit
 stamp_in : (h : Phase) → is_stamped h ≡ true → (c : Ts) × (h ≡ phases.Stamped c)
 stamp_in phases.Reading e = cc
 stamp_in phases.Declared e = cc
@@ -129,6 +136,7 @@ stamp_in (phases.Stamped c) e = (c, refl)
 stamp_in (phases.Committed c) e = cc
 stamp_in phases.Failed e = cc
 
+-- a commit that isn't refused: its transaction is stamped
 pub may_commit : (s : StateOf) (seat : ℕ) (start : Ts) → step_reason s seat (CommitPrimary start) ≡ None → (t : TransactionOf) × IsOwn s seat start.0 t × (c : Ts) × (t.phase ≡ phases.Stamped c)
 may_commit s seat start e =
     let o = owned s seat start.0 commit_reasons e in
@@ -154,6 +162,7 @@ pub record MayCommitSecondary (s : StateOf) (seat start : ℕ) (x : Cell) : Type
   pub committed : t.phase ≡ phases.Committed c
   pub declares : is_some (content_in t.declared x) ≡ true
 
+-- of another cell: its transaction is committed, and has declared it
 pub may_commit_secondary : (s : StateOf) (seat : ℕ) (start : Ts) (x : Cell) → step_reason s seat (CommitSecondary start x) ≡ None → MayCommitSecondary s seat start.0 x
 may_commit_secondary s seat start x e =
     let o = owned s seat start.0 (secondary_reasons x) e in

@@ -37,6 +37,7 @@ module _ (observers : List ObserverOf) (e : Entries) (row : Row) (column : ℕ) 
         | inr g ↦ (let is = k.1.2 in let on = k.2 in (k.1.0, k.1.1, omega (arith, g, is, on)))
       ]
 
+-- what a test tells either way, said of what follows from it
 pub either_way : {A B C D : Type 0} (b : Bool) → (A → C) → (B → D) → MatchBool b A B → MatchBool b C D
 either_way true f g h = f h
 either_way false f g h = g h

@@ -32,12 +32,14 @@ both : (a b : Bool) → (a && b) ≡ true → (a ≡ true) × (b ≡ true)
 both true b e = (refl, e)
 both false b e = cc
 
+-- the test of two named timestamps tells that they are one
 at_is : (p q : Option Ts) → is_at p q ≡ true → p ≡ q
 at_is None None e = refl
 at_is (Some t) (Some u) e = ap (λ n. Some (record { 0 = n })) (eqb-true t.0 u.0 e)
 at_is None (Some u) e = cc
 at_is (Some t) None e = cc
 
+-- and that of a read that it is of this cell
 read_is : (r : RecordedRead) (x : Cell) (named : Option Ts) → is_read_of r x named ≡ true → IsReadOf r x named
 read_is r x named e = let p = both (eq_by_cmp cell_cmp r.cell x) (is_at r.at named) e in record { cell = same_cell r.cell x p.0; at = at_is r.at named p.1 }
 
@@ -113,11 +115,13 @@ pair_seen x ack second r q rest seen true e h =
     }
 pair_seen x ack second r q rest seen false e h = cc
 
+-- reads that pass the test are those of a run: cell, acknowledgment, perhaps the cell before, and the asks
 was_seen : (x ack : Cell) (second : Bool) (reads : List RecordedRead) (seen : Seen) → seen_in x ack second reads ≡ Some seen → WasSeen x ack second reads seen (asked_in (old_at second seen.acknowledged) reads)
 was_seen x ack second (r ∷ q ∷ rest) seen h = pair_seen x ack second r q rest seen _ refl h
 was_seen x ack second (r ∷ []) seen h = cc
 was_seen x ack second [] seen h = cc
 
+-- replies that pass the test are what their cells were read with
 replies_are : (reads : List RecordedRead) (talk : Talk) → are_replies reads talk ≡ true → AreReplies reads talk
 replies_are [] [] h = tt
 replies_are (r ∷ rs) (a ∷ talk) h =
@@ -155,6 +159,7 @@ run_of : (observers : List ObserverOf) (p : ℕ) (row : Row) (s : ℕ) (reads : 
 run_of observers p row s reads f None oe h = cc
 run_of observers p row s reads f (Some o) oe h = run_by observers p row s reads f o _ oe refl h
 
+-- what passes the whole test is a declaration of its transaction, as the relation has it
 pub may_be_its : (observers : List ObserverOf) (work : Work) (s : ℕ) (reads : List RecordedRead) (what : Declared) → is_its observers work s reads what ≡ true → MayDeclare observers work s reads what
 may_be_its observers works.Script s reads (declared.Script batch) h = tt
 may_be_its observers works.Script s reads (declared.Run o f) h = cc
@@ -163,6 +168,7 @@ may_be_its observers (works.Run p row) s reads (declared.Run o f) h =
     let q = both (o == p) (is_run_of observers p row s reads f) h in
     (eqb-true o p q.0, run_of observers p row s reads f _ refl q.1)
 
+-- an observer that is there has an acknowledgment in each row
 by_observer : (observers : List ObserverOf) (p : ℕ) (row : Row) (ob : ObserverOf) → slice_get observers p ≡ Some ob → acknowledgment_by observers (works.Run p row) ≡ Some (acknowledgment observers p row)
 by_observer observers p row ob e = rw e refl
 

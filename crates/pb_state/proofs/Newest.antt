@@ -9,6 +9,7 @@ use Rattle.pb_store.specs.declared.slot.Sort.TheVariants as sorts
 use Rattle.pb_store.specs.Contents.{Entries, IsNewest, IsOfSort}
 use Rattle.pb_steps.specs.Readings.{NoLock, SomeLock, NoWriteFrom, SomeWriteFrom, primary_of, start_of}
 
+-- the timestamp up to which every entry is
 abbrev pub last : Ts
 last = record { 0 = 18446744073709551615 }
 
@@ -22,12 +23,15 @@ write_item (items.Data c) h = absurd h
 write_item (items.Lock p) h = absurd h
 write_item (items.Write s) h = refl
 
+-- the newest lock is a lock
 pub some_lock : (e : Entries) (x : Cell) (f : Ts × Item) → IsNewest e x sorts.Lock last (Some f) → SomeLock e x
 some_lock e x f h = let low = h.0 in (f.0.0, omega arith, ap (λ o. is_some (primary_of o)) h.1 ∙ lock_item f.1 h.2)
 
+-- a newest write record from s on is one from s on
 pub later_write : (e : Entries) (x : Cell) (s : ℕ) (f : Ts × Item) → IsNewest e x sorts.Write last (Some f) → s ≤ f.0.0 → SomeWriteFrom e x s
 later_write e x s f h le = let low = h.0 in (f.0.0, le, omega arith, ap (λ o. is_some (start_of o)) h.1 ∙ write_item f.1 h.2)
 
+-- where the newest lock is there, a lock stands
 pub lock_if : (e : Entries) (x : Cell) (o : Option (Ts × Item)) → IsNewest e x sorts.Lock last o → is_some o ≡ true → SomeLock e x
 lock_if e x None h is = cc
 lock_if e x (Some f) h is = some_lock e x f h

@@ -5,6 +5,7 @@ pub ok_then : {A E : Type 0} (r : Result A E) (P Q : Type 0) → (P → Q) → O
 ok_then (Ok x) P Q f p = f p
 ok_then (Err e) P Q f p = p
 
+-- what holds anyway holds of a call that was done
 pub ok_always : {A E : Type 0} (r : Result A E) (Q : Type 0) → Q → OnOk r Q
 ok_always (Ok x) Q q = q
 ok_always (Err e) Q q = tt

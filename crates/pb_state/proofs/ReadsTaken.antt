@@ -13,10 +13,12 @@ use Rattle.pb_steps.specs.Reasons.{IsOwn}
 use Rattle.pb_steps.specs.Read.{read_step, with_read, ReadsLocked, ReadsFound, ReadsAbsent}
 use Rattle.pb_steps.specs.Steps.{step_reason, StepCase, TableStep}
 
+-- a read that met a lock is so whether or not it named a timestamp
 case_locked : (old : StateOf) (seat : ℕ) (s : Ts) (x : Cell) (at : Option Ts) (start : Ts) (primary : Cell) (new : StateOf) → ReadsLocked old seat s.0 x at start.0 primary new → StepCase old seat (read_step s x at) (Locked start primary) new
 case_locked old seat s x None start primary new m = m
 case_locked old seat s x (Some t) start primary new m = m
 
+-- and so is one that found a version
 case_found : (old : StateOf) (seat : ℕ) (s : Ts) (x : Cell) (at : Option Ts) (v : Revision) (new : StateOf) → ReadsFound old seat s.0 x at v new → StepCase old seat (read_step s x at) (found_answer v) new
 case_found old seat s x None v new m = m
 case_found old seat s x (Some t) v new m = m

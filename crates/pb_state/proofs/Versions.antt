@@ -12,5 +12,6 @@ by_size : (v : Version) → nat_eq (size_of v) MAX_RECORD_BYTES ≡ is_second v
 by_size First = refl
 by_size Second = refl
 
+-- the size of its record tells whether a program is told the value of before
 pub second_is : (j : JudgedOf) (v : Version) → j.record_size ≡ size_of v → is_second v ≡ tells_old j
 second_is j v e = sym (ap (λ n. nat_eq n MAX_RECORD_BYTES) e ∙ by_size v)

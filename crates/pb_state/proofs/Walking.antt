@@ -12,9 +12,11 @@ use Rattle.pb_base.specs.Cell.{cell_cmp, cell_cmp_total, cell_cmp-IsAntisymmetri
 use Rattle.pb_store.specs.Contents.{ComesAfter, IsNextMark, Marks}
 use Rattle.pb_state.proofs.Walks.{IsWalked}
 
+-- marked cells in order
 abbrev List1 : Type 0
 List1 = List (Cell × Unit {0})
 
+-- the cell is one of them
 abbrev has : Cell → List1 → Bool
 has q es = is_some (find cell_cmp q es)
 
@@ -52,6 +54,7 @@ in_rest q e es h apart = elim (cell_cmp q e.0) as (λ r. cell_cmp q e.0 ≡ r �
   | Greater ↦ λ _ k. k
 ] refl h
 
+-- what is above the first of the rest is above each of them
 above : (x q : Cell) (es : List1) → T (below_all cell_cmp x es) → has q es ≡ true → cell_cmp x q ≡ Less
 above x q [] b h = cc
 above x q (e ∷ es) b h =
@@ -75,6 +78,7 @@ less_back x y g = cell_cmp_total.antisymm y x ∙ ap ordering_reverse g
 not_both : (x y : Cell) → cell_cmp x y ≡ Less → cell_cmp y x ≡ Less → ⊥
 not_both x y a b = let turned = cell_cmp_total.antisymm x y in cc
 
+-- a mark that is told, with none between, is one more that was passed
 pub step : (es : List1) → T (is_sorted cell_cmp es) → (last : Option Cell) (n : ℕ) (next : Cell) → IsWalked last es n → has next es ≡ true → ComesAfter last next → NoneBetween last es next → IsWalked (Some next) es (suc n) × (n < length es)
 step [] s last n next w h c none = cc
 step (e ∷ es) s last zero next w h c none =
@@ -96,6 +100,7 @@ whole [] last (suc n) w none = absurd w
 whole (e ∷ es) last zero w none = let missed = none e.0 w in let there = has_head e es in cc
 whole (e ∷ es) last (suc n) w none = let rest = whole es last n w.1 (λ q after. none_tail q e es (none q after)) in ap suc rest
 
+-- before the first none was passed
 pub walked_none : (es : List1) → IsWalked None es zero
 walked_none [] = tt
 walked_none (e ∷ es) = tt
@@ -106,6 +111,7 @@ abbrev comes_after : Option Cell → Cell → Bool
 comes_after None x = true
 comes_after (Some y) x = is_lt (cell_cmp y x)
 
+-- how many are left after a cell, by which the loop over marks ends
 abbrev pub left_after : Option Cell → List1 → ℕ
 left_after last [] = 0
 left_after last (e ∷ es) = cond (comes_after last e.0) (length (e ∷ es)) (left_after last es)
@@ -122,6 +128,7 @@ after_or_not : (last : Option Cell) (x : Cell) → ComesAfter last x ⊎ (ComesA
 after_or_not None x = inl tt
 after_or_not (Some y) x = elim (cell_cmp y x) as (λ r. cell_cmp y x ≡ r → (cell_cmp y x ≡ Less) ⊎ (cell_cmp y x ≡ Less → ⊥)) [ Less ↦ λ e. inl e | Equal ↦ λ e. inr (λ q. cc) | Greater ↦ λ e. inr (λ q. cc) ] refl
 
+-- those that were passed and those that are left are all
 left_is : (es : List1) (last : Option Cell) (n : ℕ) → IsWalked last es n → left_after last es + n ≡ length es
 left_is [] last zero w = refl
 left_is [] last (suc n) w = absurd w
@@ -143,11 +150,13 @@ walked_from (e ∷ es) last = by (after_or_not last e.0) (walked_from es last)
 held : (m : Marks) (q : Cell) (b : Bool) → map.contains_key m q ≡ b → has q (map.entries m) ≡ b
 held m q b is = sym (ap is_some (map.get-entries m q)) ∙ is
 
+-- each mark that a table tells is the next of its marks
 pub walked_on : (m : Marks) (last : Option Cell) (n : ℕ) (next : Cell) → IsWalked last (map.entries m) n → IsNextMark m last (Some next) → IsWalked (Some next) (map.entries m) (n + 1) × (n < length (map.entries m))
 walked_on m last n next w is =
     let done = step (map.entries m) (map.entries_sorted m) last n next w (held m next true is.0) is.1 (λ q after below. held m q false (is.2 q after below)) in
     (subst (λ k. IsWalked (Some next) (map.entries m) k) (omega arith) done.0, done.1)
 
+-- and where it tells none, all were passed
 pub walked_all : (m : Marks) (last : Option Cell) (n : ℕ) → IsWalked last (map.entries m) n → IsNextMark m last None → n ≡ length (map.entries m)
 walked_all m last n w is = whole (map.entries m) last n w (λ q after. held m q false (is q after))
 

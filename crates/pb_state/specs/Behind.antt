@@ -1,4 +1,5 @@
--- Observers of a column against the newest commit of a cell.
+-- Observers of a column against the newest commit of a cell, one by one: what the loop of a sweep tells. That none is
+-- late on the newest commit is that all are up to date with each.
 use Rattle.std.specs.Prelude.{◌≡◌, ℕ, ◌<◌, ◌≤◌, List, Option, Some, slice_get}
 use Rattle.pb_base.specs.declared.cell.Cell.{Cell}
 use Rattle.pb_base.specs.declared.cell.Cell.TheVariants.{Ack}
@@ -21,6 +22,7 @@ IsLate e row column commit observer p = (observer.column ≡ column) × (a : ℕ
 abbrev pub IsOnTime : Entries → Row → ℕ → ℕ → ObserverOf → ℕ → Type 0
 IsOnTime e row column commit observer p = observer.column ≡ column → (a : ℕ) × IsNewestStamp e (Ack p row column) a × (commit ≤ a)
 
+-- one of these observers is late
 abbrev pub SomeLate : Entries → Row → ℕ → ℕ → List ObserverOf → Type 0
 SomeLate e row column commit observers = (p : ℕ) × (observer : ObserverOf) × (slice_get observers p ≡ Some observer) × IsLate e row column commit observer p
 

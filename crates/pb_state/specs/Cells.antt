@@ -1,4 +1,4 @@
--- What a transaction keeps of what it has declared.
+-- What a transaction keeps of what it has declared: the writes that its form stands for.
 use Rattle.std.specs.Prelude.{List, [], ◌∷◌, Option, None, slice_get}
 use Rattle.pb_base.specs.declared.cell.Cell.{Cell}
 use Rattle.pb_base.specs.declared.content.Content.TheVariants.{Stamp}
@@ -17,6 +17,7 @@ abbrev pub run_writes : Declared → Writes
 run_writes (declared.Script batch) = []
 run_writes (declared.Run o f) = f.writes
 
+-- a run's acknowledgment comes first, since that is its primary
 abbrev pub cells_in : Cells → Writes
 cells_in Nothing = []
 cells_in (Batch what) = batch_in what

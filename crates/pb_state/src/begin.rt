@@ -1,4 +1,4 @@
-//! A transaction begins.
+//! A transaction begins, with a fresh timestamp as its start.
 ghost use Rattle.std.specs.Prelude.{◌≡◌, IfOk, OnErr, None};
 ghost use Rattle.pb_history.specs.Sound.{IsSoundTable};
 ghost use Rattle.pb_steps.specs.Begin.{begin_reasons, is_unknown};
@@ -27,6 +27,7 @@ impl<T: Tablet> Parts<T> {
     pub(crate) fn begin_reason(&self, seat: u32, work: Work) -> Option<Reason>
         ensures { result ≡ first_reason (begin_reasons self.now seat work) }
     {
+        // By rising numbers, since the lowest that applies is told.
         if self.clock == u64::MAX {
             return Some(Reason::OutOfTimestamps);
         }
@@ -50,6 +51,7 @@ impl<T: Tablet> Parts<T> {
         let start = self.clock + 1;
         let transaction = Transaction::new(self.alloc, seat, work);
         self.transactions.add(Ts(start), transaction)?;
+        // The clock goes on only now, since the list may have been refused memory.
         self.clock = start;
         Ok(Answer::At(Ts(start)))
     }

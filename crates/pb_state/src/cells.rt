@@ -1,4 +1,4 @@
-//! What a transaction has declared that it writes.
+//! What a transaction has declared that it writes, as it is kept: shared with the step and the journal.
 ghost use Rattle.std.specs.Prelude.{◌≡◌};
 ghost use Rattle.std.specs.List.{list_all};
 ghost use Rattle.pb_base.specs.Batch.{content_in};
@@ -8,10 +8,12 @@ ghost use Rattle.pb_state.specs.Cells.{run_writes};
 use pb_base::{Batch, Cell, Content, Ts};
 use pb_steps::{Declaration, Declared};
 
-/// What a transaction has declared that it writes.
+/// What a transaction has declared that it writes. Only a run's acknowledgment is kept beside its declaration, since
+/// that has what its program writes alone.
 #[derive(Drop)]
 pub(crate) enum Cells {
     Nothing,
+    /// A script's. Of a run it would write nothing, so that nothing has to be known of what it holds.
     Batch(Declaration),
     /// A run's acknowledgment, with its stamp, and what its program writes.
     Run {
@@ -33,7 +35,7 @@ fn content_in(writes: &[(Cell, Content)], cell: &Cell) -> Option<Content>
     None
 }
 
-// Whether every cell of the batch is in the list.
+// Whether every cell of the batch is in the list: in the prewritten ones, of which there are at most 17.
 fn has_batch(cells: &[Cell], batch: &Batch) -> bool
     ensures { result ≡ list_all (λ w. is_in cells.now w.0) batch.now }
 {

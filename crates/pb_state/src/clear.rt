@@ -19,6 +19,7 @@ impl<T: Tablet> Parts<T> {
         let Some((start, primary)) = any_lock_on(&self.table, cell) else {
             return Ok(Answer::Absent);
         };
+        // The primary's lock comes before its write record, since while it stands its transaction is undecided.
         if primary == *cell || has_lock(&self.table, &primary, start) {
             return Ok(Answer::Waits);
         }

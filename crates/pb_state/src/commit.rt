@@ -1,4 +1,5 @@
-//! A lock is replaced by its write record, which marks an observed cell.
+//! A lock is replaced by its write record, which marks an observed cell: by one `apply`, so that each commit has its
+//! mark.
 ghost use Rattle.std.specs.Prelude.{◌≡◌, ◌==◌, OnOk, OnErr};
 ghost use Rattle.std.specs.List.{list_any};
 ghost use Rattle.std.specs.FinMap as map;
@@ -23,6 +24,7 @@ fn has_observer(observers: &[Observer], column: Column) -> bool
     false
 }
 
+// Whether a change of the cell is for an observer. Of an acknowledgment it is for none.
 fn is_observed(observers: &[Observer], cell: &Cell) -> bool
     ensures { result ≡ is_observed observers.now cell.now }
 {
@@ -32,7 +34,7 @@ fn is_observed(observers: &[Observer], cell: &Cell) -> bool
     }
 }
 
-// Replaces the lock of a start on a cell by its write record.
+// Replaces the lock of a start on a cell by its write record. Erased first, so that a tablet writes one over the other.
 fn commit_edits(cell: &Cell, start: Ts, commit: Ts) -> [Edit; 2]
     ensures edits { AreEdits result }
     ensures committed { (c : Contents)
@@ -43,7 +45,7 @@ fn commit_edits(cell: &Cell, start: Ts, commit: Ts) -> [Edit; 2]
     [Edit::Erase(lock), Edit::Put(record, Item::Write(start))]
 }
 
-// The same, and marks the cell.
+// Replaces the lock, and marks the cell.
 fn marking_edits(cell: &Cell, start: Ts, commit: Ts) -> [Edit; 3]
     ensures edits { AreEdits result }
     ensures committed { (c : Contents)

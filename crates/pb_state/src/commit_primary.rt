@@ -1,4 +1,4 @@
-//! The primary's lock is replaced by its write record.
+//! The primary's lock is replaced by its write record: from then on the transaction is committed.
 ghost use Rattle.std.specs.Prelude.{◌≡◌, IfOk, OnErr, None};
 ghost use Rattle.pb_steps.specs.CommitPrimary.{commit_reasons};
 ghost use Rattle.pb_steps.specs.Reasons.{own_reasons, first_reason};
@@ -29,6 +29,7 @@ impl<T: Tablet> Parts<T> {
         ensures taken { IfOk result (λ a. TableStep self.old seat (Step.CommitPrimary start) a self.new) }
         ensures same { OnErr result (self.new ≡ self.old) }
     {
+        // The step isn't refused, so that its transaction is there, stamped, and has declared a primary.
         let Some(transaction) = self.transactions.get(start) else {
             unreachable!()
         };

@@ -43,6 +43,7 @@ impl<T: Tablet> Parts<T> {
         let Phase::Committed(commit) = transaction.phase() else {
             unreachable!()
         };
+        // Who cleared the lock put the same commit there, so that nothing is left to do.
         if !has_lock(&self.table, cell, start) {
             return Ok(Answer::Done);
         }

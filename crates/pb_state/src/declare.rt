@@ -38,6 +38,7 @@ impl<T: Tablet> Parts<T> {
         ensures taken { IfOk result (λ a. TableStep self.old seat (Step.Declare start what.now) a self.new) }
         ensures same { OnErr result (self.new ≡ self.old) }
     {
+        // It is there, since the step isn't refused. Only one more owner of the declaration takes memory.
         let Some(transaction) = self.transactions.get(start) else {
             unreachable!()
         };

@@ -1,6 +1,11 @@
 //! The state of the shared table, and its transactions.
 //!
-//! Steps are taken exactly as `TableStep` says, and refused exactly where it says so, with the lowest number.
+//! A state has a table of tablets, the observers, the clock and the transactions, and no past: the journal that led to
+//! it is kept by `pb_core`, its only caller in the program, and what journals tell is shown in `pb_history`, below. So
+//! a new body here checks no law anew. The promise: steps are taken exactly as `TableStep` says, and refused exactly
+//! where it says so, with the lowest number; refused for memory, the state is as before. `Prewrite(1, cell)` on a free
+//! cell, for one, has room made for one prewritten cell more, puts data and lock by one `apply`, which is the last that
+//! may be refused, and answers `Done`.
 #![tactic(auto)]
 
 mod begin;

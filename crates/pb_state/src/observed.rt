@@ -1,4 +1,5 @@
-//! Whether a declaration is one of its transaction, and what it writes.
+//! Whether a declaration is one of its transaction, and what it writes. No machine is run: what a declared run has in
+//! it is compared with what its transaction read.
 ghost use Rattle.std.specs.Prelude.{◌≡◌, ◌↔◌, ◌&&◌, nat_lt, IsTrue, Some, IfOk, is_some, true, slice_get};
 ghost use Rattle.std.specs.Option.{option_copied};
 ghost use Rattle.pb_base.specs.Batch.{primary_in};
@@ -90,7 +91,7 @@ fn seen_by(
     }
 }
 
-// The first two reads of a run are its cell, found, and its acknowledgment.
+// What the reads of a run tell: the first two are its cell, found, and its acknowledgment.
 fn seen_in(cell: &Cell, acknowledgment: &Cell, second: bool, reads: &[RecordedRead]) -> Option<Seen>
     ensures { result ≡ seen_in cell.now acknowledgment.now second reads.now }
 {
@@ -164,7 +165,8 @@ fn are_replies(reads: &[RecordedRead], talk: &[(Ask, Reply)]) -> bool
     }
 }
 
-// Whether a run is this program's on this record, from this start.
+// Whether a run is this program's on this record, from this start. Programs are compared as wholes, since contracts
+// know no equality of shared pointers.
 fn is_made_of(finished: &Finished, program: &Accepted, change: &Record, start: Ts) -> bool
     ensures { result ≡ is_made_of program.now change.now start.0 finished.now }
 {
@@ -212,7 +214,7 @@ fn is_newer_run(
     is_made_of(finished, program, &record, start)
 }
 
-// The same, with the replies that were read.
+// Whether besides each reply is what its cell was read with.
 fn is_run(
     program: &Arc<Accepted>,
     cell: &Cell,
@@ -253,7 +255,7 @@ fn observer_at(observers: &[Observer], number: ObserverNo) -> Option<&Observer>
     observers.get(number.number() as usize)
 }
 
-// The same, of the observer of a number.
+// Whether there is an observer of this number, and the run is its own on this row.
 fn is_run_of(
     observers: &[Observer],
     number: ObserverNo,
@@ -309,7 +311,7 @@ pub(crate) fn acknowledgment_of(observers: &[Observer], work: Work) -> Option<Ce
     }
 }
 
-// What a declaration, which is one of its transaction, writes.
+// What a declaration, which is one of its transaction, writes. No cell is copied, since it is shared.
 pub(crate) fn cells_of(
     observers: &[Observer],
     work: Work,
@@ -328,6 +330,7 @@ pub(crate) fn cells_of(
         let what = what.share()?;
         return Ok(Cells::Batch(what));
     }
+    // Its observer is there, since the run is one by it.
     let Some(acknowledgment) = acknowledgment_of(observers, work) else {
         unreachable!()
     };

@@ -1,4 +1,4 @@
-//! The parts of a state, which the steps change.
+//! The parts of a state, which the steps change, each in a file of its own.
 ghost use Rattle.std.specs.Prelude.{◌≡◌};
 
 use crate::transaction::Transaction;
@@ -10,7 +10,8 @@ use pb_verify::Observer;
 use std::alloc::Global;
 use std::marker::Model;
 
-/// What the table holds, its observers, the last timestamp given out, the number of seats, and the transactions.
+/// What the table holds, its observers, the last timestamp given out, the number of seats, and the transactions. It is
+/// a state without the fact that it is sound, so that no step shows that for itself: `State` does once for all.
 pub(crate) struct Parts<T: Tablet> {
     pub(crate) alloc: Global,
     pub(crate) table: Table<T>,

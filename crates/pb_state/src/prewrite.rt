@@ -11,7 +11,7 @@ use pb_base::{Cell, Content, NoMemory, Reason, Ts};
 use pb_steps::{Answer, Phase, Step};
 use pb_store::{Edit, Item, Sort, Tablet};
 
-// Puts data and lock of a start on a cell.
+// Puts data and lock of a start on a cell. Data first, since they stand first: a tablet then searches once.
 fn lock_edits(cell: &Cell, start: Ts, content: Content, primary: Cell) -> [Edit; 2]
     ensures edits { AreEdits result }
     ensures lock { (c : Contents)
@@ -44,6 +44,7 @@ impl<T: Tablet> Parts<T> {
             self.transactions.set_phase(start, Phase::Failed);
             return Ok(Answer::Conflict);
         }
+        // It is there and declares the cell, since the step isn't refused, and past reading it has a primary.
         let Some(transaction) = self.transactions.get(start) else {
             unreachable!()
         };

@@ -67,6 +67,7 @@ impl<T: Tablet> Parts<T> {
         // For the proof: a write record's data stand.
         sound_has_data();
         let high = read_up_to(start, at);
+        // Locks first, since a transaction with a lock up to here may still commit within the snapshot.
         if let Some((lock, primary)) = lock_on(&self.table, cell, high) {
             return Ok(Answer::Locked {
                 start: lock,

@@ -1,4 +1,4 @@
-//! What stands in a table, as transactions see it.
+//! What stands in a table, as transactions see it: locks, versions and write records, found by `newest`.
 ghost use Rattle.std.specs.Prelude.{◌≡◌, ◌<◌, ◌^◌, ◌⊎◌, is_some, Some, MatchBool, MatchOption};
 ghost use Rattle.std.specs.FinMap as map;
 ghost use Rattle.pb_store.specs.Contents.{slot_at};
@@ -9,7 +9,7 @@ ghost use Rattle.pb_history.specs.Sound.{HasData};
 use pb_base::{Cell, Content, Revision, Ts};
 use pb_store::{Item, Slot, Sort, Table, Tablet};
 
-/// The last timestamp there is.
+/// The last timestamp there is, so that the newest entry up to it is the newest of all.
 pub(crate) const LAST: Ts = Ts(u64::MAX);
 
 pub(crate) fn slot_of(cell: &Cell, sort: Sort, ts: Ts) -> Slot
@@ -50,6 +50,7 @@ pub(crate) fn version_of<T: Tablet>(table: &Table<T>, cell: &Cell, high: Ts) -> 
     let Some((commit, Item::Write(start))) = table.newest(*cell, Sort::Write, high) else {
         return None;
     };
+    // Data stand wherever a write record does, since the table is sound.
     let Some(content) = data_of(table.get(slot_of(cell, Sort::Data, start))) else {
         unreachable!()
     };
@@ -71,7 +72,8 @@ pub(crate) fn any_lock_on<T: Tablet>(table: &Table<T>, cell: &Cell) -> Option<(T
     }
 }
 
-// The commit of the write record of this start on the cell: the last timestamp below which none is looked for falls.
+// The commit of the write record of this start on the cell. It is looked for from the newest down, since who clears a
+// lock knows its start and no commit; that there is none is told only after all. The loop ends, since `high` falls.
 pub(crate) fn commit_of<T: Tablet>(table: &Table<T>, cell: &Cell, start: Ts) -> Option<Ts>
     ensures { MatchOption result (NoWriteOf table.now.contents.entries cell.now start.0)
         (λ c. write_at table.now.contents.entries cell.now c.0 ≡ Some start.0) }
@@ -98,6 +100,7 @@ pub(crate) fn is_taken<T: Tablet>(table: &Table<T>, cell: &Cell, from: Ts) -> bo
     if table.newest(*cell, Sort::Lock, LAST).is_some() {
         return true;
     }
+    // The newest is enough, since all others are earlier.
     let Some((commit, _)) = table.newest(*cell, Sort::Write, LAST) else {
         return false;
     };
@@ -124,6 +127,7 @@ fn is_lock(sort: Sort) -> bool
     }
 }
 
+// How many locks stand. It walks from entry to entry, since to find each by its place would take longer.
 pub(crate) fn count_locks<T: Tablet>(table: &Table<T>) -> usize
     requires { map.len table.now.contents.entries < 2 ^ 64 }
     ensures { result ≡ lock_count table.now.contents.entries }
@@ -139,6 +143,7 @@ pub(crate) fn count_locks<T: Tablet>(table: &Table<T>) -> usize
     count
 }
 
+// How many cells are marked. Neither count is kept, since it would need the same bound.
 pub(crate) fn count_marks<T: Tablet>(table: &Table<T>) -> usize
     requires { map.len table.now.contents.marks < 2 ^ 64 }
     ensures { result ≡ map.len table.now.contents.marks }

@@ -1,4 +1,4 @@
-//! A lock is taken off its own primary.
+//! A lock is taken off its own primary, by anyone: the transaction can't commit any more.
 ghost use Rattle.std.specs.Prelude.{◌≡◌, IfOk, OnErr, None};
 ghost use Rattle.pb_store.specs.Contents.{Contents, AreEdits, after_edits};
 ghost use Rattle.pb_steps.specs.Commits.{erase_lock};
@@ -23,7 +23,7 @@ pub(crate) fn erase_edits(cell: &Cell, start: Ts) -> [Edit; 2]
 }
 
 impl<T: Tablet> Parts<T> {
-    // Of a step that names no transaction.
+    // Of a step that names no transaction. Any seat may take it, since who left a lock may never come back.
     pub(crate) fn seat_reason(&self, seat: u32) -> Option<Reason>
         ensures { result ≡ first_reason (seat_reasons self.now seat) }
     {

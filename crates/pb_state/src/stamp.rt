@@ -1,4 +1,4 @@
-//! A transaction takes its commit timestamp.
+//! A transaction takes its commit timestamp, once all that it declared is locked.
 ghost use Rattle.std.specs.Prelude.{◌≡◌, None};
 ghost use Rattle.pb_steps.specs.Stamp.{stamp_reasons};
 ghost use Rattle.pb_steps.specs.Reasons.{first_reason};
@@ -25,6 +25,7 @@ impl<T: Tablet> Parts<T> {
         None
     }
 
+    // It answers no `Result`, since nothing in it grows.
     pub(crate) fn stamp(&mut self, seat: u32, start: Ts) -> Answer
         requires { step_reason self.old seat (Step.Stamp start) ≡ None }
         ensures { TableStep self.old seat (Step.Stamp start) result self.new }

@@ -17,7 +17,7 @@ use pb_store::{Edit, Table, Tablet};
 use pb_verify::Observer;
 use std::cmp::Ordering;
 
-// A cell of the row before, or none.
+// A cell of the row before, or none, where a walk begins with the first mark of all.
 fn row_before(cell: &Cell) -> Option<Cell>
     ensures { ComesAfter result cell.now }
 {
@@ -28,7 +28,8 @@ fn row_before(cell: &Cell) -> Option<Cell>
     Some(Cell::Data(Row(row.0 - 1), cell.column()))
 }
 
-// Whether the cell is marked. The walk begins at the row before, and so meets few other marks.
+// Whether the cell is marked. It is found by a walk, since a table tells the first mark after a cell, and not whether
+// one stands on it. The walk begins at the row before, and so meets few other marks.
 fn is_marked<T: Tablet>(table: &Table<T>, cell: &Cell) -> bool
     ensures { result ≡ is_marked table.now.contents.marks cell.now }
 {
@@ -78,7 +79,7 @@ fn is_late<T: Tablet>(
     false
 }
 
-// Whether some observer is.
+// Whether some observer of the column has acknowledged less than the commit in the row.
 fn is_any_late<T: Tablet>(
     table: &Table<T>,
     row: Row,
@@ -93,6 +94,7 @@ fn is_any_late<T: Tablet>(
         (AreOnTime table.now.contents.entries row column commit.0 observers.now (length observers.now)) }
 {
     for place in 0..observers.len() {
+        // Each place is a number, since there are at most 32 observers.
         let Some(number) = ObserverNo::new(place as u8) else {
             unreachable!()
         };
@@ -103,7 +105,7 @@ fn is_any_late<T: Tablet>(
     false
 }
 
-// Whether an observer is behind on the cell.
+// Whether an observer is behind on the cell. The newest commit is enough, since who has acknowledged it has all before.
 fn is_behind<T: Tablet>(table: &Table<T>, observers: &[Observer], cell: &Cell) -> bool
     requires data_stands { HasData table.now.contents.entries }
     requires numbered { length observers.now ≤ MAX_OBSERVERS }
@@ -120,7 +122,7 @@ fn is_behind<T: Tablet>(table: &Table<T>, observers: &[Observer], cell: &Cell) -
     is_any_late(table, row, column, version.commit, observers)
 }
 
-// Takes the mark off.
+// Takes the mark off. It takes no memory, though `apply` may be refused for all that a contract says.
 fn unmark_edits(cell: &Cell) -> [Edit; 1]
     ensures edits { AreEdits result }
     ensures unmarked { (c : Contents) → after_edits result c ≡ record c { marks = map.remove c.marks cell.now } }

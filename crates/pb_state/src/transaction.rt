@@ -1,4 +1,4 @@
-//! A transaction.
+//! A transaction, with the lists that grow while it goes on.
 ghost use Rattle.std.specs.Prelude.{◌≡◌, ◌<◌, ◌++◌, ◌∷◌, [], OnOk, vec_len, vec_capacity};
 
 use crate::cells::Cells;
@@ -9,10 +9,10 @@ use std::alloc::Global;
 use std::marker::Model;
 
 // How many reads a run makes, if its program asks for nothing: of its cell and of its acknowledgment. One that is told what
-// the cell held at the acknowledged timestamp makes a third.
+// the cell held at the acknowledged timestamp makes a third. So many get room at once, so that most lists grow once.
 const RUN_READS: usize = 2;
 
-/// A transaction.
+/// A transaction, from its begin on. None is forgotten, since a report asks for the phase of each.
 #[derive(Drop)]
 pub(crate) struct Transaction {
     seat: u32,
@@ -20,6 +20,8 @@ pub(crate) struct Transaction {
     phase: Phase,
     reads: Vec<RecordedRead>,
     cells: Cells,
+    // Kept beside the phase, since whether the primary comes first is about what was prewritten, and not about the
+    // table's locks, which others may clear.
     prewritten: Vec<Cell>,
 }
 
@@ -197,6 +199,7 @@ impl Transaction {
         ensures err { OnErr result (self.new ≡ self.old) }
         ensures kept { OnErr result (table.new.contents ≡ table.old.contents) }
     {
+        // Room in the list comes before the edits, so that nothing has changed where either is refused.
         make_room(&mut self.prewritten, self.cells.len())?;
         table.apply(edits)?;
         append(&mut self.prewritten, cell);
@@ -211,7 +214,8 @@ impl Transaction {
     }
 }
 
-// Makes room for one item more: for a few in all while there are fewer, since mostly there are no more.
+// Makes room for one item more: for a few in all while there are fewer, since mostly there are no more, and beyond that
+// in steps that grow, so that long lists don't move with each item.
 fn make_room<X>(list: &mut Vec<X>, few: usize) -> Result<(), NoMemory>
     ensures items { list.new.items ≡ list.old.items }
     ensures room { OnOk result (vec_len list.new < vec_capacity list.new) }
@@ -225,6 +229,7 @@ fn make_room<X>(list: &mut Vec<X>, few: usize) -> Result<(), NoMemory>
     Ok(())
 }
 
+// Pushes where there is room, so that it can't be refused.
 fn append<X: Drop>(list: &mut Vec<X>, item: X)
     requires { vec_len list.old < vec_capacity list.old }
     ensures { list.new.items ≡ list.old.items ++ item ∷ [] }

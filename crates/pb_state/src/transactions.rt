@@ -1,4 +1,4 @@
-//! Transactions, by their starts.
+//! Transactions, by their starts, and where to look for one.
 ghost use Rattle.std.specs.Prelude.{◌≡◌, ◌<◌, MatchOption};
 ghost use Rattle.pb_state.specs.Starts.{StartsRise, IsStartAt, IsNoStart};
 
@@ -10,7 +10,7 @@ use pb_store::{Edit, Table, Tablet};
 use std::alloc::Global;
 use std::marker::Model;
 
-/// The transactions, under their starts, which only rise.
+/// The transactions, under their starts. A list in order is enough, since starts only rise and a new one is pushed.
 #[derive(Drop)]
 pub(crate) struct Transactions {
     list: Vec<(u64, Transaction)>,
@@ -30,7 +30,8 @@ impl Model for Transactions {
     ghost invariant = { λ a. StartsRise a.list.items };
 }
 
-// Where a start would stand if starts rose evenly. It is a guess, and can be any number.
+// Where a start would stand if starts rose evenly, since a report looks for all of them from the oldest on. It is a
+// guess, and can be any number, since it is looked at before it is taken.
 fn even_place(list: &[(u64, Transaction)], start: u64) -> usize {
     let (Some(first), Some(last)) = (list.first(), list.last()) else {
         return 0;
@@ -53,7 +54,7 @@ fn place_of(list: &[(u64, Transaction)], start: u64) -> Option<usize>
 {
     let mut low = 0;
     let mut high = list.len();
-    // Mostly it is the newest.
+    // Mostly it is the newest, since a step is mostly one of the transaction that began last.
     if high > 0 && list[high - 1].0 == start {
         return Some(high - 1);
     }
@@ -172,6 +173,7 @@ impl Transactions {
         ensures kept { OnErr result (table.new.contents ≡ table.old.contents) }
     {
         let Some(place) = place_of(&self.list, start.0) else {
+            // The edits are done all the same, since what is promised of the table asks for no transaction.
             return table.apply(edits);
         };
         let entry = &mut self.list[place];

@@ -1,9 +1,11 @@
--- The answers that a step can have, whatever the state.
+-- The answers that a step can have, whatever the state. Who makes calls has them promised (`Shared::call`, a worker's
+-- call), so that a job needn't look for answers that never come.
 use Rattle.pb_steps.specs.declared.step.Step.{Step}
 use Rattle.pb_steps.specs.declared.step.Step.TheVariants as steps
 use Rattle.pb_steps.specs.declared.step.Answer.{Answer}
 use Rattle.pb_steps.specs.declared.step.Answer.TheVariants as answers
 
+-- this step may be answered so, in some state
 abbrev pub CanAnswer : Step → Answer → Type 0
 CanAnswer (steps.Begin work) (answers.At s) = Unit {0}
 CanAnswer (steps.Read s x) (answers.Locked start primary) = Unit {0}

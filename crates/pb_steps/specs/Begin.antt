@@ -13,9 +13,11 @@ abbrev pub is_unknown : List ObserverOf → Work → Bool
 is_unknown observers Script = false
 is_unknown observers (Run o row) = not (nat_lt o (length observers))
 
+-- no timestamp is left; there is no such seat; there is no such observer
 abbrev pub begin_reasons : StateOf → ℕ → Work → Reasons
 begin_reasons s seat work = (OutOfTimestamps, is_out s) ∷ (NotOfSeat, no_seat s seat) ∷ (NoSuchObserver, is_unknown s.observers work) ∷ []
 
+-- the clock goes on by one, and a transaction of that start is there, Reading
 pub record Begins (old : StateOf) (seat : ℕ) (work : Work) (s : ℕ) (new : StateOf) : Type 0 where
   pub left : is_out old ≡ false
   pub fresh : s ≡ old.clock + 1

@@ -11,6 +11,7 @@ use Rattle.pb_steps.specs.Readings.{lock_at}
 use Rattle.pb_steps.specs.Commits.{commits}
 use Rattle.pb_steps.specs.Reasons.{Reasons, IsOwn}
 
+-- a transaction without its commit timestamp can't be committed
 abbrev pub commit_reasons : TransactionOf → Reasons
 commit_reasons t = (WrongPhase, not (is_stamped t.phase)) ∷ []
 
@@ -25,6 +26,7 @@ pub record CommitsPrimary (old : StateOf) (seat s : ℕ) (new : StateOf) : Type 
   pub locked : is_some (lock_at old.entries primary s) ≡ true
   pub new_is : new ≡ with_transaction (commits old primary s c) s (record t { phase = phases.Committed (record { 0 = c }) })
 
+-- somebody settled the primary before: nothing is written, and the transaction has failed
 pub record Loses (old : StateOf) (seat s : ℕ) (new : StateOf) : Type 0 where
   pub t : TransactionOf
   pub own : IsOwn old seat s t

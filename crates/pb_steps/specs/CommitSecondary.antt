@@ -11,6 +11,7 @@ use Rattle.pb_steps.specs.Readings.{lock_at}
 use Rattle.pb_steps.specs.Commits.{commits}
 use Rattle.pb_steps.specs.Reasons.{Reasons, IsOwn}
 
+-- not committed yet, since the primary decides; then a cell that isn't one of its own
 abbrev pub secondary_reasons : Cell → TransactionOf → Reasons
 secondary_reasons x t = (WrongPhase, not (is_committed t.phase)) ∷ (NotDeclared, is_none (content_in t.declared x)) ∷ []
 
@@ -18,6 +19,7 @@ secondary_reasons x t = (WrongPhase, not (is_committed t.phase)) ∷ (NotDeclare
 abbrev pub if_locked : StateOf → Bool → Cell → ℕ → ℕ → StateOf
 if_locked old locked x s c = if locked then commits old x s c else old
 
+-- also where its lock is gone: whoever cleared it put the same commit there
 pub record CommitsSecondary (old : StateOf) (seat s : ℕ) (x : Cell) (new : StateOf) : Type 0 where
   pub t : TransactionOf
   pub own : IsOwn old seat s t

@@ -21,5 +21,6 @@ commits old x s c = record old { entries = commit_lock old.entries x s c; marks 
 abbrev pub erase_lock : Entries → Cell → ℕ → Entries
 erase_lock e x s = map.remove (map.remove e (slot_at x sorts.Lock s)) (slot_at x sorts.Data s)
 
+-- no cell is marked, since nothing was committed
 abbrev pub rolls_back : StateOf → Cell → ℕ → StateOf
 rolls_back old x s = record old { entries = erase_lock old.entries x s }

@@ -1,5 +1,6 @@
 -- Which declaration is one of its transaction (OSDI 2010, section 2.4): a script declares a batch, and a run what its
--- observer's program makes of the cells that it read.
+-- observer's program makes of the cells that it read. It is said twice: as a relation, which the laws of runs go by,
+-- and as a test, since refusals are computed. Refusal 43 and the case of `Declare` cite them.
 use Rattle.std.specs.Prelude.{◌≡◌, ℕ, ◌<◌, Bool, true, false, not, ◌&&◌, ◌==◌, nat_lt, if◌then◌else◌, List, [], ◌∷◌, Option, Some, None, slice_get}
 use Rattle.std.specs.Ordering.{eq_by_cmp}
 use Rattle.pb_base.specs.declared.cell.Cell.{Cell}
@@ -95,10 +96,11 @@ is_at None None = true
 is_at (Some t) (Some u) = t.0 == u.0
 is_at _ _ = false
 
+-- the read is of this cell, at the timestamp that it had to name, or at none
 abbrev pub is_read_of : RecordedRead → Cell → Option Ts → Bool
 is_read_of r x at = eq_by_cmp cell_cmp r.cell x && is_at r.at at
 
--- with what the cell held at a timestamp that is read at
+-- what was seen, with what the cell held at a timestamp that is read at; nothing where that read is missing
 abbrev pub with_old : Option Ts → Cell → Seen → List RecordedRead → Option Seen
 with_old None x seen reads = Some seen
 with_old (Some a) x seen (r ∷ asked) = if is_read_of r x (Some a) then Some (record seen { old = value_in r.answer }) else None
@@ -109,6 +111,7 @@ abbrev pub seen_by : Bool → Cell → Option Revision → Ts → List RecordedR
 seen_by second x None a rest = None
 seen_by second x (Some v) a rest = with_old (old_at second a) x (record { version = v; acknowledged = a; old = None }) rest
 
+-- what the reads of a run tell of its cell and acknowledgment, which come first and in this order
 abbrev pub seen_in : Cell → Cell → Bool → List RecordedRead → Option Seen
 seen_in x ack second (r ∷ q ∷ rest) = if is_read_of r x None && is_read_of q ack None then seen_by second x (version_in r.answer) (acknowledged_in q.answer) rest else None
 seen_in x ack second _ = None
@@ -119,9 +122,11 @@ asked_in None (r ∷ q ∷ asked) = asked
 asked_in (Some a) (r ∷ q ∷ o ∷ asked) = asked
 asked_in _ _ = []
 
+-- the ask read its cell, and was replied what the read found; values are compared by their codes, as numbers
 abbrev pub is_replied : RecordedRead → Ask × Reply → Bool
 is_replied r a = is_read_of r (asked_cell a.0) None && same value_code a.1 (value_in r.answer)
 
+-- one read for each ask, in order, and none besides
 abbrev pub are_replies : List RecordedRead → Talk → Bool
 are_replies [] [] = true
 are_replies (r ∷ rs) (a ∷ talk) = is_replied r a && are_replies rs talk
@@ -139,11 +144,12 @@ is_run p x s reads f (Some seen) =
     && are_replies (asked_in (old_at (tells_old p) seen.acknowledged) reads) f.talk
 is_run p x s reads f None = false
 
+-- a run by an observer, if there is that one
 abbrev pub is_run_by : Option ObserverOf → Cell → Cell → ℕ → List RecordedRead → Meant → Bool
 is_run_by (Some o) x ack s reads f = is_run o.program x s reads f (seen_in x ack (tells_old o.program) reads)
 is_run_by None x ack s reads f = false
 
--- the same with all that it read
+-- the run is one of the observer p on the row, by all that its transaction read
 abbrev pub is_run_of : List ObserverOf → ℕ → Row → ℕ → List RecordedRead → Meant → Bool
 is_run_of observers p row s reads f = is_run_by (slice_get observers p) (observed_cell observers p row) (acknowledgment observers p row) s reads f
 

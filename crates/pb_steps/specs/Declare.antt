@@ -9,6 +9,7 @@ use Rattle.pb_steps.specs.State.{StateOf, TransactionOf, with_transaction, cells
 use Rattle.pb_steps.specs.Declarations.{IsKnown, MayDeclare, is_its}
 use Rattle.pb_steps.specs.Reasons.{Reasons, IsOwn}
 
+-- it has declared before, or can't declare this by its work, its start and its reads
 abbrev pub declare_reasons : List ObserverOf → ℕ → Declared → TransactionOf → Reasons
 declare_reasons observers start what t = (WrongPhase, not (is_reading t.phase)) ∷ (NotItsDeclaration, not (is_its observers t.work start t.reads what)) ∷ []
 

@@ -1,4 +1,5 @@
 -- Notifications (OSDI 2010, section 2.4): which cells are marked for their observers, and where an observer is behind.
+-- That it has acknowledged is said of each commit of a cell, so that a cell without any is no case of its own.
 use Rattle.std.specs.Prelude.{◌≡◌, ℕ, ◌<◌, ◌≤◌, Bool, true, false, ◌==◌, if◌then◌else◌, List, Option, Some, None, is_some, slice_get}
 use Rattle.std.specs.List.{list_any}
 use Rattle.std.specs.FinMap as map
@@ -22,6 +23,7 @@ is_observed observers (Ack o row column) = false
 abbrev pub with_mark : List ObserverOf → Marks → Cell → Marks
 with_mark observers marks x = if is_observed observers x then map.insert marks x tt else marks
 
+-- the cell is marked
 abbrev pub is_marked : Marks → Cell → Bool
 is_marked marks x = map.contains_key marks x
 
@@ -47,6 +49,7 @@ pub record IsBehind (observers : List ObserverOf) (e : Entries) (row : Row) (col
   pub acknowledges : Acknowledges observers e row column p acknowledged
   pub newer : stamp_in acknowledged < version.commit.0
 
+-- an observer is behind on the cell; on an acknowledgment none is, since no observer's column has any
 abbrev pub SomeBehind : List ObserverOf → Entries → Cell → Type 0
 SomeBehind observers e (Data row column) = (p : ℕ) × IsBehind observers e row column p
 SomeBehind observers e (Ack o row column) = ⊥
@@ -58,6 +61,7 @@ IsUpToDate observers e row column p =
     → (c : ℕ) → c ≤ last_timestamp → is_some (write_at e (Data row column) c) ≡ true
     → (acknowledged : Option Revision) × IsNewestVersion e (Ack p row column) acknowledged × (c ≤ stamp_in acknowledged)
 
+-- every observer of the cell's column is up to date, so that its mark may go
 abbrev pub AllUpToDate : List ObserverOf → Entries → Cell → Type 0
 AllUpToDate observers e (Data row column) = (p : ℕ) → IsUpToDate observers e row column p
 AllUpToDate observers e (Ack o row column) = Unit {0}

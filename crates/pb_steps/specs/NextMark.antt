@@ -4,10 +4,12 @@ use Rattle.pb_base.specs.declared.cell.Cell.{Cell}
 use Rattle.pb_store.specs.Contents.{IsNextMark}
 use Rattle.pb_steps.specs.State.{StateOf}
 
+-- x is marked, and no cell between is; nothing changes, so that many may find it at once
 pub record FindsMark (old : StateOf) (after : Option Cell) (x : Cell) (new : StateOf) : Type 0 where
   pub first : IsNextMark old.marks after (Some x)
   pub new_is : new ≡ old
 
+-- a pass is at its end
 pub record FindsNone (old : StateOf) (after : Option Cell) (new : StateOf) : Type 0 where
   pub none : IsNextMark old.marks after None
   pub new_is : new ≡ old

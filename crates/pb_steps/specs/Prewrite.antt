@@ -22,9 +22,11 @@ abbrev pub is_before_primary : Option Cell → List Cell → Cell → Bool
 is_before_primary None prewritten x = true
 is_before_primary (Some p) prewritten x = not (eq_by_cmp cell_cmp x p) && not (is_in prewritten p)
 
+-- another cell before the primary is locked: who cleared it would undo it, though all may still commit
 abbrev pub is_early : TransactionOf → Cell → Bool
 is_early t x = is_before_primary (primary_in t.declared) t.prewritten x
 
+-- another phase or too early; a cell that it didn't declare; one that it has prewritten
 abbrev pub prewrite_reasons : Cell → TransactionOf → Reasons
 prewrite_reasons x t =
     (WrongPhase, not (is_declared t.phase) || is_early t x) ∷ (NotDeclared, is_none (content_in t.declared x)) ∷ (AlreadyPrewritten, is_in t.prewritten x) ∷ []

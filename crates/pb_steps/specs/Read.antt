@@ -20,6 +20,7 @@ abbrev pub read_step : Ts → Cell → Option Ts → Step
 read_step s x None = Read s x
 read_step s x (Some t) = ReadAt s x t
 
+-- nothing is read once something is declared, since a declared run tells all reads of its transaction
 abbrev pub read_reasons : TransactionOf → Reasons
 read_reasons t = (WrongPhase, not (is_reading t.phase)) ∷ []
 

@@ -1,4 +1,5 @@
--- What stands in the table: data, locks and write records (OSDI 2010, section 2.2), read off its entries.
+-- What stands in the table: data, locks and write records (OSDI 2010, section 2.2), read off its entries. Any timestamp
+-- is one below 2^64, since code looks for the newest entry up to the greatest of 64 bits.
 use Rattle.std.specs.Prelude.{◌≡◌, ℕ, ◌<◌, ◌≤◌, ◌^◌, Bool, true, false, count_by, Option, Some, None, is_some}
 use Rattle.std.specs.FinMap as map
 use Rattle.pb_base.specs.declared.cell.Cell.{Cell}
@@ -11,14 +12,17 @@ use Rattle.pb_store.specs.declared.slot.Sort.{Sort}
 use Rattle.pb_store.specs.declared.slot.Sort.TheVariants as sorts
 use Rattle.pb_store.specs.Contents.{Entries, slot_at}
 
+-- the content of an item that is data
 abbrev pub data_of : Option Item → Option Content
 data_of (Some (items.Data c)) = Some c
 data_of _ = None
 
+-- the primary that an item names which is a lock
 abbrev pub primary_of : Option Item → Option Cell
 primary_of (Some (items.Lock p)) = Some p
 primary_of _ = None
 
+-- the start that an item names which is a write record
 abbrev pub start_of : Option Item → Option ℕ
 start_of (Some (items.Write s)) = Some s.0
 start_of _ = None
@@ -86,6 +90,7 @@ NoWriteFrom e x s = (c : ℕ) → s ≤ c → c < 2 ^ 64 → write_at e x c ≡ 
 abbrev pub SomeWriteFrom : Entries → Cell → ℕ → Type 0
 SomeWriteFrom e x s = (c : ℕ) × (s ≤ c) × (c < 2 ^ 64) × (is_some (write_at e x c) ≡ true)
 
+-- the entry's sort is that of locks
 abbrev pub is_lock : Sort → Bool
 is_lock sorts.Data = false
 is_lock sorts.Lock = true

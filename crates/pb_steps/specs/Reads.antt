@@ -1,4 +1,4 @@
--- What a transaction has read.
+-- What a transaction has read, and what a run takes from it: version, acknowledgment and replies.
 use Rattle.std.specs.Prelude.{ℕ, Option, Some, None}
 use Rattle.std.specs.Coded.{Coded, coded_ℕ, coded_list, coded_option}
 use Rattle.pb_base.specs.declared.cell.Cell.{Cell}
@@ -39,6 +39,7 @@ acknowledged_in _ = record { 0 = 0 }
 abbrev pub asked_cell : Ask → Cell
 asked_cell a = Data (record { 0 = a.row }) a.column
 
+-- what a program is told of a content: a value, and of a deletion or a stamp that there is none
 abbrev pub value_of : Content → Reply
 value_of (Value v) = Some v
 value_of _ = None
@@ -48,5 +49,6 @@ abbrev pub value_in : Answer → Reply
 value_in (Found start commit content) = value_of content
 value_in _ = None
 
+-- a reply as a tree of numbers, by which refusal 43 compares them
 abbrev pub value_code : Coded Reply
 value_code = coded_option (coded_list coded_ℕ)

@@ -32,6 +32,7 @@ pub record IsOwn (s : StateOf) (seat start : ℕ) (t : TransactionOf) : Type 0 w
   pub there : map.get s.transactions start ≡ Some t
   pub mine : t.seat ≡ seat
 
+-- the transaction, if it is one of this seat
 abbrev pub if_of_seat : ℕ → Option TransactionOf → Option TransactionOf
 if_of_seat seat None = None
 if_of_seat seat (Some t) = if t.seat == seat then Some t else None
@@ -40,6 +41,7 @@ if_of_seat seat (Some t) = if t.seat == seat then Some t else None
 abbrev pub own_transaction : StateOf → ℕ → ℕ → Option TransactionOf
 own_transaction s seat start = if no_seat s seat then None else if_of_seat seat (map.get s.transactions start)
 
+-- without a transaction the one reason, and else what is asked of it
 abbrev pub reasons_of : Option TransactionOf → (TransactionOf → Reasons) → Reasons
 reasons_of None why = (NotOfSeat, true) ∷ []
 reasons_of (Some t) why = why t

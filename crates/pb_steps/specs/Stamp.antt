@@ -12,12 +12,15 @@ use Rattle.pb_steps.specs.Reasons.{Reasons, is_out, IsOwn, own_reasons}
 abbrev pub is_whole : TransactionOf → Bool
 is_whole t = list_all (λ w. is_in t.prewritten w.0) t.declared
 
+-- a commit comes after all locks, so that a snapshot from it on meets lock or write record of each cell
 abbrev pub unstamped_reasons : TransactionOf → Reasons
 unstamped_reasons t = (WrongPhase, not (is_declared t.phase) || not (is_whole t)) ∷ []
 
+-- that no timestamp is left is told before whose transaction it is, since its number is lower
 abbrev pub stamp_reasons : StateOf → ℕ → ℕ → Reasons
 stamp_reasons s seat start = (OutOfTimestamps, is_out s) ∷ own_reasons s seat start unstamped_reasons
 
+-- the clock goes on by one, which is the transaction's commit; nothing is written yet
 pub record Stamps (old : StateOf) (seat s c : ℕ) (new : StateOf) : Type 0 where
   pub t : TransactionOf
   pub own : IsOwn old seat s t

@@ -1,4 +1,5 @@
--- The state of the shared table, without journal and books.
+-- The state of the shared table, without journal and books: what `State` is seen as. Its entries are those of all
+-- tablets, so that no step knows how they are kept.
 use Rattle.std.specs.Prelude.{ℕ, Bool, List, [], ◌∷◌, Option, option_map, refl}
 use Rattle.std.specs.Coded.{Coded, code_by, coded×, coded_ℕ, coded_list}
 use base.Stored.{coded_unit}
@@ -35,6 +36,7 @@ pub record TransactionOf : Type 0 where
   pub declared : Writes
   pub prewritten : List Cell
 
+-- transactions by their starts
 abbrev pub Transactions : Type 0
 Transactions = map.FinMap nat_cmp TransactionOf
 
@@ -82,6 +84,7 @@ is_in xs x = list_any (λ y. eq_by_cmp cell_cmp y x) xs
 
 -- ---- how a model keeps it
 
+-- a transaction as a tree of numbers, field by field
 abbrev pub transaction_code : Coded TransactionOf
 transaction_code =
     code_by (ℕ × (Work × (Phase × (List RecordedRead × (Writes × List Cell)))))
@@ -90,9 +93,11 @@ transaction_code =
     (λ p. record { seat = p.0; work = p.1.0; phase = p.1.1.0; reads = p.1.1.1.0; declared = p.1.1.1.1.0; prewritten = p.1.1.1.1.1 })
     (λ _. refl)
 
+-- all transactions as one
 abbrev pub transactions_code : Coded Transactions
 transactions_code = map.code coded_ℕ transaction_code
 
+-- a state as one
 abbrev pub state_code : Coded StateOf
 state_code =
     code_by (Entries × (Marks × (List ObserverOf × (ℕ × (ℕ × Transactions)))))

@@ -23,7 +23,7 @@ impl Model for EndedRun {
 }
 
 impl EndedRun {
-    /// Moves it to the heap. Refused, it is handed back.
+    /// Moves it to the heap. Refused, it is handed back, since what a run left can't be made again without it.
     pub fn new(alloc: Global, finished: Finished) -> Result<EndedRun, AllocFailed<Finished>>
         ensures ok { IfOk result (λ r. r ≡ finished) }
         ensures handed_back { IfErr result (λ f. f.value ≡ finished) }
@@ -41,7 +41,7 @@ impl EndedRun {
         &self.finished
     }
 
-    /// The same, taken from the heap.
+    /// What its machine left, taken from the heap again, so that a job that is then refused memory stands as before.
     pub fn into_finished(self) -> Finished
         ensures { result ≡ self }
     {

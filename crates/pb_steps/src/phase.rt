@@ -1,7 +1,7 @@
-//! How far a transaction has come.
+//! The phases of a transaction, by which its seat's steps are allowed or refused.
 use pb_base::Ts;
 
-/// How far a transaction has come.
+/// How far a transaction has come. Nothing ends one that only reads, since it stands in nobody's way.
 #[derive(Clone, Copy, Debug, PartialEq, Eq)]
 pub enum Phase {
     Reading,
@@ -10,6 +10,7 @@ pub enum Phase {
     Stamped(Ts),
     /// With its commit timestamp.
     Committed(Ts),
+    /// It met a conflict, or its primary was settled: it can't commit any more.
     Failed,
 }
 

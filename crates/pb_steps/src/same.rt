@@ -1,4 +1,5 @@
-//! Whether two steps are the same, down to what they declare.
+//! Whether two steps are the same, down to what they declare. They are compared by hand, since an equality of shared
+//! pointers isn't one of what they hold. Seats and journal are compared so when a run ends.
 ghost use Rattle.std.specs.Prelude.{◌≡◌, ◌↔◌, IsTrue};
 ghost use Rattle.pb_steps.specs.declared.step.Step.TheVariants.{Declare};
 

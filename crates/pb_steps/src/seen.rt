@@ -1,4 +1,4 @@
-//! What a transaction has read.
+//! What a transaction has read, and what a run takes from it: version, acknowledgment, replies.
 ghost use Rattle.std.specs.Prelude.{◌≡◌};
 ghost use Rattle.pb_helpers.specs.Replies.{reply_of};
 ghost use Rattle.pb_steps.specs.Declarations.{old_at};
@@ -26,7 +26,7 @@ pub struct Seen {
     pub old: Option<Value>,
 }
 
-/// The timestamp of a stamp, 0 where it is none.
+/// The timestamp of a stamp, 0 where it is none, so that every commit is above it.
 pub fn stamp_of(content: Content) -> Ts
     ensures { result ≡ stamp_of content }
 {
@@ -65,8 +65,8 @@ pub fn acknowledged_in(answer: Answer) -> Ts
     }
 }
 
-/// The timestamp at which a run reads its cell once more: the acknowledged one, where its program is told the value then and
-/// something is acknowledged.
+/// The timestamp at which a run reads its cell once more: the acknowledged one, where its program is told the value
+/// then and something is acknowledged; 0 is nothing, since the first start is above it.
 pub fn old_at(second: bool, acknowledged: Ts) -> Option<Ts>
     ensures { result ≡ old_at second acknowledged }
 {
@@ -77,6 +77,7 @@ pub fn old_at(second: bool, acknowledged: Ts) -> Option<Ts>
     }
 }
 
+// What a program is told of a content. A stamp tells it nothing, since no program can ask for an acknowledgment.
 fn value_of(content: Content) -> Reply
     ensures { reply_of result ≡ value_of content }
 {

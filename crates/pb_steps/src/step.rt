@@ -24,8 +24,9 @@ pub enum Declared {
     Run(ObserverNo, EndedRun),
 }
 
-/// What is declared, with several owners: steps, the journal and the table share it. Contracts see what it holds, and it
-/// keeps that a script declares a batch, and a run what its program means.
+/// What is declared, with several owners, since a step is copied for the journal and for its seat. Contracts see what
+/// it holds, since a copy of a bare pointer would differ. It keeps that a script declares a batch, and a run what its
+/// program means.
 #[derive(Drop)]
 pub struct Declaration {
     owner: Arc<Declared>,
@@ -52,6 +53,7 @@ impl Declared {
     {
         match self {
             Declared::Script(batch) => {
+                // The call is made for its clauses, by which it is a batch.
                 let _ = batch.len();
             }
             Declared::Run(_, run) => run.get().known(),
@@ -63,7 +65,7 @@ impl Declaration {
     ghost use Rattle.std.specs.Prelude.{◌≡◌, IfOk, IfErr};
     ghost use Rattle.pb_steps.specs.Declarations.{IsKnown};
 
-    /// The first owner. Refused, it hands back what was to be declared.
+    /// The first owner. Refused, it hands back what was to be declared, so that no caller has to keep a copy.
     pub fn new(alloc: Global, declared: Declared) -> Result<Declaration, AllocFailed<Declared>>
         ensures ok { IfOk result (λ d. d ≡ declared) }
         ensures handed_back { IfErr result (λ f. f.value ≡ declared) }
@@ -123,7 +125,7 @@ pub enum Step {
 }
 
 impl Step {
-    /// The same step again.
+    /// One more such step, as the journal and a seat keep it. Only a declaration takes memory, for one more owner.
     pub fn copy(&self) -> Result<Step, NoMemory>
         ensures { IfOk result (λ s. s ≡ self.now) }
     {
@@ -163,7 +165,7 @@ pub enum Answer {
         commit: Ts,
         content: Content,
     },
-    /// There is none.
+    /// There is none: no version, or no lock.
     Absent,
     Done,
     /// Another transaction has a lock on the cell, or wrote it since this one began; it has failed.
@@ -179,7 +181,7 @@ pub enum Answer {
     CommittedAt(Ts),
     /// The first marked cell.
     Marked(Cell),
-    /// There is none, or the cell isn't marked.
+    /// There is none, or the cell that was to be swept isn't marked.
     NoMark,
     /// An observer of the cell's column is behind on it; the mark stays.
     StillBehind,

@@ -8,14 +8,17 @@ use Rattle.pb_store.specs.Tiles.{IsTiling, IsPlace, joined, tiles_of}
 use Rattle.pb_store.proofs.Routing.{tiles_changed}
 use Rattle.pb_store.proofs.Joined.{edits_in_place}
 
+-- edits of one row are all of the row that the first one tells, by which the table finds the tablet
 pub all_of_first : (edits : List Edit) (d : Edit) → 0 < length edits → AreOfOneRow edits → AreOfRow (edit_row (get_or edits 0 d)) edits
 all_of_first [] d lt one = absurd (omega arith)
 all_of_first (edit ∷ edits) d lt one = (refl, one)
 
+-- a call is done or refused, and what follows in either case holds
 pub result_cases : {U E : Type 0} (r : Result U E) (P Q G : Type 0) → OnOk r P → OnErr r Q → (P → G) → (Q → G) → G
 result_cases (Ok u) P Q G p q f g = f p
 result_cases (Err e) P Q G p q f g = g q
 
+-- what a done call promises, said of something else that follows
 pub ok_then : {U E : Type 0} (r : Result U E) (P Q : Type 0) → (P → Q) → OnOk r P → OnOk r Q
 ok_then (Ok u) P Q f p = f p
 ok_then (Err e) P Q f p = p
@@ -33,6 +36,7 @@ module _ {T : Type 0} (c : T → Contents) (parts : List (Row × T)) (i : ℕ) (
     pub joined_after : joined (tiles_of c (set parts i (p.0, t))) ≡ after_edits edits (joined (tiles_of c parts))
     joined_after = ap joined (tiles_changed c parts i p t lt e (after_edits edits) done) ∙ (edits_in_place edits row (tiles_of c parts) i of tiling place).same
 
+-- a call that isn't refused has what it promises when it is done
 pub ok_holds : {U E : Type 0} (r : Result U E) (P : Type 0) → false ≡ is_err r → OnOk r P → P
 ok_holds (Ok u) P e p = p
 ok_holds (Err x) P e p = cc

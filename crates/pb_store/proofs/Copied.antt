@@ -30,6 +30,7 @@ less Less p = refl
 less Equal p = absurd p
 less Greater p = absurd p
 
+-- compared the other way round, two keys come out reversed
 turned : {K : Type 0} {R : K → K → Ordering} → IsTotalOrder R → (x y : K) (r : Ordering) → R x y ≡ r → R y x ≡ ordering_reverse r
 turned o x y r e = o.antisymm y x ∙ ap ordering_reverse e
 
@@ -48,6 +49,7 @@ module _ {K X : Type 0} {R : K → K → Ordering} (o : IsTotalOrder R) where
       let apart : R (get_or es i d).0 e.0 ≡ Greater = turned o e.0 (get_or es i d).0 Less (below_at e.0 es i d (first _ _ s) (omega arith)) in
       ap (λ r. cond (is_eq r) (Some e.1) (find R (get_or es i d).0 (take i es))) apart ∙ not_before es i d (second _ _ s) (omega arith)
 
+  -- a map, of which the entries before place i are copied
   module _ (exact : map.IsAntisymmetric R) (m : map.FinMap R X) where
     -- the map of all its entries is the map itself
     whole : map.from_entries (map.entries m) ≡ m
@@ -84,6 +86,7 @@ marks_up_to after m = map.from_sorted (where_key cell_cmp (up_to after) (map.ent
 alike : (after : Option Cell) (q x : Cell) → cell_cmp q x ≡ Equal → up_to after x ≡ up_to after q
 alike after q x e = ap (up_to after) (sym (cell_cmp-IsAntisymmetric q x e))
 
+-- leaving marks out keeps the order
 sorted_up_to : (after : Option Cell) (m : Marks) → T (is_sorted cell_cmp (where_key cell_cmp (up_to after) (map.entries m)))
 sorted_up_to after m = is_sorted-where_key cell_cmp (up_to after) (map.entries m) (map.entries_sorted m)
 
@@ -93,6 +96,7 @@ get-up_to after m q =
     ∙ find-where_key cell_cmp (up_to after) q (alike after q) (map.entries m)
     ∙ ap (λ x. cond (up_to after q) x None) (sym (map.get-entries m q))
 
+-- leaving elements out makes no list longer
 no_longer : {X : Type 0} (p : Cell → Bool) (es : List (Cell × X)) → length (where_key cell_cmp p es) ≤ length es
 no_longer p [] = omega arith
 no_longer p (e ∷ es) =
@@ -115,9 +119,11 @@ unit_there : (x : Option (Unit {0})) → is_some x ≡ true → x ≡ Some tt
 unit_there None e = cc
 unit_there (Some tt) e = refl
 
+-- before the first mark nothing is copied
 pub no_marks_yet : (m : Marks) → map.empty ≡ marks_up_to None m
 no_marks_yet m = map.same_map cell_cmp_total cell_cmp-IsAntisymmetric _ _ (λ q. map.get-empty cell_cmp q ∙ sym (get-up_to None m q))
 
+-- a cell that isn't up to the given one comes after it
 comes_or_not : (after : Option Cell) (q : Cell) → up_to after q ≡ false → ComesAfter after q
 comes_or_not None q e = tt
 comes_or_not (Some a) q e =
@@ -127,6 +133,7 @@ comes_or_not (Some a) q e =
       | Greater ↦ λ p. cc
     ] e
 
+-- a cell after the next mark wasn't reached before it either
 beyond : (after : Option Cell) (n q : Cell) → ComesAfter after n → cell_cmp n q ≡ Less → up_to after q ≡ false
 beyond None n q comes lt = refl
 beyond (Some a) n q comes lt = ap (λ r. not (is_lt r)) (cell_cmp_total.trans a n q comes lt)
@@ -157,6 +164,7 @@ module _ (m : Marks) (after : Option Cell) where
               ∙ sym (ap (λ r. cond (not (is_lt r)) (map.get m q) None) (turned cell_cmp_total q n Greater e))
         ] refl
 
+    -- to mark the next cell is to have copied the marks up to it, since none stands between
     pub one_more_mark : map.insert (marks_up_to after m) n tt ≡ marks_up_to (Some n) m
     one_more_mark = map.same_map cell_cmp_total cell_cmp-IsAntisymmetric _ _ (λ q.
         map.get-insert cell_cmp_total (marks_up_to after m) n tt q
@@ -171,6 +179,7 @@ module _ (m : Marks) (after : Option Cell) where
     unmarked : map.contains_key (marks_up_to after m) n ≡ false
     unmarked = ap is_some (get-up_to after m n ∙ ap (λ b. cond b (map.get m n) None) (not_yet after next.1))
 
+    -- the loop over marks ends, since each turn copies one that wasn't copied
     pub fewer_left : map.len m - map.len (map.insert (marks_up_to after m) n tt) < map.len m - map.len (marks_up_to after m)
     fewer_left =
         let more : map.len (map.insert (marks_up_to after m) n tt) ≡ map.len (marks_up_to after m) + 1 =
@@ -192,11 +201,13 @@ drop_next [] (suc i) = refl
 drop_next (x ∷ xs) zero = refl
 drop_next (x ∷ xs) (suc i) = drop_next xs i
 
+-- where no element stands, the list has ended
 none_past : {E : Type 0} (xs : List E) (i : ℕ) → None ≡ slice_get xs i → length xs ≤ i
 none_past [] i p = omega arith
 none_past (x ∷ xs) zero p = cc
 none_past (x ∷ xs) (suc i) p = let rest = none_past xs i p in omega (arith, rest)
 
+-- each turn of the walk leaves one less
 shorter : {E : Type 0} (xs : List E) (x : E) → Some x ≡ slice_get xs 0 → length (drop 1 xs) < length xs
 shorter [] x p = cc
 shorter (y ∷ xs) x p = omega arith
@@ -210,6 +221,7 @@ copied_entry m i old new slot item was at done =
     ∙ ap (λ (c : Contents). record { entries = map.insert c.entries slot item; marks = c.marks }) was
     ∙ ap (λ es. record { entries = es; marks = map.empty }) (sym (one_more_entry slot_cmp_total slot_cmp-IsAntisymmetric m i (slot, item) at))
 
+-- once as many are copied as there are, all of them are
 pub copied_entries : (m : Entries) (i : ℕ) (c : Contents) → c ≡ record { entries = map.from_entries (take i (map.entries m)); marks = map.empty } → map.len m ≤ i → c ≡ record { entries = m; marks = map.empty }
 copied_entries m i c was le = was ∙ ap (λ es. record { entries = es; marks = map.empty }) (all_entries_of slot_cmp_total slot_cmp-IsAntisymmetric m i le)
 

@@ -84,11 +84,13 @@ module _ {K X : Type 0} {R : K → K → Ordering} (o : IsTotalOrder R) where
         | Greater ↦ λ _ q. not_itself x e es (above_all_below x.0 k e es (first _ _ s) q) ∙ behind_next k es e (second _ _ s) q
       ] refl p
 
+-- after the entry that a walk was told comes what is left but that one
 pub behind : (after : Option Slot) (es : List (Slot × Item)) (e : Slot × Item) → T (is_sorted slot_cmp es) → Some e ≡ slice_get (entries_after after es) 0
     → entries_after (Some e.0) es ≡ drop 1 (entries_after after es)
 behind None es e s p = behind_first slot_cmp_total es e s p
 behind (Some k) es e s p = behind_next slot_cmp_total k es e s p
 
+-- and where it is told none, nothing is to be shown
 pub rest_behind : (after : Option Slot) (es : List (Slot × Item)) (r : Option (Slot × Item)) → T (is_sorted slot_cmp es) → r ≡ slice_get (entries_after after es) 0
     → IfSome r (λ e. entries_after (Some e.0) es ≡ drop 1 (entries_after after es))
 rest_behind after es None s p = tt
@@ -105,6 +107,7 @@ has_head e es = ap (λ r. is_some (cond (is_eq r) (Some e.1) (find slot_cmp e.0 
 has_tail : (q : Slot) (e : Slot × Item) (es : List (Slot × Item)) → is_some (find slot_cmp q es) ≡ true → is_some (find slot_cmp q (e ∷ es)) ≡ true
 has_tail q e es h = elim (eq_by_cmp slot_cmp q e.0) as (λ b. is_some (cond b (Some e.1) (find slot_cmp q es)) ≡ true) [ true ↦ refl | false ↦ h ]
 
+-- a tablet whose keys are all at or before the slot adds nothing to a walk from there
 none_after : (k : Slot) (es : List (Slot × Item)) → ((q : Slot) → is_some (find slot_cmp q es) ≡ true → is_lt (slot_cmp k q) ≡ false) → entries_after (Some k) es ≡ []
 none_after k [] h = refl
 none_after k (e ∷ es) h =
@@ -116,6 +119,7 @@ first_low tile tiles zero row t p = p.0
 first_low tile [] (suc i) row t p = absurd p
 first_low tile (next ∷ tiles) (suc i) row t p = let low = first_low next tiles i row t.1 p in omega (arith, low, t.0.rises)
 
+-- a slot of a lower row doesn't come after
 not_after : (q k : Slot) → (row_of q.cell).0 < (row_of k.cell).0 → is_lt (slot_cmp k q) ≡ false
 not_after q k lt = ap is_lt (slot_cmp_total.antisymm k q ∙ ap ordering_reverse (slots_by_row q k lt))
 
@@ -131,15 +135,18 @@ skipped k (tile ∷ next ∷ tiles) (suc i) t p =
     (none_after k (map.entries tile.1.entries) (λ q is. let before = t.0.before_next q (ap is_some (map.get-entries tile.1.entries q) ∙ is) in not_after q k (omega (arith, low, before))))
     ∙ skipped k (next ∷ tiles) i t.1 p
 
+-- a walk may begin at the tablet of the slot's row, since those before have nothing after it
 from_start : (after : Option Slot) (tiles : List Tile) (i : ℕ) → AreTiled tiles → IsStart tiles i (option_map (λ s. s.cell) after)
     → entries_after after (all_entries tiles) ≡ entries_after after (all_entries (drop i tiles))
 from_start None tiles i t start = ap (λ n. all_entries (drop n tiles)) (sym start)
 from_start (Some k) tiles i t start = skipped k tiles i t start
 
+-- the first of two lists together is that of the first list, where it has one
 head_front : {E : Type 0} (xs ys : List E) (x : E) → Some x ≡ slice_get xs 0 → slice_get (xs ++ ys) 0 ≡ Some x
 head_front [] ys x p = cc
 head_front (y ∷ xs) ys x p = sym p
 
+-- else it is that of the second
 head_back : {E : Type 0} (xs ys : List E) → None ≡ slice_get xs 0 → slice_get (xs ++ ys) 0 ≡ slice_get ys 0
 head_back [] ys p = refl
 head_back (y ∷ xs) ys p = cc

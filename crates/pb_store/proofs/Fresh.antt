@@ -24,6 +24,7 @@ same_true a b e = grind (arith, nat_tests)
 below_true : (a b : ℕ) → nat_lt a b ≡ true → a < b
 below_true a b e = grind (arith, nat_tests)
 
+-- what passes the test for nothing is the one value without entry and mark
 pub nothing_from_test : (c : Contents) → is_nothing c ≡ true → c ≡ nothing
 nothing_from_test c e =
     let m = map.empty_of_len c.entries (same_true _ _ (left_true _ _ e)) in
@@ -37,6 +38,7 @@ no_length (x ∷ es) e = absurd (omega arith)
 entries-empty : {K X : Type 0} (R : K → K → Ordering) → map.entries (map.empty {X = X} {R = R}) ≡ []
 entries-empty {K} {X} R = no_length _ (sym (map.len-entries (map.empty {X = X} {R = R})) ∙ map.len-empty R X)
 
+-- an empty map has no key
 no_key : {K X : Type 0} (R : K → K → Ordering) (m : map.FinMap R X) (q : K) → m ≡ map.empty → map.contains_key m q ≡ true → ⊥
 no_key R m q e is = subst (λ x. cond x (Unit {0}) ⊥) (sym is ∙ ap (λ n. map.contains_key n q) e ∙ ap is_some (map.get-empty R q)) tt
 
@@ -60,10 +62,12 @@ joined-nothing tiles e =
     let n = joined-marks tiles ∙ ap (λ es. map.from_entries es) (all_marks-nothing tiles e) in
     λ i. record { entries = m i; marks = n i }
 
+-- rows that rise from one above low are all above low
 rises_below : (low : ℕ) (tiles : List Tile) → rise low tiles ≡ true → IsBelow low tiles
 rises_below low [] r = tt
 rises_below low (tile ∷ tiles) r = below_true low tile.0 (left_true _ _ r)
 
+-- an empty tablet keeps to whatever rows it has
 tile_of_nothing : (tile : Tile) (tiles : List Tile) → rise tile.0 tiles ≡ true → is_nothing tile.1 ≡ true → IsTile tile tiles
 tile_of_nothing tile tiles r e =
     let c = nothing_from_test tile.1 e in
@@ -75,11 +79,13 @@ tile_of_nothing tile tiles r e =
       marks_before_next = λ q is. absurd (no_key cell_cmp tile.1.marks q (ap (λ (x : Contents). x.marks) c) is);
     }
 
+-- and so do many, where their first rows rise
 tiled_nothing : (low : ℕ) (tiles : List Tile) → rise low tiles ≡ true → all_nothing tiles ≡ true → AreTiled tiles
 tiled_nothing low [] r e = tt
 tiled_nothing low (tile ∷ tiles) r e =
     (tile_of_nothing tile tiles (right_true _ _ r) (left_true _ _ e), tiled_nothing tile.0 tiles (right_true _ _ r) (right_true _ _ e))
 
+-- empty tablets whose first rows rise from 0 make a table
 pub tiling_of_nothing : (tiles : List Tile) → rise_from_zero tiles ≡ true → all_nothing tiles ≡ true → IsTiling tiles
 tiling_of_nothing [] r e = absurd (subst (λ x. cond x (Unit {0}) ⊥) (sym r) tt)
 tiling_of_nothing (tile ∷ tiles) r e = record {
@@ -87,6 +93,7 @@ tiling_of_nothing (tile ∷ tiles) r e = record {
   tiled = (tile_of_nothing tile tiles (right_true _ _ r) (left_true _ _ e), tiled_nothing tile.0 tiles (right_true _ _ r) (right_true _ _ e));
 }
 
+-- rows that don't rise from 0 are the reason that is told, whether or not the tablets are empty
 pub refused_unrisen : (tiles : List Tile) → 0 < length tiles → rise_from_zero tiles ≡ false → table_reason tiles ≡ Some RowsDontRise
 refused_unrisen [] lt e = absurd (omega arith)
 refused_unrisen (tile ∷ tiles) lt e = ap (λ b. cond b (cond (all_nothing (tile ∷ tiles)) None (Some NotEmpty)) (Some RowsDontRise)) e

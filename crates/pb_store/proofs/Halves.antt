@@ -30,6 +30,7 @@ second : (a b : Bool) → T (a && b) → T b
 second true b p = p
 second false b p = absurd p
 
+-- what tests as equal is `Equal`
 equal_of : (r : Ordering) → is_eq r ≡ true → r ≡ Equal
 equal_of Less e = cc
 equal_of Equal e = refl
@@ -38,6 +39,7 @@ equal_of Greater e = cc
 is_less : (r : Ordering) → r ≡ Less → T (is_lt r)
 is_less r e = subst (λ s. T (is_lt s)) (sym e) tt
 
+-- the first value, or the second where there is none
 abbrev or_else : {X : Type 0} → Option X → Option X → Option X
 or_else None y = y
 or_else (Some x) y = Some x
@@ -51,10 +53,12 @@ absent : {X : Type 0} (x : Option X) → (is_some x ≡ true → ⊥) → x ≡ 
 absent None never = refl
 absent (Some x) never = absurd (never refl)
 
+-- a row below the next tile is below those behind it too, since first rows rise
 pub below_rest : (n : ℕ) (tile : Tile) (tiles : List Tile) → n < tile.0 → IsBelow tile.0 tiles → IsBelow n tiles
 below_rest n tile [] lt rises = tt
 below_rest n tile (next ∷ tiles) lt rises = omega arith
 
+-- new contents in a tile change no first row
 pub still_below : (tiles : List Tile) (i : ℕ) (c : Contents) (n : ℕ) → IsBelow n tiles → IsBelow n (replace tiles i c)
 still_below [] i c n b = b
 still_below (tile ∷ tiles) zero c n b = b
@@ -98,6 +102,7 @@ module _ {K X : Type 0} {R : K → K → Ordering} (h : Half R X) where
   not_below n zero (tile ∷ tiles) kept place below = omega (arith, place.0, below)
   not_below n (suc i) (tile ∷ tiles) kept place below = not_below n i tiles kept.1 place (below_rest n tile tiles below kept.0.rises)
 
+  -- a look-up goes to the tile of the key's row
   find-all_of : (q : K) (tiles : List Tile) (i : ℕ) → Kept tiles → IsPlace tiles i (h.row q) → map.find R q (all_of tiles) ≡ map.get (h.part (tile_at tiles i)) q
   find-all_of q [] i kept place = absurd place
   find-all_of q (tile ∷ tiles) zero kept place =
@@ -206,6 +211,7 @@ module _ {K X : Type 0} {R : K → K → Ordering} (h : Half R X) where
   abbrev pub ChangesAt : K → Option X → map.FinMap R X → map.FinMap R X → Type 0
   ChangesAt k w new old = (q : K) → map.get new q ≡ cond (eq_by_cmp R q k) w (map.get old q)
 
+  -- with other contents in the key's tile, only the look-up of that key changes
   find-replace : (k q : K) (w : Option X) (c : Contents) (tiles : List Tile) (i : ℕ) → Kept tiles → IsPlace tiles i (h.row k)
       → map.get (h.part c) q ≡ cond (eq_by_cmp R q k) w (map.get (h.part (tile_at tiles i)) q)
       → map.find R q (all_of (replace tiles i c)) ≡ cond (eq_by_cmp R q k) w (map.find R q (all_of tiles))

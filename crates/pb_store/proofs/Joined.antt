@@ -25,18 +25,22 @@ pub joined-marks : (tiles : List Tile) → (joined tiles).marks ≡ map.from_ent
 unfolding joined
 joined-marks tiles = refl
 
+-- cells of a lower row come first, whatever their columns
 pub cells_by_row : (x y : Cell) → (row_of x).0 < (row_of y).0 → cell_cmp x y ≡ Less
 cells_by_row x y lt = ap (λ r. ordering_then r (ordering_then (nat_cmp (column_of x) (column_of y)) (nat_cmp (rank_of x) (rank_of y)))) (sym (nat_cmp_is (row_of x).0 (row_of y).0 Less lt))
 
+-- and so do slots, since they go by cell first
 pub slots_by_row : (x y : Slot) → (row_of x.cell).0 < (row_of y.cell).0 → slot_cmp x y ≡ Less
 slots_by_row x y lt = ap (λ r. ordering_then r (ordering_then (nat_cmp (sort_rank x.sort) (sort_rank y.sort)) (nat_cmp x.ts.0 y.ts.0))) (cells_by_row x.cell y.cell lt)
 
+-- entries and marks are two cases of one argument, which needs an order that goes by row first
 abbrev entry_half : Half slot_cmp Item
 entry_half = record { total = slot_cmp_total; exact = slot_cmp-IsAntisymmetric; row = λ q. (row_of q.cell).0; by_row = slots_by_row; part = λ c. c.entries }
 
 abbrev pub mark_half : Half cell_cmp (Unit {0})
 mark_half = record { total = cell_cmp_total; exact = cell_cmp-IsAntisymmetric; row = λ q. (row_of q).0; by_row = cells_by_row; part = λ c. c.marks }
 
+-- tiles that keep to their rows do so with each half alone
 entries_kept : (tiles : List Tile) → AreTiled tiles → Kept entry_half tiles
 entries_kept [] t = tt
 entries_kept (tile ∷ tiles) t = (record { rises = t.0.rises; from_first = t.0.from_first; before_next = t.0.before_next }, entries_kept tiles t.1)
@@ -45,6 +49,7 @@ pub marks_kept : (tiles : List Tile) → AreTiled tiles → Kept mark_half tiles
 marks_kept [] t = tt
 marks_kept (tile ∷ tiles) t = (record { rises = t.0.rises; from_first = t.0.marks_from_first; before_next = t.0.marks_before_next }, marks_kept tiles t.1)
 
+-- and with both halves they do so as a whole
 tiled_from_kept : (tiles : List Tile) → Kept entry_half tiles → Kept mark_half tiles → AreTiled tiles
 tiled_from_kept [] e m = tt
 tiled_from_kept (tile ∷ tiles) e m = (
@@ -66,6 +71,7 @@ same_marks : (tiles : List Tile) → all_marks tiles ≡ all_of mark_half tiles
 same_marks [] = refl
 same_marks (tile ∷ tiles) = ap (λ es. map.entries tile.1.marks ++ es) (same_marks tiles)
 
+-- the entries of all tiles, in the words of a half
 entries_joined : (tiles : List Tile) → (joined tiles).entries ≡ map.from_entries (all_of entry_half tiles)
 entries_joined tiles = joined-entries tiles ∙ ap (λ es. map.from_entries es) (same_entries tiles)
 
@@ -95,6 +101,7 @@ regroup true true false d = refl
 regroup true false false d = refl
 regroup false b c d = refl
 
+-- no tile lists an entry or a mark
 abbrev none_listed : List Tile → Bool
 none_listed tiles = (length (all_entries tiles) == 0) && (length (all_marks tiles) == 0)
 
@@ -120,6 +127,7 @@ is_nothing-joined tiles tiled =
 both_same : (c : Contents) (m : Entries) (n : Marks) → c.entries ≡ m → c.marks ≡ n → c ≡ record { entries = m; marks = n }
 both_same c m n p q = λ i. record { entries = p i; marks = q i }
 
+-- an edit of marks leaves all entries
 entries_left : (c : Contents) (tiles : List Tile) (i : ℕ) → c.entries ≡ (tile_at tiles i).entries → (joined (replace tiles i c)).entries ≡ (joined tiles).entries
 entries_left c tiles i e = entries_joined _ ∙ ap (λ es. map.from_entries es) (all_of-replace_same entry_half c tiles i e) ∙ sym (entries_joined tiles)
 
@@ -141,6 +149,7 @@ joined-edit (Unmark cell) tiles i t place = both_same _ _ _
     (entries_left _ tiles i refl)
     (marks_joined _ ∙ from_entries-removed mark_half cell _ tiles i (marks_kept tiles t) place refl ∙ ap (λ m. map.remove m cell) (sym (marks_joined tiles)))
 
+-- an edit in the tile of its row leaves each tile with its own rows
 still_tiled : (edit : Edit) (tiles : List Tile) (i : ℕ) → AreTiled tiles → IsPlace tiles i (edit_row edit) → AreTiled (replace tiles i (after_edit edit (tile_at tiles i)))
 still_tiled (Put slot item) tiles i t place = tiled_from_kept _
     (Kept-inserted entry_half slot item _ tiles i (entries_kept tiles t) place refl)
@@ -160,6 +169,7 @@ still_zero [] i c z = z
 still_zero (tile ∷ tiles) zero c z = z
 still_zero (tile ∷ tiles) (suc i) c z = z
 
+-- other contents in any tile don't change which tile has a row
 still_place : (tiles : List Tile) (i j n : ℕ) (c : Contents) → IsPlace tiles i n → IsPlace (replace tiles j c) i n
 still_place [] i j n c p = p
 still_place (tile ∷ tiles) zero zero n c p = p

@@ -11,6 +11,7 @@ use Rattle.pb_store.proofs.Routing.{tile_at}
 use Rattle.pb_store.proofs.Halves.{place_of_key, places_rise, find-nowhere}
 use Rattle.pb_store.proofs.Joined.{mark_half, marks_kept, marks_joined, mark-joined, cells_by_row}
 
+-- tile i has the cell marked
 abbrev pub marked : List Tile → ℕ → Cell → Bool
 marked tiles i cell = map.contains_key (tile_at tiles i).marks cell
 
@@ -26,6 +27,7 @@ no_item : {X : Type 0} (x : Option X) → is_some x ≡ false → x ≡ None
 no_item None e = refl
 no_item (Some x) e = cc
 
+-- two cells can't each come before the other
 not_both_ways : (x y : Cell) → cell_cmp x y ≡ Less → cell_cmp y x ≡ Less → ⊥
 not_both_ways x y a b = let turned = cell_cmp_total.antisymm x y in cc
 
@@ -45,11 +47,11 @@ module _ (tiles : List Tile) (tiled : AreTiled tiles) where
       ap (λ m. map.contains_key m x) (marks_joined tiles)
       ∙ ap is_some (map.get-from_entries cell_cmp_total _ x ∙ find-nowhere mark_half x tiles (λ i lt. no_item _ (none i lt)))
 
-  -- no tile has one
+  -- where no tile has a mark after the cell, the table has none
   pub no_next : (after : Option Cell) → NonePassed tiles after (length tiles) → IsNextMark (joined tiles).marks after None
   no_next after passed cell comes = unmarked cell (λ i lt. passed i lt cell comes)
 
-  -- tile j has the first
+  -- the first tile that tells a mark tells the table's, since rows rise from tile to tile
   pub next_there : (after : Option Cell) (j : ℕ) (next : Cell) → j < length tiles → NonePassed tiles after j → IsNextMark (tile_at tiles j).marks after (Some next) → IsNextMark (joined tiles).marks after (Some next)
   next_there after j next lt passed there =
       let place : IsPlace tiles j (row_of next).0 = place_of_key mark_half next tiles j (marks_kept tiles tiled) lt there.0 in (
@@ -67,5 +69,6 @@ module _ (tiles : List Tile) (tiled : AreTiled tiles) where
             ]),
       )
 
+-- a tablet that tells no mark after the cell is passed too
 pub one_more_passed : (tiles : List Tile) (after : Option Cell) (i : ℕ) → NonePassed tiles after i → ((cell : Cell) → ComesAfter after cell → marked tiles i cell ≡ false) → NonePassed tiles after (i + 1)
 one_more_passed tiles after i passed here = below_more (λ n. (cell : Cell) → ComesAfter after cell → marked tiles n cell ≡ false) i passed here

@@ -43,6 +43,7 @@ tiles_of-set c [] i p t lt e = absurd (omega arith)
 tiles_of-set c (part ∷ parts) zero p t lt e = ap (λ (n : ℕ). (n, c t) ∷ tiles_of c parts) (ap (λ x. x.0.0) e)
 tiles_of-set c (part ∷ parts) (suc i) p t lt e = ap (λ ts. (part.0.0, c part.1) ∷ ts) (tiles_of-set c parts i p t (omega arith) e)
 
+-- a tile that gets what it has changes nothing
 pub replace_same : (tiles : List Tile) (i : ℕ) → replace tiles i (tile_at tiles i) ≡ tiles
 replace_same [] i = refl
 replace_same (tile ∷ tiles) zero = refl
@@ -59,6 +60,7 @@ module _ {T : Type 0} (c : T → Contents) (parts : List (Row × T)) (i : ℕ) (
   pub tiles_changed : (f : Contents → Contents) → c t ≡ f (c p.1) → tiles_of c (set parts i (p.0, t)) ≡ replace (tiles_of c parts) i (f (tile_at (tiles_of c parts) i))
   tiles_changed f done = tiles_of-set c parts i p t lt e ∙ ap (replace (tiles_of c parts) i) (done ∙ ap f (sym here))
 
+-- a table has at least one tablet
 pub some_tile : (tiles : List Tile) → IsTiling tiles → 0 < length tiles
 some_tile [] t = absurd t.zero_first
 some_tile (tile ∷ tiles) t = omega arith
@@ -75,6 +77,7 @@ below_next : (bound : ℕ) (tile : Tile) (tiles : List Tile) → FirstsAbove (ti
 below_next bound tile [] above = tt
 below_next row tile (next ∷ tiles) above = above 1 (omega arith) (omega arith)
 
+-- the tile that begins at or below the row, where all later ones begin above, has the row
 pub place_from_firsts : (tiles : List Tile) (i row : ℕ) → i < length tiles → first_at tiles i ≤ row → FirstsAbove tiles row i (length tiles) → IsPlace tiles i row
 place_from_firsts [] i row lt low above = absurd (omega arith)
 place_from_firsts (tile ∷ tiles) zero row lt low above = (low, below_next row tile tiles above)
@@ -83,6 +86,7 @@ place_from_firsts (tile ∷ tiles) (suc i) row lt low above = place_from_firsts 
 pub none_between : (tiles : List Tile) (row i : ℕ) → FirstsAbove tiles row i (i + 1)
 none_between tiles row i k a b = absurd (omega arith)
 
+-- the loop over first rows passes one more that is above the row
 pub one_more_above : (tiles : List Tile) (row from i : ℕ) → FirstsAbove tiles row from i → row < first_at tiles i → FirstsAbove tiles row from (i + 1)
 one_more_above tiles row from i above here k a b = below_more (λ n. from < n → row < first_at tiles n) i (λ n lt gt. above n gt lt) (λ _. here) k b a
 

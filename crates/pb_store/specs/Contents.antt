@@ -1,4 +1,5 @@
--- What a tablet or a table contains: entries by slot, and marked cells.
+-- What a tablet or a table contains: entries by slot, and marked cells. Both are maps, so that an edit is one insert or
+-- one removal, and nothing is said of how they are kept. All contracts of tablets and tables speak of them.
 use Rattle.std.specs.Prelude.{◌≡◌, ℕ, ◌<◌, ◌≤◌, Bool, true, false, List, [], ◌∷◌, Option, None, Some, refl, ◌==◌, ◌&&◌}
 use Rattle.std.specs.List.{filter}
 use Rattle.std.specs.Ordering.{is_lt}
@@ -21,48 +22,55 @@ use Rattle.pb_base.specs.contracts.cell.Cell as cell
 use Rattle.pb_store.specs.contracts.slot.Slot as slot
 use Rattle.pb_store.specs.contracts.slot.Item as item
 
+-- what stands in each slot, listed by rising slot
 abbrev pub Entries : Type 0
 Entries = map.FinMap slot_cmp Item
 
+-- the marked cells, as a map to the unit type, which is all that the toolchain's own set is
 abbrev pub Marks : Type 0
 Marks = map.FinMap cell_cmp (Unit {0})
 
+-- all that callers see of a tablet
 pub record Contents : Type 0 where
   pub entries : Entries
   pub marks : Marks
 
+-- contents as a tree of numbers, as what stands in a model has to have one
 abbrev pub coded_contents : Coded Contents
 coded_contents = code_by (Entries × Marks) (coded× (map.code slot.the_row.coded item.the_row.coded) (map.code cell.the_row.coded coded_unit)) (λ c. (c.entries, c.marks)) (λ p. record { entries = p.0; marks = p.1 }) (λ _. refl)
 
--- no entry and no mark
+-- no entry and no mark, as a test that code makes
 abbrev pub is_nothing : Contents → Bool
 is_nothing c = (map.len c.entries == 0) && (map.len c.marks == 0)
 
+-- what a tablet contains when it is made, and when it may end
 abbrev pub nothing : Contents
 nothing = record { entries = map.empty; marks = map.empty }
 
+-- an edit replaces what its slot has; what is erased or unmarked need not be there
 abbrev pub after_edit : Edit → Contents → Contents
 after_edit (Put slot item) c = record { entries = map.insert c.entries slot item; marks = c.marks }
 after_edit (Erase slot) c = record { entries = map.remove c.entries slot; marks = c.marks }
 after_edit (Mark cell) c = record { entries = c.entries; marks = map.insert c.marks cell tt }
 after_edit (Unmark cell) c = record { entries = c.entries; marks = map.remove c.marks cell }
 
--- the edits one after another
+-- what stands when all edits are done in order, where a later one may replace what an earlier one put
 abbrev pub after_edits : List Edit → Contents → Contents
 after_edits [] c = c
 after_edits (edit ∷ edits) c = after_edits edits (after_edit edit c)
 
+-- the slot of a cell and sort at the timestamp t
 abbrev pub slot_at : Cell → Sort → ℕ → Slot
 slot_at cell sort t = record { cell = cell; sort = sort; ts = record { 0 = t } }
 
--- the item is one of the sort
+-- a slot of this sort may hold the item: data a content, a lock its primary, a write record its start
 abbrev pub IsOfSort : Sort → Item → Type 0
 IsOfSort sorts.Data (items.Data content) = Unit {0}
 IsOfSort sorts.Lock (items.Lock primary) = Unit {0}
 IsOfSort sorts.Write (items.Write start) = Unit {0}
 IsOfSort _ _ = ⊥
 
--- the entry with the greatest timestamp at most high
+-- the entry with the greatest timestamp at most high, or none where no timestamp up to high has one
 abbrev pub IsNewest : Entries → Cell → Sort → Ts → Option (Ts × Item) → Type 0
 IsNewest m cell sort high None = (t : ℕ) → t ≤ high.0 → map.get m (slot_at cell sort t) ≡ None
 IsNewest m cell sort high (Some found) =
@@ -89,17 +97,19 @@ IsNextMark marks after (Some next) =
     × ComesAfter after next
     × ((cell : Cell) → ComesAfter after cell → cell_cmp cell next ≡ Less → map.contains_key marks cell ≡ false)
 
+-- the row by which a table finds the tablet of an edit
 abbrev pub edit_row : Edit → ℕ
 edit_row (Put slot item) = (row_of slot.cell).0
 edit_row (Erase slot) = (row_of slot.cell).0
 edit_row (Mark cell) = (row_of cell).0
 edit_row (Unmark cell) = (row_of cell).0
 
+-- all edits are of this row
 abbrev pub AreOfRow : ℕ → List Edit → Type 0
 AreOfRow row [] = Unit {0}
 AreOfRow row (edit ∷ edits) = (edit_row edit ≡ row) × AreOfRow row edits
 
--- all edits are of the first one's row
+-- all edits are of the first one's row, so that one tablet does them, all or none
 abbrev pub AreOfOneRow : List Edit → Type 0
 AreOfOneRow [] = Unit {0}
 AreOfOneRow (edit ∷ edits) = AreOfRow (edit_row edit) edits
@@ -109,6 +119,7 @@ abbrev pub PutsOfSort : Edit → Type 0
 PutsOfSort (Put slot item) = IsOfSort slot.sort item
 PutsOfSort _ = Unit {0}
 
+-- no edit puts an item under another sort, so that a tablet never holds one there
 abbrev pub AllPutOfSort : List Edit → Type 0
 AllPutOfSort [] = Unit {0}
 AllPutOfSort (edit ∷ edits) = PutsOfSort edit × AllPutOfSort edits

@@ -1,4 +1,5 @@
--- Slots are ordered by cell, then sort, then timestamp.
+-- Slots are ordered by cell, then sort, then timestamp: what a step looks at in a cell stands side by side, and the
+-- newest entry of a sort is the last one up to a timestamp. The order of `Slot` is this one, by its ghost members.
 use Rattle.std.specs.Prelude.{◌≡◌, ℕ, refl}
 use Rattle.std.proofs.Common.{arith}
 use Rattle.std.specs.FinMap.{IsAntisymmetric, nat_cmp-IsAntisymmetric}
@@ -11,21 +12,25 @@ use Rattle.pb_store.specs.declared.slot.Slot.{Slot}
 use Rattle.pb_store.specs.declared.slot.Sort as sort
 use Rattle.pb_store.specs.declared.slot.Sort.TheVariants.{Data, Lock, Write}
 
+-- data before locks before write records
 abbrev pub sort_rank : sort.Sort → ℕ
 sort_rank Data = 0
 sort_rank Lock = 1
 sort_rank Write = 2
 
--- within a cell
+-- among the entries of one cell, by sort and then by timestamp
 abbrev pub in_cell_cmp : Slot → Slot → Ordering
 in_cell_cmp = then_cmp (on (λ s. sort_rank s.sort) nat_cmp) (on (λ s. s.ts.0) nat_cmp)
 
+-- by cell first, and so by row, by which tablets share out the slots
 abbrev pub slot_cmp : Slot → Slot → Ordering
 slot_cmp = then_cmp (on (λ s. s.cell) cell_cmp) in_cell_cmp
 
+-- any two slots can be compared, as a map by slots asks
 pub slot_cmp_total : IsTotalOrder slot_cmp
 slot_cmp_total = then_total (on_total (λ s. s.cell) cell_cmp_total) (then_total (on_total (λ s. sort_rank s.sort) nat_cmp_total) (on_total (λ s. s.ts.0) nat_cmp_total))
 
+-- no two sorts have one rank
 same_sort : (x y : sort.Sort) → sort_rank x ≡ sort_rank y → x ≡ y
 same_sort Data Data e = refl
 same_sort Data Lock e = absurd (omega arith)

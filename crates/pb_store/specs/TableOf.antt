@@ -1,4 +1,5 @@
--- A table, as its callers see it.
+-- A table, as its callers see it. The first rows stand beside the contents, since contents alone don't tell how many
+-- tablets there are and where they begin. It is the model of `Table`, and so what its contracts speak of.
 use Rattle.std.specs.Prelude.{ℕ, List, map, refl}
 use Rattle.std.specs.Coded.{Coded, code_by, coded×, coded_ℕ, coded_list}
 use Rattle.pb_base.specs.declared.names.Row.{Row}
@@ -9,6 +10,7 @@ pub record TableOf : Type 0 where
   pub contents : Contents
   pub firsts : List ℕ
 
+-- a table's value as a tree of numbers
 abbrev pub table_code : Coded TableOf
 table_code = code_by (Contents × List ℕ) (coded× coded_contents (coded_list coded_ℕ)) (λ t. (t.contents, t.firsts)) (λ p. record { contents = p.0; firsts = p.1 }) (λ _. refl)
 

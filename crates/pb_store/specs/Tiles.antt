@@ -1,4 +1,5 @@
--- Tablets side by side, each with the rows from its first up to the next one's first.
+-- Tablets side by side, each with the rows from its first up to the next one's first. They are seen by what they
+-- contain, so that nothing here depends on a sort of tablet. The invariant of `Table` cites them.
 use Rattle.std.specs.Prelude.{◌≡◌, ℕ, unwrap_or, ◌<◌, ◌≤◌, Bool, true, List, [], ◌∷◌, ◌++◌, Option, None, Some, false, nat_lt, ◌&&◌, ◌==◌, if◌then◌else◌}
 use Rattle.std.proofs.Common.{zero, suc}
 use Rattle.std.specs.FinMap as map
@@ -32,11 +33,11 @@ abbrev pub all_marks : List Tile → List (Cell × Unit {0})
 all_marks [] = []
 all_marks (tile ∷ tiles) = map.entries tile.1.marks ++ all_marks tiles
 
--- what they contain together
+-- what they contain together, kept folded, since most proofs need only look-ups in it
 unfoldable pub joined : List Tile → Contents
 joined tiles = record { entries = map.from_entries (all_entries tiles); marks = map.from_entries (all_marks tiles) }
 
--- the row comes before all of them
+-- the row comes before all of them; the next one's first row is enough, since first rows rise
 abbrev pub IsBelow : ℕ → List Tile → Type 0
 IsBelow row [] = Unit {0}
 IsBelow row (tile ∷ tiles) = row < tile.0
@@ -90,7 +91,7 @@ abbrev pub all_nothing : List Tile → Bool
 all_nothing [] = true
 all_nothing (tile ∷ tiles) = is_nothing tile.1 && all_nothing tiles
 
--- why tablets make no table, if they make none
+-- why tablets make no table, if they make none: there is none, rows that don't rise from 0, one that isn't empty
 abbrev pub table_reason : List Tile → Option Reason
 table_reason [] = Some NoTablet
 table_reason (tile ∷ tiles) =

@@ -1,4 +1,4 @@
-//! Names of entries, and what stands there.
+//! Names of entries, what stands there, and the changes that a tablet takes.
 ghost use Rattle.std.specs.Prelude.{◌≡◌};
 
 use pb_base::{Cell, Content, Row, Ts};
@@ -30,7 +30,7 @@ pub enum Item {
     Write(Ts),
 }
 
-/// A change of what a tablet contains.
+/// A change of what a tablet contains. To erase or unmark what isn't there changes nothing.
 #[derive(Clone, Copy, Debug)]
 pub enum Edit {
     Put(Slot, Item),
@@ -42,6 +42,7 @@ pub enum Edit {
 impl Sort {
     ghost use Rattle.pb_store.specs.Slot.{sort_rank};
 
+    // Where the entries of the sort stand among those of one cell.
     fn place(self) -> u8
         ensures { result ≡ sort_rank self }
     {
@@ -56,7 +57,7 @@ impl Sort {
 impl Slot {
     ghost use Rattle.pb_store.specs.Slot.{in_cell_cmp, slot_cmp};
 
-    // Sorts and timestamps, where the cells are one.
+    // By sort and then by timestamp, since the cells are one.
     fn compare_in_cell(&self, other: &Slot) -> Ordering
         ensures { result ≡ in_cell_cmp self.now other.now }
     {
@@ -66,6 +67,7 @@ impl Slot {
         }
     }
 
+    // No further than the first part that differs, since a search does little else than compare slots.
     fn compare(&self, other: &Slot) -> Ordering
         ensures { result ≡ slot_cmp self.now other.now }
     {
@@ -131,7 +133,7 @@ impl Ord for Slot {
 impl Edit {
     ghost use Rattle.pb_store.specs.Contents.{edit_row};
 
-    /// The row that it changes.
+    /// The row that it changes, by which a table finds the tablet that does it.
     pub fn row(&self) -> Row
         ensures { result.0 ≡ edit_row self.now }
     {

@@ -1,4 +1,4 @@
-//! Tablets side by side, seen as one.
+//! Tablets side by side, seen as one: calls of one row go to its tablet, and walks go from tablet to tablet.
 ghost use Rattle.std.specs.Prelude.{◌≡◌, ◌<◌, IfOk, IfErr, OnOk, OnErr, IfSome, None, Some, drop, length, slice_get, unwrap_or};
 ghost use Rattle.std.specs.FinMap as map;
 ghost use Rattle.std.specs.Option.{option_map};
@@ -36,7 +36,7 @@ impl<T: Tablet> Model for Table<T> {
     ghost invariant = { λ t. IsTiling (tiles_of T.contents t.parts.items) };
 }
 
-// The place of the tablet that has the row.
+// The place of the tablet that has the row: the last that begins at or below it, since first rows rise.
 fn place_in<T: Tablet>(parts: &[(Row, T)], row: Row) -> usize
     requires { IsTiling (tiles_of T.contents parts.now) }
     ensures within { result < length parts.now }
@@ -51,7 +51,7 @@ fn place_in<T: Tablet>(parts: &[(Row, T)], row: Row) -> usize
     place
 }
 
-// Whether the first rows rise from 0.
+// Whether the first rows rise from 0, so that each row has one tablet.
 fn rises<T: Tablet>(parts: &[(Row, T)]) -> bool
     requires { 0 < length parts.now }
     ensures { result ≡ rise_from_zero (tiles_of T.contents parts.now) }
@@ -82,7 +82,7 @@ fn are_empty<T: Tablet>(parts: &[(Row, T)]) -> bool
     true
 }
 
-// The place of the first tablet that may have a cell after the given one.
+// The place of the first tablet that may have a cell after the given one: that of its row, which has later columns too.
 fn start_in<T: Tablet>(parts: &[(Row, T)], after: Option<Cell>) -> usize
     requires { IsTiling (tiles_of T.contents parts.now) }
     ensures within { result < length parts.now }
@@ -94,7 +94,8 @@ fn start_in<T: Tablet>(parts: &[(Row, T)], after: Option<Cell>) -> usize
     }
 }
 
-// The first marked cell after the given one, or of all.
+// The first marked cell after the given one, or of all. The first tablet that tells one has it, since later ones have
+// higher rows.
 fn mark_in<T: Tablet>(parts: &[(Row, T)], after: &Option<Cell>) -> Option<Cell>
     requires { IsTiling (tiles_of T.contents parts.now) }
     ensures { IsNextMark (joined (tiles_of T.contents parts.now)).marks after.now result }
@@ -108,7 +109,7 @@ fn mark_in<T: Tablet>(parts: &[(Row, T)], after: &Option<Cell>) -> Option<Cell>
     None
 }
 
-// The entry at a place, counted from the first tablet on.
+// The entry at a place, counted from the first tablet on, since the slots of a tablet are below those of the next.
 fn entry_in<T: Tablet>(parts: &[(Row, T)], place: usize) -> Option<(Slot, Item)>
     ensures { result ≡ slice_get (all_entries (tiles_of T.contents parts.now)) place }
 {
@@ -123,7 +124,7 @@ fn entry_in<T: Tablet>(parts: &[(Row, T)], place: usize) -> Option<(Slot, Item)>
     None
 }
 
-// The cell of a slot.
+// The cell of a slot, by whose row a walk over entries finds its first tablet.
 fn cell_of(slot: &Option<Slot>) -> Option<Cell>
     ensures { result ≡ option_map (λ s. s.cell) slot.now }
 {
@@ -133,7 +134,7 @@ fn cell_of(slot: &Option<Slot>) -> Option<Cell>
     }
 }
 
-// The first entry after the slot, or of all.
+// The first entry after the slot, or of all, in the first tablet that has one.
 fn entry_after<T: Tablet>(parts: &[(Row, T)], after: &Option<Slot>) -> Option<(Slot, Item)>
     requires { IsTiling (tiles_of T.contents parts.now) }
     ensures { result ≡ slice_get (entries_after after.now (all_entries (tiles_of T.contents parts.now))) 0 }
@@ -147,7 +148,7 @@ fn entry_after<T: Tablet>(parts: &[(Row, T)], after: &Option<Slot>) -> Option<(S
     None
 }
 
-// The tablet with all entries and marks taken out.
+// The tablet with all entries and marks taken out, so that its owner may end it.
 fn emptied<T: Tablet>(tablet: T) -> T
     ensures { T.contents result ≡ nothing }
 {
@@ -242,6 +243,7 @@ impl<T: Tablet> Table<T> {
         ensures err { OnErr result (self.new.contents ≡ self.old.contents) }
         ensures firsts { self.new.firsts ≡ self.old.firsts }
     {
+        // No edit tells a row, and so none a tablet.
         if edits.is_empty() {
             return Ok(());
         }
@@ -263,6 +265,8 @@ impl<T: Tablet> Table<T> {
         ensures refused { IfErr result (λ e. e.1 ≡ refusal_by
             (unwrap_or (swap_reason (T.contents tablet) place (length self.old.firsts)) reasons.NoMemory)) }
     {
+        // In the order of `swap_reason`, and memory last, since the new tablet is written to once nothing else
+        // refuses it.
         let places = self.places();
         if !tablet.is_empty() {
             return Err((emptied(tablet), Reason::NotEmpty.refusal()));
@@ -286,6 +290,7 @@ impl<T: Tablet> Table<T> {
             tablet.clear();
             tablet.end();
         }
+        // Also the empty list is ended by hand, since what could hold tablets can't be dropped.
         parts.destroy_empty();
     }
 }

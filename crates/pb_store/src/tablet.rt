@@ -1,4 +1,4 @@
-//! What keeps entries and marks.
+//! What keeps entries and marks: a trait, whose contracts say nothing of how they are kept.
 ghost use Rattle.std.specs.Prelude.{◌≡◌, OnOk, OnErr, IfSome, slice_get};
 ghost use Rattle.std.specs.FinMap as map;
 ghost use Rattle.pb_store.specs.Contents.{Contents, nothing, is_nothing, after_edits, entries_after, IsOfSort, IsNewest, IsNextMark, AreEdits};
@@ -60,6 +60,8 @@ pub trait Tablet {
         requires { contents self ≡ nothing };
 }
 
+// For those who have sorts of their own; each body passes the call on. The programs here have a type of either sort in
+// its place, since of a box no contract tells the sort.
 impl Tablet for Box<dyn Tablet + Send + Drop> {
     ghost contents = { λ b. (Tablet-box b).contents b.value };
 
@@ -99,6 +101,7 @@ impl Tablet for Box<dyn Tablet + Send + Drop> {
         (**self).clear();
     }
 
+    // By its drop, since `end` of what is inside takes a tablet of known size.
     fn end(self) {
         drop(self);
     }

@@ -12,6 +12,7 @@ pub record ObserverOf : Type 0 where
   pub column : ℕ
   pub program : JudgedOf
 
+-- an observer as a tree of numbers
 abbrev pub observer_code : Coded ObserverOf
 observer_code =
     code_by (List ℕ × (ℕ × JudgedOf)) (coded× (coded_list coded_ℕ) (coded× coded_ℕ judged_code))
@@ -19,6 +20,7 @@ observer_code =
     (λ p. record { name = p.0; column = p.1.0; program = p.1.1 })
     (λ _. refl)
 
+-- the column, or 0 where there is no such observer; no step of a run is taken there
 abbrev pub column_or_zero : Option ObserverOf → ℕ
 column_or_zero None = 0
 column_or_zero (Some o) = o.column
@@ -27,13 +29,15 @@ column_or_zero (Some o) = o.column
 abbrev pub observed_column : List ObserverOf → ℕ → ℕ
 observed_column observers o = column_or_zero (slice_get observers o)
 
--- the cell that an observer observes in a row, and its acknowledgment
+-- the cell that an observer observes in a row
 abbrev pub observed_cell : List ObserverOf → ℕ → Row → Cell
 observed_cell observers o row = Data row (observed_column observers o)
 
+-- where an observer keeps up to which start it has handled the changes of its cell in a row
 abbrev pub acknowledgment : List ObserverOf → ℕ → Row → Cell
 acknowledgment observers o row = Ack o row (observed_column observers o)
 
+-- the acknowledgment of an observer that may not be there
 abbrev pub acknowledgment_at : Option ObserverOf → ℕ → Row → Option Cell
 acknowledgment_at None o row = None
 acknowledgment_at (Some observer) o row = Some (Ack o row observer.column)

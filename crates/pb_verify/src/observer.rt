@@ -1,4 +1,4 @@
-//! Observers.
+//! Observers, as a table has them: a manifest's, accepted, by their numbers.
 use crate::accepted::Accepted;
 use pb_base::Column;
 use std::marker::Model;
@@ -10,6 +10,7 @@ use std::sync::Arc;
 pub struct Observer {
     pub name: String,
     pub column: Column,
+    // Shared, since each job of a run holds its observer's program beside the table.
     pub program: Arc<Accepted>,
 }
 

@@ -17,6 +17,7 @@ put_in-is_new-requires-clause-sorted g c =
     truth _ (home_sorted R g.met.K.Ord.total home.new.chunks.items c.args.key home.result c.index_mut.result.now home.ensures.home c.index_mut.ensures.value
     (subst (λ l. T (is_sorted R l)) (sym home.ensures.entries) (holds _ c.requires.chunks.sorted)))
 
+-- all entries after the put, which changed one chunk
 entries_are : (g : _) (c : After-put_in-is_new g) → chunk_entries (set c.roomy_home-home.new.chunks.items c.roomy_home-home.result c.put_in-is_new.new.entries) ≡ put g.K.Ord.cmp c.args.key c.args.value (chunk_entries c.args.chunks.now.items)
 entries_are g c =
     let R = g.K.Ord.cmp in

@@ -10,6 +10,7 @@ use Rattle.pb_memtablet.proofs.Counted.{block_is_counted, count_is_small, counts
 use Rattle.pb_memtablet.proofs.chunks.put_both_among.Goals as goal
 use Rattle.pb_memtablet.proofs.chunks.put_both_among.Goals.{After-index_mut, After-put_both_in-are_put}
 
+-- the chunk that was found is the first key's, before anything changed
 home_is : (g : _) (c : After-index_mut g) → IsHome g.K.Ord.cmp c.args.chunks.now.items c.args.key c.noted_home-home.result
 home_is g c = subst (λ l. IsHome g.K.Ord.cmp l c.args.key c.noted_home-home.result) c.deref.ensures.value c.noted_home-home.ensures.home
 
@@ -18,6 +19,7 @@ put_both_in-are_put-requires-clause-sorted g c =
     truth _ (home_sorted g.K.Ord.cmp g.met.K.Ord.total c.args.chunks.now.items c.args.key c.noted_home-home.result c.index_mut.result.now (home_is g (goal.at.put_both_in-are_put-requires-clause-sorted g c).After-index_mut) c.index_mut.ensures.value
     (holds _ c.requires.chunks.sorted))
 
+-- all entries after the call, whether or not it put the pair
 entries_are : (g : _) (c : After-put_both_in-are_put g) → chunk_entries (set c.args.chunks.now.items c.noted_home-home.result c.put_both_in-are_put.new.entries)
     ≡ cond c.put_both_in-are_put.result (put g.K.Ord.cmp c.args.next c.args.next_value (put g.K.Ord.cmp c.args.key c.args.value (chunk_entries c.args.chunks.now.items))) (chunk_entries c.args.chunks.now.items)
 entries_are g c =

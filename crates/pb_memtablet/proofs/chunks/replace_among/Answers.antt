@@ -17,6 +17,7 @@ pub replace_in-requires : goal.replace_in-requires
 replace_in-requires g c =
     truth _ (home_sorted g.K.Ord.cmp g.met.K.Ord.total c.args.chunks.now.items c.args.gone.now c.args.likely c.index_mut.result.now (home_is g c) c.index_mut.ensures.value (holds _ c.requires.sorted))
 
+-- all entries after the call, whether or not one came in the place of another
 entries_are : (g : _) (c : After-replace_in g) → chunk_entries (set c.args.chunks.now.items c.args.likely c.replace_in.new.entries)
     ≡ cond c.replace_in.result (put g.K.Ord.cmp c.args.key c.args.value (without g.K.Ord.cmp c.args.gone.now (chunk_entries c.args.chunks.now.items))) (chunk_entries c.args.chunks.now.items)
 entries_are g c =

@@ -18,6 +18,7 @@ take_from-taken-requires g c =
     let h : IsHome R c.args.chunks.now.items c.args.key.now i = subst (λ l. IsHome R l c.args.key.now i) c.deref.ensures.value c.noted_home-home.ensures.home in
     truth _ (home_sorted R g.met.K.Ord.total c.args.chunks.now.items c.args.key.now i c.index_mut.result.now h c.index_mut.ensures.value (holds _ c.requires.chunks.sorted))
 
+-- all entries where the chunk still has some
 entries_else : (g : _) (c : Else-is_empty-2 g) → chunk_entries (set c.args.chunks.now.items c.noted_home-home.result c.take_from-taken.new.entries) ≡ without g.K.Ord.cmp c.args.key.now (chunk_entries c.args.chunks.now.items)
 entries_else g c =
     let i = c.noted_home-home.result in
@@ -48,6 +49,7 @@ returns-else-is_empty-2-clause-chunks g c =
       each = All-set IsChunk cs i n (record { filled = some; fits = omega (arith, old.fits, c.take_from-taken.ensures.len); roomy = omega (arith, old.roomy, c.take_from-taken.ensures.capacity) }) c.requires.chunks.each;
     }
 
+-- all entries where the chunk became empty and was taken out
 entries_then : (g : _) (c : After-retire_chunk g) → chunk_entries c.retire_chunk.new.chunks.items ≡ without g.K.Ord.cmp c.args.key.now (chunk_entries c.args.chunks.now.items)
 entries_then g c =
     let i = c.noted_home-home.result in

@@ -36,6 +36,7 @@ edits_are c =
     ∙ ap (λ e. e ∷ c.second-item.result ∷ drop 2 c.args.edits.now) c.in-Erase-Put.is-0
     ∙ ap (λ e. Erase c.in-Erase-Put.gone ∷ e ∷ drop 2 c.args.edits.now) c.in-Erase-Put.is-1
 
+-- a replacement is an erasure and then a put, each done as one edit: first the erasure
 removal : (c : After-replace) → IsDone (without_gone c) c.args.marks.now.entries (Erase c.in-Erase-Put.gone) c.args.entries.now.entries c.args.marks.now.entries
 removal c = erase_done c.args.entries.now.entries c.args.marks.now.entries c.requires.lists (without_gone c) c.in-Erase-Put.gone refl
 

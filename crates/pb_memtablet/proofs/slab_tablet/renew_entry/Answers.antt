@@ -10,6 +10,7 @@ use Rattle.pb_memtablet.proofs.slab_tablet.renew_entry.Goals.{After-replace}
 pub remove-requires : goal.remove-requires
 remove-requires c = of_found (HasItem c.args.items.now.slots) c.args.keys.now.entries c.args.gone.now c.in-Some.key (sym c.get-2.ensures ∙ c.in-Some.is) c.requires.stored.stored
 
+-- the second slot was found to have no entry
 free : (c : After-replace) → find slot_cmp c.args.slot.now c.args.keys.now.entries ≡ None
 free c = no_key _ (ap is_some (sym c.get.ensures) ∙ sym c.if-is_some.ensures)
 

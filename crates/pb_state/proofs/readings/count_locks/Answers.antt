@@ -10,6 +10,7 @@ use Rattle.pb_steps.specs.Readings.{is_lock}
 use Rattle.pb_state.proofs.readings.count_locks.Goals as goal
 use Rattle.pb_state.proofs.readings.count_locks.Goals.{then-is_lock, else-is_lock}
 
+-- the entry is a lock
 abbrev counts : Slot × Item → Bool
 counts p = is_lock p.0.sort
 
@@ -19,6 +20,7 @@ first_counted (x ∷ xs) e p =
     let same : x ≡ e = cc in
     sum_by-cons (λ y. cond (counts y) 1 0) x xs ∙ ap (λ y. cond (counts y) 1 0 + count_by counts xs) same
 
+-- each turn of the walk leaves one less
 shorter : (xs : List (Slot × Item)) (e : Slot × Item) → Some e ≡ slice_get xs 0 → length (drop 1 xs) < length xs
 shorter [] e p = cc
 shorter (x ∷ xs) e p = omega arith
