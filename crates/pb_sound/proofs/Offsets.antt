@@ -67,8 +67,10 @@ pub record_at : (size b n : ℕ) (z : ℤ) → pos 0 ≤ℤ z → (z +ℤ pos n)
 record_at size b n (pos m) l h f = (omega (arith, ints), omega (arith, ints))
 record_at size b n (negsuc m) l h f = absurd (omega (arith, ints))
 
+-- n bytes between the ends of a region lie in it
 pub lies : (base len x n : ℕ) → base ≤ x → x + n ≤ base + len → lies_in base len x n ≡ true
 lies base len x n a b = grind (arith, nat_tests)
 
+-- and of bytes beside it none does: so stack and record aren't taken for one another
 pub lies_not : (base len x n : ℕ) → (x + n ≤ base) ⊎ (base + len ≤ x) → 0 < n → lies_in base len x n ≡ false
 lies_not base len x n a b = grind (arith, nat_tests)
