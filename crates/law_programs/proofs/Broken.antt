@@ -39,7 +39,7 @@ use Rattle.law_programs.proofs.Tests.{Decides-unset, Decides-number, Decides-pla
 some_and : {A : Type 0} (o : Option A) (x : A) (Q : A → Type 0) → o ≡ Some x → Q x → IsSomeAnd o Q
 some_and o x Q e q = subst (λ p. IsSomeAnd p Q) (sym e) q
 
--- an operand that is a pointer
+-- where the rules' test finds a pointer, one operand is it
 pub pointing : (f : Frame) (d : Reg) (x : Operand) → on_pointer f d x ≡ true → (r : ℕ) × ((r ≡ number d) ⊎ IsOperand x r) × IsPointer (kind_of f r)
 pointing f d (operands.Imm k) e =
     let h = (Decides-or (is_pointer (at f d)) false (Decides-pointer (at f d)) ((λ (e : false ≡ true). let z : ⊥ = cc in z), (λ (z : ⊥). absurd z))).0 e in

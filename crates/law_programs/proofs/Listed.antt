@@ -58,7 +58,7 @@ right_pointer f d s e = by (is_pointer (at f d)) (is_pointer (at f s)) e
     by true b e = refl
     by false b e = e
 
--- where an operand is a pointer
+-- an operand that is a pointer is found by the rules' test
 pub pointing : (f : Frame) (d : Reg) (x : Operand) (r : ℕ) → (r ≡ number d) ⊎ IsOperand x r → IsPointer (kind_of f r) → on_pointer f d x ≡ true
 pointing f d x r (inl e) h = left_pointer f d x (pointer_at f r (number d) e h)
 pointing f d (operands.Imm k) r (inr e) h = absurd e

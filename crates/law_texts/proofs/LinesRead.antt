@@ -96,6 +96,6 @@ line_back reads line batch l =
     let whole : is_batch batch ≡ true = rw (lt-ltb 0 (length batch) (omega (arith, some)), le-leb (length batch) MAX_CELLS l.few, all_to_data batch l.texts l.operations, (distinct_is batch).1 l.distinct) refl in
     (reads line batch).1 (said, whole)
 
--- both ways
+-- a line is read as a transaction exactly where it is the transaction's line
 pub line_is : ReadsOperations → (line : List ℕ) (batch : Writes) → (batch_of line ≡ Ok batch) ↔ IsBatchLine batch line
 line_is reads line batch = (line_written reads line batch, line_back reads line batch)

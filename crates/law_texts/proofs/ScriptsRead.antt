@@ -192,6 +192,6 @@ text_back law text batches s =
     let same : kept (lines_of text) ≡ kept s.lines = ap (λ (t : List ℕ). kept (lines_of t)) s.joined ∙ kept_again s.lines (are_parts s.lines s.parted) in
     back 0 (lines_of text) [] batches (are_read law batches (kept (lines_of text)) (subst (AllZip IsBatchLine batches) (sym same) s.told)) s.few
 
--- both ways
+-- a text is read as transactions exactly where it is their script
 pub text_is : ReadsLines → (text : List ℕ) (batches : Batches) → (script_of text ≡ Ok batches) ↔ IsScriptOf batches text
 text_is law text batches = (text_written law text batches, text_back law text batches)

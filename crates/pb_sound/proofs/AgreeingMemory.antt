@@ -124,7 +124,7 @@ byte_alike w vs g j x y lo n lv h i t =
       ]
     ]
 
--- the same bytes put on both stacks
+-- where the same bytes are put at one distance on both stacks, both stay alike
 pub alike_put : (a b : Placement) (f : Frame) (s t u v : State) (z : ℤ) (n : ℕ) (vs : List ℕ) → length vs ≡ n → Alike a b f s t → u.slot ≡ v.slot → u.writes ≡ v.writes → u.regs ≡ s.regs → v.regs ≡ t.regs → u.stack ≡ with_list s.stack (a.stack + from_low z) vs → v.stack ≡ with_list t.stack (b.stack + from_low z) vs → Alike a b (with_written f z n) u v
 alike_put a b f s t u v z n vs lv l eslot ewrites eu ev su sv = record {
   slot = eslot;

@@ -128,7 +128,7 @@ taken_two x a b f s t (Stack k) p h ha hb two =
       are_b = sym (stack_same x a b f s t k 32 (omega arith) h two) ∙ sa.read.are;
     }
 
--- row and column
+-- the row and the column of a call, the same in both states
 pub record CellTwo (s t : State) : Type 0 where
   pub row : ℕ
   pub column : ℕ

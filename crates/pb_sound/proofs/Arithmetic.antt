@@ -37,7 +37,7 @@ pub record Operands (e : Environment) (f : Frame) (s : State) (op : AluOp) (w : 
   pub sets : sets d ≡ []
   pub holds : Holds e (kind_after f op w d x) (Some (alu op w left right))
 
--- two values
+-- both operands have values, and the destination isn't R10
 pub record Both (s : State) (d : registers.Reg) (x : Operand) : Type 0 where
   pub left : ℕ
   pub right : ℕ

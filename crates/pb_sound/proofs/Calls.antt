@@ -53,7 +53,7 @@ fits_returned e f s t v h er es = record {
 
 -- ---- arguments
 
--- row and column
+-- the row and the column of a call, which registers 1 and 2 have
 pub record Cell (s : State) : Type 0 where
   pub row : ℕ
   pub column : ℕ

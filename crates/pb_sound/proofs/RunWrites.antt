@@ -47,7 +47,7 @@ plain_replaced x c (w ∷ ws) p h = let q = and_parts (is_data_write w) (list_al
     by true first rest replaced = λ i. p i && rest i
     by false first rest replaced = λ i. first i && replaced i
 
--- the same cells are written
+-- whether a cell is written doesn't depend on what it is given
 none_some : (t : Bool) (a b : Content) (o : Option Content) → is_none (cond t (Some a) o) ≡ is_none (cond t (Some b) o)
 none_some true a b o = refl
 none_some false a b o = refl
