@@ -39,7 +39,7 @@ use Rattle.law_programs.proofs.Tests.{Decides-unset, Decides-number, Decides-pla
 some_and : {A : Type 0} (o : Option A) (x : A) (Q : A → Type 0) → o ≡ Some x → Q x → IsSomeAnd o Q
 some_and o x Q e q = subst (λ p. IsSomeAnd p Q) (sym e) q
 
--- an operand that is a pointer
+-- where the rules' test finds a pointer, one operand is it
 pub pointing : (f : Frame) (d : Reg) (x : Operand) → on_pointer f d x ≡ true → (r : ℕ) × ((r ≡ number d) ⊎ IsOperand x r) × IsPointer (kind_of f r)
 pointing f d (operands.Imm k) e =
     let h = (Decides-or (is_pointer (at f d)) false (Decides-pointer (at f d)) ((λ (e : false ≡ true). let z : ⊥ = cc in z), (λ (z : ⊥). absurd z))).0 e in
@@ -115,6 +115,7 @@ module _ (j : JudgedOf) (n : ℕ) (f : Frame) (i : Insn) where
 computes : (j : JudgedOf) (n : ℕ) (f : Frame) (op : AluOp) (w : Width) (d : Reg) (x : Operand) → op ≢ Mov → ¬ (KeepsPointers op w x) → All (λ c. Breaks c j n f (Alu op w d x)) (numeric_rules f d x)
 computes j n f op w d x other none = numeric_breaks j n f (Alu op w d x) d x (λ r h. elim h as (λ _. ReadsRegister j (Alu op w d x) r) [ inl e ↦ inl (other, e) | inr e ↦ inr e ]) (λ e. e) none
 
+-- so is each of a move, a sum or a difference
 alu_breaks : (j : JudgedOf) (n : ℕ) (f : Frame) (op : AluOp) (w : Width) (d : Reg) (x : Operand) → All (λ c. Breaks c j n f (Alu op w d x)) (alu_rules f op w d x)
 alu_breaks j n f Mov Bits64 d (operands.Imm k) = sets_breaks j n f (Alu Mov Bits64 d (operands.Imm k)) d (λ e. e)
 alu_breaks j n f Mov Bits32 d (operands.Imm k) = sets_breaks j n f (Alu Mov Bits32 d (operands.Imm k)) d (λ e. e)
@@ -145,6 +146,7 @@ alu_breaks j n f op w d x = computes j n f op w d x (λ e. cc) (λ h. h)
 
 -- ---- helpers
 
+-- where row and column aren't both numbers one of them is wrong
 wrong_cell : (f : Frame) (h : Helper) → IsCellArgument h 1 → IsCellArgument h 2 → not (is_cell f) ≡ true → (r : ℕ) × IsWrong f h r
 wrong_cell f h one two = by (is_number_kind (kind_of f 1)) (is_number_kind (kind_of f 2)) refl refl
   where
@@ -153,6 +155,7 @@ wrong_cell f h one two = by (is_number_kind (kind_of f 1)) (is_number_kind (kind
     by true false p q e = (2, inl (two, not_from_Decides _ (Decides-number (kind_of f 2)) q))
     by true true p q e = cc
 
+-- and so it is where the place of a value is no stack pointer
 wrong_place : (f : Frame) (h : Helper) → IsCellArgument h 1 → IsCellArgument h 2 → IsPlaceArgument h 3 → not (is_cell f && is_place (kind_of f 3)) ≡ true → (r : ℕ) × IsWrong f h r
 wrong_place f h one two three = by (is_cell f) (is_place (kind_of f 3)) refl refl
   where
@@ -206,6 +209,7 @@ module _ (j : JudgedOf) (n : ℕ) (f : Frame) (k : ℤ) where
 
 -- ---- all instructions
 
+-- every instruction, by its kind
 pub all_broken : (j : JudgedOf) (n : ℕ) (f : Frame) (i : Insn) → All (λ c. Breaks c j n f i) (insn_rules j n f i)
 all_broken j n f (Alu op w d x) =
     let a = alu_breaks j n f op w d x in

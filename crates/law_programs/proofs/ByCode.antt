@@ -26,6 +26,7 @@ use Rattle.law_programs.proofs.Listed.{unset_at, pointer_at, is_ten, unset_opera
 abbrev Lists : Code → Type 0
 Lists c = (j : JudgedOf) (n : ℕ) (f : Frame) (i : Insn) → Breaks c j n f i → Contains (insn_rules j n f i) c
 
+-- 21: whatever register an instruction reads
 reads_unset : Lists ReadsUnset
 reads_unset j n f (Alu op w d x) (r, inl h, e) =
     let a = alu_unset f op w d x h.0 (unset_at f r (number d) h.1 e) in
@@ -57,6 +58,7 @@ writes_r10 j n f (LoadImm d v) b = let e = is_ten d b in search (Contains-append
 writes_r10 j n f (Load z x d r o) b = let e = is_ten d b in search (Contains-append_left, Contains-append_right, stands)
 writes_r10 j n f _ b = absurd b
 
+-- 23: of arithmetic alone, on either side
 pointer_arithmetic : Lists PointerArithmetic
 pointer_arithmetic j n f (Alu op w d x) b = let a = alu_pointer f op w d x b.1.0 b.0 b.1.1 b.1.2 in search (Contains-append_left, a)
 pointer_arithmetic j n f (MovSx w z d r) b = let e = pointer_at f b.1.0 (number r) b.1.1 b.1.2 in search (Contains-append_left, Contains-append_right, stands)
@@ -69,6 +71,7 @@ pointer_stored : Lists PointerStored
 pointer_stored j n f (Store z d s o) b = let e = pointer_at f b.0 (number s) b.1 b.2 in search (Contains-append_left, Contains-append_right, stands)
 pointer_stored j n f _ b = absurd b.1
 
+-- 25: of loads, stores and helpers alike
 outside_stack : Lists OutsideStack
 outside_stack j n f (Load z x d r o) (t, k, h, is, out) =
     let q = subst (λ (u : Touch). (kind_of f u.base ≡ Stack k) × ¬ (LieInStack (k +ℤ u.offset) u.bytes)) h (is, out) in
@@ -98,6 +101,7 @@ not_loading (Some Write) t h how = let e = ap (λ (u : Touch). u.how) h in elim 
 not_loading (Some Delete) t h how = absurd h
 not_loading (Some Start) t h how = absurd h
 
+-- 26: of loads, and of the value that a write takes
 unwritten_byte : Lists UnwrittenByte
 unwritten_byte j n f (Load z x d r o) (t, k, h, reading, is, lie, some) =
     let q = subst (λ (u : Touch). (kind_of f u.base ≡ Stack k) × LieInStack (k +ℤ u.offset) u.bytes × SomeUnwritten f (k +ℤ u.offset) u.bytes) h (is, lie, some) in
@@ -146,6 +150,7 @@ not_declared : Lists NotDeclared
 not_declared j n f (Call k) b = let a = call_undeclared f (declared_helper j.helpers k) b in search (Contains-append_left, a)
 not_declared j n f _ b = absurd b
 
+-- 31: of a declared helper, for its row, column or place
 wrong_argument : Lists WrongArgument
 wrong_argument j n f (Call k) b = let a = call_wrong f (declared_helper j.helpers k) b in search (Contains-append_left, a)
 wrong_argument j n f _ b = absurd b
@@ -160,6 +165,7 @@ jump_outside j n f (Jump o) (t, h, past) = jumps_outside j.program.insns n o t h
 jump_outside j n f (JumpIf c w d x o) (t, h, past) = let a = jumps_outside j.program.insns n o t h.0 h.1 h.2 past in search (Contains-append_left, Contains-append_right, a)
 jump_outside j n f _ b = absurd b.1
 
+-- 34: the second slot of a pair has no instruction
 jump_into_pair : Lists JumpIntoPair
 jump_into_pair j n f (Jump o) (t, h, inside, none) = jumps_into j.program.insns n o t h.0 h.1 h.2 inside none
 jump_into_pair j n f (JumpIf c w d x o) (t, h, inside, none) = let a = jumps_into j.program.insns n o t h.0 h.1 h.2 inside none in search (Contains-append_left, Contains-append_right, a)
@@ -180,6 +186,7 @@ pointer_compared : Lists PointerCompared
 pointer_compared j n f (JumpIf c w d x o) b = let e = pointing f d x b.1.0 b.1.1 b.1.2 in search (Contains-append_left, Contains-append_right, stands)
 pointer_compared j n f _ b = absurd b.0
 
+-- each code, by its own lemma above
 listed : (c : Code) → Lists c
 listed ReadsUnset = reads_unset
 listed WritesR10 = writes_r10
@@ -200,5 +207,6 @@ listed FallsOff = falls_off
 listed ExitsWithPointer = exits_with_pointer
 listed PointerCompared = pointer_compared
 
+-- and no code is listed but those: by the lemmas of Broken
 pub rules_by_code : RulesAreByCode
 rules_by_code c j n f i = ((λ h. All-contains (λ c. Breaks c j n f i) (insn_rules j n f i) c (all_broken j n f i) h), listed c j n f i)

@@ -51,9 +51,11 @@ below_eleven R8 = omega arith
 below_eleven R9 = omega arith
 below_eleven R10 = omega arith
 
+-- a register that is set has its new kind
 kind_set : (f : Frame) (d : Reg) (k : Kind) (r : ℕ) → length f.kinds ≡ 11 → r ≡ number d → kind_of (with_kind f d k) r ≡ k
 kind_set f d k r l e = let h = below_eleven d in get_or-set_at f.kinds (number d) r k Unset e (omega arith)
 
+-- any other keeps its own
 kind_kept : (f : Frame) (d : Reg) (k : Kind) (r : ℕ) → r ≢ number d → kind_of (with_kind f d k) r ≡ kind_of f r
 kind_kept f d k r e = get_or-set_other f.kinds (number d) r k Unset e
 
@@ -63,6 +65,7 @@ moved Number z = refl
 moved (Stack k) z = refl
 moved (Record k) z = refl
 
+-- what an operation makes of its destination
 set_to : (f : Frame) (op : AluOp) (w : Width) (d : Reg) (x : Operand) → IsSetTo f (Alu op w d x) (kind_after f op w d x)
 set_to f Mov Bits64 d (operands.Reg s) = refl
 set_to f Mov Bits64 d (operands.Imm k) = refl
@@ -88,6 +91,7 @@ call_kept ks (suc (suc (suc (suc (suc (suc (suc (suc (suc zero))))))))) l h = re
 call_kept ks (suc (suc (suc (suc (suc (suc (suc (suc (suc (suc zero)))))))))) l h = refl
 call_kept ks (suc (suc (suc (suc (suc (suc (suc (suc (suc (suc (suc r))))))))))) l h = sym (get_or_past ks (suc (suc (suc (suc (suc (suc (suc (suc (suc (suc (suc r))))))))))) Unset (omega arith))
 
+-- and leaves R1 to R5 unset
 call_unset : (ks : List Kind) (r : ℕ) → 1 ≤ r → r ≤ 5 → get_or (kinds_after_call ks) r Unset ≡ Unset
 call_unset ks zero l h = absurd (omega arith)
 call_unset ks (suc zero) l h = refl
@@ -151,6 +155,7 @@ stored f (Stack k) o n p lie =
 
 -- ---- kinds after stores and calls
 
+-- a store changes no register
 store_kinds : (f : Frame) (base : Kind) (o : ℤ) (n : ℕ) → (with_store f base o n).kinds ≡ f.kinds
 store_kinds f Unset o n = refl
 store_kinds f Number o n = refl
@@ -180,6 +185,7 @@ declared_is hs (Some x) h = by (has_helper hs x) h
 unchanged : {A W : Type 0} → ¬ W → A ↔ (A ⊎ W)
 unchanged {A} none = ((λ a. inl a), (λ x. elim x as (λ _. A) [ inl a ↦ a | inr w ↦ absurd (none w) ]))
 
+-- what is loaded or taken isn't written
 not_writing : (t : Touch) → (t.how ≡ Loading) ⊎ (t.how ≡ Taking) → ¬ (IsWriting t.how)
 not_writing t (inl e) (inl h) = cc
 not_writing t (inl e) (inr h) = cc
@@ -254,6 +260,7 @@ sets_one j f i d k l is set_to from to other none = rw_after is
       bytes = λ p. subst (λ g. IsTrue (has_byte g p) ↔ (IsTrue (has_byte f p) ⊎ WritesByte j f i p)) (sym e) (unchanged (none p));
     }
 
+-- every instruction, by its kind
 pub frames_after_are_told : RulesAreByCode → FramesAfterAreTold
 frames_after_are_told rules j n f (Alu op w d x) l hold =
     sets_one j f (Alu op w d x) d (kind_after f op w d x) l refl (set_to f op w d x) (λ r s. s) (λ r s. s) (λ c. c) (λ p w. w.2)

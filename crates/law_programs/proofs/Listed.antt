@@ -43,6 +43,7 @@ pointer_at f r s e h = (Decides-pointer (kind_of f s)).1 (subst (λ q. IsPointer
 pub is_ten : (d : Reg) → 10 ≡ number d → nat_eq (number d) 10 ≡ true
 is_ten d e = (Decides-eqb (number d) 10).1 (sym e)
 
+-- an unset operand is listed
 pub unset_operand : (f : Frame) (x : Operand) (r : ℕ) → IsOperand x r → kind_of f r ≡ Unset → Contains (reads_operand f x) ReadsUnset
 unset_operand f (operands.Imm k) r h e = absurd h
 unset_operand f (operands.Reg s) r h e = stands (is_unset (at f s)) ReadsUnset (unset_at f r (number s) h e)
@@ -57,7 +58,7 @@ right_pointer f d s e = by (is_pointer (at f d)) (is_pointer (at f s)) e
     by true b e = refl
     by false b e = e
 
--- where an operand is a pointer
+-- an operand that is a pointer is found by the rules' test
 pub pointing : (f : Frame) (d : Reg) (x : Operand) (r : ℕ) → (r ≡ number d) ⊎ IsOperand x r → IsPointer (kind_of f r) → on_pointer f d x ≡ true
 pointing f d x r (inl e) h = left_pointer f d x (pointer_at f r (number d) e h)
 pointing f d (operands.Imm k) r (inr e) h = absurd e
@@ -77,9 +78,11 @@ numeric_operand f d x h = search (Contains-append_left, Contains-append_right, h
 pub numeric_sets : (f : Frame) (d : Reg) (x : Operand) → nat_eq (number d) 10 ≡ true → Contains (numeric_rules f d x) WritesR10
 numeric_sets f d x e = search (Contains-append_left, Contains-append_right, stands)
 
+-- a pointer on either side of an operation on numbers is listed
 pub numeric_pointer : (f : Frame) (d : Reg) (x : Operand) → on_pointer f d x ≡ true → Contains (numeric_rules f d x) PointerArithmetic
 numeric_pointer f d x e = search (Contains-append_left, Contains-append_right, stands)
 
+-- an unset destination is listed of every operation that reads it
 pub alu_unset : (f : Frame) (op : AluOp) (w : Width) (d : Reg) (x : Operand) → op ≢ Mov → is_unset (at f d) ≡ true → Contains (alu_rules f op w d x) ReadsUnset
 alu_unset f Mov w d x other e = absurd (other refl)
 alu_unset f Add Bits64 d (operands.Imm k) other e = search (Contains-append_left, Contains-append_right, stands)
@@ -125,6 +128,7 @@ alu_pointer f op w d x r none h p = numeric_pointer f d x (alu_operands f op d x
 
 -- ---- memory
 
+-- bytes that don't lie in the stack are listed as 25, written or not
 reads_outside : (f : Frame) (z : ℤ) (n : ℕ) → ¬ (LieInStack z n) → Contains (stack_reads f z n) OutsideStack
 reads_outside f z n out = by (in_stack z n) refl
   where
@@ -132,6 +136,7 @@ reads_outside f z n out = by (in_stack z n) refl
     by true e = absurd (out ((Decides-stack z n).0 e))
     by false e = stands_one OutsideStack
 
+-- and those that lie there, of which one isn't written, as 26
 reads_unwritten : (f : Frame) (z : ℤ) (n : ℕ) → LieInStack z n → SomeUnwritten f z n → Contains (stack_reads f z n) UnwrittenByte
 reads_unwritten f z n lie some = by (in_stack z n) ((Decides-stack z n).1 lie)
   where
@@ -166,6 +171,7 @@ module _ (size : ℕ) (f : Frame) (k : Kind) (o : ℤ) (n : ℕ) where
 
 -- ---- helpers
 
+-- an unset argument is listed, of each helper that takes it
 pub call_unset : (f : Frame) (o : Option Helper) (r : ℕ) → IsSomeAnd o (λ h. IsCellArgument h r ⊎ IsPlaceArgument h r) → kind_of f r ≡ Unset → Contains (call_rules f o) ReadsUnset
 call_unset f None r h e = absurd h
 call_unset f (Some Read) r (inl (inl h)) e = let u = unset_at f r 1 h e in search (Contains-append_left, Contains-append_right, stands)
@@ -220,6 +226,7 @@ wrong : (f : Frame) (r : ℕ) → (((r ≡ 1) ⊎ (r ≡ 2)) × (kind_of f r ≢
 wrong f r (inl h) = (Decides-not _ (Decides-arguments f)).1 (λ p. not_cell f r h.0 h.1 p.0)
 wrong f r (inr h) = (Decides-not _ (Decides-arguments f)).1 (λ p. h.1 (subst (λ q. IsStackPointer (kind_of f q)) (sym h.0) p.1))
 
+-- a wrong argument is listed, of each helper that takes it
 pub call_wrong : (f : Frame) (o : Option Helper) → IsSomeAnd o (λ h. (r : ℕ) × IsWrong f h r) → Contains (call_rules f o) WrongArgument
 call_wrong f None h = absurd h
 call_wrong f (Some Read) h = let e = wrong f h.0 h.1 in search (Contains-append_left, Contains-append_right, stands)
@@ -237,6 +244,7 @@ call_undeclared f o e = subst (λ o. Contains (call_rules f o) NotDeclared) (sym
 pub jumps_back : (p : List Insn) (n : ℕ) (o : ℤ) (z : ℕ) → o ≡ negsuc z → Contains (jump_rules p n o) BackwardJump
 jumps_back p n o z e = subst (λ o. Contains (jump_rules p n o) BackwardJump) (sym e) (stands_one BackwardJump)
 
+-- a target past the last slot is listed as 33
 pub jumps_outside : (p : List Insn) (n : ℕ) (o : ℤ) (t z : ℕ) → o ≡ pos z → t ≡ n + 1 + z → slots p ≤ t → Contains (jump_rules p n o) JumpOutside
 jumps_outside p n o t z e is past = subst (λ o. Contains (jump_rules p n o) JumpOutside) (sym e) (by (nat_le (slots p) (n + 1 + z)) (le_to (slots p) (n + 1 + z) (omega arith)))
   where

@@ -25,6 +25,7 @@ use Rattle.law_programs.proofs.Told.{each_one, stands_one}
 
 -- ---- where instructions lead
 
+-- n is the next slot, or one that is jumped to
 abbrev Follows : ℕ → ℕ → Insn → Type 0
 Follows m n i = (next_slot m i ≡ Some n) ⊎ JumpsTo m i n
 
@@ -48,6 +49,7 @@ Decides-ahead m n (pos z) = (
 )
 Decides-ahead m n (negsuc z) = ((λ h. cc), (λ h. let e = h.1 in cc))
 
+-- the verifier's list of the slots that an instruction leads to has exactly those
 follows : (m n : ℕ) (i : Insn) → Decides (has_slot (leads m i) n) (Follows m n i)
 follows m n (LoadImm d v) = only_next m n (m + 2) (LoadImm d v) refl refl (λ h. h)
 follows m n (Jump o) = (
@@ -180,11 +182,13 @@ module _ (p : List Insn) (meets : IsMeetOfWays p) where
       some = λ n. (reachable (n + 1) n (omega arith), has_frame n);
     }
 
+-- by induction over the slots, since each step leads to a later one
 pub reached_are_told : FramesAreMeets → LeadsAreLater → (p : List Insn) → TellsReached p
 reached_are_told meets later p = tells p (meets p) later
 
 -- ---- codes at a slot
 
+-- the codes at a slot, by the frame before it or for want of one
 pub faults_are_told : FramesAreMeets → LeadsAreLater → RulesAreByCode → (c : Code) (j : JudgedOf) (n : ℕ) → Contains (faults j n) c ↔ IsToldAt c j n
 faults_are_told meets later rules c j n = by (insn_at j.program.insns n) (in_at j.program.insns n) refl refl ((reached_are_told meets later j.program.insns).some n)
   where

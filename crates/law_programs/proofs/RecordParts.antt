@@ -20,6 +20,7 @@ use Rattle.law_programs.specs.RecordParts.{HasContent, HasOld, HasParts, HasValu
 front : (v rest : List ℕ) → length v ≡ 32 → take 32 (v ++ rest) ≡ v
 front v rest e = subst (λ n. take n (v ++ rest) ≡ v) e (take-append_seam v rest)
 
+-- a value has 32 bytes, and so have the zeros in place of one
 length-value : (c : Content) → HasValueSize c → length (value_bytes c) ≡ 32
 length-value (Value v) h = h
 length-value Deleted h = refl
@@ -60,6 +61,7 @@ behind_first x found a n rest fits = subst (λ m. drop (m + n) (value_bytes foun
 whole : (v : List ℕ) → length v ≡ 32 → take 32 v ≡ v
 whole v e = ap (take 32) (sym (append-nil v)) ∙ front v [] e
 
+-- the value of before, behind the first 80 bytes
 old_in : (x : Cell) (found : Revision) (a : ℕ) (old : Reply) → FitsRecord x found a → IfSome old (λ v. length v ≡ 32) → HasOld (record_of x found a ++ old_bytes old) old
 old_in x found a (Some v) fits h = (
   ap (λ bs. from_le_bytes w64 (take 8 bs)) (behind_first x found a 0 (old_bytes (Some v)) fits) ∙ from_le_bytes-to_le_bytes_8 1 (omega arith),
@@ -70,15 +72,18 @@ old_in x found a None fits h = (
   ap (take 32) (behind_first x found a 8 (old_bytes None) fits),
 )
 
+-- a record of version 1 has 80 bytes
 length-first : (x : Cell) (found : Revision) (a : ℕ) → FitsRecord x found a → length (record_of x found a) ≡ 80
 length-first x found a fits = let e = length-value found.content fits.content in omega (arith, e)
 
+-- one of version 2 has 120
 length-second : (x : Cell) (found : Revision) (a : ℕ) (old : Reply) → FitsRecord x found a → IfSome old (λ v. length v ≡ 32) → length (record_with_old x found a old) ≡ 120
 length-second x found a old fits h =
     let e = length-first x found a fits in
     let d = length-reply old h in
     simp length-append (omega arith)
 
+-- records of both versions, part by part
 pub have_parts : (x : Cell) (found : Revision) (a : ℕ) (old : Reply) → FitsRecord x found a → IfSome old (λ v. length v ≡ 32) → AreRecords x found a old
 have_parts x found a old fits h = record {
   first_size = length-first x found a fits;

@@ -47,6 +47,7 @@ Decides-pointer (Record z) = ((λ e. inr (z, refl)), (λ h. refl))
 Decides-le : (a b : ℤ) → Decides (int_le a b) (a ≤ℤ b)
 Decides-le a b = ((λ h. record { le = T_from_true _ h }), (λ h. true_from_ne_false (int_le a b) (λ e. subst T e h.le)))
 
+-- the test of bytes in the stack decides whether they lie there
 pub Decides-stack : (z : ℤ) (n : ℕ) → Decides (in_stack z n) (LieInStack z n)
 Decides-stack z n = Decides-and _ _ (Decides-le (negsuc 511) z) (Decides-le (z +ℤ pos n) (pos 0))
 
@@ -86,6 +87,7 @@ not_from f i (suc n) (suc k) l e = later (has_byte f i) (not_from f (i + 1) n k 
     later true h = h
     later false h = refl
 
+-- where the bytes aren't all written there is one that isn't
 pub unwritten : (f : Frame) (z : ℤ) (n : ℕ) → not (are_written f z n) ≡ true → SomeUnwritten f z n
 unwritten f z n e = unwritten_from f (from_low z) n (let h : are_written f z n ≡ false = flip (are_written f z n) e in h)
   where

@@ -40,6 +40,7 @@ from_number FallsOff = refl
 from_number ExitsWithPointer = refl
 from_number PointerCompared = refl
 
+-- two codes with one number are one
 one_code : (c d : Code) → code_number c ≡ code_number d → c ≡ d
 one_code c d e = sym (from_number c) ∙ ap code_from e ∙ from_number d
 
@@ -67,6 +68,7 @@ first_least (x ∷ xs) c h e = of x (let is : x ≡ c = cc in is) h
       (λ d k. All-contains (λ d. code_number x ≤ code_number d) (x ∷ xs) d (rises (code_number x) 38 (x ∷ xs) (omega arith, h.1)) k),
     )
 
+-- and the least of such a list is its first
 least_first : (cs : List Code) (c : Code) → CodesRiseWithin 21 38 cs → Contains cs c → ((d : Code) → Contains cs d → code_number c ≤ code_number d) → lowest_code cs ≡ Some c
 least_first [] c h k least = absurd (none_in c k)
 least_first (x ∷ xs) c h k least =
@@ -81,6 +83,7 @@ empty_or (x ∷ xs) h = absurd (h x (0, omega arith, refl))
 none_of : (cs : List Code) (c : Code) → cs ≡ [] → ¬ (Contains cs c)
 none_of cs c e k = none_in c (subst (λ ds. Contains ds c) e k)
 
+-- the codes at a slot rise, also where it is told as unreachable alone
 faults_rise : CodesRise → (j : JudgedOf) (n : ℕ) → CodesRiseWithin 21 38 (faults j n)
 faults_rise rise j n = by (insn_at j.program.insns n) (in_at j.program.insns n)
   where
@@ -89,6 +92,7 @@ faults_rise rise j n = by (insn_at j.program.insns n) (in_at j.program.insns n)
     by (Some i) None = (omega arith, omega arith)
     by (Some i) (Some f) = rise j n f i
 
+-- acceptance and refusal, from what is told at each slot
 pub verdicts_are_told : CodesRise → FaultsAreTold → VerdictsAreTold
 verdicts_are_told rise told j = record {
   accepts = (

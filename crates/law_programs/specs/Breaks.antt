@@ -1,4 +1,5 @@
--- The verifier's rules by code: when the instruction at a slot breaks each, with a frame before it.
+-- The verifier's rules by code: when the instruction at a slot breaks each, with a frame before it. The verifier lists
+-- them by instruction, so that a code that is left out of one list shows here.
 use Rattle.std.specs.Prelude.{◌≡◌, ◌≢◌, ◌⊎◌, ◌↔◌, ℕ, ◌<◌, ◌≤◌, ℤ, ◌+ℤ◌, Some, None}
 use Rattle.std.specs.List.{Contains}
 use Rattle.std.specs.Option.{IsSomeAnd}
@@ -17,9 +18,11 @@ use Rattle.law_programs.specs.Operands.{IsPointer, IsStackPointer, IsCellArgumen
 use Rattle.law_programs.specs.Touches.{Touch, Touches, Loading, Storing, IsReading, IsOfInstruction, LieInStack, LieInRecord, SomeUnwritten}
 use Rattle.law_programs.specs.Targets.{JumpsBack, JumpsTo, next_slot}
 
+-- it reads a register that points to stack or record
 abbrev pub ReadsPointer : JudgedOf → Frame → Insn → Type 0
 ReadsPointer j f i = (r : ℕ) × ReadsRegister j i r × IsPointer (kind_of f r)
 
+-- a call of a number that is no declared helper's
 abbrev pub CallsUndeclared : JudgedOf → Insn → Type 0
 CallsUndeclared j (Call imm) = declared_helper j.helpers imm ≡ None
 CallsUndeclared j i = ⊥
@@ -28,6 +31,7 @@ CallsUndeclared j i = ⊥
 abbrev pub IsWrong : Frame → Helper → ℕ → Type 0
 IsWrong f h r = (IsCellArgument h r × (kind_of f r ≢ Number)) ⊎ (IsPlaceArgument h r × ¬ (IsStackPointer (kind_of f r)))
 
+-- a call of a declared helper, of which an argument isn't what it takes
 abbrev pub HasWrongArgument : JudgedOf → Frame → Insn → Type 0
 HasWrongArgument j f (Call imm) = IsSomeAnd (declared_helper j.helpers imm) (λ h. (r : ℕ) × IsWrong f h r)
 HasWrongArgument j f i = ⊥
@@ -59,6 +63,7 @@ Breaks FallsOff j n f i = next_slot n i ≡ Some (slots j.program.insns)
 Breaks ExitsWithPointer j n f i = IsExit i × ReadsPointer j f i
 Breaks PointerCompared j n f i = IsComparison i × ReadsPointer j f i
 
+-- at any slot, with any frame: an instruction's list has exactly the codes that it breaks
 abbrev pub RulesAreByCode : Type 0
 RulesAreByCode =
     (c : Code) (j : JudgedOf) (n : ℕ) (f : Frame) (i : Insn) → Contains (insn_rules j n f i) c ↔ Breaks c j n f i

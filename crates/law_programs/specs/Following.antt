@@ -1,4 +1,5 @@
--- What is known after an instruction whose rules hold.
+-- What is known after an instruction whose rules hold: of each register and of each stack byte, one by one, and not as
+-- a frame that is made of another.
 use Rattle.std.specs.Prelude.{◌≡◌, ◌⊎◌, ◌↔◌, ℕ, ◌+◌, ◌<◌, ◌≤◌, ℤ, ◌+ℤ◌, neg_ℤ, [], length, IsTrue}
 use Rattle.pb_isa.specs.declared.insn.Insn.{Insn}
 use Rattle.pb_isa.specs.declared.insn.Insn.TheVariants.{Alu, Call}
@@ -30,6 +31,7 @@ IsSetTo f (Alu Add Bits64 dst (operands.Imm imm)) k = IsMoved (kind_of f (number
 IsSetTo f (Alu Sub Bits64 dst (operands.Imm imm)) k = IsMoved (kind_of f (number dst)) (neg_ℤ imm) k
 IsSetTo f i k = k ≡ Number
 
+-- a call of any number
 abbrev pub IsCall : Insn → Type 0
 IsCall (Call imm) = Unit {0}
 IsCall i = ⊥

@@ -1,4 +1,5 @@
--- Which registers an instruction reads, sets and stores.
+-- Which registers an instruction reads, sets and stores, and of which sort it is: the words in which docs/CODES.md says
+-- what breaks a rule.
 use Rattle.std.specs.Prelude.{◌≡◌, ◌≢◌, ◌⊎◌, ℕ, ℤ}
 use Rattle.std.specs.Option.{IsSomeAnd}
 use Rattle.pb_isa.specs.declared.insn.Insn.{Insn}
@@ -17,12 +18,15 @@ use Rattle.pb_kinds.specs.declared.frame.Kind.TheVariants.{Stack, Record}
 
 -- ---- pointers
 
+-- at some distance from the stack's end
 abbrev pub IsStackPointer : Kind → Type 0
 IsStackPointer k = (z : ℤ) × (k ≡ Stack z)
 
+-- at some distance from the record's first byte
 abbrev pub IsRecordPointer : Kind → Type 0
 IsRecordPointer k = (z : ℤ) × (k ≡ Record z)
 
+-- of either region
 abbrev pub IsPointer : Kind → Type 0
 IsPointer k = IsStackPointer k ⊎ IsRecordPointer k
 
@@ -91,10 +95,12 @@ IsArithmetic (MovSx w z dst src) = Unit {0}
 IsArithmetic (Neg w dst) = Unit {0}
 IsArithmetic i = ⊥
 
+-- a conditional jump
 abbrev pub IsComparison : Insn → Type 0
 IsComparison (JumpIf c w dst src offset) = Unit {0}
 IsComparison i = ⊥
 
+-- the end of a run, with register 0 as its result
 abbrev pub IsExit : Insn → Type 0
 IsExit Exit = Unit {0}
 IsExit i = ⊥

@@ -1,4 +1,5 @@
--- Which slots are reached.
+-- Which slots are reached: by steps from the first slot, where the verifier goes over all earlier slots in order; and
+-- which codes are told at a slot by that.
 use Rattle.std.specs.Prelude.{◌≡◌, ◌≢◌, ◌⊎◌, ◌↔◌, ℕ, ◌<◌, List, Some, None}
 use Rattle.std.specs.List.{Contains}
 use Rattle.pb_isa.specs.declared.insn.Insn.{Insn}
@@ -33,6 +34,7 @@ pub record TellsReached (p : List Insn) : Type 0 where
   pub none : (n : ℕ) → (in_at p n ≡ None) ↔ IsUnreached p n
   pub some : (n : ℕ) → (in_at p n ≢ None) ↔ IsReachable p n
 
+-- of every list of instructions, accepted or not
 abbrev pub ReachedAreTold : Type 0
 ReachedAreTold = (p : List Insn) → TellsReached p
 
@@ -43,6 +45,7 @@ IsToldAt c j n =
     (i : Insn) × (insn_at j.program.insns n ≡ Some i) × (((c ≡ Unreachable) × ¬ (IsReachable j.program.insns n)) ⊎
     ((f : Frame) × (in_at j.program.insns n ≡ Some f) × Breaks c j n f i))
 
+-- the codes at a slot are those that are told there, of every program with any helpers
 abbrev pub FaultsAreTold : Type 0
 FaultsAreTold = (c : Code) (j : JudgedOf) (n : ℕ) → Contains (faults j n) c ↔ IsToldAt c j n
 

@@ -1,4 +1,5 @@
--- What stands where in a change record.
+-- What stands where in a change record: the table of docs/MACHINE.md, by which observers are written. The record itself
+-- is defined as its parts one behind the other, so that a part of another length would move all that follow.
 use Rattle.std.specs.Prelude.{◌≡◌, ℕ, ◌<◌, ◌^◌, List, replicate, take, drop, length, Some, None, IfSome}
 use Rattle.pb_base.specs.declared.cell.Cell.{Cell}
 use Rattle.pb_base.specs.declared.content.Content.{Content}
@@ -23,6 +24,7 @@ HasContent bytes (Value v) = (word_at bytes 32 ≡ 1) × (value_at bytes 48 ≡ 
 HasContent bytes Deleted = HasNoValue bytes 32 48
 HasContent bytes (Stamp t) = HasNoValue bytes 32 48
 
+-- the value of before, or that there was none, behind the first 80 bytes
 abbrev pub HasOld : List ℕ → Reply → Type 0
 HasOld bytes (Some v) = (word_at bytes 80 ≡ 1) × (value_at bytes 88 ≡ v)
 HasOld bytes None = HasNoValue bytes 80 88
@@ -59,6 +61,7 @@ pub record AreRecords (x : Cell) (found : Revision) (a : ℕ) (old : Reply) : Ty
   pub second : HasParts (record_with_old x found a old) x found a
   pub told : HasOld (record_with_old x found a old) old
 
+-- of every cell, version and acknowledgment whose numbers have 64 bits
 abbrev pub RecordsHaveParts : Type 0
 RecordsHaveParts =
     (x : Cell) (found : Revision) (a : ℕ) (old : Reply) → FitsRecord x found a → IfSome old (λ v. length v ≡ 32) →

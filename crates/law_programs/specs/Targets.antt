@@ -10,10 +10,11 @@ jump_offset (Jump offset) = Some offset
 jump_offset (JumpIf c w dst src offset) = Some offset
 jump_offset i = None
 
+-- a jump with a negative offset
 abbrev pub JumpsBack : Insn → Type 0
 JumpsBack i = IsSomeAnd (jump_offset i) (λ o. (z : ℕ) × (o ≡ negsuc z))
 
--- an offset counts from the next slot
+-- a jump forward, to slot t: an offset counts from the next slot
 abbrev pub JumpsTo : ℕ → Insn → ℕ → Type 0
 JumpsTo n i t = IsSomeAnd (jump_offset i) (λ o. (z : ℕ) × (o ≡ pos z) × (t ≡ n + 1 + z))
 

@@ -1,4 +1,5 @@
--- Which bytes of memory an instruction touches.
+-- Which bytes of memory an instruction touches: from which register on, how far, how many, and whether they are read or
+-- written. The rules of 25 to 29 are told by them.
 use Rattle.std.specs.Prelude.{◌≡◌, ◌⊎◌, ℕ, ◌+◌, ◌<◌, ℤ, pos, neg_ℤ, ◌+ℤ◌, ◌≤ℤ◌, false}
 use Rattle.std.specs.Option.{IsSomeAnd}
 use Rattle.pb_isa.specs.declared.insn.Insn.{Insn}
@@ -33,6 +34,7 @@ pub record Touch : Type 0 where
   pub offset : ℤ
   pub bytes : ℕ
 
+-- so many bytes, this far from where a register points
 abbrev pub touch : Touching → ℕ → ℤ → ℕ → Touch
 touch how base offset bytes = record { how = how; base = base; offset = offset; bytes = bytes }
 
@@ -42,6 +44,7 @@ HelperTouches Read t = t ≡ touch Filling 3 (pos 0) 32
 HelperTouches Write t = t ≡ touch Taking 3 (pos 0) 32
 HelperTouches h t = ⊥
 
+-- a load, a store, or a call of a declared helper
 abbrev pub Touches : JudgedOf → Insn → Touch → Type 0
 Touches j (Load z x dst src offset) t = t ≡ touch Loading (number src) offset (size_bytes z)
 Touches j (StoreImm z dst offset imm) t = t ≡ touch Storing (number dst) offset (size_bytes z)

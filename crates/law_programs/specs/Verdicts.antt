@@ -19,5 +19,6 @@ pub record TellsVerdict (j : JudgedOf) : Type 0 where
   pub accepts : Accepts j ↔ ((n : ℕ) (c : Code) → n < slots j.program.insns → ¬ (IsToldAt c j n))
   pub refuses : (n : ℕ) (c : Code) → Refuses j n c ↔ IsFirstTold j n c
 
+-- of every program, with any helpers, for a record of any size
 abbrev pub VerdictsAreTold : Type 0
 VerdictsAreTold = (j : JudgedOf) → TellsVerdict j

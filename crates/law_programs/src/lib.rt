@@ -1,4 +1,11 @@
-//! What holds of the definitions by which programs are judged and told of changes: laws, on which nothing is built.
+//! What holds of the definitions by which programs are judged and told of changes: laws, on which nothing is built, so
+//! that they make no crate wait for them.
+//!
+//! A contract of the verifier holds of a definition, and that can be wrong in the same way as its code. These laws say
+//! the same in other words, those of docs/CODES.md and docs/MACHINE.md: when each code is told, which slots are
+//! reached, what is known after an instruction, and what stands where in a change record. So of `stb [r10-513], 0` the
+//! verifier's lists have 25, and here it is told that one byte from 513 below the stack's end on isn't among the 512
+//! before it. The promise is that both say the same, of every instruction and every frame.
 #![tactic(auto)]
 
 ghost use Rattle.law_programs.specs.Breaks.{RulesAreByCode};

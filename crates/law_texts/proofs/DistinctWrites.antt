@@ -13,34 +13,41 @@ use Rattle.pb_base.specs.declared.content.Content.{Content}
 use Rattle.pb_base.specs.Cell.{cell_cmp, cell_cmp_total, cell_cmp-IsAntisymmetric}
 use Rattle.pb_base.specs.Batch.{Writes, content_in, are_distinct}
 
+-- two writes to different cells
 abbrev AreApart : Cell × Content → Cell × Content → Type 0
 AreApart v w = v.0 ≢ w.0
 
+-- a cell compares as equal to itself
 ties : (x y : Cell) → x ≡ y → eq_by_cmp cell_cmp x y ≡ true
 ties x y e = ap (eq_by_cmp cell_cmp x) (sym e) ∙ ap is_eq (tied_itself cell_cmp_total x)
 
+-- where a list has nothing for a cell, its first write is to another and its rest has nothing
 none_in : (b : Bool) (content : Content) (o : Option Content) → is_none (cond b (Some content) o) ≡ true → (b ≡ false) × (is_none o ≡ true)
 none_in true content o h = absurd cc
 none_in false content o h = (refl, h)
 
+-- so all its writes are to others
 others : (ws : Writes) (w : Cell × Content) → is_none (content_in ws w.0) ≡ true → AllByRecursion (AreApart w) ws
 others [] w h = tt
 others (v ∷ vs) w h =
     let p = none_in (eq_by_cmp cell_cmp w.0 v.0) v.1 (content_in vs w.0) h in
     (λ e. let t = ties w.0 v.0 e in absurd cc, others vs w p.1)
 
+-- and back: where all writes are to others there is nothing for the cell
 none_of_others : (ws : Writes) (w : Cell × Content) → AllByRecursion (AreApart w) ws → is_none (content_in ws w.0) ≡ true
 none_of_others [] w h = refl
 none_of_others (v ∷ vs) w h =
     let other : eq_by_cmp cell_cmp w.0 v.0 ≡ false = false_from_ne_true _ (λ t. h.0 (tells_apart cell_cmp-IsAntisymmetric w.0 v.0 t)) in
     rw other (none_of_others vs w h.1)
 
+-- distinct writes are apart, two by two
 are_apart : (ws : Writes) → are_distinct ws ≡ true → AllPairs AreApart ws
 are_apart [] h = λ i j d lt less. absurd (omega (arith, less))
 are_apart (w ∷ ws) h =
     let p = and_parts (is_none (content_in ws w.0)) (are_distinct ws) h in
     AllPairs-cons AreApart w ws (All-from_recursion (AreApart w) ws (others ws w p.0)) (are_apart ws p.1)
 
+-- and writes that are apart are distinct
 distinct_back : (ws : Writes) → AllPairs AreApart ws → are_distinct ws ≡ true
 distinct_back [] h = refl
 distinct_back (w ∷ ws) h =
@@ -48,5 +55,6 @@ distinct_back (w ∷ ws) h =
     let rest : AllPairs AreApart ws = λ i j d lt less. h (suc i) (suc j) d (omega (arith, lt)) (omega (arith, less)) in
     rw (none_of_others ws w first) (distinct_back ws rest)
 
+-- both, as the format says it
 pub distinct_is : (ws : Writes) → (are_distinct ws ≡ true) ↔ AllPairs (λ v w. v.0 ≢ w.0) ws
 distinct_is ws = (are_apart ws, distinct_back ws)

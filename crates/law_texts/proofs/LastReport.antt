@@ -8,6 +8,7 @@ use Rattle.pb_core.specs.Histories.{IsLegalTable}
 use Rattle.pb_script.specs.TableReports.{IsReportIn}
 use Rattle.law_texts.specs.LastReport.{IsReportAt, ReportsAreOfTheLastGiven}
 
+-- there is one last timestamp
 one_last : (clock : ℕ) (ts : List ℕ) (a b : ℕ) → IsLastGiven clock ts a → IsLastGiven clock ts b → a ≡ b
 one_last clock [] a b p q = p ∙ sym q
 one_last clock (t ∷ ts) a b p q =
@@ -15,12 +16,15 @@ one_last clock (t ∷ ts) a b p q =
     let below = p.1 b q.0 in
     omega (arith, above, below)
 
+-- a table's report is that at its clock
 at_clock : (s : SharedOf) (text : List ℕ) → IsReportIn s text → IsReportAt s.state.clock s text
 at_clock s text r = record { runs = r.runs; tallied = r.tallied; reported = r.reported }
 
+-- and the one at its clock is the table's
 in_table : (s : SharedOf) (text : List ℕ) → IsReportAt s.state.clock s text → IsReportIn s text
 in_table s text r = record { runs = r.runs; tallied = r.tallied; reported = r.reported }
 
+-- so it is that at the last timestamp, which is the clock
 pub last_reported : ClockIsLastGiven → ReportsAreOfTheLastGiven
 last_reported law s text last legal is =
     let given = law s.state.observers s.state.seats s.opened s.journal s.state legal in

@@ -24,11 +24,13 @@ use Rattle.law_texts.proofs.OperationsRead.{operation_read, no_semicolon}
 abbrev pub ReadsOperations : Type 0
 ReadsOperations = (line : List ℕ) (batch : Writes) → (batch_of line ≡ Ok batch) ↔ (Say (cut line) batch × (is_batch batch ≡ true))
 
+-- these are the texts of the writes, in their order
 abbrev AreOperations : Writes → List (List ℕ) → Type 0
 AreOperations ws texts = AllZip (λ w text. IsOperationOf w.0 w.1 text) ws texts
 
 -- ---- what is read
 
+-- texts that are read as these writes are written as theirs
 are_written : (texts : List (List ℕ)) (ws : Writes) → Say texts ws → AreOperations ws texts
 are_written [] [] said = tt
 are_written [] (w ∷ ws) said = absurd cc
@@ -38,6 +40,7 @@ are_written (text ∷ texts) (w ∷ ws) said =
     let others : Say texts ws = cc in
     (operation_written text w.0 w.1 here, are_written texts ws others)
 
+-- a line that is read as a transaction is written as its line
 line_written : ReadsOperations → (line : List ℕ) (batch : Writes) → batch_of line ≡ Ok batch → IsBatchLine batch line
 line_written reads line batch h =
     let r = (reads line batch).0 h in
@@ -52,12 +55,14 @@ line_written reads line batch h =
 say_more : (text : List ℕ) (texts : List (List ℕ)) (w : Cell × Content) (ws : Writes) → operation text ≡ Ok w → Say texts ws → Say (text ∷ texts) (w ∷ ws)
 say_more text texts w ws is said = λ i. is i ∷ said i
 
+-- and texts that are written as theirs are read as these writes
 say_all : (ws : Writes) (texts : List (List ℕ)) → AreOperations ws texts → Say texts ws
 say_all [] [] h = refl
 say_all [] (text ∷ texts) h = absurd h
 say_all (w ∷ ws) [] h = absurd h
 say_all (w ∷ ws) (text ∷ texts) h = say_more text texts w ws (operation_read text w.0 w.1 h.0) (say_all ws texts h.1)
 
+-- no operation has a semicolon, so that a line is cut between them alone
 no_semicolons : (ws : Writes) (texts : List (List ℕ)) → AreOperations ws texts → AreParts 59 texts
 no_semicolons [] [] h = tt
 no_semicolons [] (text ∷ texts) h = absurd h
@@ -76,11 +81,13 @@ all_to_data [] (text ∷ texts) h = absurd h
 all_to_data (w ∷ ws) [] h = absurd h
 all_to_data (w ∷ ws) (text ∷ texts) h = rw (to_data w.0 w.1 text h.0) (all_to_data ws texts h.1)
 
+-- the operations of a line are its parts
 cut_again : (ws : Writes) (texts : List (List ℕ)) → 1 ≤ length ws → AreOperations ws texts → cut (joined texts) ≡ texts
 cut_again [] texts some h = absurd (omega arith)
 cut_again (w ∷ ws) [] some h = absurd h
 cut_again (w ∷ ws) (text ∷ texts) some h = let parts = no_semicolons (w ∷ ws) (text ∷ texts) h in cut_joined text texts parts.0 parts.1
 
+-- a line that is written as a transaction's is read as that
 line_back : ReadsOperations → (line : List ℕ) (batch : Writes) → IsBatchLine batch line → batch_of line ≡ Ok batch
 line_back reads line batch l =
     let some = l.some in
@@ -89,5 +96,6 @@ line_back reads line batch l =
     let whole : is_batch batch ≡ true = rw (lt-ltb 0 (length batch) (omega (arith, some)), le-leb (length batch) MAX_CELLS l.few, all_to_data batch l.texts l.operations, (distinct_is batch).1 l.distinct) refl in
     (reads line batch).1 (said, whole)
 
+-- a line is read as a transaction exactly where it is the transaction's line
 pub line_is : ReadsOperations → (line : List ℕ) (batch : Writes) → (batch_of line ≡ Ok batch) ↔ IsBatchLine batch line
 line_is reads line batch = (line_written reads line batch, line_back reads line batch)

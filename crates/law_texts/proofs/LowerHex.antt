@@ -16,6 +16,7 @@ use Rattle.hex.proofs.HexLemmas.{decode_of-even, decode_of-ok}
 abbrev pub digit_of : ℕ → ℕ
 digit_of v = cond (nat_lt v 10) (48 + v) (87 + v)
 
+-- a test that holds of every number below n, by computing it
 abbrev all_below : (ℕ → Bool) → ℕ → Bool
 all_below test zero = true
 all_below test (suc n) = test n && all_below test n
@@ -29,6 +30,7 @@ passes test (suc n) k h lt =
       | inr top ↦ let e : k ≡ n = omega arith in rw e parts.0
     ]
 
+-- the sixteen digits of the library are those of the format
 pub table_is : (v : ℕ) → v < 16 → slice_index lower_digits v ≡ digit_of v
 table_is v lt = eqb-true (slice_index lower_digits v) (digit_of v) (passes (λ n. slice_index lower_digits n == digit_of n) 16 v refl lt)
 
@@ -45,6 +47,7 @@ some_of : (c i : ℕ) (o : Option ℕ) (v : ℕ) → digit_or_error c i o ≡ Ok
 some_of c i (Some w) v h = ap Some (ok_is w v h)
 some_of c i None v h = absurd cc
 
+-- a digit stands for a number below 16
 small : (c v : ℕ) → hex_digit_value c ≡ Some v → v < 16
 small c v h = grind (arith)
 
@@ -52,6 +55,7 @@ small c v h = grind (arith)
 is_digit : (c v : ℕ) → hex_digit_value c ≡ Some v → is_ascii_uppercase c ≡ false → digit_of v ≡ c
 is_digit c v h lower = grind (arith)
 
+-- a digit that isn't upper-case is the one that is written for its number
 digit_back : (c i v : ℕ) → value_at c i ≡ Ok v → is_ascii_uppercase c ≡ false → (v < 16) × (slice_index lower_digits v ≡ c)
 digit_back c i v h lower =
     let s = some_of c i (hex_digit_value c) v h in
@@ -68,6 +72,7 @@ two_digits a b high low byte is_a is_b lt whole =
     let second : byte % 16 ≡ low = omega (arith, lt, whole) in
     (ap (slice_index lower_digits) first ∙ is_a, ap (slice_index lower_digits) second ∙ is_b)
 
+-- digits that decode to bytes are what is written for them
 pairs_written : (i : ℕ) (digits bytes : List ℕ) → decode_pairs i digits ≡ Ok bytes → list_any is_ascii_uppercase digits ≡ false → digits ≡ encode_lower bytes
 unfolding decode_pairs encode_with
 pairs_written i [] bytes h lower = ap encode_lower (ok_is [] bytes h)
@@ -85,6 +90,7 @@ pairs_written i (a ∷ b ∷ rest) bytes h lower =
     let others = pairs_written (i + 2) rest q.0 q.1 two.1 in
     (λ k. sym both.0 k ∷ sym both.1 k ∷ others k) ∙ ap encode_lower (ok_is (p.0 ∷ q.0) bytes q.2)
 
+-- of a whole text of digits
 pub lower_written : (digits bytes : List ℕ) → decode_of digits ≡ Ok bytes → list_any is_ascii_uppercase digits ≡ false → digits ≡ encode_lower bytes
 lower_written digits bytes h lower =
     let even = (decode_of-ok digits bytes h).0 in
@@ -102,8 +108,10 @@ digits_hold P each (b ∷ bytes) fit =
     let low : b % 16 < 16 = omega arith in
     (subst P (sym (table_is (b / 16) high)) (each (b / 16) high), (subst P (sym (table_is (b % 16) low)) (each (b % 16) low), digits_hold P each bytes (λ k. fit (suc k))))
 
+-- no written digit is upper-case
 not_upper : (v : ℕ) → v < 16 → is_ascii_uppercase (digit_of v) ≡ false
 not_upper v lt = grind (arith)
 
+-- nor is any of a list of bytes
 pub none_upper : (bytes : List ℕ) → IsBytes bytes → list_any is_ascii_uppercase (encode_lower bytes) ≡ false
 none_upper bytes fit = list_any_none is_ascii_uppercase (encode_lower bytes) (All-from_recursion (λ c. is_ascii_uppercase c ≡ false) (encode_lower bytes) (digits_hold (λ c. is_ascii_uppercase c ≡ false) not_upper bytes fit))

@@ -23,6 +23,7 @@ use Rattle.law_texts.specs.OperationTexts.{AreDigitsOf, AreInRange, IsOperationO
 use Rattle.law_texts.proofs.LowerHex.{digit_of, digits_hold, none_upper}
 use Rattle.law_texts.proofs.Parts.{Lacks, AreParts, IsNoDigit, decimal_lacks, joined_parts, lacks_joined}
 
+-- a number in decimal is read as itself, where it isn't over the greatest
 number_back : (greatest n : ℕ) → greatest < 2 ^ 64 → n ≤ greatest → number_upto greatest (decimal n) ≡ Ok n
 number_back greatest n lt high =
     let small : n < 2 ^ 64 = omega (arith, lt, high) in
@@ -30,6 +31,7 @@ number_back greatest n lt high =
     let e : nat_le (digits_value 10 (decimal n)) greatest ≡ true = le-leb _ _ (omega (arith, v, high)) in
     rw (numeral_of n small, e, v) refl
 
+-- row and column are read as the cell
 place_back : (row : Row) (column : ℕ) (rest : List (List ℕ)) → AreInRange row column → cell_at (decimal row.0 ∷ decimal column ∷ rest) ≡ Ok (Data row column, rest)
 unfolding cell_at
 place_back row column rest fits =
@@ -45,6 +47,7 @@ not_zero n h = grind arith
 tested : (a b c : Bool) (r : Result (List ℕ) Code) → a ≡ false → b ≡ false → c ≡ false → cond (a || (b || c)) (Err Hex) r ≡ r
 tested a b c r p q s = rw (p, q, s) refl
 
+-- the digits of a value are read as it, with zeros behind
 digits_back : (value digits : List ℕ) → AreDigitsOf value digits → content_of digits ≡ Ok value
 digits_back value digits d =
     let twice : length (encode_lower d.bytes) ≡ 2 * length d.bytes = length-encode_with lower_digits d.bytes in
@@ -58,10 +61,12 @@ digits_back value digits d =
     ∙ ap (λ (zeros : List ℕ). Ok (d.bytes ++ zeros)) (drop-replicate (length d.bytes) 32 0)
     ∙ ap Ok (sym d.padded)
 
+-- the words of a write are read as it
 put_back : (row : Row) (column : ℕ) (value digits : List ℕ) → AreInRange row column → AreDigitsOf value digits → write_of (codes "put" ∷ decimal row.0 ∷ decimal column ∷ digits ∷ []) ≡ Ok (Data row column, Value value)
 unfolding write_of put_of
 put_back row column value digits fits d = rw (place_back row column (digits ∷ []) fits, digits_back value digits d) refl
 
+-- the words of a deletion are read as it
 del_back : (row : Row) (column : ℕ) → AreInRange row column → write_of (codes "del" ∷ decimal row.0 ∷ decimal column ∷ []) ≡ Ok (Data row column, Deleted)
 unfolding write_of del_of
 del_back row column fits = rw (place_back row column [] fits) refl
@@ -106,6 +111,7 @@ put_parts c row column value digits verb none no_hex fits d = (verb, (row_lacks 
 del_parts : (c : ℕ) (row : Row) (column : ℕ) → Lacks c (codes "del") → IsNoDigit c → AreInRange row column → AreParts c (del_words row column)
 del_parts c row column verb none fits = (verb, (row_lacks c row column none fits, (column_lacks c row column none fits, tt)))
 
+-- the words of a write are cut at its blanks, since none has a blank
 put_cut : (row : Row) (column : ℕ) (value digits : List ℕ) → AreInRange row column → AreDigitsOf value digits → words_of (join_with_byte 32 (put_words row column digits)) ≡ put_words row column digits
 put_cut row column value digits fits d =
     let parts = put_parts 32 row column value digits (refl, (refl, (refl, tt))) blank_no_digit blank_no_hex_digit fits d in
@@ -123,6 +129,7 @@ no_semicolon (Data row column) Deleted text h = subst (Lacks 59) (sym h.1) (lack
 no_semicolon (Data row column) (Stamp time) text h = absurd h
 no_semicolon (Ack observer row column) content text h = absurd h
 
+-- the text of a write, or of a deletion, is read as it
 pub operation_read : (text : List ℕ) (x : Cell) (content : Content) → IsOperationOf x content text → operation text ≡ Ok (x, content)
 operation_read text (Data row column) (Value value) h = ap operation h.3 ∙ ap write_of (put_cut row column value h.1 h.0 h.2) ∙ put_back row column value h.1 h.0 h.2
 operation_read text (Data row column) Deleted h = ap operation h.1 ∙ ap write_of (del_cut row column h.0) ∙ del_back row column h.0

@@ -27,6 +27,7 @@ use Rattle.pb_parse.proofs.Steps.{same_text}
 use Rattle.law_texts.specs.OperationTexts.{AreDigitsOf, AreInRange, IsOperationOf}
 use Rattle.law_texts.proofs.LowerHex.{lower_written}
 
+-- what passes a test and isn't refused is the result
 passed : {A : Type 0} (b : Bool) (r : Result A Code) (fault : Code) (x : A) → cond b r (Err fault) ≡ Ok x → (b ≡ true) × (r ≡ Ok x)
 passed true r fault x h = (refl, h)
 passed false r fault x h = absurd cc
@@ -43,6 +44,7 @@ none_left : (words : List (List ℕ)) (x : Unit {0}) → no_word Form words ≡ 
 none_left [] x h = refl
 none_left (word ∷ words) x h = absurd cc
 
+-- a number that is read is written in decimal, without leading zeros
 number_is : (greatest n : ℕ) (word : List ℕ) → greatest < 2 ^ 64 → number_upto greatest word ≡ Ok n → (word ≡ decimal n) × (n ≤ greatest)
 number_is greatest n word lt h =
     let p = passed (is_numeral word) _ Form n h in
@@ -53,6 +55,7 @@ number_is greatest n word lt h =
 
 -- ---- places
 
+-- row and column of this cell stand in front
 record TakesPlace (x : Cell) (words rest : List (List ℕ)) : Type 0 where
   row : Row
   column : ℕ
@@ -60,6 +63,7 @@ record TakesPlace (x : Cell) (words rest : List (List ℕ)) : Type 0 where
   written : words ≡ decimal row.0 ∷ decimal column ∷ rest
   fits : AreInRange row column
 
+-- what is read as a cell is written as its row and column
 place_is : (words : List (List ℕ)) (x : Cell × List (List ℕ)) → cell_at words ≡ Ok x → TakesPlace x.0 words x.1
 unfolding cell_at
 place_is words x h =
@@ -87,6 +91,7 @@ all_fail true b c h = absurd cc
 all_fail false true c h = absurd cc
 all_fail false false c h = (refl, refl, h)
 
+-- what is read as a value is written as digits of it
 digits_are : (word value : List ℕ) → content_of word ≡ Ok value → AreDigitsOf value word
 digits_are word value h =
     let p = not_refused ((length word == 0) || (nat_lt 64 (length word) || list_any is_ascii_uppercase word)) (padded (decode_of word)) Hex value h in
@@ -114,6 +119,7 @@ IsWriteOf words w = IsOperationOf w.0 w.1 (join_with_byte 32 words)
 moved : (words : List (List ℕ)) (x y : Cell) (content : Content) (w : Cell × Content) → x ≡ y → ◌≡◌ {A = Result (Cell × Content) Code} (Ok (y, content)) (Ok w) → IsWriteOf words (x, content) → IsWriteOf words w
 moved words x y content w cell is h = subst (IsWriteOf words) (ap (λ (z : Cell). (z, content)) cell ∙ ok_same {E = Code} (y, content) w is) h
 
+-- what is read as a write is written as one
 put_is : (words : List (List ℕ)) (w : Cell × Content) → put_of words ≡ Ok w → IsWriteOf (codes "put" ∷ words) w
 unfolding put_of
 put_is words w h =
@@ -127,6 +133,7 @@ put_is words w h =
     moved (codes "put" ∷ words) (Data p.row p.column) a.0.0 (Value c.0) w p.cell d.2
     (p.fits, b.0.0, digits_are b.0.0 c.0 c.1, ap (λ (ws : List (List ℕ)). join_with_byte 32 (codes "put" ∷ ws)) whole)
 
+-- what is read as a deletion is written as one
 del_is : (words : List (List ℕ)) (w : Cell × Content) → del_of words ≡ Ok w → IsWriteOf (codes "del" ∷ words) w
 unfolding del_of
 del_is words w h =
@@ -154,5 +161,6 @@ write_is words w h =
       ]
     ]
 
+-- a text that is read as a write, or a deletion, is written as that
 pub operation_written : (text : List ℕ) (x : Cell) (content : Content) → operation text ≡ Ok (x, content) → IsOperationOf x content text
 operation_written text x content h = subst (IsOperationOf x content) (join_with_byte-slice_split 32 text) (write_is (words_of text) (x, content) h)

@@ -12,6 +12,7 @@ use Rattle.std.proofs.lemmas.List.Splits.{slice_split_at, slice_split_none}
 abbrev pub Lacks : ℕ → List ℕ → Type 0
 Lacks c text = AllByRecursion (λ b. (b == c) ≡ false) text
 
+-- parts, in none of which the byte stands
 abbrev pub AreParts : ℕ → List (List ℕ) → Type 0
 AreParts c parts = AllByRecursion (Lacks c) parts
 
@@ -29,12 +30,14 @@ cut_at : (c x : ℕ) (parts : List (List ℕ)) (b : Bool) → (x == c) ≡ b →
 cut_at c x parts true is h = (tt, h)
 cut_at c x parts false is h = onto_parts c x parts is h
 
+-- what is cut at a byte hasn't that byte
 pub parts_are : (c : ℕ) (text : List ℕ) → AreParts c (slice_split (λ b. b == c) text)
 parts_are c [] = (tt, tt)
 parts_are c (x ∷ xs) = cut_at c x (slice_split (λ b. b == c) xs) (x == c) refl (parts_are c xs)
 
 -- ---- and what has none is cut there
 
+-- parts without the byte are cut where they were joined
 pub joined_parts : (c : ℕ) (part : List ℕ) (parts : List (List ℕ)) → Lacks c part → AreParts c parts → slice_split (λ b. b == c) (join_with_byte c (part ∷ parts)) ≡ part ∷ parts
 joined_parts c part [] h k = slice_split_none (λ b. b == c) part (All-from_recursion (λ b. (b == c) ≡ false) part h)
 joined_parts c part (next ∷ parts) h k =
@@ -56,5 +59,6 @@ IsNoDigit c = (n : ℕ) → n < 10 → ((48 + n) == c) ≡ false
 more_digits : (c : ℕ) → IsNoDigit c → (n : ℕ) (ds : List ℕ) → 10 ≤ n → Lacks c ds → Lacks c (ds ++ ((48 + n % 10) ∷ []))
 more_digits c none n ds le h = lacks_both c ds ((48 + n % 10) ∷ []) h (none (n % 10) (omega arith), tt)
 
+-- a number in decimal has nothing but digits
 pub decimal_lacks : (c n : ℕ) → IsNoDigit c → n < 2 ^ 64 → Lacks c (decimal n)
 decimal_lacks c n none lt = decimal_by_steps (λ m ds. Lacks c ds) (λ m less. (none m less, tt)) (more_digits c none) n lt

@@ -18,6 +18,7 @@ use Rattle.law_texts.specs.ScriptTexts.{is_transaction, IsScriptOf}
 use Rattle.law_texts.proofs.Parts.{Lacks, AreParts, parts_are, joined_parts}
 use Rattle.law_texts.proofs.OperationsWritten.{not_refused}
 
+-- the lines that are neither empty nor remarks
 abbrev kept : List (List ℕ) → List (List ℕ)
 kept ls = filter is_transaction ls
 
@@ -36,6 +37,7 @@ or_alone : (a b c : Bool) → a ≡ false → not b ≡ c → (a || b) ≡ not c
 or_alone a true c is e = rw (is, sym e) refl
 or_alone a false c is e = rw (is, sym e) refl
 
+-- a line is skipped exactly where it is no transaction's
 skipped_is : (l : List ℕ) → is_skipped l ≡ not (is_transaction l)
 skipped_is [] = refl
 skipped_is (b ∷ bs) = or_alone (length (b ∷ bs) == 0) (b == 35) (not (b == 35)) (some_length (length bs)) refl
@@ -43,6 +45,7 @@ skipped_is (b ∷ bs) = or_alone (length (b ∷ bs) == 0) (b == 35) (not (b == 3
 abbrev added : Batches → Writes → Result Batches Code
 added before batch = cond (nat_le MAX_CHANGES (length before)) (Err TooMany) (Ok (before ++ batch ∷ []))
 
+-- a line that is skipped adds nothing
 skip_line : (before : Batches) (l : List ℕ) → is_transaction l ≡ false → with_line before l ≡ Ok before
 unfolding with_line
 skip_line before l is = rw (skipped_is l, is) refl
@@ -51,6 +54,7 @@ told_line : (before : Batches) (l : List ℕ) → is_transaction l ≡ true → 
 unfolding with_line
 told_line before l is = rw (skipped_is l, is) refl
 
+-- a line that adds its transaction, the 10,000th at most
 record Taken (before after : Batches) (l : List ℕ) : Type 0 where
   batch : Writes
   read : batch_of l ≡ Ok batch
@@ -74,6 +78,7 @@ Reads batch line = batch_of line ≡ Ok batch
 abbrev lines_from : ℕ → Batches → List (List ℕ) → Result Batches (ℕ × ℕ)
 lines_from n before ls = in_turn (λ m bs line. numbered script_code m (with_line bs line)) n before ls
 
+-- lines that add their transactions to those before
 record Reading (before after : Batches) (ls : List (List ℕ)) : Type 0 where
   batches : Batches
   lines : AllZip Reads batches (kept ls)
@@ -100,6 +105,7 @@ step : (n : ℕ) (before after : Batches) (l : List ℕ) (ls : List (List ℕ)) 
 step n before after l ls (Err e) is h most others = absurd cc
 step n before after l ls (Ok p) is h most others = one_more before p after l ls (is_transaction l) refl is most (others p h)
 
+-- what is read of the lines from here on
 read : (n : ℕ) (before after : Batches) (ls : List (List ℕ)) → lines_from n before ls ≡ Ok after → length before ≤ MAX_CHANGES → Reading before after ls
 read n before after [] h most =
     let same : before ≡ after = ok_same {E = ℕ × ℕ} before after h in
@@ -130,6 +136,7 @@ back_line n before (b ∷ bs) l ls true is lines most others =
     go_on n before (before ++ b ∷ []) (before ++ b ∷ bs) l ls (told_line before l is ∙ ap (λ (r : Result Writes Code). r >>= added before) h.0 ∙ add_one before b room)
     (others (before ++ b ∷ []) bs h.1 whole ∙ ap Ok grouped)
 
+-- and lines of these transactions are read as them, wherever they begin
 back : (n : ℕ) (ls : List (List ℕ)) → ReadOn n ls
 back n [] before [] lines most = ap Ok (sym (append-nil before))
 back n [] before (b ∷ bs) lines most = absurd lines
@@ -167,6 +174,7 @@ kept_again : (lines : List (List ℕ)) → AreParts 10 lines → kept (lines_of 
 kept_again [] parts = refl
 kept_again (line ∷ lines) parts = ap kept (joined_parts 10 line lines parts.0 parts.1)
 
+-- a text that is read as transactions is written as theirs
 text_written : ReadsLines → (text : List ℕ) (batches : Batches) → script_of text ≡ Ok batches → IsScriptOf batches text
 text_written law text batches h =
     let f = read 0 [] batches (lines_of text) h (omega arith) in
@@ -178,10 +186,12 @@ text_written law text batches h =
       few = f.few;
     }
 
+-- and one that is written as theirs is read as them
 text_back : ReadsLines → (text : List ℕ) (batches : Batches) → IsScriptOf batches text → script_of text ≡ Ok batches
 text_back law text batches s =
     let same : kept (lines_of text) ≡ kept s.lines = ap (λ (t : List ℕ). kept (lines_of t)) s.joined ∙ kept_again s.lines (are_parts s.lines s.parted) in
     back 0 (lines_of text) [] batches (are_read law batches (kept (lines_of text)) (subst (AllZip IsBatchLine batches) (sym same) s.told)) s.few
 
+-- a text is read as transactions exactly where it is their script
 pub text_is : ReadsLines → (text : List ℕ) (batches : Batches) → (script_of text ≡ Ok batches) ↔ IsScriptOf batches text
 text_is law text batches = (text_written law text batches, text_back law text batches)

@@ -1,4 +1,4 @@
--- The lines of a script, as they are written.
+-- The lines of a script, as they are written: by the writes of a transaction, and not by how a line is cut.
 use Rattle.std.specs.Prelude.{◌≡◌, ◌≢◌, ◌≤◌, ℕ, List, length, codes}
 use Rattle.std.specs.List.{AllPairs, AllZip, join_by}
 use Rattle.pb_base.specs.declared.limits.TheConstants.{MAX_CELLS}

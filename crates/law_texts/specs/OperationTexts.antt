@@ -1,4 +1,5 @@
--- The operations of a script, as they are written.
+-- The operations of a script, as they are written: by the write that is meant, character for character, so that no
+-- looser reading meets them.
 use Rattle.std.specs.Prelude.{◌≡◌, ◌-◌, ◌^◌, ◌<◌, ◌≤◌, ℕ, List, [], ◌∷◌, ◌++◌, length, codes, replicate}
 use Rattle.std.specs.Fmt.{decimal}
 use Rattle.std.specs.List.{join_with_byte}

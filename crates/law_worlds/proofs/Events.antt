@@ -23,6 +23,7 @@ use Rattle.pb_world.specs.Sound.{Came, IsSound}
 use Rattle.law_worlds.specs.Outcomes.{AreOneEvent, EventsHaveOneOutcome}
 use Rattle.law_worlds.proofs.Jobs.{AreOneStep, calls_once, actor_steps_once}
 
+-- an option has one value
 pub one_value : {A : Type 0} (o : Option A) (x y : A) → o ≡ Some x → o ≡ Some y → x ≡ y
 one_value o x y p q = cc
 
@@ -97,5 +98,6 @@ module _ (w : WorldOf) (n : Note) (v : WorldOf) (m : Note) (u : WorldOf) where
     does_once meaning led (events.Clear c) x y = own_calls_once (steps.Clear c) x y
     does_once meaning led (events.Sweep c) x y = own_calls_once (steps.Sweep c) x y
 
+-- every event, by its kind: a launch, a step, a crash, or a step of the main seat
 pub events_once : StepsHaveOneOutcome → JournalsAreSound → EachHasOneMeaning → MachinesAreLed → EventsHaveOneOutcome
 events_once step journals meaning led w e n v m u sound x y = does_once w n v m u step journals sound meaning led e x.does y.does

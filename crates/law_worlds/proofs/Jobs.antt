@@ -37,6 +37,7 @@ pub record AreOneCall (a : Answer) (t : SharedOf) (told : SeatOf) (b : Answer) (
   pub table : t ≡ u
   pub list : told ≡ heard
 
+-- a call of the shared table has one answer, and leaves one table
 pub calls_once : StepsHaveOneOutcome → (s : SharedOf) (seat : SeatOf) (st : Step) (a b : Answer) (t u : SharedOf) (told heard : SeatOf) → IsSoundTable s.state → Calls s seat st a t told → Calls s seat st b u heard → AreOneCall a t told b u heard
 calls_once law s seat st a b t u told heard sound x y =
     let one = law s.state seat.number st a t.state b u.state sound x.machine y.machine in
@@ -86,6 +87,7 @@ module _ (meaning : EachHasOneMeaning) (led : MachinesAreLed) (w : WorldOf) wher
 
 -- ---- answers
 
+-- a job takes an answer in one way
 takes_once : (j : ActorJob) (a : Answer) (k l : ActorJob) → Takes j a k → Takes j a l → k ≡ l
 takes_once (Change c) a k l x y = x ∙ sym y
 takes_once (Run r) a k l x y = x.1 ∙ (ap Run (x.2 ∙ sym y.2) ∙ sym y.1)

@@ -22,6 +22,7 @@ use Rattle.pb_notify.specs.Steps.{WentOn, Steps}
 use Rattle.pb_notify.specs.Steps as steps
 use Rattle.pb_notify.specs.Places.{place_of, Comes}
 
+-- a position is at one state of a placement, since entry leads to one
 one_state : (v : Position) (a : Placement) (s t : State) → IsAtState v a s → IsAtState v a t → s ≡ t
 one_state v a s t p q = let e : point s (length v.talk) ≡ point t (length v.talk) = cc in ap (λ (x : Point). x.state) e
 

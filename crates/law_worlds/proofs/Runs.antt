@@ -4,6 +4,7 @@ use Rattle.pb_world.specs.Events.{RunsTo}
 use Rattle.pb_world.specs.Sound.{IsSound, EventsKeepSound}
 use Rattle.law_worlds.specs.Outcomes.{EventsHaveOneOutcome, RunsHaveOneOutcome}
 
+-- event by event, each from the world that the one before it left
 pub runs_once : EventsHaveOneOutcome → EventsKeepSound → RunsHaveOneOutcome
 runs_once one keep w [] [] v [] u s x y = record { notes = refl; world = x ∙ sym y }
 runs_once one keep w (e ∷ es) (n ∷ ns) v (m ∷ ms) u s x y =

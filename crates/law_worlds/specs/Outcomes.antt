@@ -1,4 +1,5 @@
--- What comes of an event, and of a list of events.
+-- What comes of an event, and of a list of events: two outcomes of one world are the same. Sound worlds alone have one,
+-- since of an unsound table a step may have two.
 use Rattle.std.specs.Prelude.{◌≡◌, ◌≢◌, ℕ, List}
 use Rattle.pb_parse.specs.declared.event.Event.{Event}
 use Rattle.pb_world.specs.declared.fault.EventFault.TheVariants.{NoMemory}
@@ -26,12 +27,15 @@ pub record AreOneFault (at code : ℕ) (v : WorldOf) (by number : ℕ) (u : Worl
 
 -- ---- laws
 
+-- a world as it is opened, over any legal table
 abbrev pub OpenedWorldsAreSound : Type 0
 OpenedWorldsAreSound = (w : WorldOf) → IsOpened w → IsSound w
 
+-- of any event of a sound world
 abbrev pub EventsHaveOneOutcome : Type 0
 EventsHaveOneOutcome = (w : WorldOf) (e : Event) (n : Note) (v : WorldOf) (m : Note) (u : WorldOf) → IsSound w → Happens w e n v → Happens w e m u → AreOneEvent n v m u
 
+-- of any list of events that happen to the last
 abbrev pub RunsHaveOneOutcome : Type 0
 RunsHaveOneOutcome = (w : WorldOf) (es : List Event) (ns : List Note) (v : WorldOf) (ms : List Note) (u : WorldOf) → IsSound w → RunsTo w es ns v → RunsTo w es ms u → AreOneRun ns v ms u
 

@@ -1,4 +1,10 @@
-//! What happens in a world has one outcome.
+//! What happens in a world has one outcome: laws, on which nothing is built, so that they make no crate wait for them.
+//!
+//! `pb_world` says by a relation what an event may come to, so that its contracts need not say how. That could allow
+//! two outcomes, and then a replay would tell one of several. These laws say that it doesn't: from a sound world an
+//! event has one note and leaves one world, and so has a list of events, up to its fault. So the schedule of
+//! `examples/crash.schedule` leaves one world, as often as it is replayed. Memory alone is outside: any event may be
+//! refused it.
 #![tactic(auto)]
 
 ghost use Rattle.law_worlds.specs.Outcomes.{OpenedWorldsAreSound, EventsHaveOneOutcome, RunsHaveOneOutcome};

@@ -40,6 +40,7 @@ use Rattle.pb_sound.proofs.AgreeingValues.{Setting, run, Two, number_same, opera
 
 -- ---- loads
 
+-- bytes that are the same one by one are the same list
 pub entries_same : (g j : Map) (x y n : ℕ) → ((i : ℕ) → i < n → g (x + i) ≡ j (y + i)) → entries g x n ≡ entries j y n
 entries_same g j x y zero h = refl
 entries_same g j x y (suc n) h =
@@ -62,6 +63,7 @@ stack_same x a b f s t z n some h two =
     let e2 : b.stack + lo + i ≡ b.stack + (lo + i) = omega arith in
     rw (e1, e2) (two.alike.byte (lo + i) (true_at n f lo ok.1 i k)))
 
+-- a load whose rules hold takes the same bytes at both placements
 pub fetched_same : (x : Setting) (a b : Placement) (f : Frame) (s t : State) (k : Kind) (o : ℤ) (v w n : ℕ) → 0 < n → is_unset k ≡ false → loads x.judged.record_size f k o n ≡ [] → Holds (run x a) k (Some v) → Holds (run x b) k (Some w) → Two x a b f s t → fetch (run x a) s (address v o) n ≡ fetch (run x b) t (address w o) n
 fetched_same x a b f s t Unset o v w n some u h ha hb two = cc
 fetched_same x a b f s t Number o v w n some u h ha hb two = cc
@@ -83,6 +85,7 @@ fetched_same x a b f s t (Record k) o v w n some u h ha hb two =
     let same = entries_same (m.record_map (run x a)) (m.record_map (run x b)) (a.record_at + j) (b.record_at + j) n (λ i q. record_byte (run x a) j i ∙ sym (record_byte (run x b) j i)) in
     rw (at_a, at_b, moved_word a.record_at k o, moved_word b.record_at k o) (pa.are ∙ same ∙ sym pb.are)
 
+-- a load whose rules hold sets the same number at both
 pub load_agrees : (x : Setting) (z : Size) (y : Extension) (d r : registers.Reg) (o : ℤ) → Agrees x (Load z y d r o)
 load_agrees x z y d r o a b f s t here h two =
     let parts = empty_parts (rules.load_rules x.judged.record_size f z d r o) (falls x.judged.program.insns (t.slot + 1)) h in
@@ -99,6 +102,7 @@ load_agrees x z y d r o a b f s t here h two =
 
 -- ---- stores
 
+-- a byte that is written once n bytes are put there is the same on both stacks
 pub byte_alike : (w : List Bool) (vs : List ℕ) (g j : Map) (x y lo n : ℕ) → length vs ≡ n →
     ((i : ℕ) → IsTrue (get_or w i false) → g (x + i) ≡ j (y + i)) →
     (i : ℕ) → IsTrue (get_or (set_flags w lo n) i false) → with_list g (x + lo) vs (x + i) ≡ with_list j (y + lo) vs (y + i)
@@ -120,7 +124,7 @@ byte_alike w vs g j x y lo n lv h i t =
       ]
     ]
 
--- the same bytes put on both stacks
+-- where the same bytes are put at one distance on both stacks, both stay alike
 pub alike_put : (a b : Placement) (f : Frame) (s t u v : State) (z : ℤ) (n : ℕ) (vs : List ℕ) → length vs ≡ n → Alike a b f s t → u.slot ≡ v.slot → u.writes ≡ v.writes → u.regs ≡ s.regs → v.regs ≡ t.regs → u.stack ≡ with_list s.stack (a.stack + from_low z) vs → v.stack ≡ with_list t.stack (b.stack + from_low z) vs → Alike a b (with_written f z n) u v
 alike_put a b f s t u v z n vs lv l eslot ewrites eu ev su sv = record {
   slot = eslot;
@@ -129,6 +133,7 @@ alike_put a b f s t u v z n vs lv l eslot ewrites eu ev su sv = record {
   byte = rw (su, sv) (byte_alike f.written vs s.stack t.stack a.stack b.stack (from_low z) n lv l.byte);
 }
 
+-- a store leaves both alike, and goes on to the next slot
 pub agree_stores : (x : Setting) (a b : Placement) (f : Frame) (s t : State) (i : Insn) (k : Kind) (o : ℤ) (v w n : ℕ) (vs : List ℕ) → length vs ≡ n → after f i ≡ with_store f k o n → is_some (insn_at x.judged.program.insns (t.slot + 1)) ≡ true → Alike a b f s t → Room (run x a) f k o n v → Room (run x b) f k o n w → Agree a b f i (m.stores_bytes (run x a) s (address v o) vs) (m.stores_bytes (run x b) t (address w o) vs)
 agree_stores x a b f s t i k o v w n vs lv ea on l ra rb =
     rw (ra.there, rb.there, lv, ra.inside, rb.inside, l.slot, on, ea, ra.frame) (alike_put a b f s t _ _ (spot k o) n vs lv l refl l.writes refl refl refl refl)
@@ -166,6 +171,7 @@ store_agrees x z d o r a b f s t here h two =
 
 -- ---- jumps, and the exit
 
+-- so does what changes nothing but the slot
 pub agree_goes : (x : Setting) (a b : Placement) (f : Frame) (s t : State) (i : Insn) (n : ℕ) → after f i ≡ f → is_some (insn_at x.judged.program.insns n) ≡ true → Alike a b f s t → Agree a b f i (m.goes (run x a) s n s.regs s.stack) (m.goes (run x b) t n t.regs t.stack)
 agree_goes x a b f s t i n ea h l = rw (h, ea) (record { slot = refl; writes = l.writes; reg = l.reg; byte = l.byte })
 
@@ -174,6 +180,7 @@ jump_agrees x o a b f s t here h two =
     let l = lands x.judged.program.insns t.slot o h in
     rw (two.alike.slot, l.is) (agree_goes x a b f s t (Jump o) l.to refl l.first two.alike)
 
+-- a comparison comes out the same, since neither side may be a pointer
 pub jump_if_agrees : (x : Setting) (c : Cmp) (w : Width) (d : registers.Reg) (y : Operand) (o : ℤ) → Agrees x (JumpIf c w d y o)
 jump_if_agrees x c w d y o a b f s t here h two =
     let n = t.slot in
@@ -195,6 +202,7 @@ jump_if_agrees x c w d y o a b f s t here h two =
     ] in
     rw (left.is, right.1, left_b, right_b) (either (holds c w left.value right.0))
 
+-- both end with the same result, since register 0 may not be a pointer
 pub exit_agrees : (x : Setting) → Agrees x Exit
 exit_agrees x a b f s t here h two =
     let p = empty_parts (unset f 0) (when (is_pointer (kind_of f 0)) ExitsWithPointer) h in

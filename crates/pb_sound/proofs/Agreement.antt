@@ -33,6 +33,7 @@ use Rattle.pb_sound.proofs.AgreeingMemory.{stack_same, load_agrees, alike_put, s
 
 -- ---- calls
 
+-- after a call register 0 is the same, 1 to 5 are unset, and the others stay
 same_called : (f : Frame) (g j : Map) (v : ℕ) → ((r : ℕ) → SameNumber (kind_of f r) (g r) (j r)) → (r : ℕ) → SameNumber (kind_of (clobber f) r) (called_regs g v r) (called_regs j v r)
 same_called f g j v h zero = refl
 same_called f g j v h (suc zero) = tt
@@ -68,6 +69,7 @@ pub record FilledTwo (x : Setting) (a b : Placement) (f : Frame) (s t : State) :
 here_is : (base : ℕ) (k : ℤ) (y : ℕ) → address (address base k) (pos 0) ≡ y → address base k ≡ y
 here_is base k y h = ap (λ z. address base z) (sym (plus_zero k)) ∙ sym (moved_word base k (pos 0)) ∙ h
 
+-- the 32 bytes that a read fills are at one distance in both stacks
 filled_two : (x : Setting) (a b : Placement) (f : Frame) (s t : State) (k : Kind) → is_place k ≡ true → filled_bytes k ≡ [] → Holds (run x a) k (s.regs 3) → Holds (run x b) k (t.regs 3) → kind_of f 3 ≡ k → Two x a b f s t → FilledTwo x a b f s t
 filled_two x a b f s t Unset p h ha hb q two = cc
 filled_two x a b f s t Number p h ha hb q two = cc
@@ -106,6 +108,7 @@ pub record TakenTwo (x : Setting) (a b : Placement) (s t : State) : Type 0 where
   pub are_a : entries s.stack at_a 32 ≡ Some bytes
   pub are_b : entries t.stack at_b 32 ≡ Some bytes
 
+-- the 32 bytes that a write takes are the same, since each is written
 taken_two : (x : Setting) (a b : Placement) (f : Frame) (s t : State) (k : Kind) → is_place k ≡ true → taken_bytes f k ≡ [] → Holds (run x a) k (s.regs 3) → Holds (run x b) k (t.regs 3) → Two x a b f s t → TakenTwo x a b s t
 taken_two x a b f s t Unset p h ha hb two = cc
 taken_two x a b f s t Number p h ha hb two = cc
@@ -125,7 +128,7 @@ taken_two x a b f s t (Stack k) p h ha hb two =
       are_b = sym (stack_same x a b f s t k 32 (omega arith) h two) ∙ sa.read.are;
     }
 
--- row and column
+-- the row and the column of a call, the same in both states
 pub record CellTwo (s t : State) : Type 0 where
   pub row : ℕ
   pub column : ℕ
@@ -134,6 +137,7 @@ pub record CellTwo (s t : State) : Type 0 where
   pub column_a : s.regs 2 ≡ Some column
   pub column_b : t.regs 2 ≡ Some column
 
+-- row and column are numbers, and so the same
 cell_two : (x : Setting) (a b : Placement) (f : Frame) (s t : State) → is_cell f ≡ true → Two x a b f s t → CellTwo s t
 cell_two x a b f s t h two =
     let q = and_true (is_number_kind (kind_of f 1)) (is_number_kind (kind_of f 2)) h in
@@ -159,6 +163,7 @@ write_agrees x a b f s t k y row column c same hx l =
     let go : (low : Bool) → Agree a b f (Call k) (cond low (Goes (m.state_after_call s ws v)) (Goes (m.state_after_call s t.writes 2))) (cond low (Goes (m.state_after_call t ws v)) (Goes (m.state_after_call t t.writes 2))) = λ low. elim low as (λ low. Agree a b f (Call k) (cond low (Goes (m.state_after_call s ws v)) (Goes (m.state_after_call s t.writes 2))) (cond low (Goes (m.state_after_call t ws v)) (Goes (m.state_after_call t t.writes 2)))) [ true ↦ on ws v | false ↦ on t.writes 2 ] in
     rw l.writes (go (nat_lt column 16))
 
+-- both ask for the same cell, and each reply leaves both alike
 read_agrees : (x : Setting) (a b : Placement) (f : Frame) (s t : State) (k : ℤ) → helper_of k ≡ Some Read → read_rules f ≡ [] → Two x a b f s t → Agree a b f (Call k) (m.helps (run x a) s Read) (m.helps (run x b) t Read)
 read_agrees x a b f s t k hx h two =
     let p4 = empty_parts (unset f 1 ++ unset f 2 ++ unset f 3 ++ filled_bytes (kind_of f 3)) (when (not (is_cell f && is_place (kind_of f 3))) WrongArgument) h in
@@ -196,11 +201,13 @@ calls_agree x a b f s t k (Some y) hx on h two =
     let on_a : is_some (insn_at x.judged.program.insns (s.slot + 1)) ≡ true = rw two.alike.slot on in
     rw (on, on_a) (helps_agree x a b f s t k y (called_is x.judged.helpers k y hx) h two)
 
+-- every call, of a declared helper
 call_agrees : (x : Setting) (k : ℤ) → Agrees x (Call k)
 call_agrees x k a b f s t here h two =
     let parts = empty_parts (call_rules f (declared_helper x.judged.helpers k)) (falls x.judged.program.insns (t.slot + 1)) h in
     calls_agree x a b f s t k (declared_helper x.judged.helpers k) refl (follows x.judged.program.insns (Call k) t.slot here parts.1) parts.0 two
 
+-- every instruction, by its kind
 does_agree : (x : Setting) (i : Insn) → Agrees x i
 does_agree x (Alu op w d y) = alu_agrees x op w d y
 does_agree x (MovSx w z d r) = mov_sx_agrees x w z d r
@@ -214,6 +221,7 @@ does_agree x (JumpIf c w d y o) = jump_if_agrees x c w d y o
 does_agree x (Call k) = call_agrees x k
 does_agree x Exit = exit_agrees x
 
+-- and so it is at a slot where that instruction stands
 pub acts_agree : (x : Setting) (i : Insn) (a b : Placement) (f : Frame) (s t : State) → IsFollowed x.judged.program.insns t.slot i → insn_rules x.judged t.slot f i ≡ [] → Two x a b f s t → Agree a b f i (act (run x a) s) (act (run x b) t)
 unfolding act
 acts_agree x i a b f s t here h two =

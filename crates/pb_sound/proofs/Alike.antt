@@ -22,6 +22,7 @@ pub record Alike (a b : Placement) (f : Frame) (s t : State) : Type 0 where
   pub reg : (r : ℕ) → SameNumber (kind_of f r) (s.regs r) (t.regs r)
   pub byte : (i : ℕ) → IsTrue (has_byte f i) → s.stack (a.stack + i) ≡ t.stack (b.stack + i)
 
+-- both go on to states that are alike after the instruction, with each reply where they ask, or end with the same
 abbrev pub Agree : Placement → Placement → Frame → Insn → Outcome → Outcome → Type 0
 Agree a b f i (Goes s) (Goes t) = Alike a b (after f i) s t
 Agree a b f i (Asks x go) (Asks y on) = (x ≡ y) × ((r : Reply) → IsReply r → Alike a b (after f i) (go r) (on r))

@@ -37,7 +37,7 @@ pub record Operands (e : Environment) (f : Frame) (s : State) (op : AluOp) (w : 
   pub sets : sets d ≡ []
   pub holds : Holds e (kind_after f op w d x) (Some (alu op w left right))
 
--- two values
+-- both operands have values, and the destination isn't R10
 pub record Both (s : State) (d : registers.Reg) (x : Operand) : Type 0 where
   pub left : ℕ
   pub right : ℕ
@@ -45,6 +45,7 @@ pub record Both (s : State) (d : registers.Reg) (x : Operand) : Type 0 where
   pub right_is : m.operand s x ≡ Some right
   pub sets : sets d ≡ []
 
+-- an operand that the rules let through has a value
 pub operand_is : (e : Environment) (f : Frame) (s : State) (x : Operand) → reads_operand f x ≡ [] → FitsFrame e f s → HasValue (m.operand s x)
 operand_is e f s (Imm k) h t = (word k, refl)
 operand_is e f s (Reg r) h t = let v = read_value e f s r h t in (v.value, v.is)
@@ -58,6 +59,7 @@ both e f s d x h t =
     let b = operand_is e f s x p1.1 t in
     record { left = a.value; right = b.0; left_is = a.is; right_is = b.1; sets = p2.1 }
 
+-- a pointer plus a number points as much further on, since sums of addresses wrap alike
 moved_holds : (e : Environment) (k : Kind) (x : ℕ) (z : ℤ) → Holds e k (Some x) → Holds e (move_pointer k z) (Some (address x z))
 moved_holds e Unset x z h = (address x z, refl)
 moved_holds e Number x z h = (address x z, refl)
@@ -93,6 +95,7 @@ mov_low e f s d r h t =
     let a = read_value e f s r p.0 t in
     record { left = 0; right = a.value; left_is = refl; right_is = a.is; sets = p.1; holds = (_, refl) }
 
+-- the operands of every operation whose rules hold, and what comes of them
 pub operands_are : (e : Environment) (f : Frame) (s : State) (op : AluOp) (w : Width) (d : registers.Reg) (x : Operand) → rules.alu_rules f op w d x ≡ [] → FitsFrame e f s → Operands e f s op w d x
 operands_are e f s Mov Bits64 d (Imm k) h t = mov_imm e f s Bits64 d k h
 operands_are e f s Mov Bits32 d (Imm k) h t = mov_imm e f s Bits32 d k h
@@ -104,6 +107,7 @@ operands_are e f s Add Bits64 d (Reg r) h t = let b = both e f s d (Reg r) h t i
 operands_are e f s Sub Bits64 d (Reg r) h t = let b = both e f s d (Reg r) h t in record { left = b.left; right = b.right; left_is = b.left_is; right_is = b.right_is; sets = b.sets; holds = (_, refl) }
 operands_are e f s op w d x h t = let b = both e f s d x h t in record { left = b.left; right = b.right; left_is = b.left_is; right_is = b.right_is; sets = b.sets; holds = (_, refl) }
 
+-- an operation whose rules hold goes on
 pub alu_on : (e : Environment) (f : Frame) (s : State) (op : AluOp) (w : Width) (d : registers.Reg) (x : Operand) → IsFollowed e.judged.program.insns s.slot (Alu op w d x) → insn_rules e.judged s.slot f (Alu op w d x) ≡ [] → FitsFrame e f s → GoesOn e f s.slot (Alu op w d x) (does e s (Alu op w d x))
 alu_on e f s op w d x a b t =
     let parts = empty_parts (rules.alu_rules f op w d x) (rules.falls e.judged.program.insns (s.slot + 1)) b in

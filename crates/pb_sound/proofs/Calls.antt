@@ -30,6 +30,7 @@ use Rattle.pb_sound.proofs.Stores.{spot, stack_room, fits_put}
 
 -- ---- after a call
 
+-- after a call register 0 has a number, and those from 6 on hold what they did
 holds_called : (e : Environment) (f : Frame) (g : Map) (v : ℕ) → ((r : ℕ) → Holds e (kind_of f r) (g r)) → (r : ℕ) → Holds e (kind_of (clobber f) r) (called_regs g v r)
 holds_called e f g v h zero = (v, refl)
 holds_called e f g v h (suc zero) = tt
@@ -52,7 +53,7 @@ fits_returned e f s t v h er es = record {
 
 -- ---- arguments
 
--- row and column
+-- the row and the column of a call, which registers 1 and 2 have
 pub record Cell (s : State) : Type 0 where
   pub row : ℕ
   pub column : ℕ
@@ -65,6 +66,7 @@ number_is e Number v u h = h
 number_is e (Stack k) v u h = cc
 number_is e (Record k) v u h = cc
 
+-- row and column are numbers, and have values
 pub cell_is : (e : Environment) (f : Frame) (s : State) → is_cell f ≡ true → FitsFrame e f s → Cell s
 cell_is e f s h t =
     let q = and_true (is_number_kind (kind_of f 1)) (is_number_kind (kind_of f 2)) h in
@@ -138,6 +140,7 @@ called_is h k x e =
 arrives : (e : Environment) (f : Frame) (s t : State) (k : ℤ) (x : Helper) → helper_of k ≡ Some x → is_some (insn_at e.judged.program.insns (s.slot + 1)) ≡ true → t.slot ≡ s.slot + 1 → FitsFrame e (after_call f (Some x)) t → Arrives e f s.slot (Call k) t
 arrives e f s t k x hx lands at h = record { leads = rw at (among_one (s.slot + 1)); first = rw at lands; fits = rw hx h }
 
+-- a reply has 32 bytes for the stack, zeros where the cell is absent
 pub reply_long : (r : Reply) → IsReply r → length (m.reply_bytes r) ≡ 32
 reply_long None h = refl
 reply_long (Some v) h = grind (arith, nat_tests)
@@ -145,6 +148,7 @@ reply_long (Some v) h = grind (arith, nat_tests)
 below : (n m : ℕ) → nat_lt n m ≡ true → n < m
 below n m h = grind (arith, nat_tests)
 
+-- a read goes on with each reply, or asks nothing where there is no such column
 read_on : (e : Environment) (f : Frame) (s : State) (k : ℤ) → IsPlaced e → helper_of k ≡ Some Read → is_some (insn_at e.judged.program.insns (s.slot + 1)) ≡ true → read_rules f ≡ [] → FitsFrame e f s → GoesOn e f s.slot (Call k) (helps e s Read)
 read_on e f s k pl hx lands b t =
     let p4 = empty_parts (unset f 1 ++ unset f 2 ++ unset f 3 ++ filled_bytes (kind_of f 3)) (when (not (is_cell f && is_place (kind_of f 3))) WrongArgument) b in
@@ -167,6 +171,7 @@ write_on e f s k x row column c same hx lands t =
     let go : (low : Bool) → GoesOn e f s.slot (Call k) (cond low (m.Goes (m.state_after_call s ws v)) (m.Goes (m.state_after_call s s.writes 2))) = λ low. elim low as (λ low. GoesOn e f s.slot (Call k) (cond low (m.Goes (m.state_after_call s ws v)) (m.Goes (m.state_after_call s s.writes 2)))) [ true ↦ on ws v | false ↦ on s.writes 2 ] in
     go (nat_lt column 16)
 
+-- each of the four helpers, where its arguments are accepted
 helps_on : (e : Environment) (f : Frame) (s : State) (k : ℤ) (x : Helper) → IsPlaced e → helper_of k ≡ Some x → is_some (insn_at e.judged.program.insns (s.slot + 1)) ≡ true → call_rules f (Some x) ≡ [] → FitsFrame e f s → GoesOn e f s.slot (Call k) (helps e s x)
 helps_on e f s k Read pl hx lands b t = read_on e f s k pl hx lands b t
 helps_on e f s k Write pl hx lands b t =
@@ -187,6 +192,7 @@ calls_on : (e : Environment) (f : Frame) (s : State) (k : ℤ) (x : Option Helpe
 calls_on e f s k None pl hx lands b t = cc
 calls_on e f s k (Some x) pl hx lands b t = rw lands (helps_on e f s k x pl (called_is e.judged.helpers k x hx) lands b t)
 
+-- a call whose rules hold is of a declared helper, and goes on
 pub call_on : (e : Environment) (f : Frame) (s : State) (k : ℤ) → IsPlaced e → IsFollowed e.judged.program.insns s.slot (Call k) → insn_rules e.judged s.slot f (Call k) ≡ [] → FitsFrame e f s → GoesOn e f s.slot (Call k) (does e s (Call k))
 call_on e f s k pl a b t =
     let parts = empty_parts (call_rules f (declared_helper e.judged.helpers k)) (falls e.judged.program.insns (s.slot + 1)) b in

@@ -13,5 +13,6 @@ Copies e safe (Asks a go) (CellsAsk b on) = safe × (a ≡ b) × ((r : Reply) �
 Copies e safe (Ends v ws) (CellsEnd w us) = (w ≡ v) × (us ≡ ws)
 Copies e safe o n = ⊥
 
+-- of any instruction, accepted or not: so acceptance comes in later, and once
 abbrev pub CellsCopy : Type 0
 CellsCopy = (e : Environment) (c : Cells) (s : State) (i : Insn) → IsHere e → Mirrors e c s → Copies e (IsSafe c i) (does e s i) (cells_act e.began c i)

@@ -36,6 +36,7 @@ use Rattle.pb_sound.proofs.Calls.{called_is, reply_long}
 
 -- ---- where the definitions may be stuck
 
+-- where a value is missing the definitions are stuck, so that only what comes of one has to be copied
 given_copy : (e : Environment) (p : Type 0) (o : Option ℕ) (go : ℕ → Outcome) (x : CellsOutcome) → ((v : ℕ) → o ≡ Some v → Copies e p (go v) x) → Copies e p (m.with_value o go) x
 given_copy e p None go x h = tt
 given_copy e p (Some v) go x h = h v refl
@@ -67,6 +68,7 @@ number_lt registers.R8 = omega arith
 number_lt registers.R9 = omega arith
 number_lt registers.R10 = omega arith
 
+-- a register that is set in the definitions is the same in the cells
 mirrored : (e : Environment) (c : Cells) (s : State) (r : Reg) (v : ℕ) → Mirrors e c s → m.value s r ≡ Some v → cell.cell_reg c r ≡ v
 mirrored e c s r v t h = t.reg (number r) v (number_lt r) h
 
@@ -83,6 +85,7 @@ reg_set rs g d v l h r x k q = elim (cases_eq r d) [
   | inr other ↦ rw get_or-set_other (h r x k (sym (with_other g d v r other) ∙ q))
 ]
 
+-- a register is set in both
 set_copy : (e : Environment) (p : Type 0) (c : Cells) (s : State) (d : Reg) (v w size : ℕ) → Mirrors e c s → p → w ≡ v → Copies e p (m.sets_register e s d v size) (CellsGo (cell.set_reg c d w size))
 set_copy e p c s d v w size t safe same =
     unless_copy e p (nat_eq (number d) 10) _ _ (if_copy e p (is_some (insn_at e.judged.program.insns (s.slot + size))) _ _ (λ _. (
@@ -116,6 +119,7 @@ neg_copy e c s w d t = given_copy e _ (m.value s d) _ _ (λ a ha. set_copy e _ c
 
 -- ---- loads
 
+-- bytes that all are written are those of the memory there
 entries_copy : (g : Map) (x n : ℕ) (mem bs : List ℕ) → ((i b : ℕ) → x ≤ i → i < x + n → g i ≡ Some b → get_or mem i 0 ≡ b) → x + n ≤ length mem → entries g x n ≡ Some bs → take n (drop x mem) ≡ bs
 entries_copy g x zero mem bs h l q = cc
 entries_copy g x (suc n) mem bs h l q =
@@ -148,6 +152,7 @@ inside base len x n h = let q = and_true (nat_le base x) (nat_le (x + n) (base +
 record_byte : (e : Environment) (i b : ℕ) → e.place.record_at ≡ 0 → m.record_map e i ≡ Some b → slice_get e.bytes i ≡ Some b
 record_byte e i b z h = let q : i - e.place.record_at ≡ i = omega arith in rw q at h
 
+-- n bytes of the memory, which are there
 pub record Got (c : Cells) (x n : ℕ) (bs : List ℕ) : Type 0 where
   pub are : cell.bytes_at c x n ≡ bs
   pub room : x + n ≤ cell.memory_bytes
@@ -167,6 +172,7 @@ record_got e c s x n bs pl t h q =
     let long = t.long.memory in
     record { are = entries_copy (m.record_map e) x n c.memory bs (λ j b k1 k2 w. t.given j b (omega arith) (record_byte e j b (ap (λ (a : Placement). a.record_at) pl.place) w)) (omega arith) q; room = omega arith }
 
+-- what the definitions fetch is what the memory has, from either region
 got : (e : Environment) (c : Cells) (s : State) (x n : ℕ) (bs : List ℕ) → IsHere e → Mirrors e c s → fetch e s x n ≡ Some bs → Got c x n bs
 unfolding fetch
 got e c s x n bs pl t q =
@@ -212,6 +218,7 @@ module _ (xs : List ℕ) (a : ℕ) (vs : List ℕ) (room : a + length vs ≤ len
   over_long : length (cell.put_at xs a vs) ≡ length xs
   over_long = simp (length-append, length-take, length-drop) (omega arith)
 
+-- a byte after a store is the stored one, or what it was
 byte_put : (mem : List ℕ) (g : Map) (x : ℕ) (vs : List ℕ) → x + length vs ≤ length mem → (y b : ℕ) → (g y ≡ Some b → get_or mem y 0 ≡ b) → with_list g x vs y ≡ Some b → get_or (cell.put_at mem x vs) y 0 ≡ b
 byte_put mem g x vs room y b h q = elim (cases_lt y x) [
   | inl low ↦ over_before mem x vs room y low ∙ h (sym (with_list_below vs g x y low) ∙ q)
@@ -239,6 +246,7 @@ mirrors_put e c d s t x vs h low high eslot ewrites er es em ek =
       given = λ y b k q. rw em (over_before c.memory x vs room y (omega arith) ∙ h.given y b k q);
     }
 
+-- bytes are put into both stacks
 store_copy : (e : Environment) (p : Type 0) (c : Cells) (s : State) (x y : ℕ) (vs ws : List ℕ) → IsHere e → Mirrors e c s → (MAX_RECORD_BYTES ≤ x → x + length vs ≤ cell.memory_bytes → p) → y ≡ x → ws ≡ vs → Copies e p (m.stores_bytes e s x vs) (CellsGo (cell.put_bytes c y ws))
 store_copy e p c s x y vs ws pl t safe ex ev =
     if_copy e p (m.stack_has e x (length vs)) _ _ (λ h. if_copy e p (is_some (insn_at e.judged.program.insns (s.slot + 1))) _ _ (λ _.
@@ -277,6 +285,7 @@ goes_copy : (e : Environment) (c : Cells) (s : State) (n k : ℕ) → Mirrors e 
 goes_copy e c s n k t same =
     if_copy e _ (is_some (insn_at e.judged.program.insns n)) _ _ (λ _. (tt, record { slot = same; writes = t.writes; long = record { regs = t.long.regs; memory = t.long.memory }; reg = t.reg; byte = t.byte; given = t.given }))
 
+-- a jump that leads somewhere leads to the same slot in both
 jumped_is : (n : ℕ) (o : ℤ) (t : ℕ) → m.target n o ≡ Some t → cell.jump_slot n o ≡ t
 jumped_is n (pos z) t h = some_same _ t h
 jumped_is n (negsuc z) t h = either (nat_le z n) h
@@ -368,6 +377,7 @@ write_copy e p c s row column x y t safe r1 r2 ex =
     ] in
     rw (r1, r2, ex, t.writes) (go (nat_lt column 16))
 
+-- each of the four helpers
 helps_copy : (e : Environment) (c : Cells) (s : State) (x : Helper) → IsHere e → Mirrors e c s → Copies e (cell.IsSafeCall c (Some x)) (m.helps e s x) (cell.cells_call e.began c (Some x))
 helps_copy e c s Read pl t = read_copy e c s pl t
 helps_copy e c s Write pl t =
@@ -381,10 +391,12 @@ helps_copy e c s Delete pl t =
     write_copy e _ c s row column Deleted Deleted t tt (t.reg 1 row (omega arith) h1) (t.reg 2 column (omega arith) h2) refl))
 helps_copy e c s Start pl t = (tt, returned_copy e c s s.writes c.writes e.began e.began t t.writes refl)
 
+-- a call of a declared helper; one of another is stuck, and needs no copy
 calls_copy : (e : Environment) (c : Cells) (s : State) (k : ℤ) (x : Option Helper) → IsHere e → Mirrors e c s → declared_helper e.judged.helpers k ≡ x → Copies e (cell.IsSafeCall c (helper_of k)) (m.calls e s x) (cell.cells_call e.began c (helper_of k))
 calls_copy e c s k None pl t q = tt
 calls_copy e c s k (Some x) pl t q = if_copy e _ (is_some (insn_at e.judged.program.insns (s.slot + 1))) _ _ (λ _. rw (called_is e.judged.helpers k x q) (helps_copy e c s x pl t))
 
+-- every instruction, by its kind
 pub cells_copy : CellsCopy
 cells_copy e c s (Alu op w d x) pl t = alu_copy e c s op w d x t
 cells_copy e c s (MovSx w z d r) pl t = mov_sx_copy e c s w z d r t

@@ -14,6 +14,7 @@ use Rattle.pb_sound.proofs.Stores.{store_imm_on, store_on}
 use Rattle.pb_sound.proofs.Jumps.{jump_on, jump_if_on, exit_on}
 use Rattle.pb_sound.proofs.Calls.{call_on}
 
+-- every instruction, by its kind
 does_on : (e : Environment) (f : Frame) (s : State) (i : Insn) → IsPlaced e → IsFollowed e.judged.program.insns s.slot i → insn_rules e.judged s.slot f i ≡ [] → FitsFrame e f s → GoesOn e f s.slot i (does e s i)
 does_on e f s (Alu op w d x) pl a b t = alu_on e f s op w d x a b t
 does_on e f s (MovSx w z d r) pl a b t = mov_sx_on e f s w z d r a b t
@@ -27,6 +28,7 @@ does_on e f s (JumpIf c w d x o) pl a b t = jump_if_on e f s c w d x o a b t
 does_on e f s (Call k) pl a b t = call_on e f s k pl a b t
 does_on e f s Exit pl a b t = exit_on e f s b t
 
+-- and so it is at a slot where that instruction stands
 pub acts_on : (e : Environment) (f : Frame) (s : State) (i : Insn) → IsPlaced e → IsFollowed e.judged.program.insns s.slot i → insn_rules e.judged s.slot f i ≡ [] → FitsFrame e f s → GoesOn e f s.slot i (act e s)
 unfolding act
 acts_on e f s i pl a b t = rw a.at (does_on e f s i pl a b t)

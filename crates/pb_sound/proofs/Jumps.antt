@@ -52,6 +52,7 @@ among_later n k ms h = either (nat_eq n k)
     either true = refl
     either false = h
 
+-- a jump whose rules hold lands on an instruction of a later slot
 pub lands : (p : List Insn) (n : ℕ) (o : ℤ) → jump_rules p n o ≡ [] → Lands p n o
 lands p n (negsuc z) e = cc
 lands p n (pos z) e = record { to = n + 1 + z; is = refl; leads = among_first (n + 1 + z) []; first = some_from _ (when_not _ _ (cond_else _ _ _ e)) }
@@ -65,6 +66,7 @@ jump_on e f s o b t =
     let l = lands e.judged.program.insns s.slot o b in
     rw l.is (goes_on e f s (Jump o) l.to refl l.leads l.first t)
 
+-- a conditional jump goes on either way: to its target, or to the next slot, which the rules ask for
 pub jump_if_on : (e : Environment) (f : Frame) (s : State) (c : Cmp) (w : Width) (d : Reg) (x : Operand) (o : ℤ) → IsFollowed e.judged.program.insns s.slot (JumpIf c w d x o) → insn_rules e.judged s.slot f (JumpIf c w d x o) ≡ [] → FitsFrame e f s → GoesOn e f s.slot (JumpIf c w d x o) (does e s (JumpIf c w d x o))
 jump_if_on e f s c w d x o a b t =
     let n = s.slot in
@@ -83,6 +85,7 @@ jump_if_on e f s c w d x o a b t =
     ] in
     rw (left.is, right.1) (either (holds c w left.value right.0))
 
+-- an exit whose rules hold ends, since register 0 has a value
 pub exit_on : (e : Environment) (f : Frame) (s : State) → insn_rules e.judged s.slot f Exit ≡ [] → FitsFrame e f s → GoesOn e f s.slot Exit (does e s Exit)
 exit_on e f s b t =
     let p = empty_parts (unset f 0) (when (is_pointer (kind_of f 0)) ExitsWithPointer) b in

@@ -10,10 +10,12 @@ use Rattle.pb_helpers.specs.Codes.{when}
 use Rattle.pb_isa.specs.Machine.{Map, with_entry, with_list, entries, push_front}
 use Rattle.pb_sound.specs.Fits.{HasValue}
 
+-- where no rule is broken none of a part is
 pub empty_parts : (xs ys : List Code) → xs ++ ys ≡ [] → (xs ≡ []) × (ys ≡ [])
 empty_parts [] ys e = (refl, e)
 empty_parts (x ∷ xs) ys e = cc
 
+-- a code that isn't listed has its rule kept
 pub when_not : (b : Bool) (c : Code) → when b c ≡ [] → b ≡ false
 when_not true c e = cc
 when_not false c e = refl
@@ -53,6 +55,7 @@ pub record Bytes (m : Map) (x n : ℕ) : Type 0 where
 push_both : {a : Option ℕ} {b : Option (List ℕ)} (x : ℕ) (xs : List ℕ) → a ≡ Some x → b ≡ Some xs → push_front a b ≡ Some (x ∷ xs)
 push_both x xs e f = rw (e, f) refl
 
+-- n places that all have a value are n bytes
 pub entries_are : (m : Map) (x n : ℕ) → ((i : ℕ) → i < n → HasValue (m (x + i))) → Bytes m x n
 entries_are m x zero h = record { bytes = []; are = refl; long = refl }
 entries_are m x (suc n) h =
@@ -63,6 +66,7 @@ entries_are m x (suc n) h =
     rw e (h (suc i) (omega arith))) in
     record { bytes = first.0 ∷ rest.bytes; are = push_both first.0 rest.bytes here rest.are; long = let l = rest.long in omega arith }
 
+-- n written bytes are written one by one
 pub true_at : (n : ℕ) (f : Frame) (j : ℕ) → has_bytes f j n ≡ true → (i : ℕ) → i < n → has_byte f (j + i) ≡ true
 true_at zero f j h i k = absurd (omega arith)
 true_at (suc n) f j h zero k = let e : j + 0 ≡ j = omega arith in rw e (and_true (has_byte f j) _ h).0
@@ -92,6 +96,7 @@ pub with_list_above : (vs : List ℕ) (m : Map) (x y : ℕ) → x + length vs �
 with_list_above [] m x y h = refl
 with_list_above (v ∷ vs) m x y h = with_list_above vs (with_entry m x v) (x + 1) y (omega arith) ∙ with_other m x v y (omega arith)
 
+-- what was put from x on stands there
 pub with_list_in : (vs : List ℕ) (m : Map) (x i : ℕ) → i < length vs → with_list m x vs (x + i) ≡ Some (get_or vs i 0)
 with_list_in [] m x i h = absurd (omega arith)
 with_list_in (v ∷ vs) m x zero h = rw add-zero (with_list_below vs (with_entry m x v) (x + 1) x (omega arith) ∙ with_same m x v)

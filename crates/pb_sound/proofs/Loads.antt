@@ -36,6 +36,7 @@ pub record Stretch (e : Environment) (s : State) (z : ℤ) (n : ℕ) : Type 0 wh
   pub inside : m.stack_has e (e.place.stack + from_low z) n ≡ true
   pub read : Bytes s.stack (e.place.stack + from_low z) n
 
+-- stack bytes that the rules let a load take are in the stack, and have values
 pub stretch : (e : Environment) (f : Frame) (s : State) (z : ℤ) (n : ℕ) → 0 < n → IsPlaced e → FitsFrame e f s → stack_reads f z n ≡ [] → Stretch e s z n
 stretch e f s z n some pl t h =
     let ok = cond_when (in_stack z n) (are_written f z n) _ _ h in
@@ -68,6 +69,7 @@ pub record Part (e : Environment) (s : State) (z : ℤ) (n : ℕ) : Type 0 where
   pub room : nat_abs z + n ≤ length e.bytes
   pub are : fetch e s (address e.place.record_at z) n ≡ entries (m.record_map e) (e.place.record_at + nat_abs z) n
 
+-- bytes of the record that the rules let a load take are in the record
 pub part : (e : Environment) (s : State) (z : ℤ) (n : ℕ) → 0 < n → IsPlaced e → in_record e.judged.record_size z n ≡ true → Part e s z n
 unfolding fetch
 part e s z n some pl k =
@@ -115,6 +117,7 @@ some_bytes H = omega arith
 some_bytes W = omega arith
 some_bytes Dw = omega arith
 
+-- a load whose rules hold goes on, with a number
 pub load_on : (e : Environment) (f : Frame) (s : State) (z : Size) (y : Extension) (d r : Reg) (o : ℤ) → IsPlaced e → IsFollowed e.judged.program.insns s.slot (Load z y d r o) → insn_rules e.judged s.slot f (Load z y d r o) ≡ [] → FitsFrame e f s → GoesOn e f s.slot (Load z y d r o) (does e s (Load z y d r o))
 load_on e f s z y d r o pl a b t =
     let parts = empty_parts _ _ b in

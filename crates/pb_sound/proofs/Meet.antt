@@ -27,6 +27,7 @@ holds_less e f r v Number same h = rw (same number_set) at h
 holds_less e f r v (Stack k) same h = rw (same (stack_set k)) at h
 holds_less e f r v (Record k) same h = rw (same (record_set k)) at h
 
+-- so a state that fits the frame after an instruction fits the one before the next slot
 pub fits_less : (e : Environment) (g f : Frame) (s : State) → SaysLess g f → FitsFrame e f s → FitsFrame e g s
 fits_less e g f s less t = record {
   reg = λ r. holds_less e f r (s.regs r) (kind_of g r) (λ set. (less (HasKind r (kind_of g r)) (record { kind = refl; set = set })).kind) (t.reg r);

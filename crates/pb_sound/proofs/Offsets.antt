@@ -57,18 +57,20 @@ both_true false b c e f = cc
 pub larger : (m k : ℕ) (z : ℤ) (n : ℕ) → m ≤ k → in_record m z n ≡ true → in_record k z n ≡ true
 larger m k z n more h = both_true (int_le (pos 0) z) (int_le (z +ℤ pos n) (pos m)) (int_le (z +ℤ pos n) (pos k)) h (λ e. le_to (z +ℤ pos n) (pos k) (le_more (z +ℤ pos n) m k more (le_from (z +ℤ pos n) (pos m) e)))
 
--- where a stack byte lies
+-- stack bytes at a distance from the stack's end lie where their place from the lowest one says
 pub stack_at : (b n : ℕ) (z : ℤ) → 0 < n → negsuc 511 ≤ℤ z → (z +ℤ pos n) ≤ℤ pos 0 → b + STACK_BYTES < 18446744073709551616 → (address (b + STACK_BYTES) z ≡ b + from_low z) × (from_low z + n ≤ STACK_BYTES)
 stack_at b n (pos m) some l h f = absurd (omega (arith, ints))
 stack_at b n (negsuc m) some l h f = (omega (arith, ints), omega (arith, ints))
 
--- where a byte of the record lies
+-- bytes of the record lie at their distance from its first byte
 pub record_at : (size b n : ℕ) (z : ℤ) → pos 0 ≤ℤ z → (z +ℤ pos n) ≤ℤ pos size → b + size < 18446744073709551616 → (address b z ≡ b + nat_abs z) × (nat_abs z + n ≤ size)
 record_at size b n (pos m) l h f = (omega (arith, ints), omega (arith, ints))
 record_at size b n (negsuc m) l h f = absurd (omega (arith, ints))
 
+-- n bytes between the ends of a region lie in it
 pub lies : (base len x n : ℕ) → base ≤ x → x + n ≤ base + len → lies_in base len x n ≡ true
 lies base len x n a b = grind (arith, nat_tests)
 
+-- and of bytes beside it none does: so stack and record aren't taken for one another
 pub lies_not : (base len x n : ℕ) → (x + n ≤ base) ⊎ (base + len ≤ x) → 0 < n → lies_in base len x n ≡ false
 lies_not base len x n a b = grind (arith, nat_tests)

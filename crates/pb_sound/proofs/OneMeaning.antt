@@ -40,6 +40,7 @@ same_end : (r v : ℕ) (ws us : Writes) → Ends r ws ≡ Ends v us → (r ≡ v
 unfolding result_of writes_of
 same_end r v ws us h = (ap result_of h, ap writes_of h)
 
+-- two ends with one talk are the same end, after as many instructions
 one_end : (e : Environment) (talk : Talk) (r v : ℕ) (ws us : Writes) → EndsWith e talk r ws → EndsWith e talk v us → (r ≡ v) × (ws ≡ us)
 one_end e talk r v ws us x y = elim (cases_eq x.steps y.steps) [
   | inl same ↦
@@ -53,6 +54,7 @@ one_end e talk r v ws us x y = elim (cases_eq x.steps y.steps) [
   ]
 ]
 
+-- and so a program means one result and one list of writes
 pub one_meaning : EachHasOneMeaning
 one_meaning j bytes began talk r v ws us x y =
     let a = x.some in

@@ -21,6 +21,7 @@ use Rattle.pb_sound.specs.ProfilesAgree.{judged_in, ProgramsOfOneAreOfTwo, SameA
 
 -- ---- programs
 
+-- an instruction of profile 1 is one of profile 2
 of_two : (i : Insn) → IsOf One i → IsOf Two i
 of_two (Alu op w d x) h = refl
 of_two (MovSx w z d r) h = cc
@@ -39,6 +40,7 @@ all_of_two : (is : List Insn) → AllByRecursion (IsOf One) is → AllByRecursio
 all_of_two [] h = tt
 all_of_two (i ∷ is) h = (of_two i h.0, all_of_two is h.1)
 
+-- and 512 slots are fewer than 4,096
 pub programs : ProgramsOfOneAreOfTwo
 programs is p = record { some = p.some; most = (let most = p.most in omega (arith, most)); of_profile = all_of_two is p.of_profile }
 
@@ -135,11 +137,13 @@ module _ (p q : Profile) (is : List Insn) (h : HelperSet) (size : ℕ) where
   means : (bytes : List ℕ) (began : ℕ) (talk : Talk) (r : ℕ) (ws : Writes) → Means (judged_in p is h size) bytes began talk r ws → Means (judged_in q is h size) bytes began talk r ws
   means bytes began talk r ws m = record { size = m.size; some = m.some; at = λ a l. ends bytes began a talk r ws (m.at a l) }
 
+-- no rule looks at the profile
 pub accepted : SameAreAccepted
 accepted is h size = (accepts One Two is h size, accepts Two One is h size)
 
 pub refused : SameAreRefused
 refused is h size n c = (refuses One Two is h size n c, refuses Two One is h size n c)
 
+-- nor does the machine
 pub meant : SameIsMeant
 meant is h size bytes began talk r ws = (means One Two is h size bytes began talk r ws, means Two One is h size bytes began talk r ws)

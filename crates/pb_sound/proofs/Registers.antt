@@ -34,6 +34,7 @@ holds_set e ks m d k v h n r = elim (cases_eq r d) [
   | inr other ↦ rw (with_other m d v r other, get_or-set_other) (h r)
 ]
 
+-- a state fits on where a register is set to what its new kind says
 pub fits_set : (e : Environment) (f : Frame) (s t : State) (d : Reg) (k : Kind) (v : ℕ) → FitsFrame e f s → Holds e k (Some v) → t.regs ≡ with_entry s.regs (number d) v → t.stack ≡ s.stack → FitsFrame e (with_kind f d k) t
 fits_set e f s t d k v h n er es = record {
   reg = λ r. rw er (holds_set e f.kinds s.regs (number d) k v h.reg n r);
@@ -43,6 +44,7 @@ fits_set e f s t d k v h n er es = record {
 ne_from_false : (a b : ℕ) → nat_eq a b ≡ false → a ≢ b
 ne_from_false a b h = grind (arith, nat_tests)
 
+-- how many slots an instruction takes
 abbrev pub size : Insn → ℕ
 size i = length (places_of i)
 
@@ -54,6 +56,7 @@ pub record IsFollowed (p : List Insn) (n : ℕ) (i : Insn) : Type 0 where
 pub followed : (p : List Insn) → LeadOn p → (n : ℕ) (i : Insn) → insn_at p n ≡ Some i → IsFollowed p n i
 followed p lead n i a = record { at = a; next = lead.next n i a }
 
+-- where 36 isn't broken, an instruction stands behind
 pub follows : (p : List Insn) (i : Insn) (n : ℕ) → IsFollowed p n i → falls p (n + size i) ≡ [] → is_some (insn_at p (n + size i)) ≡ true
 follows p i n a h = a.next (ne_from_false _ _ (when_not _ _ h))
 
@@ -83,5 +86,6 @@ value_of e Number v u h = record { value = h.0; is = h.1; holds = (h.0, refl) }
 value_of e (Stack k) v u h = record { value = _; is = h; holds = refl }
 value_of e (Record k) v u h = record { value = _; is = h; holds = refl }
 
+-- a register that the rules let be read has a value
 pub read_value : (e : Environment) (f : Frame) (s : State) (r : Reg) → reads f r ≡ [] → FitsFrame e f s → Value e (at f r) (m.value s r)
 read_value e f s r h t = value_of e (at f r) (m.value s r) (when_not _ _ h) (t.reg (number r))

@@ -47,7 +47,7 @@ plain_replaced x c (w ∷ ws) p h = let q = and_parts (is_data_write w) (list_al
     by true first rest replaced = λ i. p i && rest i
     by false first rest replaced = λ i. first i && replaced i
 
--- the same cells are written
+-- whether a cell is written doesn't depend on what it is given
 none_some : (t : Bool) (a b : Content) (o : Option Content) → is_none (cond t (Some a) o) ≡ is_none (cond t (Some b) o)
 none_some true a b o = refl
 none_some false a b o = refl
@@ -56,6 +56,7 @@ none_past : (t : Bool) (a : Content) (o p : Option Content) → is_none o ≡ is
 none_past true a o p e = refl
 none_past false a o p e = e
 
+-- a replaced write is of the same cells
 lacks_replaced : (x : Cell) (c : Content) (ws : Writes) (y : Cell) → is_none (content_in (replace_write x c ws) y) ≡ is_none (content_in ws y)
 lacks_replaced x c [] y = refl
 lacks_replaced x c (w ∷ ws) y = by (lacks_replaced x c ws y) (eq_by_cmp cell_cmp x w.0) refl
@@ -64,6 +65,7 @@ lacks_replaced x c (w ∷ ws) y = by (lacks_replaced x c ws y) (eq_by_cmp cell_c
     by rest true e = ap (λ z. is_none (cond (eq_by_cmp cell_cmp y z) (Some c) (content_in ws y))) (cell_is x w.0 e) ∙ none_some (eq_by_cmp cell_cmp y w.0) c w.1 (content_in ws y)
     by rest false e = none_past (eq_by_cmp cell_cmp y w.0) w.1 (content_in (replace_write x c ws) y) (content_in ws y) rest
 
+-- so they stay distinct
 distinct_replaced : (x : Cell) (c : Content) (ws : Writes) → are_distinct ws ≡ true → are_distinct (replace_write x c ws) ≡ true
 distinct_replaced x c [] h = refl
 distinct_replaced x c (w ∷ ws) h = let q = and_parts (is_none (content_in ws w.0)) (are_distinct ws) h in by q.0 q.1 (distinct_replaced x c ws q.1) (eq_by_cmp cell_cmp x w.0) refl
@@ -85,6 +87,7 @@ lacks_more (w ∷ ws) x c y h apart =
     let p = lacks_first (eq_by_cmp cell_cmp y w.0) w.1 (content_in ws y) h in
     ap (λ b. is_none (cond b (Some w.1) (content_in (ws ++ (x, c) ∷ []) y))) p.0 ∙ lacks_more ws x c y p.1 apart
 
+-- and so they do with a cell that wasn't among them
 distinct_more : (ws : Writes) (x : Cell) (c : Content) → are_distinct ws ≡ true → is_none (content_in ws x) ≡ true → are_distinct (ws ++ (x, c) ∷ []) ≡ true
 distinct_more [] x c h none = refl
 distinct_more (w ∷ ws) x c h none =
@@ -101,6 +104,7 @@ none_if : (o : Option Content) → is_some o ≡ false → is_none o ≡ true
 none_if None e = refl
 none_if (Some k) e = cc
 
+-- a write keeps it so: of a 17th cell nothing is written
 made_more : (ws : Writes) (x : Cell) (c : Content) → is_data_write (x, c) ≡ true → AreMade ws → AreMade (add_write x c ws)
 made_more ws x c p m = by (is_some (content_in ws x)) refl
   where
@@ -114,6 +118,7 @@ made_more ws x c p m = by (is_some (content_in ws x)) refl
 
 -- ---- one instruction
 
+-- so it is after an instruction, with each reply where it asks
 abbrev IsMadeStep : Outcome → Type 0
 IsMadeStep (Goes t) = AreMade t.writes
 IsMadeStep (Asks q go) = (r : Reply) → AreMade (go r).writes
@@ -198,6 +203,7 @@ going_on talk Stuck k u h e = cc
 nothing : AreMade []
 nothing = record { few = omega arith; plain = refl; distinct = refl }
 
+-- at each point of a run
 points_made : (e : Environment) (talk : Talk) (n : ℕ) (u : Point) → point_after e talk n ≡ Some u → AreMade u.state.writes
 unfolding point_after start
 points_made e talk zero u h = let same : point (start e) 0 ≡ u = cc in subst (λ (z : Point). AreMade z.state.writes) same nothing
@@ -211,10 +217,12 @@ points_made e talk (suc n) u h =
 ended : (o : Outcome) (v : ℕ) (us : Writes) → IsMadeStep o → o ≡ Ends v us → AreMade us
 ended o v us h e = subst IsMadeStep e h
 
+-- what may have been written is nothing or a batch
 batch_or_none : (ws : Writes) → AreMade ws → AreRunWrites ws
 batch_or_none [] m = inl refl
 batch_or_none (w ∷ ws) m = inr (rw (lt-ltb 0 (length (w ∷ ws)) (omega arith), le-leb (length (w ∷ ws)) MAX_CELLS m.few, m.plain, m.distinct) refl)
 
+-- of whatever a program means to write
 pub runs_write_batches : RunsWriteBatches
 runs_write_batches j bytes began talk r ws means =
     let a = means.some.0 in

@@ -72,6 +72,7 @@ plain_is_silent e s (JumpIf c w dst src offset) plain =
 plain_is_silent e s (Call imm) plain = absurd plain
 plain_is_silent e s Exit plain = on_value s.writes (s.regs 0) (λ v. Ends v s.writes) (λ v. refl)
 
+-- without helpers no call is of one that is declared
 none_declared : (h : HelperSet) (k : Option Helper) → h ≡ no_helpers → if_declared h k ≡ None
 none_declared h None e = refl
 none_declared h (Some Read) e = ap (λ (z : HelperSet). cond z.read (Some Read) None) e
@@ -87,6 +88,7 @@ does_at_silently : (e : Environment) (s : State) (i : Option Insn) → e.judged.
 does_at_silently e s None none = tt
 does_at_silently e s (Some i) none = does_silently e s i none
 
+-- so no instruction asks or writes
 acts_silently : (e : Environment) (s : State) → e.judged.helpers ≡ no_helpers → IsSilentStep s.writes (act e s)
 unfolding act
 acts_silently e s none = does_at_silently e s (insn_at e.judged.program.insns s.slot) none
@@ -102,6 +104,7 @@ on_silently talk ws (Asks q go) k u k0 none h e = absurd h
 on_silently talk ws (Ends v us) k u k0 none h e = cc
 on_silently talk ws Stuck k u k0 none h e = cc
 
+-- at each point of a run nothing was told, and nothing is written
 points_silently : (e : Environment) (talk : Talk) → e.judged.helpers ≡ no_helpers → (n : ℕ) (u : Point) → point_after e talk n ≡ Some u → IsSilentPoint u
 unfolding point_after start
 points_silently e talk none zero u h = let same : point (start e) 0 ≡ u = cc in subst IsSilentPoint same (record { told = refl; writes = refl })
@@ -126,6 +129,7 @@ none_kept r ws h = by_result (nat_eq r 0)
 ended : (ws : Writes) (o : Outcome) (v : ℕ) (us : Writes) → IsSilentStep ws o → o ≡ Ends v us → us ≡ ws
 ended ws o v us h e = subst (IsSilentStep ws) e h
 
+-- of whatever a program means
 pub without_helpers_silent : WithoutHelpersSilent
 without_helpers_silent j bytes began talk r ws none means =
     let a = means.some.0 in

@@ -56,6 +56,7 @@ abbrev pub spot : Kind → ℤ → ℤ
 spot (Stack k) o = k +ℤ o
 spot k o = o
 
+-- n bytes of the stack where the store goes, which are written after it
 pub record Room (e : Environment) (f : Frame) (k : Kind) (o : ℤ) (n x : ℕ) : Type 0 where
   pub frame : with_store f k o n ≡ with_written f (spot k o) n
   pub there : address x o ≡ e.place.stack + from_low (spot k o)
@@ -78,6 +79,7 @@ stack_room e f k o n some pl l =
       inside = lies e.place.stack STACK_BYTES (e.place.stack + from_low z) n (omega arith) (omega arith);
     }
 
+-- a store whose rules hold goes through a pointer to the stack
 pub store_room : (e : Environment) (f : Frame) (k : Kind) (x : ℕ) (o : ℤ) (n : ℕ) → 0 < n → IsPlaced e → is_unset k ≡ false → stores k o n ≡ [] → Holds e k (Some x) → Room e f k o n x
 store_room e f Unset x o n some pl u l h = cc
 store_room e f Number x o n some pl u l h = cc
@@ -110,6 +112,7 @@ store_imm_on e f s z d o k pl a b t =
     let vs = to_le_bytes (width z) (word k) in
     rw base.is (stores_on e f s (StoreImm z d o k) (at f d) base.value o (bytes_of z) vs (length-bytes z (word k)) refl refl (follows e.judged.program.insns (StoreImm z d o k) s.slot a parts.1) t where_to)
 
+-- a store whose rules hold goes on, with its bytes written
 pub store_on : (e : Environment) (f : Frame) (s : State) (z : Size) (d : Reg) (o : ℤ) (r : Reg) → IsPlaced e → IsFollowed e.judged.program.insns s.slot (Store z d r o) → insn_rules e.judged s.slot f (Store z d r o) ≡ [] → FitsFrame e f s → GoesOn e f s.slot (Store z d r o) (does e s (Store z d r o))
 store_on e f s z d o r pl a b t =
     let parts = empty_parts _ _ b in

@@ -1,4 +1,5 @@
--- An accepted program does the same at every placement.
+-- An accepted program does the same at every placement. A machine that has come to an end at the one placement of its
+-- cells has so come to what the program means, which asks for an end at each.
 use Rattle.std.specs.Prelude.{ℕ, List}
 use Rattle.pb_base.specs.Batch.{Writes}
 use Rattle.pb_isa.specs.Programs.{JudgedOf, IsProgram}

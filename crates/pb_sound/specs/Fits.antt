@@ -1,4 +1,5 @@
--- What a frame says of the machine at a placement.
+-- What a frame says of the machine at a placement. The proof that nothing is stuck goes by it: the frame before a slot
+-- fits the state of every run that comes there.
 use Rattle.std.specs.Prelude.{◌≡◌, ℕ, ◌+◌, Option, Some, IsTrue}
 use Rattle.pb_isa.specs.declared.limits.TheConstants.{STACK_BYTES}
 use Rattle.pb_isa.specs.Machine.{Environment, State, address}

@@ -1,4 +1,4 @@
--- A program has one meaning.
+-- A program has one meaning, accepted or not. By it the exit of a machine has one outcome, in `law_worlds`.
 use Rattle.std.specs.Prelude.{◌≡◌, ℕ, List}
 use Rattle.pb_base.specs.Batch.{Writes}
 use Rattle.pb_isa.specs.Programs.{JudgedOf}

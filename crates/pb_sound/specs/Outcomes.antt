@@ -1,4 +1,5 @@
--- What an instruction does whose rules hold.
+-- What an instruction does whose rules hold: the step of the proof that nothing is stuck, said of one instruction and
+-- any state that fits the frame before it.
 use Rattle.std.specs.Prelude.{◌≡◌, ℕ, ◌<◌, IsTrue, is_some}
 use Rattle.pb_isa.specs.declared.insn.Insn.{Insn}
 use Rattle.pb_isa.specs.declared.insn.Insn.TheVariants.{Exit}

@@ -1,4 +1,5 @@
--- Programs of both profiles that have the same instructions.
+-- Programs of both profiles that have the same instructions. Rules and machine take the list of instructions, so that
+-- these laws break where one of them looks at the profile.
 use Rattle.std.specs.Prelude.{ℕ, ◌↔◌, List}
 use Rattle.pb_base.specs.Batch.{Writes}
 use Rattle.pb_isa.specs.declared.insn.Insn.{Insn}
@@ -10,6 +11,7 @@ use Rattle.pb_isa.specs.Meaning.{Talk, Means}
 use Rattle.pb_helpers.specs.declared.code.Code.{Code}
 use Rattle.pb_verify.specs.Arriving.{Accepts, Refuses}
 
+-- a program of this profile
 abbrev pub program_in : Profile → List Insn → ProgramOf
 program_in profile is = record { profile = profile; insns = is }
 

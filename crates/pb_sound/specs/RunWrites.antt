@@ -8,5 +8,6 @@ use Rattle.pb_isa.specs.Meaning.{Talk, Means}
 abbrev pub AreRunWrites : Writes → Type 0
 AreRunWrites ws = (ws ≡ []) ⊎ (is_batch ws ≡ true)
 
+-- of every program that means something, with any helpers
 abbrev pub RunsWriteBatches : Type 0
 RunsWriteBatches = (j : JudgedOf) (bytes : List ℕ) (began : ℕ) (talk : Talk) (r : ℕ) (ws : Writes) → Means j bytes began talk r ws → AreRunWrites ws

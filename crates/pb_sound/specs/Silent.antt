@@ -5,6 +5,7 @@ use Rattle.pb_isa.specs.Helpers.{no_helpers}
 use Rattle.pb_isa.specs.Programs.{JudgedOf}
 use Rattle.pb_isa.specs.Meaning.{Talk, Means}
 
+-- of every program that means something: a call of a helper that isn't declared is stuck
 abbrev pub WithoutHelpersSilent : Type 0
 WithoutHelpersSilent =
     (j : JudgedOf) (bytes : List ℕ) (began : ℕ) (talk : Talk) (r : ℕ) (ws : Writes) →

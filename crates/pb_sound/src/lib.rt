@@ -1,8 +1,11 @@
-//! Accepted programs are never stuck: where the rules hold, the machine of the definitions goes on, at every placement alike,
-//! and a machine that tests nothing does the same.
+//! Accepted programs are never stuck: where the rules hold, the machine of the definitions goes on, at every placement
+//! alike, and a machine that tests nothing does the same.
 //!
 //! Laws alone: an accepted program is never stuck, at any placement, ends, has one meaning, and writes nothing or what
-//! a batch could.
+//! a batch could. They stand apart from the machine above, so that an edit of it has none of them checked again.
+//! `pb_vm` cites them for its contracts, and `pb_world` for the headline. So they say of a program that loads the
+//! record's byte 16 and exits: the byte is there at every placement, since the frame before slot 0 has R1 at the
+//! record's first byte; and each run ends after two instructions, with one result.
 #![tactic(auto)]
 
 ghost use Rattle.pb_sound.specs.NeverStuck.{AcceptedAreNeverStuck};
@@ -30,8 +33,8 @@ pub fn accepted_are_never_stuck()
     next_slots_are_first();
 }
 
-/// A machine that tests nothing, on a list of registers and one of bytes, does with an accepted program what the definitions
-/// do, and each byte that it reads or writes is there.
+/// A machine that tests nothing, on a list of registers and one of bytes, does with an accepted program what the
+/// definitions do, and each byte that it reads or writes is there. So `Vm` may test nothing.
 pub fn accepted_step_together()
     ensures { AcceptedStepTogether }
 {
@@ -40,7 +43,8 @@ pub fn accepted_step_together()
     next_slots_are_first();
 }
 
-/// What an instruction of an accepted program reads or writes is where the frame before its slot says.
+/// What an instruction of an accepted program reads or writes is where the frame before its slot says, so that it can
+/// be resolved once, at upload.
 pub fn accepted_accesses_fit()
     ensures { AcceptedAccessesFit }
 {}
@@ -69,7 +73,7 @@ pub fn accepted_cells_run()
     next_slots_are_first();
 }
 
-/// Whatever is told, a run of an accepted program comes to an end.
+/// Whatever is told, a run of an accepted program comes to an end, since each instruction leads to a later slot.
 pub fn every_run_ends()
     ensures { EveryRunEnds }
 {
@@ -78,8 +82,9 @@ pub fn every_run_ends()
     next_slots_are_first();
 }
 
-/// What a run of an accepted program does at one placement, it does at every one: it goes on, asks the same, or ends with
-/// the same.
+/// What a run of an accepted program does at one placement, it does at every one: it goes on, asks the same, or ends
+/// with the same. By it a machine that keeps one placement tells what it does at each, since no rule lets a number
+/// depend on an address.
 pub fn each_placement_is_alike()
     ensures { EachPlacementIsAlike }
 {
@@ -97,18 +102,20 @@ pub fn each_placement_has_the_slot()
     next_slots_are_first();
 }
 
-/// A program that may call no helper asks nothing and writes nothing.
+/// A program that may call no helper asks nothing and writes nothing, since any call of it is stuck.
 pub fn without_helpers_silent()
     ensures { WithoutHelpersSilent }
 {}
 
-/// A program writes nothing, or 1 to 16 distinct data cells without stamps.
+/// A program writes nothing, or 1 to 16 distinct data cells without stamps: what a script's transaction may write, so
+/// that both are declared alike.
 pub fn runs_write_batches()
     ensures { RunsWriteBatches }
 {}
 
-/// The profile decides which programs there are, and nothing else: a program of profile 1 and the program of profile 2 with
-/// the same instructions are accepted alike, refused at the same slot with the same code, and mean the same.
+/// The profile decides which programs there are, and nothing else: a program of profile 1 and the program of profile 2
+/// with the same instructions are accepted alike, refused at the same slot with the same code, and mean the same. A
+/// rule that looked at the profile would break it.
 pub fn profiles_agree()
     ensures programs { ProgramsOfOneAreOfTwo }
     ensures accepted { SameAreAccepted }

@@ -27,11 +27,14 @@ fewer_calls count none is n (suc m) le =
 pub reads_at : (p : List Insn) (n : ℕ) → reads_by (called_by (insn_at p n)) + reads_from p (n + 1) ≡ reads_from p n
 reads_at p n = rw add-one (calls_at reads_by refl (layout p) n)
 
+-- the writes and deletions of a slot, and those behind it
 pub writes_at : (p : List Insn) (n : ℕ) → writes_by (called_by (insn_at p n)) + writes_from p (n + 1) ≡ writes_from p n
 writes_at p n = rw add-one (calls_at writes_by refl (layout p) n)
 
+-- past the last slot nothing is read, where counting ends
 pub no_reads : (p : List Insn) (n : ℕ) → slots p ≤ n → reads_from p n ≡ 0
 no_reads p n past = ap (calls_in reads_by) (drop_all n (layout p) past)
 
+-- nor is anything written or deleted there
 pub no_writes : (p : List Insn) (n : ℕ) → slots p ≤ n → writes_from p n ≡ 0
 no_writes p n past = ap (calls_in writes_by) (drop_all n (layout p) past)

@@ -1,3 +1,5 @@
+-- The codes that the rules list rise, rule by rule: each part of a rule lies within two numbers, and parts that follow
+-- each other are joined where the first ends at the number that the next begins with.
 use Rattle.std.proofs.Common.{ℕ, ◌+◌, ◌≤◌, Bool, true, false, List, [], ◌∷◌, ◌++◌, arith}
 use Rattle.std.specs.Prelude.{if◌then◌else◌, ℤ, pos, negsuc, nat_eq, nat_le, is_none}
 use Rattle.pb_isa.specs.declared.insn.Insn.{Insn}
@@ -25,6 +27,7 @@ use Rattle.pb_verify.specs.Rules.{at, reads, sets, reads_operand, on_pointer, by
 
 -- ---- lists of codes that rise
 
+-- a list that rises from b rises from what is lower
 from_lower : (a b c : ℕ) (cs : List Code) → a ≤ b → CodesRiseWithin b c cs → CodesRiseWithin a c cs
 from_lower a b c [] l h = omega arith
 from_lower a b c (x ∷ xs) l h = (omega (arith, h.0), h.1)
@@ -33,14 +36,17 @@ to_higher : (a b c : ℕ) (cs : List Code) → b ≤ c → CodesRiseWithin a b c
 to_higher a b c [] l h = omega arith
 to_higher a b c (x ∷ xs) l h = (h.0, to_higher (code_number x) b c xs l h.1)
 
+-- lists of which one ends where the next begins rise as one
 joined : (a b c : ℕ) (xs ys : List Code) → CodesRiseWithin a b xs → CodesRiseWithin b c ys → CodesRiseWithin a c (xs ++ ys)
 joined a b c [] ys h k = from_lower a b c ys h k
 joined a b c (x ∷ xs) ys h k = (h.0, joined (code_number x) b c xs ys h.1 k)
 
+-- a code that is listed where its rule is broken, within two numbers
 one : (a b : ℕ) (t : Bool) (c : Code) → a ≤ code_number c → code_number c ≤ b → CodesRiseWithin a b (when t c)
 one a b true c l m = (l, m)
 one a b false c l m = omega arith
 
+-- one code or the other, never both: the stack bytes of a load
 one_of_two : (a b : ℕ) (t u : Bool) (c d : Code) → a ≤ code_number c → code_number c ≤ b → a ≤ code_number d → code_number d ≤ b → CodesRiseWithin a b (if t then when u c else d ∷ [])
 one_of_two a b true u c d l m k n = one a b u c l m
 one_of_two a b false u c d l m k n = (k, n)
@@ -63,9 +69,11 @@ sets_rise d = one 21 22 (nat_eq (number d) 10) WritesR10 (omega arith) (omega ar
 falls_rise : (p : List Insn) (m : ℕ) → CodesRiseWithin 34 36 (falls p m)
 falls_rise p m = one 34 36 (nat_eq m (slots p)) FallsOff (omega arith) (omega arith)
 
+-- 36 comes last of an instruction that goes on, above all codes of arithmetic, memory and calls
 with_falls : (p : List Insn) (m : ℕ) (cs : List Code) → CodesRiseWithin 21 34 cs → CodesRiseWithin 21 38 (cs ++ falls p m)
 with_falls p m cs h = to_higher 21 36 38 (cs ++ falls p m) (omega arith) (joined 21 34 36 cs (falls p m) h (falls_rise p m))
 
+-- 21 of both operands, then 22 and 23
 numeric_rises : (f : Frame) (d : Reg) (x : Operand) → CodesRiseWithin 21 34 (numeric_rules f d x)
 numeric_rises f d x =
     joined 21 22 34 (reads f d ++ reads_operand f x ++ sets d) (when (on_pointer f d x) PointerArithmetic)
@@ -105,6 +113,7 @@ alu_rises f Mod w d x = numeric_rises f d x
 alu_rises f Xor w d x = numeric_rises f d x
 alu_rises f Arsh w d x = numeric_rises f d x
 
+-- of a load's bytes: one of 25, 26, 27 and 29
 loads_rise : (size : ℕ) (f : Frame) (k : Kind) (o : ℤ) (n : ℕ) → CodesRiseWithin 22 34 (loads size f k o n)
 loads_rise size f Unset o n = omega arith
 loads_rise size f Number o n = (omega arith, omega arith)
@@ -125,6 +134,7 @@ jumps_rise p n (pos z) = outside_or_pair (nat_le (slots p) (n + 1 + z)) (is_none
     outside_or_pair true u = (omega arith, omega arith)
     outside_or_pair false u = one 21 34 u JumpIntoPair (omega arith) (omega arith)
 
+-- a conditional jump has 21, then one of 32 to 34, then 36 and 38
 compared : (p : List Insn) (n : ℕ) (f : Frame) (d : Reg) (x : Operand) (o : ℤ) → CodesRiseWithin 21 38 (jump_if_rules p n f d x o)
 compared p n f d x o =
     joined 21 36 38 (reads f d ++ reads_operand f x ++ jump_rules p n o ++ falls p (n + 1)) (when (on_pointer f d x) PointerCompared)
@@ -135,6 +145,7 @@ compared p n f d x o =
 
 -- ---- the rules
 
+-- the whole: arguments of helpers rise by a law of `pb_helpers`
 pub codes_rise : ArgumentCodesRise → (j : JudgedOf) (n : ℕ) (f : Frame) (i : Insn) → CodesRiseWithin 21 38 (insn_rules j n f i)
 codes_rise calls j n f (Alu op w d x) = with_falls j.program.insns (n + 1) (alu_rules f op w d x) (alu_rises f op w d x)
 codes_rise calls j n f (MovSx w z d r) = with_falls j.program.insns (n + 1) (part_mov_rules f d r) (part_mov_rises f d r)

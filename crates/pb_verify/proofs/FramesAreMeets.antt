@@ -1,3 +1,5 @@
+-- The frame before a slot is the meet of the frames that are sent there. It is shown of any property that a join has
+-- exactly where both sides have it, since each fact that a frame says is such a property.
 use Rattle.std.proofs.Common.{◌≡◌, ℕ, zero, suc, ◌+◌, ◌<◌, Bool, true, false, List, [], ◌∷◌, ◌++◌, Option, Some, None, length, get_or, refl, sym, ◌∙◌, subst, arith, nat_eq}
 use Rattle.std.specs.Prelude.{◌↔◌, if◌then◌else◌, IfSome}
 use Rattle.std.proofs.lemmas.Bool.Decides.{leb_tells, nat_tests}
@@ -24,11 +26,13 @@ Of P (Some f) = P f
 abbrev Meets : (Frame → Type 0) → Type 0
 Meets P = (a b : Frame) → P (join a b) ↔ (P a × P b)
 
+-- so has what two ways say in common, also where one of them isn't there
 of_merge : (P : Frame → Type 0) → Meets P → (a b : Option Frame) → Of P (merge a b) ↔ (Of P a × Of P b)
 of_merge P meets None b = ((λ h. (tt, h)), (λ h. h.1))
 of_merge P meets (Some f) None = ((λ h. (h, tt)), (λ h. h.0))
 of_merge P meets (Some f) (Some g) = meets f g
 
+-- where there is no frame nothing is sent, which has every property
 none_sent : (P : Frame → Type 0) (i : Option Insn) (m n : ℕ) → Of P (if_leads i m n None)
 none_sent P None m n = tt
 none_sent P (Some i) m n = either P (has_slot (leads m i) n)
@@ -86,10 +90,12 @@ to_ways P p n k m g w =
     let sent_m = rw (e, out_in p n m w.earlier, w.leads) at (k m) in
     sent_m
 
+-- what is sent from an earlier slot is a way, if anything is
 way_or_none : (P : Frame → Type 0) (p : List Insn) (n m : ℕ) (s : Option Frame) → m < n → if_leads (insn_at p m) m n (out_at p m) ≡ s → ((m : ℕ) (g : Frame) → IsWay p n m g → P g) → Of P s
 way_or_none P p n m None l e k = tt
 way_or_none P p n m (Some g) l e k = k m g (record { earlier = l; leads = e })
 
+-- and what holds on every way holds of each frame that is sent
 from_ways : (P : Frame → Type 0) (p : List Insn) (n : ℕ) → ((m : ℕ) (g : Frame) → IsWay p n m g → P g) → EachSent P p n 0 (outs p n)
 from_ways P p n k j =
     let e : 0 + j ≡ j = omega arith in
@@ -98,10 +104,12 @@ from_ways P p n k j =
       | inr t ↦ (let past : get_or (outs p n) j None ≡ None = get_or_past (outs p n) j None (let l = length-outs p n in omega (arith, t.1)) in rw past (none_sent P (insn_at p (0 + j)) (0 + j) n))
     ]
 
+-- each fact stands in a join exactly where both sides say it
 says_meets : JoinsAreMeets → (x : Fact) → Meets (λ f. Says f x)
 says_meets joins (HasKind r k) a b = (joins a b).kinds r k
 says_meets joins (HasByte i) a b = (joins a b).bytes i
 
+-- the frame before a later slot says exactly what all ways there say
 later : JoinsAreMeets → (p : List Insn) (n : ℕ) (o : Option Frame) → o ≡ gather p n 0 None (outs p n) → IfSome o (λ f. (x : Fact) → Says f x ↔ ((m : ℕ) (g : Frame) → IsWay p n m g → Says g x))
 later joins p n None e = tt
 later joins p n (Some f) e = λ x.
@@ -111,6 +119,7 @@ later joins p n (Some f) e = λ x.
       (λ k. let o : Of P (gather p n 0 None (outs p n)) = all.1 (tt, from_ways P p n k) in subst (λ t. Of P t) (sym e) o),
     )
 
+-- where there is no frame before a slot, no earlier instruction that has one leads there
 no_way : (p : List Insn) (n m : ℕ) (g : Frame) → 0 < n → in_at p n ≡ None → ¬ (IsWay p n m g)
 no_way p n m g h e w =
     let P : Frame → Type 0 = λ f. ⊥ in
@@ -122,6 +131,7 @@ entry_first : (p : List Insn) → in_at p 0 ≡ Some entry_frame
 unfolding in_at
 entry_first p = refl
 
+-- of every list of instructions, given the law of `pb_kinds` on joins
 pub frames_are_meets : JoinsAreMeets → (p : List Insn) → IsMeetOfWays p
 frames_are_meets joins p = record {
   first = entry_first p;

@@ -29,6 +29,7 @@ parts n k ms h =
 one_is : (n k : ℕ) → has_slot (k ∷ []) n ≡ true → n ≡ k
 one_is n k h = elim (parts n k [] h) [ inl e ↦ e | inr e ↦ cc ]
 
+-- a jump forward leads past its own slot, also with offset 0
 ahead_later : (m n : ℕ) (o : ℤ) → has_slot (ahead m o) n ≡ true → m < n
 ahead_later m n (pos z) h = let e = one_is n (m + 1 + z) h in omega arith
 ahead_later m n (negsuc z) h = cc
@@ -36,6 +37,7 @@ ahead_later m n (negsuc z) h = cc
 next_later : (m n : ℕ) → has_slot ((m + 1) ∷ []) n ≡ true → m < n
 next_later m n h = let e = one_is n (m + 1) h in omega arith
 
+-- each instruction leads to later slots alone, so that a run ends
 pub leads_later : LeadsAreLater
 leads_later m n (Alu op w d x) h = next_later m n h
 leads_later m n (MovSx w z d r) h = next_later m n h
@@ -51,6 +53,7 @@ leads_later m n Exit h = cc
 
 -- ---- jumps
 
+-- where a list of rules is unbroken, so are its parts
 empty_parts : (xs ys : List Code) → xs ++ ys ≡ [] → (xs ≡ []) × (ys ≡ [])
 empty_parts [] ys e = (refl, e)
 empty_parts (x ∷ xs) ys e = cc
@@ -59,6 +62,7 @@ ahead_is : (p : List Insn) (n : ℕ) (o : ℤ) → jump_rules p n o ≡ [] → I
 ahead_is p n (pos z) e = tt
 ahead_is p n (negsuc z) e = cc
 
+-- an instruction whose rules hold doesn't jump back
 forward_by : (j : JudgedOf) (n : ℕ) (f : Frame) (i : Insn) → insn_rules j n f i ≡ [] → IsForward i
 forward_by j n f (Jump o) b = ahead_is j.program.insns n o b
 forward_by j n f (JumpIf c w d x o) b =
@@ -79,5 +83,6 @@ inside p n i h = elim (cases_lt n (slots p)) [
   | inr l ↦ (let past : insn_at p n ≡ None = get_or_past (layout p) n None l in cc)
 ]
 
+-- the jumps of an accepted program go forward
 pub jumps_forward : AcceptedJumpsGoForward
 jumps_forward j ok n i at = forward_at j n i (in_at j.program.insns n) (rw at at (ok n (inside j.program.insns n i at)))

@@ -1,9 +1,11 @@
+-- The lowest code of a rule is found part by part: by `or`, in the order in which the definition lists the codes.
 use Rattle.std.proofs.Common.{◌≡◌, List, [], ◌∷◌, ◌++◌, refl}
 use Rattle.std.specs.Prelude.{Option}
 use Rattle.std.specs.Option.{option_or}
 use Rattle.pb_helpers.specs.declared.code.Code.{Code}
 use Rattle.pb_helpers.specs.Codes.{lowest_code}
 
+-- the lowest of two lists is the first one's, or else the second's
 pub lowest_append : (xs ys : List Code) → lowest_code (xs ++ ys) ≡ option_or (lowest_code xs) (lowest_code ys)
 lowest_append [] ys = refl
 lowest_append (x ∷ xs) ys = refl

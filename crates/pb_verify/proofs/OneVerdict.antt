@@ -1,3 +1,4 @@
+-- Each program has one verdict: it is accepted, or refused at one slot with one code.
 use Rattle.std.proofs.Common.{◌≡◌, ℕ, zero, suc, ◌<◌, ◌≤◌, List, [], ◌∷◌, Some, None, refl, sym, ap, ◌∙◌, arith, below_more, add-one}
 use Rattle.std.specs.Prelude.{◌⊎◌}
 use Rattle.std.proofs.lemmas.Bool.Decides.{leb_tells}
@@ -19,9 +20,11 @@ not_kept j n c e k = some_is_not_none c (sym e ∙ ap lowest_code k)
 same_some : {A : Type 0} (x y : A) → Some x ≡ Some y → x ≡ y
 same_some x y e = grind (arith, e)
 
+-- of two refusals none is at an earlier slot, since all slots before the one that is told keep the rules
 not_before : (j : JudgedOf) (n m : ℕ) (c d : Code) → Refuses j n c → Refuses j m d → ¬ (n < m)
 not_before j n m c d r s l = not_kept j n c r.code (s.before n l)
 
+-- two refusals of a program are the same
 one : (j : JudgedOf) (n m : ℕ) (c d : Code) → Refuses j n c → Refuses j m d → (n ≡ m) × (c ≡ d)
 one j n m c d r s =
     let le : ¬ (n < m) = not_before j n m c d r s in
@@ -45,6 +48,7 @@ first_fault j (suc n) l =
     at_next j n l before [] e = inl (rw (← add-one n) (below_more (λ m. faults j m ≡ []) n before e))
     at_next j n l before (c ∷ cs) e = inr (n, c, record { inside = omega (arith, l); code = ap lowest_code e; before = before })
 
+-- of every program, with any helpers, for a record of any size
 pub one_verdict : (j : JudgedOf) → HasOneVerdict j
 one_verdict j = record {
   either = first_fault j (slots j.program.insns) (omega arith);

@@ -1,3 +1,5 @@
+-- What is known at later slots while the verifier goes along: the frame that waits there is the join of all that was
+-- sent so far.
 use Rattle.std.proofs.Common.{◌≡◌, ℕ, suc, ◌+◌, ◌<◌, Bool, true, false, List, [], ◌∷◌, ◌++◌, Option, Some, None, length, refl, ap, ◌∙◌, arith, nat_eq}
 use Rattle.std.specs.Prelude.{if◌then◌else◌}
 use Rattle.std.proofs.lemmas.Bool.Decides.{nat_tests}
@@ -17,6 +19,7 @@ gather_more p n m known (g ∷ gs) f =
     let e : m + suc (length gs) ≡ m + 1 + length gs = omega arith in
     rw e (gather_more p n (m + 1) (merge known (if_leads (insn_at p m) m n g)) gs f)
 
+-- one frame more is merged into the frame before any slot but the first, where its instruction leads there
 before_more : (p : List Insn) (n : ℕ) (fs : List (Option Frame)) (f : Option Frame) → 0 < n → frame_before p n (fs ++ f ∷ []) ≡ merge (frame_before p n fs) (if_leads (insn_at p (length fs)) (length fs) n f)
 before_more p n fs f h =
     let e : nat_eq n 0 ≡ false = grind (arith, nat_tests) in
@@ -37,6 +40,7 @@ before_past p n m h e =
     let next = rw e at (before_next p n m None h) in
     rw (outs_more p m, e) (next ∙ merge_none _)
 
+-- where nothing is known after an instruction it sends nothing
 none_leads : (i : Option Insn) (m n : ℕ) → if_leads i m n None ≡ None
 none_leads None m n = refl
 none_leads (Some i) m n = either (has_slot (leads m i) n) None
@@ -54,6 +58,7 @@ before_unreached p n m h e =
 pub not_here : (n m : ℕ) → n < m → nat_eq m n ≡ false
 not_here n m h = grind (arith, nat_tests)
 
+-- where no code is found none is listed
 pub none_broken : (cs : List Code) → lowest_code cs ≡ None → cs ≡ []
 none_broken [] e = refl
 none_broken (c ∷ cs) e = absurd (grind (arith, e))

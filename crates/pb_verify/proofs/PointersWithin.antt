@@ -1,3 +1,5 @@
+-- Pointers stay near: each instruction moves one by at most 2 ^ 31, and a join moves none. So no sum of the verifier
+-- leaves its 64 bits, also of a program that is refused.
 use Rattle.std.proofs.Common.{◌≡◌, ℕ, zero, suc, ◌+◌, ◌≤◌, Bool, true, false, cond, List, [], ◌∷◌, ◌++◌, Option, Some, None, set, get_or, arith, nat_eq}
 use Rattle.std.specs.Prelude.{slice_index_or}
 use Rattle.pb_isa.specs.declared.insn.Insn.{Insn}
@@ -16,6 +18,7 @@ use Rattle.pb_verify.specs.Within.{IsNear, IsWithin, IsWithinIf}
 pub record AllWithin (b : ℕ) (fs : List (Option Frame)) : Type 0 where
   pub every : (k : ℕ) → IsWithinIf b (slice_index_or fs k None)
 
+-- what is near is so within a larger distance
 pub near_more : (a b : ℕ) (k : Kind) → a ≤ b → IsNear a k → IsNear b k
 near_more a b Unset l h = tt
 near_more a b Number l h = tt
@@ -29,6 +32,7 @@ near_set b (x ∷ ks) zero k h n (suc r) = h (suc r)
 near_set b (x ∷ ks) (suc i) k h n zero = h zero
 near_set b (x ∷ ks) (suc i) k h n (suc r) = near_set b ks i k (λ j. h (suc j)) n r
 
+-- a register is set to what is near
 pub within_kind : (b : ℕ) (f : Frame) (r : Reg) (k : Kind) → IsWithin b f → IsNear b k → IsWithin b (with_kind f r k)
 within_kind b f r k h n = record { each = near_set b f.kinds (number r) k h.each n }
 
@@ -51,10 +55,12 @@ near_both b (k ∷ ks) [] h r = tt
 near_both b (k ∷ ks) (m ∷ ms) h zero = near_meet b (same_kind k m) k (h zero)
 near_both b (k ∷ ks) (m ∷ ms) h (suc r) = near_both b ks ms (λ j. h (suc j)) r
 
+-- a join keeps the pointers that both frames have, and makes no other
 within_join : (b : ℕ) (f g : Frame) → IsWithin b f → IsWithin b (join f g)
 unfolding join
 within_join b f g h = record { each = near_both b f.kinds g.kinds h.each }
 
+-- at entry both pointers are where their regions begin and end
 within_entry : (b : ℕ) → IsWithin b entry_frame
 unfolding entry_frame
 within_entry b = record {
@@ -70,6 +76,7 @@ within_cond : (b : ℕ) (t : Bool) (f : Option Frame) → IsWithinIf b f → IsW
 within_cond b true f h = h
 within_cond b false f h = tt
 
+-- what is sent on is as near as the frame after the instruction
 within_sent : (b : ℕ) (i : Option Insn) (m n : ℕ) (f : Option Frame) → IsWithinIf b f → IsWithinIf b (if_leads i m n f)
 within_sent b None m n f h = tt
 within_sent b (Some i) m n f h = within_cond b (has_slot (leads m i) n) f h
@@ -83,6 +90,7 @@ within_choice : (b : ℕ) (t : Bool) (f g : Option Frame) → IsWithinIf b f →
 within_choice b true f g h k = h
 within_choice b false f g h k = k
 
+-- the frame before a slot is as near as the frames after all earlier ones
 pub within_arriving : (p : List Insn) (b n : ℕ) (fs : List (Option Frame)) → AllWithin b fs → IsWithinIf b (frame_before p n fs)
 within_arriving p b n fs h =
     within_choice b (nat_eq n 0) (Some entry_frame) (gather p n 0 None fs) (within_entry b) (within_gathered p b n 0 None fs tt h.every)
@@ -97,6 +105,7 @@ all_push b [] f h n (suc k) = tt
 all_push b (g ∷ gs) f h n zero = h zero
 all_push b (g ∷ gs) f h n (suc k) = all_push b gs f (λ j. h (suc j)) n k
 
+-- one frame more, whose pointers may be further away than those before
 pub within_push : (a b : ℕ) (fs : List (Option Frame)) (f : Option Frame) → a ≤ b → AllWithin a fs → IsWithinIf b f → AllWithin b (fs ++ f ∷ [])
 within_push a b fs f l h n = record { every = all_push b fs f (λ k. within_if_more a b (get_or fs k None) l (h.every k)) n }
 

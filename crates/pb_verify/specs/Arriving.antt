@@ -1,4 +1,6 @@
--- The frame with which each slot is reached, and what the rules say of a whole program.
+-- The frame with which each slot is reached, and what the rules say of a whole program. A frame is a fold over the
+-- frames after all earlier slots, in their order, since `verify` goes forward once; that the order doesn't matter is a
+-- law (`FramesAreMeets`). `Accepts` and `Refuses` are what the contracts of `verify` and of all crates above speak of.
 use Rattle.std.specs.Prelude.{◌≡◌, ℕ, zero, suc, ◌+◌, ◌<◌, Bool, false, ◌||◌, if◌then◌else◌, List, [], ◌∷◌, ◌++◌, Option, Some, None, nat_eq}
 use Rattle.pb_isa.specs.declared.insn.Insn.{Insn}
 use Rattle.pb_isa.specs.Slots.{slots, insn_at}
@@ -11,12 +13,13 @@ use Rattle.pb_helpers.specs.Codes.{lowest_code}
 use Rattle.pb_verify.specs.Rules.{insn_rules}
 use Rattle.pb_verify.specs.Following.{after, leads}
 
--- what two ways to a slot both say
+-- what two ways to a slot both say; where only one leads there, what that one says
 abbrev pub merge : Option Frame → Option Frame → Option Frame
 merge None g = g
 merge (Some f) None = Some f
 merge (Some f) (Some g) = Some (join f g)
 
+-- n is one of these slots, which are those that an instruction leads to
 abbrev pub has_slot : List ℕ → ℕ → Bool
 has_slot [] n = false
 has_slot (m ∷ ms) n = nat_eq n m || has_slot ms n
@@ -35,6 +38,7 @@ gather p n m known (f ∷ fs) = gather p n (m + 1) (merge known (if_leads (insn_
 abbrev pub frame_before : List Insn → ℕ → List (Option Frame) → Option Frame
 frame_before p n fs = if nat_eq n 0 then Some entry_frame else gather p n 0 None fs
 
+-- the frame after an instruction; none after a second slot, and none where nothing led to it
 abbrev pub frame_after : Option Insn → Option Frame → Option Frame
 frame_after (Some i) (Some f) = Some (after f i)
 frame_after _ _ = None
@@ -54,6 +58,7 @@ codes_at j n None f = []
 codes_at j n (Some i) None = Unreachable ∷ []
 codes_at j n (Some i) (Some f) = insn_rules j n f i
 
+-- the codes that are told of slot n: none where the rules hold there
 abbrev pub faults : JudgedOf → ℕ → List Code
 faults j n = codes_at j n (insn_at j.program.insns n) (in_at j.program.insns n)
 

@@ -1,4 +1,5 @@
--- What is known after an instruction whose rules hold, and where it leads.
+-- What is known after an instruction whose rules hold, and where it leads: the contracts of `step` and `spread` cite
+-- them. They are total, also where rules are broken, since `frames` tells what is known of refused programs too.
 use Rattle.std.specs.Prelude.{ℕ, ◌+◌, ℤ, pos, negsuc, ◌+ℤ◌, neg_ℤ, if◌then◌else◌, List, [], ◌∷◌, slice_set, slice_index_or, Option, Some}
 use Rattle.pb_isa.specs.declared.insn.Insn.{Insn}
 use Rattle.pb_isa.specs.declared.insn.Insn.TheVariants.{Alu, MovSx, Neg, LoadImm, Load, StoreImm, Store, Jump, JumpIf, Call, Exit}
@@ -18,10 +19,11 @@ use Rattle.pb_kinds.specs.Frames.{kind_of}
 use Rattle.pb_kinds.specs.Ranges.{in_stack, with_written}
 use Rattle.pb_verify.specs.Rules.{at, bytes_of}
 
+-- the frame after a register is set
 abbrev pub with_kind : Frame → Reg → Kind → Frame
 with_kind f r k = record { kinds = slice_set f.kinds (number r) k; written = f.written }
 
--- a pointer's distance plus the number
+-- a pointer goes on pointing, moved by the number; all else becomes a number
 abbrev pub move_pointer : Kind → ℤ → Kind
 move_pointer (Stack k) z = Stack (k +ℤ z)
 move_pointer (Record k) z = Record (k +ℤ z)
@@ -34,7 +36,7 @@ kind_after f Add Bits64 dst (operands.Imm imm) = move_pointer (at f dst) imm
 kind_after f Sub Bits64 dst (operands.Imm imm) = move_pointer (at f dst) (neg_ℤ imm)
 kind_after f op w dst src = Number
 
--- the bytes of a store are written
+-- the bytes of a store are written, where they lie in the stack
 abbrev pub with_store : Frame → Kind → ℤ → ℕ → Frame
 with_store f (Stack k) offset n = if in_stack (k +ℤ offset) n then with_written f (k +ℤ offset) n else f
 with_store f k offset n = f
@@ -43,14 +45,16 @@ with_store f k offset n = f
 abbrev pub kinds_after_call : List Kind → List Kind
 kinds_after_call ks = Number ∷ Unset ∷ Unset ∷ Unset ∷ Unset ∷ Unset ∷ slice_index_or ks 6 Unset ∷ slice_index_or ks 7 Unset ∷ slice_index_or ks 8 Unset ∷ slice_index_or ks 9 Unset ∷ slice_index_or ks 10 Unset ∷ []
 
+-- what a call leaves: other registers, and the bytes that were written before
 abbrev pub clobber : Frame → Frame
 clobber f = record { kinds = kinds_after_call f.kinds; written = f.written }
 
--- a read fills the 32 bytes at R3
+-- a read fills the 32 bytes at R3; no other helper writes to the stack
 abbrev pub after_call : Frame → Option Helper → Frame
 after_call f (Some Read) = clobber (with_store f (kind_of f 3) (pos 0) 32)
 after_call f h = clobber f
 
+-- the frame after an instruction, by the frame before it. A jump and the exit change nothing
 abbrev pub after : Frame → Insn → Frame
 after f (Alu op w dst src) = with_kind f dst (kind_after f op w dst src)
 after f (MovSx w z dst src) = with_kind f dst Number

@@ -1,4 +1,5 @@
--- Where the instructions of an accepted program lead: forward.
+-- Where the instructions of an accepted program lead: forward. So one pass is enough to verify it, and a run of it
+-- takes fewer instructions than it has slots.
 use Rattle.std.specs.Prelude.{◌≡◌, ℕ, ◌<◌, ℤ, pos, negsuc, Some, IsTrue}
 use Rattle.pb_isa.specs.declared.insn.Insn.{Insn}
 use Rattle.pb_isa.specs.declared.insn.Insn.TheVariants.{Jump, JumpIf}
@@ -7,6 +8,7 @@ use Rattle.pb_isa.specs.Slots.{insn_at}
 use Rattle.pb_verify.specs.Following.{leads}
 use Rattle.pb_verify.specs.Arriving.{has_slot, Accepts}
 
+-- an offset that isn't negative: it counts from the slot behind the jump
 abbrev pub IsAhead : ℤ → Type 0
 IsAhead (pos z) = Unit {0}
 IsAhead (negsuc z) = ⊥
@@ -21,5 +23,6 @@ IsForward i = Unit {0}
 abbrev pub LeadsAreLater : Type 0
 LeadsAreLater = (n m : ℕ) (i : Insn) → IsTrue (has_slot (leads n i) m) → n < m
 
+-- no jump of an accepted program goes back: the rules refuse one with 32
 abbrev pub AcceptedJumpsGoForward : Type 0
 AcceptedJumpsGoForward = (j : JudgedOf) → Accepts j → (n : ℕ) (i : Insn) → insn_at j.program.insns n ≡ Some i → IsForward i

@@ -1,4 +1,5 @@
--- What is known before each slot of a program, accepted or not.
+-- What is known before each slot of a program, accepted or not: the contract of `frames` cites it. It is what the
+-- verifier knows, so that `percobpf_story frames` and `explain` can show why a program is refused.
 use Rattle.std.specs.Prelude.{ℕ, List, Option, Some, None}
 use Rattle.pb_isa.specs.declared.insn.Insn.{Insn}
 use Rattle.pb_isa.specs.Slots.{insn_at}

@@ -1,5 +1,6 @@
 -- The rules of each instruction: for the frame before it, the codes of the rules that it breaks, lowest first. They are
--- this project's own profile; RFC 9669 has none.
+-- this project's own profile; RFC 9669 has none. All codes are listed and not one, so that no order of tests is part of
+-- a rule; which one is told is said once, by `lowest_code`. The contracts of src/rules.rt cite them, one each.
 use Rattle.std.specs.Prelude.{ℕ, ◌+◌, ℤ, pos, negsuc, ◌+ℤ◌, Bool, false, not, ◌||◌, if◌then◌else◌, List, [], ◌∷◌, ◌++◌, is_none, nat_eq, nat_le}
 use Rattle.std.specs.Int.{byte_len}
 use Rattle.pb_isa.specs.declared.insn.Insn.{Insn}
@@ -29,12 +30,15 @@ use Rattle.pb_helpers.specs.Arguments.{unset, stack_reads, stack_writes, call_ru
 
 -- ---- parts of rules
 
+-- what is known of the register of an operand
 abbrev pub at : Frame → Reg → Kind
 at f r = kind_of f (number r)
 
+-- 21: a register that may be unset is read
 abbrev pub reads : Frame → Reg → List Code
 reads f r = unset f (number r)
 
+-- 22: R10, the end of the stack, is never a destination
 abbrev pub sets : Reg → List Code
 sets dst = when (nat_eq (number dst) 10) WritesR10
 
@@ -43,10 +47,12 @@ abbrev pub reads_operand : Frame → Operand → List Code
 reads_operand f (operands.Imm imm) = []
 reads_operand f (operands.Reg src) = reads f src
 
+-- the source operand is a register that points to stack or record
 abbrev pub points : Frame → Operand → Bool
 points f (operands.Imm imm) = false
 points f (operands.Reg src) = is_pointer (at f src)
 
+-- one of both operands is a pointer, where numbers alone may stand
 abbrev pub on_pointer : Frame → Reg → Operand → Bool
 on_pointer f dst src = is_pointer (at f dst) || points f src
 
@@ -54,7 +60,7 @@ on_pointer f dst src = is_pointer (at f dst) || points f src
 abbrev pub bytes_of : Size → ℕ
 bytes_of z = byte_len (width z)
 
--- leads to the slot m, where there may be none
+-- 36: the instruction leads to slot m, which is the end of the program
 abbrev pub falls : List Insn → ℕ → List Code
 falls p m = when (nat_eq m (slots p)) FallsOff
 
@@ -79,6 +85,7 @@ abbrev pub add_rules : Frame → Width → Reg → Operand → List Code
 add_rules f Bits64 dst (operands.Imm imm) = reads f dst ++ sets dst
 add_rules f w dst src = numeric_rules f dst src
 
+-- by the operation: moves, sums that may move a pointer, and all others on numbers alone
 abbrev pub alu_rules : Frame → AluOp → Width → Reg → Operand → List Code
 alu_rules f Mov w dst src = mov_rules f w dst src
 alu_rules f Add w dst src = add_rules f w dst src
@@ -87,23 +94,25 @@ alu_rules f op w dst src = numeric_rules f dst src
 
 -- ---- memory
 
--- n bytes are loaded at this distance from a pointer, where the record has so many
+-- n bytes are loaded at this distance from a pointer. Nothing is said of an unset base, which is told as 21
 abbrev pub loads : ℕ → Frame → Kind → ℤ → ℕ → List Code
 loads size f Unset offset n = []
 loads size f Number offset n = ThroughNumber ∷ []
 loads size f (Stack k) offset n = stack_reads f (k +ℤ offset) n
 loads size f (Record k) offset n = when (not (in_record size (k +ℤ offset) n)) OutsideRecord
 
--- n bytes are stored there: the record is read-only
+-- n bytes are stored there: the record is read-only, so that a store to it is told as 28 wherever it goes
 abbrev pub stores : Kind → ℤ → ℕ → List Code
 stores Unset offset n = []
 stores Number offset n = ThroughNumber ∷ []
 stores (Stack k) offset n = stack_writes (k +ℤ offset) n
 stores (Record k) offset n = WritesRecord ∷ []
 
+-- the base is read, the destination is set, and the bytes lie in stack or record, where those of the stack are written
 abbrev pub load_rules : ℕ → Frame → Size → Reg → Reg → ℤ → List Code
 load_rules size f z dst src offset = reads f src ++ sets dst ++ loads size f (at f src) offset (bytes_of z)
 
+-- the base is read, and the bytes lie in the stack
 abbrev pub store_imm_rules : Frame → Size → Reg → ℤ → List Code
 store_imm_rules f z dst offset = reads f dst ++ stores (at f dst) offset (bytes_of z)
 
@@ -113,7 +122,7 @@ store_rules f z dst src offset = reads f dst ++ reads f src ++ when (is_pointer 
 
 -- ---- jumps
 
--- from slot n with this offset, which counts from the next slot
+-- from slot n with this offset, which counts from the next slot. One code at most: a jump back has no target to test
 abbrev pub jump_rules : List Insn → ℕ → ℤ → List Code
 jump_rules p n (negsuc z) = BackwardJump ∷ []
 jump_rules p n (pos z) = if nat_le (slots p) (n + 1 + z) then JumpOutside ∷ [] else when (is_none (insn_at p (n + 1 + z))) JumpIntoPair
@@ -122,7 +131,7 @@ jump_rules p n (pos z) = if nat_le (slots p) (n + 1 + z) then JumpOutside ∷ []
 abbrev pub jump_if_rules : List Insn → ℕ → Frame → Reg → Operand → ℤ → List Code
 jump_if_rules p n f dst src offset = reads f dst ++ reads_operand f src ++ jump_rules p n offset ++ falls p (n + 1) ++ when (on_pointer f dst src) PointerCompared
 
--- the result is a number
+-- the result is a number: 21 where it may be unset, and 37 where it is a pointer
 abbrev pub exit_rules : Frame → List Code
 exit_rules f = unset f 0 ++ when (is_pointer (kind_of f 0)) ExitsWithPointer
 
@@ -143,5 +152,6 @@ insn_rules j n f (JumpIf c w dst src offset) = jump_if_rules j.program.insns n f
 insn_rules j n f (Call imm) = call_rules f (declared_helper j.helpers imm) ++ falls j.program.insns (n + 1)
 insn_rules j n f Exit = exit_rules f
 
+-- the codes that an instruction breaks rise, all from 21 to 38, so that the first listed is the lowest
 abbrev pub CodesRise : Type 0
 CodesRise = (j : JudgedOf) (n : ℕ) (f : Frame) (i : Insn) → CodesRiseWithin 21 38 (insn_rules j n f i)

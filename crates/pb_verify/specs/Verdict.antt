@@ -1,4 +1,5 @@
--- What the verifier answers.
+-- What the verifier answers: the contracts of `verify` and `verify_for`, and the law that each program is accepted or
+-- refused, and not both, and refused at one slot with one code.
 use Rattle.std.specs.Prelude.{◌≡◌, ◌⊎◌, ℕ}
 use Rattle.pb_isa.specs.Programs.{ProgramOf, JudgedOf}
 use Rattle.pb_isa.specs.Helpers.{HelperSet}
@@ -26,5 +27,6 @@ pub record HasOneVerdict (j : JudgedOf) : Type 0 where
   pub not_both : (n : ℕ) (c : Code) → Accepts j → ¬ (Refuses j n c)
   pub one : (n m : ℕ) (c d : Code) → Refuses j n c → Refuses j m d → (n ≡ m) × (c ≡ d)
 
+-- it holds of every program, with any helpers, for a record of any size
 abbrev pub EachHasOneVerdict : Type 0
 EachHasOneVerdict = (j : JudgedOf) → HasOneVerdict j

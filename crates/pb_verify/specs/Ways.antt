@@ -1,4 +1,5 @@
--- The frame before a slot says what is known on every way to it, and no more.
+-- The frame before a slot says what is known on every way to it, and no more. It is said by single facts and without an
+-- order of slots, so that the verifier's pass could go another way and keep it; the laws of `pb_sound` stand on it.
 use Rattle.std.specs.Prelude.{◌≡◌, ◌↔◌, ℕ, ◌<◌, List, Option, Some, None, IsTrue, IfSome}
 use Rattle.pb_isa.specs.declared.insn.Insn.{Insn}
 use Rattle.pb_isa.specs.Slots.{insn_at}
@@ -22,6 +23,7 @@ pub data Fact : Type 0 where
   HasKind : ℕ → Kind → Fact
   HasByte : ℕ → Fact
 
+-- the frame says this fact
 abbrev pub Says : Frame → Fact → Type 0
 Says f (HasKind r k) = KnowsKind f r k
 Says f (HasByte i) = IsTrue (has_byte f i)
@@ -33,5 +35,6 @@ pub record IsMeetOfWays (p : List Insn) : Type 0 where
   pub later : (n : ℕ) → 0 < n → IfSome (in_at p n) (λ f. (x : Fact) → Says f x ↔ ((m : ℕ) (g : Frame) → IsWay p n m g → Says g x))
   pub none : (n m : ℕ) (g : Frame) → 0 < n → in_at p n ≡ None → ¬ (IsWay p n m g)
 
+-- it holds of every list of instructions, accepted or not
 abbrev pub FramesAreMeets : Type 0
 FramesAreMeets = (p : List Insn) → IsMeetOfWays p

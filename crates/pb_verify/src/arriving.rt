@@ -1,4 +1,4 @@
-//! The frame with which a slot is reached.
+//! The frame with which a slot is reached: what goes along, joined with what jumps left there.
 ghost use Rattle.std.specs.Prelude.{◌≡◌, ◌<◌, ◌≤◌, ◌+◌, ℕ, Some, None, [], ◌∷◌, if◌then◌else◌, nat_eq, length, slice_index_or, option_map, IfOk, OnOk};
 ghost use Rattle.std.specs.Box.{box_value};
 ghost use Rattle.pb_isa.specs.Slots.{places_of};
@@ -14,7 +14,8 @@ use std::alloc::Global;
 use std::boxed::Box;
 
 /// The frame before a slot, in place: the frame after the last instruction, where it falls through to here, joined with
-/// what jumps brought. False where nothing leads here.
+/// what jumps brought. False where nothing leads here. What waited is taken out of its box, so that each frame is kept
+/// only up to its slot.
 pub fn arrive(jumps: &mut [Option<Box<Frame>>], slot: usize, frame: &mut Frame, falls: bool) -> bool
     requires { slot < length jumps.old }
     ensures known { (if result then Some frame.new else None) ≡ merge
@@ -31,7 +32,9 @@ pub fn arrive(jumps: &mut [Option<Box<Frame>>], slot: usize, frame: &mut Frame, 
     }
 }
 
-// The frame that is known at a slot ahead, where this one jumps there too.
+// The frame that is known at a slot ahead, where this one jumps there too. A box is made for the first jump to a slot
+// alone, so that straight code copies no frame. A target past the end is passed over: the verifier has refused it, but
+// `frames` comes to it, since it also tells of refused programs.
 fn send(
     alloc: Global,
     jumps: &mut [Option<Box<Frame>>],
@@ -56,6 +59,7 @@ fn send(
     Ok(())
 }
 
+// Where a jump goes back, nothing is sent: the definition leads to later slots alone, so that one pass is enough.
 fn jump(
     alloc: Global,
     jumps: &mut [Option<Box<Frame>>],
@@ -76,8 +80,8 @@ fn jump(
     Ok(())
 }
 
-/// Joins the frame after a slot into those of the slots that it leads to; but for the next instruction's, which it tells of,
-/// and 0 where it doesn't lead there.
+/// Joins the frame after a slot into those of the slots that it leads to; but for the next instruction's, which it
+/// tells of, and 0 where it doesn't lead there, since no instruction leads to the first slot.
 pub fn spread(
     alloc: Global,
     jumps: &mut [Option<Box<Frame>>],
@@ -102,6 +106,7 @@ pub fn spread(
             Ok(0)
         }
         Insn::JumpIf { offset, .. } => {
+            // With offset 0 both ways lead to the next slot, so that the frame goes along and needn't wait too.
             if offset != 0 {
                 jump(alloc, jumps, slot, offset, frame)?;
             }
@@ -111,7 +116,8 @@ pub fn spread(
     }
 }
 
-/// No frames: nothing has jumped anywhere.
+/// No frames: nothing has jumped anywhere. A place for each slot, and a box behind it only once a jump leads there,
+/// since a frame has a flag for each byte of the stack.
 pub fn no_jumps(alloc: Global, slots: usize) -> Result<Vec<Option<Box<Frame>>>, NoMemory>
     ensures len { IfOk result (λ v. length v.items ≡ slots) }
     ensures each { IfOk result (λ v. (k : ℕ) → slice_index_or v.items k None ≡ None) }

@@ -1,4 +1,4 @@
-//! What is known after an instruction, and where it leads.
+//! What is known after an instruction: the one frame of a pass is changed in place, from instruction to instruction.
 ghost use Rattle.std.specs.Prelude.{◌≡◌, ◌≤◌, ◌<◌, ◌+◌, ◌^◌, ℕ, nat_abs};
 ghost use Rattle.pb_verify.specs.Following.{with_kind, move_pointer, kind_after, with_store, clobber, after_call, after};
 ghost use Rattle.pb_isa.specs.Helpers.{helper_of};
@@ -8,6 +8,7 @@ use crate::rules::{bytes_of, kind};
 use pb_isa::{AluOp, Insn, Operand, Reg, Width};
 use pb_kinds::{Frame, Kind, in_stack};
 
+// A register is set. Pointers stay within any distance that the frame and the new kind keep.
 fn set_kind(frame: &mut Frame, reg: Reg, kind: Kind)
     ensures value { frame.new ≡ with_kind frame.old reg kind }
     ensures near { (b : ℕ) → IsWithin b frame.old → IsNear b kind → IsWithin b frame.new }
@@ -15,6 +16,8 @@ fn set_kind(frame: &mut Frame, reg: Reg, kind: Kind)
     frame.kinds[reg.number()] = kind;
 }
 
+// An immediate moves a pointer by at most 2^31, also where its bytes can't be accessed: one may be moved past its
+// region and back, since sums of addresses wrap in the machine too.
 fn move_pointer(kind: Kind, by: i64) -> Kind
     requires near { IsNear (2 ^ 62) kind }
     requires small { nat_abs by ≤ 2147483648 }
@@ -28,7 +31,8 @@ fn move_pointer(kind: Kind, by: i64) -> Kind
     }
 }
 
-// What the destination of an operation holds.
+// What the destination of an operation holds. Three operations keep a pointer; all others make a number, since the
+// rules let no pointer into them.
 fn kind_after(frame: &Frame, op: AluOp, width: Width, dst: Reg, src: Operand) -> Kind
     requires { IsWithin (2 ^ 62) frame.now }
     ensures value { result ≡ kind_after frame.now op width dst src }
@@ -48,7 +52,8 @@ fn kind_after(frame: &Frame, op: AluOp, width: Width, dst: Reg, src: Operand) ->
     }
 }
 
-// The bytes of a store are written.
+// The bytes of a store are written. Those outside the stack are not, which matters to `frames` alone, since the rules
+// have refused them.
 fn store(frame: &mut Frame, base: Kind, offset: i16, bytes: u8)
     requires { IsNear (2 ^ 62) base }
     ensures value { frame.new ≡ with_store frame.old base offset bytes }
@@ -62,7 +67,8 @@ fn store(frame: &mut Frame, base: Kind, offset: i16, bytes: u8)
     }
 }
 
-// What a call leaves of the registers.
+// What a call leaves of the registers: a result, and those from R6 on. R1 to R5 count as unset, since the machine of
+// the definitions leaves them so.
 fn clobber(frame: &mut Frame)
     ensures value { frame.new ≡ clobber frame.old }
     ensures near { (b : ℕ) → IsWithin b frame.old → IsWithin b frame.new }
@@ -83,7 +89,7 @@ fn clobber(frame: &mut Frame)
     ];
 }
 
-// A read fills the 32 bytes at R3.
+// A read fills the 32 bytes at R3. They are written before the registers are given up, since R3 is one of them.
 fn call(frame: &mut Frame, number: i32)
     requires { IsWithin (2 ^ 62) frame.old }
     ensures value { frame.new ≡ after_call frame.old (helper_of number) }
@@ -96,7 +102,8 @@ fn call(frame: &mut Frame, number: i32)
     clobber(frame);
 }
 
-/// Makes the frame before an instruction whose rules hold the frame after it.
+/// Makes the frame before an instruction the frame after it. It tests no rule: `verify_for` has done so before, and
+/// `frames` wants to go on where one is broken.
 pub fn step(frame: &mut Frame, insn: Insn)
     requires { IsWithin (2 ^ 62) frame.old }
     ensures value { frame.new ≡ after frame.old insn }

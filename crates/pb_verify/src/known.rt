@@ -1,4 +1,5 @@
-//! What is known before each slot of a program, accepted or not.
+//! What is known before each slot of a program, accepted or not: the verifier's pass without its rules, by the same
+//! calls, so that whoever is refused can be shown what was known there.
 ghost use Rattle.std.specs.Prelude.{◌≡◌, ◌<◌, ℕ, None, length, slice_index_or, IfOk};
 ghost use Rattle.pb_isa.specs.Slots.{slots};
 ghost use Rattle.pb_verify.specs.Known.{known_at};
@@ -10,8 +11,9 @@ use pb_isa::Program;
 use pb_kinds::{Frame, entry};
 use std::alloc::Global;
 
-/// For each slot of a program what is known before its instruction, as [`verify`](crate::verify) comes to know it, whether it
-/// accepts the program or not; none where no earlier instruction leads, and none for the second slot of a pair.
+/// For each slot of a program what is known before its instruction, as [`verify`](crate::verify) comes to know it,
+/// whether it accepts the program or not; none where no earlier instruction leads, and none for the second slot of a
+/// pair. It keeps a frame for each slot, which the verifier doesn't, since only a reader wants all.
 pub fn frames(alloc: Global, program: &Program) -> Result<Vec<Option<Frame>>, NoMemory>
     ensures len { IfOk result (λ v. length v.items ≡ slots program.now.insns) }
     ensures each { IfOk result (λ v. (n : ℕ) → n < slots program.now.insns
@@ -28,6 +30,7 @@ pub fn frames(alloc: Global, program: &Program) -> Result<Vec<Option<Frame>>, No
             continue;
         };
         let is_reached = arrive(&mut jumps, slot, &mut frame, slot == next);
+        // Nothing is followed from here, since what the frame says is of an instruction that doesn't lead here.
         if !is_reached {
             known.push_reserved(None);
             continue;

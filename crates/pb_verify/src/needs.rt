@@ -1,17 +1,19 @@
-//! How many cells a program can ask for, and how many writes it can do.
+//! How many cells a program can ask for, and how many writes it can do: as many as it has such calls, since a run comes
+//! to each slot once at most.
 ghost use Rattle.std.specs.Prelude.{◌≡◌, ◌≤◌};
 ghost use Rattle.pb_verify.specs.Needs.{called_by, reads_by, writes_by, IsNeeded, NeedsFall};
 
 use pb_isa::{Insn, Program};
 
-/// How many of a program's instructions read a cell, and how many write or delete one.
+/// How many of a program's instructions read a cell, and how many write or delete one. A run makes its room by them,
+/// since it may not be refused memory between its start and its exit.
 #[derive(Clone, Copy)]
 pub struct Needs {
     pub reads: usize,
     pub writes: usize,
 }
 
-// By the instruction of one slot.
+// By the instruction of one slot: one at most, so that no sum over 4,096 slots overflows.
 fn needs_at(insn: Option<Insn>) -> Needs
     ensures reads { result.reads ≡ reads_by (called_by insn) }
     ensures writes { result.writes ≡ writes_by (called_by insn) }
@@ -48,7 +50,8 @@ pub fn needs_of(program: &Program) -> Needs
     Needs { reads, writes }
 }
 
-/// What a program can still ask for and write falls from slot to slot.
+/// What a program can still ask for and write falls from slot to slot, so that the room of a run's start is enough to
+/// its end.
 pub fn needs_fall()
     ensures { NeedsFall }
 {}

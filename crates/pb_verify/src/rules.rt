@@ -1,4 +1,5 @@
-//! The rules of one instruction.
+//! The rules of one instruction: for each list of codes in specs/Rules, a function that tells its lowest. The
+//! definition lists them lowest first, so that `or` in the same order finds it (`codes_rise`).
 ghost use Rattle.std.specs.Prelude.{◌≡◌, ◌<◌, ◌+◌, ◌^◌, ◌≤◌, ℕ};
 ghost use Rattle.pb_isa.specs.Slots.{slots};
 ghost use Rattle.pb_kinds.specs.Ranges as ranges;
@@ -15,6 +16,7 @@ use pb_helpers::{
 use pb_isa::{AluOp, Insn, MAX_RECORD_BYTES, Operand, Program, RECORD_BYTES, Reg, Size, Width};
 use pb_kinds::{Frame, Kind};
 
+/// What is known of a register.
 pub fn kind(frame: &Frame, reg: Reg) -> Kind
     ensures { result ≡ at frame.now reg }
 {
@@ -33,12 +35,14 @@ pub fn bytes_of(size: Size) -> u8
     }
 }
 
+// 21. Reading is asked first of every rule, since 21 is the lowest code.
 fn reads(frame: &Frame, reg: Reg) -> Option<Code>
     ensures { result ≡ lowest_code (reads frame.now reg) }
 {
     unset_code(frame, reg.number())
 }
 
+// 22. R10 stays the end of the stack, so that its kind is known at every slot.
 fn sets(dst: Reg) -> Option<Code>
     ensures { result ≡ lowest_code (sets dst) }
 {
@@ -69,12 +73,15 @@ fn on_pointer(frame: &Frame, dst: Reg, src: Operand) -> bool
     kind(frame, dst).is_pointer() || points(frame, src)
 }
 
+// 36, of the slot that an instruction goes on to. Equality is enough, since no instruction takes a slot behind the
+// last.
 fn falls(program: &Program, slot: usize) -> Option<Code>
     ensures { result ≡ lowest_code (falls program.now.insns slot) }
 {
     Code::FallsOff.when(slot == program.slots())
 }
 
+// An operation on numbers alone: a pointer isn't calculated with, since what comes of it depends on where memory lies.
 #[tactic(auto, using(crate::proofs::LowestCode::lowest_append))]
 fn numeric(frame: &Frame, dst: Reg, src: Operand) -> Option<Code>
     ensures { result ≡ lowest_code (numeric_rules frame.now dst src) }
@@ -85,6 +92,7 @@ fn numeric(frame: &Frame, dst: Reg, src: Operand) -> Option<Code>
         .or(Code::PointerArithmetic.when(on_pointer(frame, dst, src)))
 }
 
+// A move of some of the source's bits, which takes no pointer, since a part of one points nowhere.
 #[tactic(auto, using(crate::proofs::LowestCode::lowest_append))]
 fn part_mov(frame: &Frame, dst: Reg, src: Reg) -> Option<Code>
     ensures { result ≡ lowest_code (part_mov_rules frame.now dst src) }
@@ -108,6 +116,7 @@ fn mov(frame: &Frame, width: Width, dst: Reg, src: Operand) -> Option<Code>
     }
 }
 
+// A sum or a difference. With an immediate, on 64 bits, it may move a pointer, since it is known how far.
 #[tactic(auto, using(crate::proofs::LowestCode::lowest_append))]
 fn add(frame: &Frame, width: Width, dst: Reg, src: Operand) -> Option<Code>
     ensures { result ≡ lowest_code (add_rules frame.now width dst src) }
@@ -139,7 +148,7 @@ fn alu(frame: &Frame, op: AluOp, width: Width, dst: Reg, src: Operand) -> Option
     }
 }
 
-// Whether so many bytes lie all in a record of this version.
+// Whether so many bytes lie all in a record of this version: 27 is the one rule that a version changes.
 fn in_record(version: Version, at: i64, bytes: u8) -> bool
     ensures { result ≡ ranges.in_record (size_of version) at bytes }
 {
@@ -150,6 +159,7 @@ fn in_record(version: Version, at: i64, bytes: u8) -> bool
     0 <= at && at <= size - i64::from(bytes)
 }
 
+// The bytes of a load. An unset base breaks nothing here, since it is told as 21.
 fn loads(version: Version, frame: &Frame, base: Kind, offset: i16, bytes: u8) -> Option<Code>
     requires { IsNear (2 ^ 62) base }
     ensures { result ≡ lowest_code (loads (size_of version) frame.now base offset bytes) }
@@ -166,6 +176,7 @@ fn loads(version: Version, frame: &Frame, base: Kind, offset: i16, bytes: u8) ->
     }
 }
 
+// The bytes of a store: one to the record is told as 28, wherever it goes, since the record is read-only.
 fn stores(base: Kind, offset: i16, bytes: u8) -> Option<Code>
     requires { IsNear (2 ^ 62) base }
     ensures { result ≡ lowest_code (stores base offset bytes) }
@@ -203,6 +214,7 @@ fn store_imm(frame: &Frame, size: Size, dst: Reg, offset: i16) -> Option<Code>
     reads(frame, dst).or(access)
 }
 
+// A pointer isn't stored (24), so that every load makes a number and no frame needs kinds for stack bytes.
 #[tactic(auto, using(crate::proofs::LowestCode::lowest_append))]
 fn store(frame: &Frame, size: Size, dst: Reg, src: Reg, offset: i16) -> Option<Code>
     requires { IsWithin (2 ^ 62) frame.now }
@@ -215,6 +227,7 @@ fn store(frame: &Frame, size: Size, dst: Reg, src: Reg, offset: i16) -> Option<C
         .or(access)
 }
 
+// One code at most: a jump back is told as 32 alone, since it has no target among the later slots.
 fn jumps(program: &Program, slot: usize, offset: i16) -> Option<Code>
     requires { slot < slots program.now.insns }
     ensures { result ≡ lowest_code (jump_rules program.now.insns slot offset) }
@@ -288,7 +301,9 @@ pub fn lowest_broken(
             dst,
             src,
         } => part_mov(frame, dst, src).or(falls),
+        // The negative has no second operand (RFC 9669, section 4.1): an immediate stands in, since it breaks no rule.
         Insn::Neg { width: _, dst } => numeric(frame, dst, Operand::Imm(0)).or(falls),
+        // Two slots on, since the immediate takes a pair.
         Insn::LoadImm { dst, imm: _ } => sets(dst).or(self::falls(program, slot + 2)),
         Insn::Load {
             size,

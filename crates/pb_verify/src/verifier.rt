@@ -1,4 +1,23 @@
-//! Whether the rules hold at every slot.
+//! Whether the rules hold at every slot, in one pass, which is enough since no accepted jump goes back. One frame goes
+//! along and is changed in place. A jump leaves a copy of it at its target, joined with what waits there already; at a
+//! slot where a frame waits, the one that goes along is joined with it, if the instruction before leads on. Then the
+//! rules are tested with it, the instruction is resolved by it, and it becomes the frame after.
+//!
+//! This program is accepted. Its nine frames (a row of `checks/tables/frames.py`), each before its instruction:
+//!
+//! ```text
+//! 0  r1=record+0 r10=stack+0                                    mov64 r0, 0
+//! 1  r0=number r1=record+0 r10=stack+0                          mov64 r7, r1
+//! 2  r0=number r1=record+0 r7=record+0 r10=stack+0              mov64 r8, 0
+//! 3  r0=number r1=record+0 r7=record+0 r8=number r10=stack+0    jeq64 r0, 0, +3  a copy of this frame waits at 7
+//! 4  r0=number r1=record+0 r7=record+0 r8=number r10=stack+0    add64 r7, 8      a pointer is moved
+//! 5  r0=number r1=record+0 r7=record+8 r8=number r10=stack+0    mov64 r8, r1     mov64 keeps what it copies
+//! 6  r0=number r1=record+0 r7=record+8 r8=record+0 r10=stack+0  stb [r10-1], 0   the stack byte at -1 is written
+//! 7  r0=number r1=record+0 r10=stack+0                          stb [r10-1], 0   r7, r8 and the byte differ by the way
+//! 8  r0=number r1=record+0 r10=stack+0 written=-1..-1           exit
+//! ```
+//!
+//! A read of `r7` at 7 would be refused with 21, since it isn't the same on both ways, and one of the byte with 26.
 ghost use Rattle.std.specs.Prelude.{◌≡◌, ◌<◌, ◌^◌, Some, None, true, if◌then◌else◌, IfOk, IfErr, IfNone};
 ghost use Rattle.pb_isa.specs.Slots.{slots};
 ghost use Rattle.pb_helpers.specs.declared.change.Version.TheVariants as Version;
@@ -31,7 +50,8 @@ pub enum VerifyFault {
     Refused(Refused),
 }
 
-// The lowest code of the rules that are broken at a slot with this instruction and this frame before it, if it is reached.
+// The lowest code of the rules that are broken at a slot with this instruction and this frame before it, if it is
+// reached; else 35 alone, since without a frame there is nothing to test by.
 fn code_at(
     program: &Program,
     helpers: HelperTable,
@@ -67,7 +87,9 @@ pub fn verify(
     verify_for(alloc, program, helpers, Version::First)
 }
 
-/// The same, for change records of a version.
+/// Accepts a program where the rules hold at every slot with these helpers, for change records of a version, which say
+/// how many bytes may be loaded. Else it tells the first slot at fault, with the lowest code there, and drops the
+/// program.
 pub fn verify_for(
     alloc: Global,
     program: Program,
@@ -80,6 +102,7 @@ pub fn verify_for(
     let Ok(mut jumps) = no_jumps(alloc, program.slots()) else {
         return Err(VerifyFault::NoMemory);
     };
+    // Room for all operations before the pass, so that each is one push.
     let Ok(mut ops) = Vec::<Op>::with_capacity(alloc, program.slots()) else {
         return Err(VerifyFault::NoMemory);
     };
@@ -88,7 +111,8 @@ pub fn verify_for(
     let mut next = 0;
     for slot in 0..program.slots() {
         let Some(insn) = program.at(slot) else {
-            // The instruction of the first slot is that before.
+            // The second slot of a pair: it has no rules, and the frame goes past it. Its instruction is that of the
+            // slot before.
             let first = program.at(slot.saturating_sub(1));
             ops.push_reserved(resolve_next(first));
             continue;
@@ -100,6 +124,7 @@ pub fn verify_for(
                 code: code.code(),
             }));
         }
+        // Before the frame goes on, since a load may put a number into its own base.
         let access = access_of(&frame, insn);
         ops.push_reserved(resolve(slot, insn, access));
         step(&mut frame, insn);

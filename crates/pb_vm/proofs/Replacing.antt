@@ -1,4 +1,4 @@
--- A write that replaces another.
+-- A write that replaces another: the code looks for the place, and the definition for the cell.
 use Rattle.std.proofs.Common.{◌≡◌, suc, ◌<◌, ◌≤◌, Bool, true, false, cond, [], ◌∷◌, length, slice_set, Some, refl, ap, arith}
 use Rattle.std.specs.Prelude.{is_some, if◌then◌else◌}
 use Rattle.std.specs.Ordering.{eq_by_cmp}
@@ -9,6 +9,7 @@ use Rattle.pb_base.specs.Batch.{Writes, content_in}
 use Rattle.pb_isa.specs.Machine.{replace_write}
 use Rattle.pb_vm.specs.Places.{place_in}
 
+-- a cell that has a place was written before
 pub is_there : (x : Cell) (ws : Writes) → place_in x ws < length ws → is_some (content_in ws x) ≡ true
 is_there x [] lt = absurd (omega (arith, lt))
 is_there x (w ∷ ws) lt = by_cell (eq_by_cmp cell_cmp x w.0) (is_there x ws) lt
@@ -17,6 +18,7 @@ is_there x (w ∷ ws) lt = by_cell (eq_by_cmp cell_cmp x w.0) (is_there x ws) lt
     by_cell true rest l = refl
     by_cell false rest l = rest (omega (arith, l))
 
+-- one that has none wasn't
 pub is_absent : (x : Cell) (ws : Writes) → length ws ≤ place_in x ws → is_some (content_in ws x) ≡ false
 is_absent x [] le = refl
 is_absent x (w ∷ ws) le = by_cell (eq_by_cmp cell_cmp x w.0) (is_absent x ws) le
@@ -25,6 +27,7 @@ is_absent x (w ∷ ws) le = by_cell (eq_by_cmp cell_cmp x w.0) (is_absent x ws) 
     by_cell true rest l = absurd (omega (arith, l))
     by_cell false rest l = rest (omega (arith, l))
 
+-- the write at that place is the one that is replaced
 pub replaced : (x : Cell) (c : Content) (ws : Writes) → place_in x ws < length ws → slice_set ws (place_in x ws) (x, c) ≡ replace_write x c ws
 replaced x c [] lt = absurd (omega (arith, lt))
 replaced x c (w ∷ ws) lt = by_cell (eq_by_cmp cell_cmp x w.0) (replaced x c ws) lt
@@ -33,6 +36,7 @@ replaced x c (w ∷ ws) lt = by_cell (eq_by_cmp cell_cmp x w.0) (replaced x c ws
     by_cell true rest l = refl
     by_cell false rest l = ap (λ vs. w ∷ vs) (rest (omega (arith, l)))
 
+-- a replaced write makes the list no longer, and needs no room
 pub as_long : (x : Cell) (c : Content) (ws : Writes) → length (replace_write x c ws) ≡ length ws
 as_long x c [] = refl
 as_long x c (w ∷ ws) = by_cell (eq_by_cmp cell_cmp x w.0) (as_long x c ws)

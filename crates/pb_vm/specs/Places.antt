@@ -1,4 +1,4 @@
--- Where a cell stands among those written.
+-- Where a cell stands among those written, in the order of their first writes.
 use Rattle.std.specs.Prelude.{ℕ, suc, cond, [], ◌∷◌}
 use Rattle.std.specs.Ordering.{eq_by_cmp}
 use Rattle.pb_base.specs.declared.cell.Cell.{Cell}

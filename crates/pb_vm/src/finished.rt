@@ -1,4 +1,5 @@
-//! What a machine leaves at its end.
+//! What a machine leaves at its end. Its stack and its registers are gone then, since a run that is declared stays in
+//! the journal.
 ghost use Rattle.std.specs.Prelude.{◌≡◌, ◌↔◌, IsTrue};
 ghost use Rattle.pb_isa.specs.Meaning.{Means};
 ghost use Rattle.pb_sound.specs.RunWrites.{AreRunWrites};
@@ -80,7 +81,8 @@ impl Finished {
         }
     }
 
-    /// Result and writes are what the program means: it writes nothing, or 1 to 16 distinct data cells.
+    /// Result and writes are what the program means: it writes nothing, or 1 to 16 distinct data cells, so that the run
+    /// can be declared. It does nothing: a caller's proof learns by it what the type keeps.
     pub fn known(&self)
         ensures meant { IsMeant self.now }
         ensures writes { AreRunWrites self.now.writes }

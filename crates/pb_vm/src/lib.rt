@@ -1,8 +1,11 @@
-//! The machine that runs accepted programs. It tests no range, no kind and no budget, since acceptance says that none is
-//! passed.
+//! The machine that runs accepted programs. It tests no range, no kind and no budget, since acceptance says that none
+//! is passed. The laws that say so stand below, in `pb_sound`, so that an edit here doesn't have them checked again. A
+//! job of `pb_notify` holds a machine and answers its asks from a snapshot; a program of your own may do so with
+//! anything.
 //!
 //! Each step is one instruction of the machine of the definitions, at every placement; fewer are done than there are
-//! slots until it ends, and its end is what the program means.
+//! slots until it ends, and its end is what the program means. So a program that reads one cell is started, followed to
+//! its ask, told the reply, followed to its end, and finished.
 #![tactic(auto)]
 
 mod acting;

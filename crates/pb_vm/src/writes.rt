@@ -23,7 +23,8 @@ fn place_in(writes: &[(Cell, Content)], cell: &Cell) -> usize
     }
 }
 
-/// The writes that stand after an end with this result: those made where it is 0, else none.
+/// The writes that stand after an end with this result: those made where it is 0, else none, so that an observer can
+/// give up after it has written.
 pub fn kept(end: u64, writes: Vec<(Cell, Content)>) -> Vec<(Cell, Content)>
     ensures { result.items ≡ kept_writes end writes.items }
 {
@@ -55,6 +56,7 @@ pub fn write(writes: &mut Vec<(Cell, Content)>, cell: Cell, content: Content) ->
     if writes.len() == MAX_CELLS {
         return 3;
     }
+    // There is room: as much as the program has writes and deletions, since a run comes to each once at most.
     writes.push_reserved(written);
     0
 }

@@ -47,6 +47,7 @@ loop-slot-preserved-in_default c =
 insn_is : (c : After-arrive-is_reached) → insn_at c.args.program.now.insns c.loop-slot.slot ≡ Some c.in-Some.insn
 insn_is c = sym c.at.ensures ∙ c.in-Some.is
 
+-- what `arrive` tells is the frame before the slot, as the definition has it
 reached_is : (c : After-arrive-is_reached) → (if c.arrive-is_reached.result then Some c.arrive-is_reached.new.frame else None) ≡ in_at c.args.program.now.insns c.loop-slot.slot
 reached_is c =
     let n = c.loop-slot.slot in

@@ -51,6 +51,7 @@ loop-slot-preserved-in_default-at c =
 insn_is : (c : After-arrive-is_reached) → insn_at c.args.program.insns c.loop-slot.slot ≡ Some c.in-Some.insn
 insn_is c = sym c.at.ensures ∙ c.in-Some.is
 
+-- what `arrive` tells is the frame before the slot, as the definition has it
 known_is : (c : After-arrive-is_reached) → (if c.arrive-is_reached.result then Some c.arrive-is_reached.new.frame else None) ≡ in_at c.args.program.insns c.loop-slot.slot
 known_is c =
     let n = c.loop-slot.slot in
@@ -64,6 +65,7 @@ known_near c =
     let n = c.loop-slot.slot in
     rw (known_is c, in_is c.args.program.insns n) (within_arriving c.args.program.insns _ n _ c.loop-slot.invariant.near)
 
+-- so near that no sum of a distance and an offset overflows
 all_near : (c : After-arrive-is_reached) → IsWithinIf 4611686018427387904 (if c.arrive-is_reached.result then Some c.arrive-is_reached.new.frame else None)
 all_near c = within_if_more (c.loop-slot.slot * 2147483648) 4611686018427387904 _ (omega arith) (known_near c)
 
