@@ -7,7 +7,7 @@ use pb_base::{Cell, Column, Content, Revision, Row, Ts};
 use pb_decode::decode;
 use pb_helpers::{HelperTable, Record, Reply};
 use pb_verify::verify;
-use pb_vm::{Finished, Phase, Vm};
+use pb_vm::{Finished, MachinePhase, Vm};
 use std::sync::Arc;
 
 // Adds one to what column 1 of the changed row holds. A line is a slot; beside it stands what `percobpf dis` lists.
@@ -45,14 +45,14 @@ fn run(rt: &HostRuntime, vm: Vm) -> Result<Finished> {
     for _turn in 0..MOST_TURNS {
         // Each call asks for the phase in whose arm it stands.
         match vm.phase() {
-            Phase::Going => {
+            MachinePhase::Going => {
                 vm.follow();
             }
-            Phase::Asking(ask) => {
+            MachinePhase::Asking(ask) => {
                 println!(rt; "asks for cell {} {}", ask.row.0, ask.column.number())?;
                 vm.reply(Reply::Found(value(41)));
             }
-            Phase::Over(result) => {
+            MachinePhase::Over(result) => {
                 println!(rt; "ends with {result} after {} instructions", vm.taken())?;
                 return Ok(vm.finish());
             }

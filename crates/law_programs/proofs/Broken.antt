@@ -24,8 +24,8 @@ use Rattle.pb_kinds.specs.declared.frame.Kind.TheVariants.{Unset, Number, Stack,
 use Rattle.pb_kinds.specs.declared.frame.Frame.{Frame}
 use Rattle.pb_kinds.specs.Frames.{kind_of, is_unset, is_number_kind, is_pointer}
 use Rattle.pb_kinds.specs.Ranges.{in_stack, in_record, are_written}
-use Rattle.pb_helpers.specs.declared.code.Code.{Code}
-use Rattle.pb_helpers.specs.declared.code.Code.TheVariants.{ReadsUnset, WritesR10, PointerArithmetic, PointerStored, OutsideStack, UnwrittenByte, OutsideRecord, WritesRecord, ThroughNumber, NotDeclared, WrongArgument, BackwardJump, JumpOutside, JumpIntoPair, FallsOff, ExitsWithPointer, PointerCompared}
+use Rattle.pb_helpers.specs.declared.code.RuleCode.{RuleCode}
+use Rattle.pb_helpers.specs.declared.code.RuleCode.TheVariants.{ReadsUnset, WritesR10, PointerArithmetic, PointerStored, OutsideStack, UnwrittenByte, OutsideRecord, WritesRecord, ThroughNumber, NotDeclared, WrongArgument, BackwardJump, JumpOutside, JumpIntoPair, FallsOff, ExitsWithPointer, PointerCompared}
 use Rattle.pb_helpers.specs.Codes.{when}
 use Rattle.pb_helpers.specs.Arguments.{unset, stack_reads, stack_writes, filled_bytes, taken_bytes, is_cell, is_place, call_rules}
 use Rattle.pb_verify.specs.Rules.{at, sets, reads_operand, on_pointer, falls, numeric_rules, alu_rules, loads, stores, jump_rules, insn_rules}
@@ -49,7 +49,7 @@ pointing f d (operands.Reg s) e =
     elim h as (λ _. (r : ℕ) × ((r ≡ number d) ⊎ IsOperand (operands.Reg s) r) × IsPointer (kind_of f r)) [ inl p ↦ (number d, inl refl, p) | inr p ↦ (number s, inr refl, p) ]
 
 module _ (j : JudgedOf) (n : ℕ) (f : Frame) (i : Insn) where
-  abbrev Broken : Code → Type 0
+  abbrev Broken : RuleCode → Type 0
   Broken c = Breaks c j n f i
 
   -- ---- registers

@@ -12,8 +12,8 @@ use Rattle.pb_isa.specs.Programs.{JudgedOf}
 use Rattle.pb_kinds.specs.declared.frame.Kind.TheVariants.{Number, Stack, Record}
 use Rattle.pb_kinds.specs.declared.frame.Frame.{Frame}
 use Rattle.pb_kinds.specs.Frames.{kind_of}
-use Rattle.pb_helpers.specs.declared.code.Code.{Code}
-use Rattle.pb_helpers.specs.declared.code.Code.TheVariants.{ReadsUnset, WritesR10, PointerArithmetic, PointerStored, OutsideStack, UnwrittenByte, OutsideRecord, WritesRecord, ThroughNumber, NotDeclared, WrongArgument, BackwardJump, JumpOutside, JumpIntoPair, Unreachable, FallsOff, ExitsWithPointer, PointerCompared}
+use Rattle.pb_helpers.specs.declared.code.RuleCode.{RuleCode}
+use Rattle.pb_helpers.specs.declared.code.RuleCode.TheVariants.{ReadsUnset, WritesR10, PointerArithmetic, PointerStored, OutsideStack, UnwrittenByte, OutsideRecord, WritesRecord, ThroughNumber, NotDeclared, WrongArgument, BackwardJump, JumpOutside, JumpIntoPair, Unreachable, FallsOff, ExitsWithPointer, PointerCompared}
 use Rattle.pb_verify.specs.Rules.{at, loads, stores, insn_rules}
 use Rattle.law_programs.specs.Touches.{Touch, size_bytes, HelperTouches, Storing, IsReading, IsOfInstruction, LieInStack, LieInRecord, SomeUnwritten}
 use Rattle.law_programs.specs.Breaks.{Breaks, RulesAreByCode}
@@ -23,7 +23,7 @@ use Rattle.law_programs.proofs.Broken.{all_broken}
 use Rattle.law_programs.proofs.Listed.{unset_at, pointer_at, is_ten, unset_operand, pointing, falls_at, numeric_unset, numeric_sets, numeric_pointer, alu_unset, alu_operand, alu_sets, alu_pointer, loads_outside, loads_unwritten, loads_beyond, loads_number, stores_outside, stores_record, stores_number, call_unset, call_outside, call_unwritten, call_wrong, call_undeclared, jumps_back, jumps_outside, jumps_into}
 
 -- the code stands in what the instruction's rules list
-abbrev Lists : Code → Type 0
+abbrev Lists : RuleCode → Type 0
 Lists c = (j : JudgedOf) (n : ℕ) (f : Frame) (i : Insn) → Breaks c j n f i → Contains (insn_rules j n f i) c
 
 -- 21: whatever register an instruction reads
@@ -187,7 +187,7 @@ pointer_compared j n f (JumpIf c w d x o) b = let e = pointing f d x b.1.0 b.1.1
 pointer_compared j n f _ b = absurd b.0
 
 -- each code, by its own lemma above
-listed : (c : Code) → Lists c
+listed : (c : RuleCode) → Lists c
 listed ReadsUnset = reads_unset
 listed WritesR10 = writes_r10
 listed PointerArithmetic = pointer_arithmetic

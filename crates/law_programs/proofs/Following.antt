@@ -26,8 +26,8 @@ use Rattle.pb_kinds.specs.declared.frame.Kind.TheVariants.{Unset, Number, Stack,
 use Rattle.pb_kinds.specs.declared.frame.Frame.{Frame}
 use Rattle.pb_kinds.specs.Frames.{kind_of, has_byte}
 use Rattle.pb_kinds.specs.Ranges.{in_stack, from_low, set_flags, with_written}
-use Rattle.pb_helpers.specs.declared.code.Code.{Code}
-use Rattle.pb_helpers.specs.declared.code.Code.TheVariants.{OutsideStack, NotDeclared}
+use Rattle.pb_helpers.specs.declared.code.RuleCode.{RuleCode}
+use Rattle.pb_helpers.specs.declared.code.RuleCode.TheVariants.{OutsideStack, NotDeclared}
 use Rattle.pb_verify.specs.Rules.{at, bytes_of, insn_rules}
 use Rattle.pb_verify.specs.Following.{with_kind, move_pointer, kind_after, with_store, kinds_after_call, after_call, after}
 use Rattle.law_programs.specs.Operands.{SetsRegister}
@@ -196,7 +196,7 @@ not_writing t (inr e) (inr h) = cc
 
 module _ (rules : RulesAreByCode) (j : JudgedOf) (n : ℕ) (f : Frame) (i : Insn) (hold : insn_rules j n f i ≡ []) where
   -- where its rules hold, an instruction breaks none
-  breaks_none : (c : Code) → ¬ (Breaks c j n f i)
+  breaks_none : (c : RuleCode) → ¬ (Breaks c j n f i)
   breaks_none c b = none (subst (λ cs. Contains cs c) hold ((rules c j n f i).1 b))
     where
       none : ¬ (Contains [] c)

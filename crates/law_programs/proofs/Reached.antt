@@ -11,8 +11,8 @@ use Rattle.pb_isa.specs.Programs.{JudgedOf}
 use Rattle.pb_isa.specs.Slots.{insn_at}
 use Rattle.pb_kinds.specs.declared.frame.Kind.TheVariants.{Number, Stack}
 use Rattle.pb_kinds.specs.declared.frame.Frame.{Frame}
-use Rattle.pb_helpers.specs.declared.code.Code.{Code}
-use Rattle.pb_helpers.specs.declared.code.Code.TheVariants.{Unreachable}
+use Rattle.pb_helpers.specs.declared.code.RuleCode.{RuleCode}
+use Rattle.pb_helpers.specs.declared.code.RuleCode.TheVariants.{Unreachable}
 use Rattle.pb_verify.specs.Rules.{insn_rules}
 use Rattle.pb_verify.specs.Following.{after, ahead, leads}
 use Rattle.pb_verify.specs.Arriving.{has_slot, if_leads, frame_after, in_at, codes_at, faults}
@@ -189,7 +189,7 @@ reached_are_told meets later p = tells p (meets p) later
 -- ---- codes at a slot
 
 -- the codes at a slot, by the frame before it or for want of one
-pub faults_are_told : FramesAreMeets → LeadsAreLater → RulesAreByCode → (c : Code) (j : JudgedOf) (n : ℕ) → Contains (faults j n) c ↔ IsToldAt c j n
+pub faults_are_told : FramesAreMeets → LeadsAreLater → RulesAreByCode → (c : RuleCode) (j : JudgedOf) (n : ℕ) → Contains (faults j n) c ↔ IsToldAt c j n
 faults_are_told meets later rules c j n = by (insn_at j.program.insns n) (in_at j.program.insns n) refl refl ((reached_are_told meets later j.program.insns).some n)
   where
     by : (x : Option Insn) (s : Option Frame) → insn_at j.program.insns n ≡ x → in_at j.program.insns n ≡ s → (in_at j.program.insns n ≢ None) ↔ IsReachable j.program.insns n → Contains (codes_at j n x s) c ↔ IsToldAt c j n

@@ -2,21 +2,21 @@
 use Rattle.std.proofs.Common.{◌≡◌, Bool, true, false, [], ◌∷◌, refl, arith}
 use Rattle.std.specs.List.{All, Contains}
 use Rattle.std.proofs.lemmas.List.Elements.{All-nil, All-cons}
-use Rattle.pb_helpers.specs.declared.code.Code.{Code}
+use Rattle.pb_helpers.specs.declared.code.RuleCode.{RuleCode}
 use Rattle.pb_helpers.specs.Codes.{when}
 
-pub each_one : (P : Code → Type 0) (d : Code) → P d → All P (d ∷ [])
+pub each_one : (P : RuleCode → Type 0) (d : RuleCode) → P d → All P (d ∷ [])
 each_one P d h = All-cons P d [] h (All-nil P)
 
 -- what holds of a code where its rule is broken holds of each code that is listed for it
-pub each_when : (P : Code → Type 0) (b : Bool) (d : Code) → (b ≡ true → P d) → All P (when b d)
+pub each_when : (P : RuleCode → Type 0) (b : Bool) (d : RuleCode) → (b ≡ true → P d) → All P (when b d)
 each_when P true d h = each_one P d (h refl)
 each_when P false d h = All-nil P
 
-pub stands_one : (d : Code) → Contains (d ∷ []) d
+pub stands_one : (d : RuleCode) → Contains (d ∷ []) d
 stands_one d = (0, omega arith, refl)
 
 -- a code is listed where its rule is broken
-pub stands : (b : Bool) (d : Code) → b ≡ true → Contains (when b d) d
+pub stands : (b : Bool) (d : RuleCode) → b ≡ true → Contains (when b d) d
 stands true d e = stands_one d
 stands false d e = cc

@@ -6,8 +6,8 @@ use Rattle.pb_isa.specs.declared.insn.Insn.{Insn}
 use Rattle.pb_isa.specs.Programs.{JudgedOf}
 use Rattle.pb_isa.specs.Slots.{insn_at}
 use Rattle.pb_kinds.specs.declared.frame.Frame.{Frame}
-use Rattle.pb_helpers.specs.declared.code.Code.{Code}
-use Rattle.pb_helpers.specs.declared.code.Code.TheVariants.{ReadsUnset, WritesR10, PointerArithmetic, PointerStored, OutsideStack, UnwrittenByte, OutsideRecord, WritesRecord, ThroughNumber, NotDeclared, WrongArgument, BackwardJump, JumpOutside, JumpIntoPair, Unreachable, FallsOff, ExitsWithPointer, PointerCompared}
+use Rattle.pb_helpers.specs.declared.code.RuleCode.{RuleCode}
+use Rattle.pb_helpers.specs.declared.code.RuleCode.TheVariants.{ReadsUnset, WritesR10, PointerArithmetic, PointerStored, OutsideStack, UnwrittenByte, OutsideRecord, WritesRecord, ThroughNumber, NotDeclared, WrongArgument, BackwardJump, JumpOutside, JumpIntoPair, Unreachable, FallsOff, ExitsWithPointer, PointerCompared}
 use Rattle.pb_helpers.specs.Codes.{code_number, lowest_code, CodesRiseWithin}
 use Rattle.pb_verify.specs.Rules.{CodesRise}
 use Rattle.pb_verify.specs.Arriving.{in_at, codes_at, faults}
@@ -17,10 +17,10 @@ use Rattle.law_programs.specs.Verdicts.{VerdictsAreTold}
 -- ---- codes by their numbers
 
 -- the code of a number
-abbrev code_from : ℕ → Code
+abbrev code_from : ℕ → RuleCode
 code_from n = get_or (ReadsUnset ∷ WritesR10 ∷ PointerArithmetic ∷ PointerStored ∷ OutsideStack ∷ UnwrittenByte ∷ OutsideRecord ∷ WritesRecord ∷ ThroughNumber ∷ NotDeclared ∷ WrongArgument ∷ BackwardJump ∷ JumpOutside ∷ JumpIntoPair ∷ Unreachable ∷ FallsOff ∷ ExitsWithPointer ∷ PointerCompared ∷ []) (n - 21) ReadsUnset
 
-from_number : (c : Code) → code_from (code_number c) ≡ c
+from_number : (c : RuleCode) → code_from (code_number c) ≡ c
 from_number ReadsUnset = refl
 from_number WritesR10 = refl
 from_number PointerArithmetic = refl
@@ -41,12 +41,12 @@ from_number ExitsWithPointer = refl
 from_number PointerCompared = refl
 
 -- two codes with one number are one
-one_code : (c d : Code) → code_number c ≡ code_number d → c ≡ d
+one_code : (c d : RuleCode) → code_number c ≡ code_number d → c ≡ d
 one_code c d e = sym (from_number c) ∙ ap code_from e ∙ from_number d
 
 -- ---- lists that rise
 
-rises : (low high : ℕ) (cs : List Code) → CodesRiseWithin low high cs → All (λ d. low ≤ code_number d) cs
+rises : (low high : ℕ) (cs : List RuleCode) → CodesRiseWithin low high cs → All (λ d. low ≤ code_number d) cs
 rises low high [] h = All-nil (λ d. low ≤ code_number d)
 rises low high (c ∷ cs) h =
     All-cons (λ d. low ≤ code_number d) c cs h.0
@@ -54,33 +54,33 @@ rises low high (c ∷ cs) h =
 
 -- ---- one slot
 
-none_in : (c : Code) → ¬ (Contains [] c)
+none_in : (c : RuleCode) → ¬ (Contains [] c)
 none_in c k = omega arith
 
 -- the first of a list that rises is the least of it
-first_least : (cs : List Code) (c : Code) → CodesRiseWithin 21 38 cs → lowest_code cs ≡ Some c → Contains cs c × ((d : Code) → Contains cs d → code_number c ≤ code_number d)
+first_least : (cs : List RuleCode) (c : RuleCode) → CodesRiseWithin 21 38 cs → lowest_code cs ≡ Some c → Contains cs c × ((d : RuleCode) → Contains cs d → code_number c ≤ code_number d)
 first_least [] c h e = cc
 first_least (x ∷ xs) c h e = of x (let is : x ≡ c = cc in is) h
   where
-    of : (x : Code) → x ≡ c → CodesRiseWithin 21 38 (x ∷ xs) → Contains (x ∷ xs) c × ((d : Code) → Contains (x ∷ xs) d → code_number c ≤ code_number d)
-    of x is h = subst (λ y. Contains (x ∷ xs) y × ((d : Code) → Contains (x ∷ xs) d → code_number y ≤ code_number d)) is (
+    of : (x : RuleCode) → x ≡ c → CodesRiseWithin 21 38 (x ∷ xs) → Contains (x ∷ xs) c × ((d : RuleCode) → Contains (x ∷ xs) d → code_number c ≤ code_number d)
+    of x is h = subst (λ y. Contains (x ∷ xs) y × ((d : RuleCode) → Contains (x ∷ xs) d → code_number y ≤ code_number d)) is (
       (0, omega arith, refl),
       (λ d k. All-contains (λ d. code_number x ≤ code_number d) (x ∷ xs) d (rises (code_number x) 38 (x ∷ xs) (omega arith, h.1)) k),
     )
 
 -- and the least of such a list is its first
-least_first : (cs : List Code) (c : Code) → CodesRiseWithin 21 38 cs → Contains cs c → ((d : Code) → Contains cs d → code_number c ≤ code_number d) → lowest_code cs ≡ Some c
+least_first : (cs : List RuleCode) (c : RuleCode) → CodesRiseWithin 21 38 cs → Contains cs c → ((d : RuleCode) → Contains cs d → code_number c ≤ code_number d) → lowest_code cs ≡ Some c
 least_first [] c h k least = absurd (none_in c k)
 least_first (x ∷ xs) c h k least =
     let f = (first_least (x ∷ xs) x h refl).1 c k in
     let g = least x (0, omega arith, refl) in
     ap Some (one_code x c (omega arith))
 
-empty_or : (cs : List Code) → ((c : Code) → ¬ (Contains cs c)) → cs ≡ []
+empty_or : (cs : List RuleCode) → ((c : RuleCode) → ¬ (Contains cs c)) → cs ≡ []
 empty_or [] h = refl
 empty_or (x ∷ xs) h = absurd (h x (0, omega arith, refl))
 
-none_of : (cs : List Code) (c : Code) → cs ≡ [] → ¬ (Contains cs c)
+none_of : (cs : List RuleCode) (c : RuleCode) → cs ≡ [] → ¬ (Contains cs c)
 none_of cs c e k = none_in c (subst (λ ds. Contains ds c) e k)
 
 -- the codes at a slot rise, also where it is told as unreachable alone

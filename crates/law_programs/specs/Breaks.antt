@@ -11,8 +11,8 @@ use Rattle.pb_isa.specs.Slots.{slots, insn_at}
 use Rattle.pb_kinds.specs.declared.frame.Kind.TheVariants.{Unset, Number, Stack, Record}
 use Rattle.pb_kinds.specs.declared.frame.Frame.{Frame}
 use Rattle.pb_kinds.specs.Frames.{kind_of}
-use Rattle.pb_helpers.specs.declared.code.Code.{Code}
-use Rattle.pb_helpers.specs.declared.code.Code.TheVariants.{ReadsUnset, WritesR10, PointerArithmetic, PointerStored, OutsideStack, UnwrittenByte, OutsideRecord, WritesRecord, ThroughNumber, NotDeclared, WrongArgument, BackwardJump, JumpOutside, JumpIntoPair, Unreachable, FallsOff, ExitsWithPointer, PointerCompared}
+use Rattle.pb_helpers.specs.declared.code.RuleCode.{RuleCode}
+use Rattle.pb_helpers.specs.declared.code.RuleCode.TheVariants.{ReadsUnset, WritesR10, PointerArithmetic, PointerStored, OutsideStack, UnwrittenByte, OutsideRecord, WritesRecord, ThroughNumber, NotDeclared, WrongArgument, BackwardJump, JumpOutside, JumpIntoPair, Unreachable, FallsOff, ExitsWithPointer, PointerCompared}
 use Rattle.pb_verify.specs.Rules.{insn_rules}
 use Rattle.law_programs.specs.Operands.{IsPointer, IsStackPointer, IsCellArgument, IsPlaceArgument, ReadsRegister, SetsRegister, StoresRegister, IsArithmetic, IsComparison, IsExit}
 use Rattle.law_programs.specs.Touches.{Touch, Touches, Loading, Storing, IsReading, IsOfInstruction, LieInStack, LieInRecord, SomeUnwritten}
@@ -37,7 +37,7 @@ HasWrongArgument j f (Call imm) = IsSomeAnd (declared_helper j.helpers imm) (λ 
 HasWrongArgument j f i = ⊥
 
 -- at slot n, with frame f before it. A pointer to the stack is k bytes from its end, and one to the record from its first byte
-abbrev pub Breaks : Code → JudgedOf → ℕ → Frame → Insn → Type 0
+abbrev pub Breaks : RuleCode → JudgedOf → ℕ → Frame → Insn → Type 0
 Breaks ReadsUnset j n f i = (r : ℕ) × ReadsRegister j i r × (kind_of f r ≡ Unset)
 Breaks WritesR10 j n f i = SetsRegister i 10
 Breaks PointerArithmetic j n f i = IsArithmetic i × ReadsPointer j f i
@@ -66,4 +66,4 @@ Breaks PointerCompared j n f i = IsComparison i × ReadsPointer j f i
 -- at any slot, with any frame: an instruction's list has exactly the codes that it breaks
 abbrev pub RulesAreByCode : Type 0
 RulesAreByCode =
-    (c : Code) (j : JudgedOf) (n : ℕ) (f : Frame) (i : Insn) → Contains (insn_rules j n f i) c ↔ Breaks c j n f i
+    (c : RuleCode) (j : JudgedOf) (n : ℕ) (f : Frame) (i : Insn) → Contains (insn_rules j n f i) c ↔ Breaks c j n f i

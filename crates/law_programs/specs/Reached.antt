@@ -6,8 +6,8 @@ use Rattle.pb_isa.specs.declared.insn.Insn.{Insn}
 use Rattle.pb_isa.specs.Slots.{insn_at}
 use Rattle.pb_isa.specs.Programs.{JudgedOf}
 use Rattle.pb_kinds.specs.declared.frame.Frame.{Frame}
-use Rattle.pb_helpers.specs.declared.code.Code.{Code}
-use Rattle.pb_helpers.specs.declared.code.Code.TheVariants.{Unreachable}
+use Rattle.pb_helpers.specs.declared.code.RuleCode.{RuleCode}
+use Rattle.pb_helpers.specs.declared.code.RuleCode.TheVariants.{Unreachable}
 use Rattle.pb_verify.specs.Arriving.{in_at, faults}
 use Rattle.law_programs.specs.Breaks.{Breaks}
 use Rattle.law_programs.specs.Targets.{JumpsTo, next_slot}
@@ -40,14 +40,14 @@ ReachedAreTold = (p : List Insn) → TellsReached p
 
 -- the code is told at a slot: as unreachable, or as the instruction breaks it with the frame before it. A second slot has no
 -- rules
-abbrev pub IsToldAt : Code → JudgedOf → ℕ → Type 0
+abbrev pub IsToldAt : RuleCode → JudgedOf → ℕ → Type 0
 IsToldAt c j n =
     (i : Insn) × (insn_at j.program.insns n ≡ Some i) × (((c ≡ Unreachable) × ¬ (IsReachable j.program.insns n)) ⊎
     ((f : Frame) × (in_at j.program.insns n ≡ Some f) × Breaks c j n f i))
 
 -- the codes at a slot are those that are told there, of every program with any helpers
 abbrev pub FaultsAreTold : Type 0
-FaultsAreTold = (c : Code) (j : JudgedOf) (n : ℕ) → Contains (faults j n) c ↔ IsToldAt c j n
+FaultsAreTold = (c : RuleCode) (j : JudgedOf) (n : ℕ) → Contains (faults j n) c ↔ IsToldAt c j n
 
 -- an instruction is told as unreachable exactly where its slot isn't reached
 abbrev pub UnreachableIsTold : Type 0

@@ -2,22 +2,22 @@
 use Rattle.std.specs.Prelude.{◌↔◌, ℕ, ◌<◌, ◌≤◌}
 use Rattle.pb_isa.specs.Programs.{JudgedOf}
 use Rattle.pb_isa.specs.Slots.{slots}
-use Rattle.pb_helpers.specs.declared.code.Code.{Code}
+use Rattle.pb_helpers.specs.declared.code.RuleCode.{RuleCode}
 use Rattle.pb_helpers.specs.Codes.{code_number}
 use Rattle.pb_verify.specs.Arriving.{Accepts, Refuses}
 use Rattle.law_programs.specs.Reached.{IsToldAt}
 
 -- n is the first slot at which a code is told, and c the lowest of those there
-pub record IsFirstTold (j : JudgedOf) (n : ℕ) (c : Code) : Type 0 where
+pub record IsFirstTold (j : JudgedOf) (n : ℕ) (c : RuleCode) : Type 0 where
   pub inside : n < slots j.program.insns
   pub told : IsToldAt c j n
-  pub lowest : (d : Code) → IsToldAt d j n → code_number c ≤ code_number d
-  pub before : (m : ℕ) (d : Code) → m < n → ¬ (IsToldAt d j m)
+  pub lowest : (d : RuleCode) → IsToldAt d j n → code_number c ≤ code_number d
+  pub before : (m : ℕ) (d : RuleCode) → m < n → ¬ (IsToldAt d j m)
 
 -- a program is accepted exactly where no code is told at any of its slots, and refused with the first that is
 pub record TellsVerdict (j : JudgedOf) : Type 0 where
-  pub accepts : Accepts j ↔ ((n : ℕ) (c : Code) → n < slots j.program.insns → ¬ (IsToldAt c j n))
-  pub refuses : (n : ℕ) (c : Code) → Refuses j n c ↔ IsFirstTold j n c
+  pub accepts : Accepts j ↔ ((n : ℕ) (c : RuleCode) → n < slots j.program.insns → ¬ (IsToldAt c j n))
+  pub refuses : (n : ℕ) (c : RuleCode) → Refuses j n c ↔ IsFirstTold j n c
 
 -- of every program, with any helpers, for a record of any size
 abbrev pub VerdictsAreTold : Type 0

@@ -15,8 +15,8 @@ use Rattle.pb_base.specs.declared.cell.Cell.TheVariants.{Data, Ack}
 use Rattle.pb_base.specs.declared.content.Content.{Content}
 use Rattle.pb_base.specs.declared.content.Content.TheVariants.{Value, Deleted, Stamp}
 use Rattle.pb_base.specs.Reading.{words_of}
-use Rattle.pb_parse.specs.declared.script.code.Code.{Code}
-use Rattle.pb_parse.specs.declared.script.code.Code.TheVariants.{Hex}
+use Rattle.pb_parse.specs.declared.script.code.ScriptCode.{ScriptCode}
+use Rattle.pb_parse.specs.declared.script.code.ScriptCode.TheVariants.{Hex}
 use Rattle.pb_parse.specs.ScriptWords.{number_upto, padded, content_of, cell_at, put_of, del_of, write_of, operation}
 use Rattle.pb_parse.proofs.Numerals.{numeral_of, value_of}
 use Rattle.law_texts.specs.OperationTexts.{AreDigitsOf, AreInRange, IsOperationOf}
@@ -44,7 +44,7 @@ place_back row column rest fits =
 not_zero : (n : ℕ) → 1 ≤ n → (n == 0) ≡ false
 not_zero n h = grind arith
 
-tested : (a b c : Bool) (r : Result (List ℕ) Code) → a ≡ false → b ≡ false → c ≡ false → cond (a || (b || c)) (Err Hex) r ≡ r
+tested : (a b c : Bool) (r : Result (List ℕ) ScriptCode) → a ≡ false → b ≡ false → c ≡ false → cond (a || (b || c)) (Err Hex) r ≡ r
 tested a b c r p q s = rw (p, q, s) refl
 
 -- the digits of a value are read as it, with zeros behind

@@ -18,8 +18,8 @@ use Rattle.pb_base.specs.declared.cell.Cell.TheVariants.{Data}
 use Rattle.pb_base.specs.declared.content.Content.{Content}
 use Rattle.pb_base.specs.declared.content.Content.TheVariants.{Value, Deleted}
 use Rattle.pb_base.specs.Reading.{is_numeral, next_word, no_word, words_of}
-use Rattle.pb_parse.specs.declared.script.code.Code.{Code}
-use Rattle.pb_parse.specs.declared.script.code.Code.TheVariants.{Form, Range, Hex}
+use Rattle.pb_parse.specs.declared.script.code.ScriptCode.{ScriptCode}
+use Rattle.pb_parse.specs.declared.script.code.ScriptCode.TheVariants.{Form, Range, Hex}
 use Rattle.pb_parse.specs.ScriptWords.{number_upto, padded, content_of, cell_at, put_of, del_of, write_of, operation}
 use Rattle.pb_parse.proofs.Batches.{bind_ok, ok_same, chosen}
 use Rattle.pb_parse.proofs.Numerals.{decimal_of}
@@ -28,17 +28,17 @@ use Rattle.law_texts.specs.OperationTexts.{AreDigitsOf, AreInRange, IsOperationO
 use Rattle.law_texts.proofs.LowerHex.{lower_written}
 
 -- what passes a test and isn't refused is the result
-passed : {A : Type 0} (b : Bool) (r : Result A Code) (fault : Code) (x : A) → cond b r (Err fault) ≡ Ok x → (b ≡ true) × (r ≡ Ok x)
+passed : {A : Type 0} (b : Bool) (r : Result A ScriptCode) (fault : ScriptCode) (x : A) → cond b r (Err fault) ≡ Ok x → (b ≡ true) × (r ≡ Ok x)
 passed true r fault x h = (refl, h)
 passed false r fault x h = absurd cc
 
-pub not_refused : {A : Type 0} (b : Bool) (r : Result A Code) (fault : Code) (x : A) → cond b (Err fault) r ≡ Ok x → (b ≡ false) × (r ≡ Ok x)
+pub not_refused : {A : Type 0} (b : Bool) (r : Result A ScriptCode) (fault : ScriptCode) (x : A) → cond b (Err fault) r ≡ Ok x → (b ≡ false) × (r ≡ Ok x)
 not_refused true r fault x h = absurd cc
 not_refused false r fault x h = (refl, h)
 
 taken_is : (words : List (List ℕ)) (x : List ℕ × List (List ℕ)) → next_word Form words ≡ Ok x → words ≡ x.0 ∷ x.1
 taken_is [] x h = absurd cc
-taken_is (word ∷ words) x h = ap (λ (p : List ℕ × List (List ℕ)). p.0 ∷ p.1) (ok_same {E = Code} (word, words) x h)
+taken_is (word ∷ words) x h = ap (λ (p : List ℕ × List (List ℕ)). p.0 ∷ p.1) (ok_same {E = ScriptCode} (word, words) x h)
 
 none_left : (words : List (List ℕ)) (x : Unit {0}) → no_word Form words ≡ Ok x → words ≡ []
 none_left [] x h = refl
@@ -50,7 +50,7 @@ number_is greatest n word lt h =
     let p = passed (is_numeral word) _ Form n h in
     let q = passed (nat_le (digits_value 10 word) greatest) (Ok (digits_value 10 word)) Range n p.1 in
     let le : digits_value 10 word ≤ greatest = leb-true _ _ q.0 in
-    let value : digits_value 10 word ≡ n = ok_same {E = Code} (digits_value 10 word) n q.1 in
+    let value : digits_value 10 word ≡ n = ok_same {E = ScriptCode} (digits_value 10 word) n q.1 in
     (decimal_of word p.0 (omega (arith, le, lt)) ∙ ap decimal value, omega (arith, le, value))
 
 -- ---- places
@@ -75,7 +75,7 @@ place_is words x h =
     let column = number_is 15 c.0 b.0.0 (omega arith) c.1 in
     let wide = row.1 in
     let few = column.1 in
-    let same : (Data (record { 0 = r.0 }) c.0, b.0.1) ≡ x = ok_same {E = Code} (Data (record { 0 = r.0 }) c.0, b.0.1) x c.2 in
+    let same : (Data (record { 0 = r.0 }) c.0, b.0.1) ≡ x = ok_same {E = ScriptCode} (Data (record { 0 = r.0 }) c.0, b.0.1) x c.2 in
     let whole : words ≡ decimal r.0 ∷ decimal c.0 ∷ b.0.1 = taken_is words a.0 a.1 ∙ (λ i. row.0 i ∷ taken_is a.0.1 b.0 b.1 i) ∙ ap (λ (w : List ℕ). decimal r.0 ∷ w ∷ b.0.1) column.0 in
     subst (λ (y : Cell × List (List ℕ)). TakesPlace y.0 words y.1) same
     (record { row = record { 0 = r.0 }; column = c.0; cell = refl; written = whole; fits = (omega (arith, wide), omega (arith, few)) })
@@ -83,7 +83,7 @@ place_is words x h =
 -- ---- values
 
 padded_is : (r : Result (List ℕ) FromHexError) (value : List ℕ) → padded r ≡ Ok value → (bytes : List ℕ) × (r ≡ Ok bytes) × (bytes ++ drop (length bytes) (replicate 32 0) ≡ value)
-padded_is (Ok bytes) value h = (bytes, refl, ok_same {E = Code} (bytes ++ drop (length bytes) (replicate 32 0)) value h)
+padded_is (Ok bytes) value h = (bytes, refl, ok_same {E = ScriptCode} (bytes ++ drop (length bytes) (replicate 32 0)) value h)
 padded_is (Err e) value h = absurd cc
 
 all_fail : (a b c : Bool) → (a || (b || c)) ≡ false → (a ≡ false) × (b ≡ false) × (c ≡ false)
@@ -116,8 +116,8 @@ digits_are word value h =
 abbrev IsWriteOf : List (List ℕ) → Cell × Content → Type 0
 IsWriteOf words w = IsOperationOf w.0 w.1 (join_with_byte 32 words)
 
-moved : (words : List (List ℕ)) (x y : Cell) (content : Content) (w : Cell × Content) → x ≡ y → ◌≡◌ {A = Result (Cell × Content) Code} (Ok (y, content)) (Ok w) → IsWriteOf words (x, content) → IsWriteOf words w
-moved words x y content w cell is h = subst (IsWriteOf words) (ap (λ (z : Cell). (z, content)) cell ∙ ok_same {E = Code} (y, content) w is) h
+moved : (words : List (List ℕ)) (x y : Cell) (content : Content) (w : Cell × Content) → x ≡ y → ◌≡◌ {A = Result (Cell × Content) ScriptCode} (Ok (y, content)) (Ok w) → IsWriteOf words (x, content) → IsWriteOf words w
+moved words x y content w cell is h = subst (IsWriteOf words) (ap (λ (z : Cell). (z, content)) cell ∙ ok_same {E = ScriptCode} (y, content) w is) h
 
 -- what is read as a write is written as one
 put_is : (words : List (List ℕ)) (w : Cell × Content) → put_of words ≡ Ok w → IsWriteOf (codes "put" ∷ words) w

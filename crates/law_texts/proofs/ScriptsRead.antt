@@ -9,8 +9,8 @@ use Rattle.pb_base.specs.declared.limits.TheConstants.{MAX_CHANGES}
 use Rattle.pb_base.specs.Batch.{Writes}
 use Rattle.pb_base.specs.Reading.{◌>>=◌, in_turn, is_skipped, lines_of, numbered}
 use Rattle.pb_parse.specs.Codes.{script_code}
-use Rattle.pb_parse.specs.declared.script.code.Code.{Code}
-use Rattle.pb_parse.specs.declared.script.code.Code.TheVariants.{TooMany}
+use Rattle.pb_parse.specs.declared.script.code.ScriptCode.{ScriptCode}
+use Rattle.pb_parse.specs.declared.script.code.ScriptCode.TheVariants.{TooMany}
 use Rattle.pb_parse.specs.ScriptLines.{Batches, batch_of, with_line, script_of}
 use Rattle.pb_parse.proofs.Batches.{bind_ok, ok_same}
 use Rattle.law_texts.specs.LineTexts.{IsBatchLine}
@@ -42,7 +42,7 @@ skipped_is : (l : List ℕ) → is_skipped l ≡ not (is_transaction l)
 skipped_is [] = refl
 skipped_is (b ∷ bs) = or_alone (length (b ∷ bs) == 0) (b == 35) (not (b == 35)) (some_length (length bs)) refl
 
-abbrev added : Batches → Writes → Result Batches Code
+abbrev added : Batches → Writes → Result Batches ScriptCode
 added before batch = cond (nat_le MAX_CHANGES (length before)) (Err TooMany) (Ok (before ++ batch ∷ []))
 
 -- a line that is skipped adds nothing
@@ -66,7 +66,7 @@ take_line before after l is h =
     let a = bind_ok (batch_of l) _ after (sym (told_line before l is) ∙ h) in
     let p = not_refused (nat_le MAX_CHANGES (length before)) (Ok (before ++ a.0 ∷ [])) TooMany after a.2 in
     let room : length before < MAX_CHANGES = leb-false _ _ p.0 in
-    let whole : before ++ a.0 ∷ [] ≡ after = ok_same {E = Code} (before ++ a.0 ∷ []) after p.1 in
+    let whole : before ++ a.0 ∷ [] ≡ after = ok_same {E = ScriptCode} (before ++ a.0 ∷ []) after p.1 in
     let few : length (before ++ a.0 ∷ []) ≤ MAX_CHANGES = simp length-append (omega (arith, room)) in
     record { batch = a.0; read = a.1; few = subst (λ (bs : Batches). length bs ≤ MAX_CHANGES) whole few; whole = whole }
 
@@ -87,7 +87,7 @@ record Reading (before after : Batches) (ls : List (List ℕ)) : Type 0 where
 
 one_more : (before p after : Batches) (l : List ℕ) (ls : List (List ℕ)) (b : Bool) → is_transaction l ≡ b → with_line before l ≡ Ok p → length before ≤ MAX_CHANGES → (length p ≤ MAX_CHANGES → Reading p after ls) → Reading before after (l ∷ ls)
 one_more before p after l ls false is h most others =
-    let same : before ≡ p = ok_same {E = Code} before p (sym (skip_line before l is) ∙ h) in
+    let same : before ≡ p = ok_same {E = ScriptCode} before p (sym (skip_line before l is) ∙ h) in
     let f = others (subst (λ (bs : Batches). length bs ≤ MAX_CHANGES) same most) in
     record { batches = f.batches; lines = subst (AllZip Reads f.batches) (sym (kept_not l ls is)) f.lines; whole = f.whole ∙ ap (λ (bs : Batches). bs ++ f.batches) (sym same); few = f.few }
 one_more before p after l ls true is h most others =
@@ -100,7 +100,7 @@ one_more before p after l ls true is h most others =
       few = f.few;
     }
 
-step : (n : ℕ) (before after : Batches) (l : List ℕ) (ls : List (List ℕ)) (r : Result Batches Code) → with_line before l ≡ r → (numbered script_code n r >>= λ p. lines_from (n + 1) p ls) ≡ Ok after → length before ≤ MAX_CHANGES
+step : (n : ℕ) (before after : Batches) (l : List ℕ) (ls : List (List ℕ)) (r : Result Batches ScriptCode) → with_line before l ≡ r → (numbered script_code n r >>= λ p. lines_from (n + 1) p ls) ≡ Ok after → length before ≤ MAX_CHANGES
     → ((p : Batches) → lines_from (n + 1) p ls ≡ Ok after → length p ≤ MAX_CHANGES → Reading p after ls) → Reading before after (l ∷ ls)
 step n before after l ls (Err e) is h most others = absurd cc
 step n before after l ls (Ok p) is h most others = one_more before p after l ls (is_transaction l) refl is most (others p h)
@@ -119,7 +119,7 @@ abbrev ReadOn : ℕ → List (List ℕ) → Type 0
 ReadOn n ls = (before batches : Batches) → AllZip Reads batches (kept ls) → length (before ++ batches) ≤ MAX_CHANGES → lines_from n before ls ≡ Ok (before ++ batches)
 
 go_on : (n : ℕ) (before p after : Batches) (l : List ℕ) (ls : List (List ℕ)) → with_line before l ≡ Ok p → lines_from (n + 1) p ls ≡ Ok after → lines_from n before (l ∷ ls) ≡ Ok after
-go_on n before p after l ls is h = ap (λ (r : Result Batches Code). numbered script_code n r >>= λ x. lines_from (n + 1) x ls) is ∙ h
+go_on n before p after l ls is h = ap (λ (r : Result Batches ScriptCode). numbered script_code n r >>= λ x. lines_from (n + 1) x ls) is ∙ h
 
 add_one : (before : Batches) (batch : Writes) → length before < MAX_CHANGES → added before batch ≡ Ok (before ++ batch ∷ [])
 add_one before batch room = rw (lt-leb MAX_CHANGES (length before) room) refl
@@ -133,7 +133,7 @@ back_line n before (b ∷ bs) l ls true is lines most others =
     let grouped : (before ++ b ∷ []) ++ bs ≡ before ++ b ∷ bs = append_assoc before (b ∷ []) bs in
     let whole : length ((before ++ b ∷ []) ++ bs) ≤ MAX_CHANGES = subst (λ (all : Batches). length all ≤ MAX_CHANGES) (sym grouped) most in
     let room : length before < MAX_CHANGES = let k = simp length-append at most in omega arith in
-    go_on n before (before ++ b ∷ []) (before ++ b ∷ bs) l ls (told_line before l is ∙ ap (λ (r : Result Writes Code). r >>= added before) h.0 ∙ add_one before b room)
+    go_on n before (before ++ b ∷ []) (before ++ b ∷ bs) l ls (told_line before l is ∙ ap (λ (r : Result Writes ScriptCode). r >>= added before) h.0 ∙ add_one before b room)
     (others (before ++ b ∷ []) bs h.1 whole ∙ ap Ok grouped)
 
 -- and lines of these transactions are read as them, wherever they begin

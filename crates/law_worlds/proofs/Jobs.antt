@@ -12,8 +12,8 @@ use Rattle.pb_history.specs.declared.entry.Received.{Received}
 use Rattle.pb_history.specs.Laws.{StepsHaveOneOutcome}
 use Rattle.pb_history.specs.Sound.{IsSoundTable}
 use Rattle.pb_core.specs.Calls.{SharedOf, SeatOf, Calls, call_reason}
-use Rattle.pb_notify.specs.declared.place.Place.{Place}
-use Rattle.pb_notify.specs.declared.place.Place.TheVariants.{Starting, Computing}
+use Rattle.pb_notify.specs.declared.place.RunPlace.{RunPlace}
+use Rattle.pb_notify.specs.declared.place.RunPlace.TheVariants.{Starting, Computing}
 use Rattle.pb_notify.specs.Places.{ComesFrom}
 use Rattle.pb_notify.specs.Led.{MachineStandsAt, MachinesAreLed}
 use Rattle.pb_notify.specs.Runs.{RunOf}
@@ -65,7 +65,7 @@ is_placed j size accepted e =
 
 module _ (meaning : EachHasOneMeaning) (led : MachinesAreLed) (w : WorldOf) where
   module _ (r : RunOf) (said : List Received) (came : RunCame w r said) where
-    places_once : (place : Place) → r.place ≡ place → (x y : Place) → ComesFrom r.observer r.judged (Data r.row r.column) place x → ComesFrom r.observer r.judged (Data r.row r.column) place y → x ≡ y
+    places_once : (place : RunPlace) → r.place ≡ place → (x y : RunPlace) → ComesFrom r.observer r.judged (Data r.row r.column) place x → ComesFrom r.observer r.judged (Data r.row r.column) place y → x ≡ y
     places_once (Starting s seen) is x y c d =
         let p = is_placed r.judged _ came.accepted c.size in
         comes_once _ p.0 p.1 meaning r.observer s x y c.comes d.comes

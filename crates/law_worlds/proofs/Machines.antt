@@ -8,7 +8,7 @@ use Rattle.pb_isa.specs.Meaning.{Point, point, Means}
 use Rattle.pb_helpers.specs.declared.ask.Ask.{Ask}
 use Rattle.pb_helpers.specs.Replies.{ask_of}
 use Rattle.pb_sound.specs.OneMeaning.{EachHasOneMeaning}
-use Rattle.pb_vm.specs.declared.moved.Phase.TheVariants.{Asking}
+use Rattle.pb_vm.specs.declared.moved.MachinePhase.TheVariants.{Asking}
 use Rattle.pb_vm.specs.Position.{Position}
 use Rattle.pb_vm.specs.Moves.{environment_at, IsAtState, SameGiven, Went, AskedFor, AsksAt}
 use Rattle.pb_vm.specs.Finished.{Meant}
@@ -16,7 +16,7 @@ use Rattle.pb_steps.specs.declared.step.Declared.{Declared}
 use Rattle.pb_steps.specs.declared.step.Declared.TheVariants as declared
 use Rattle.pb_notify.specs.declared.machine.stepped.Stepped.{Stepped}
 use Rattle.pb_notify.specs.declared.machine.stepped.Stepped.TheVariants as did
-use Rattle.pb_notify.specs.declared.place.Place.{Place}
+use Rattle.pb_notify.specs.declared.place.RunPlace.{RunPlace}
 use Rattle.pb_notify.specs.Machines.{Leaves}
 use Rattle.pb_notify.specs.Steps.{WentOn, Steps}
 use Rattle.pb_notify.specs.Steps as steps
@@ -121,5 +121,5 @@ module _ (v : Position) (a : Placement) (p : IsPlacement (length v.bytes) a) whe
   steps_once law o (did.Ended r what) (did.Went u) x y = absurd (went_or_ends u x.left y.went x.leaves)
   steps_once law o (did.Ended r what) (did.Asks u q) x y = absurd (asks_or_leaves u q x.left y x.leaves)
 
-  pub comes_once : EachHasOneMeaning → (o : ℕ) (s : Ts) (x y : Place) → Comes o s v x → Comes o s v y → x ≡ y
+  pub comes_once : EachHasOneMeaning → (o : ℕ) (s : Ts) (x y : RunPlace) → Comes o s v x → Comes o s v y → x ≡ y
   comes_once law o s x y c d = c.place_is ∙ (ap (place_of s) (steps_once law o c.stepped d.stepped c.steps d.steps) ∙ sym d.place_is)

@@ -13,8 +13,8 @@ use Rattle.pb_isa.specs.Slots.{slots}
 use Rattle.pb_isa.specs.declared.profile.Profile.{Profile}
 use Rattle.pb_isa.specs.declared.insn.Width.{Width}
 use Rattle.pb_isa.specs.Profiles.{max_slots, IsOf}
-use Rattle.pb_asm.specs.declared.fault.Code.{Code}
-use Rattle.pb_asm.specs.declared.fault.Code.TheVariants as code
+use Rattle.pb_asm.specs.declared.fault.AsmCode.{AsmCode}
+use Rattle.pb_asm.specs.declared.fault.AsmCode.TheVariants as code
 use Rattle.pb_asm.specs.declared.names.Word.{Word}
 use Rattle.pb_asm.specs.declared.names.Word.TheVariants as word
 use Rattle.pb_asm.specs.Names.{name, words, IsWordOf, sizes, word_in, word_named, reg_named}
@@ -33,7 +33,7 @@ use Rattle.pb_asm.proofs.OnlyListings.{read, back}
 use Rattle.pb_asm.proofs.OneSpelling.{named_is, word_among, line_spelled}
 
 -- operands are told as of another form or out of range
-abbrev Tells : {A : Type 0} → Result A Code → Type 0
+abbrev Tells : {A : Type 0} → Result A AsmCode → Type 0
 Tells (Ok x) = Unit {0}
 Tells (Err code.Memory) = ⊥
 Tells (Err code.Word) = ⊥
@@ -43,7 +43,7 @@ Tells (Err code.TooLong) = ⊥
 Tells (Err code.Nothing) = ⊥
 
 -- of two readings one after the other the fault is one of these where it is of each
-then_tells : {A B : Type 0} (r : Result A Code) (f : A → Result B Code) → Tells r → ((x : A) → Tells (f x)) → Tells (r >>= f)
+then_tells : {A B : Type 0} (r : Result A AsmCode) (f : A → Result B AsmCode) → Tells r → ((x : A) → Tells (f x)) → Tells (r >>= f)
 then_tells (Ok x) f h k = k x
 then_tells (Err code.Memory) f h k = h
 then_tells (Err code.Word) f h k = h
@@ -53,12 +53,12 @@ then_tells (Err code.TooLong) f h k = h
 then_tells (Err code.Nothing) f h k = h
 
 -- a test changes nothing of that
-if_tells : {A : Type 0} (b : Bool) (r s : Result A Code) → Tells r → Tells s → Tells (cond b r s)
+if_tells : {A : Type 0} (b : Bool) (r s : Result A AsmCode) → Tells r → Tells s → Tells (cond b r s)
 if_tells true r s h k = h
 if_tells false r s h k = k
 
 -- nor does a fault of these in place of what isn't there
-there_tells : {A : Type 0} (c : Code) (o : Option A) → Tells {A = A} (Err c) → Tells (ok_or o c)
+there_tells : {A : Type 0} (c : AsmCode) (o : Option A) → Tells {A = A} (Err c) → Tells (ok_or o c)
 there_tells c None h = h
 there_tells c (Some x) h = tt
 
@@ -74,7 +74,7 @@ plus_tells : (limit : ℕ) (text : List ℕ) → Tells (plus limit text)
 unfolding plus
 plus_tells limit text = then_tells (numeral_upto code.Form code.Range (limit - 1) text) _ (number_tells (limit - 1) text) (λ n. tt)
 
-signed_tells : (unsigned : Result ℤ Code) (limit : ℕ) (o : Option (List ℕ)) → Tells unsigned → Tells (signed_or unsigned limit o)
+signed_tells : (unsigned : Result ℤ AsmCode) (limit : ℕ) (o : Option (List ℕ)) → Tells unsigned → Tells (signed_or unsigned limit o)
 signed_tells unsigned limit None h = h
 signed_tells unsigned limit (Some digits) h = minus_tells limit digits
 
@@ -99,7 +99,7 @@ bits_tell : (w : Width) (text : List ℕ) → Tells (bits_of_text w text)
 unfolding bits_of_text
 bits_tell w text = then_tells (numeral_upto code.Form code.Range (2 ^ 64 - 1) text) _ (number_tells (2 ^ 64 - 1) text) (λ n. there_tells _ (size_in w n sizes) tt)
 
-based_tells : (register : List ℕ) (offset : Result ℤ Code) → Tells offset → Tells (base_and_offset register offset)
+based_tells : (register : List ℕ) (offset : Result ℤ AsmCode) → Tells offset → Tells (base_and_offset register offset)
 unfolding base_and_offset
 based_tells register offset h = then_tells (reg_of_text register) _ (reg_tells register) (λ r. then_tells offset _ h (λ o. tt))
 
@@ -130,7 +130,7 @@ unfolding comma
 comma_tells texts = then_tells (next_word code.Form texts) _ (field_tells texts) (λ first. then_tells (ok_or (strip_suffix 44 first.0) code.Form) _ (there_tells _ (strip_suffix 44 first.0) tt) (λ text. tt))
 
 -- a last word, where its reading is
-last_tells : {A : Type 0} (read : List ℕ → Result A Code) (texts : List (List ℕ)) → ((text : List ℕ) → Tells (read text)) → Tells (last read texts)
+last_tells : {A : Type 0} (read : List ℕ → Result A AsmCode) (texts : List (List ℕ)) → ((text : List ℕ) → Tells (read text)) → Tells (last read texts)
 unfolding last
 last_tells read texts h = then_tells (next_word code.Form texts) _ (field_tells texts) (λ first. then_tells (read first.0) _ (h first.0) (λ x. then_tells (no_word code.Form first.1) _ (ended_tells first.1) (λ end. tt)))
 
@@ -241,17 +241,17 @@ slots_past front p true h = refl
 slots_past front p false h = absurd cc
 
 -- a fault, as the answer of a reading that would give an A
-abbrev pub failed : (A : Type 0) → Code → Result A Code
+abbrev pub failed : (A : Type 0) → AsmCode → Result A AsmCode
 failed A c = Err c
 
-same_code : (A : Type 0) (c d : Code) → failed A c ≡ failed A d → c ≡ d
+same_code : (A : Type 0) (c d : AsmCode) → failed A c ≡ failed A d → c ≡ d
 same_code A c d h = cc
 
 -- a fault is the same whatever the reading would have given
-pub moved : (A B : Type 0) (c d : Code) → failed A c ≡ failed A d → failed B c ≡ failed B d
+pub moved : (A B : Type 0) (c d : AsmCode) → failed A c ≡ failed A d → failed B c ≡ failed B d
 moved A B c d h = ap (failed B) (same_code A c d h)
 
-read_past : (q : Profile) (front : List Insn) (line : List ℕ) (r : Result Insn Code) → line_of q line ≡ r → (r >>= λ i. cond (nat_lt (max_slots q) (slots (front ++ i ∷ []))) (Err code.TooLong) (Ok (front ++ i ∷ []))) ≡ Err code.TooLong → PastEnd q front line
+read_past : (q : Profile) (front : List Insn) (line : List ℕ) (r : Result Insn AsmCode) → line_of q line ≡ r → (r >>= λ i. cond (nat_lt (max_slots q) (slots (front ++ i ∷ []))) (Err code.TooLong) (Ok (front ++ i ∷ []))) ≡ Err code.TooLong → PastEnd q front line
 read_past q front line (Err c) is h = absurd (line_short q (slice_split blank line) (is ∙ moved (List Insn) Insn c code.TooLong h))
 read_past q front line (Ok i) is h =
     let s = line_spelled q line i is in
@@ -273,25 +273,25 @@ too_long_told q front line = (shown_past q front line (is_skipped line), past_to
 
 -- ---- no other code of a line
 
-only_past : (p : List Insn) (c : Code) (b : Bool) → cond b (Err code.TooLong) (Ok p) ≡ Err c → c ≡ code.TooLong
+only_past : (p : List Insn) (c : AsmCode) (b : Bool) → cond b (Err code.TooLong) (Ok p) ≡ Err c → c ≡ code.TooLong
 only_past p c true h = sym (same_code (List Insn) code.TooLong c h)
 only_past p c false h = absurd cc
 
-read_own : (q : Profile) (front : List Insn) (line : List ℕ) (c : Code) (r : Result Insn Code) → line_of q line ≡ r → (r >>= λ i. cond (nat_lt (max_slots q) (slots (front ++ i ∷ []))) (Err code.TooLong) (Ok (front ++ i ∷ []))) ≡ Err c → (c ≡ code.TooLong) ⊎ (line_of q line ≡ Err c)
+read_own : (q : Profile) (front : List Insn) (line : List ℕ) (c : AsmCode) (r : Result Insn AsmCode) → line_of q line ≡ r → (r >>= λ i. cond (nat_lt (max_slots q) (slots (front ++ i ∷ []))) (Err code.TooLong) (Ok (front ++ i ∷ []))) ≡ Err c → (c ≡ code.TooLong) ⊎ (line_of q line ≡ Err c)
 read_own q front line c (Err d) is h = inr (is ∙ moved (List Insn) Insn d c h)
 read_own q front line c (Ok i) is h = inl (only_past (front ++ i ∷ []) c (nat_lt (max_slots q) (slots (front ++ i ∷ []))) h)
 
-shown_own : (q : Profile) (front : List Insn) (line : List ℕ) (c : Code) (b : Bool) → cond b (Ok front) (line_of q line >>= λ i. cond (nat_lt (max_slots q) (slots (front ++ i ∷ []))) (Err code.TooLong) (Ok (front ++ i ∷ []))) ≡ Err c → (c ≡ code.TooLong) ⊎ (line_of q line ≡ Err c)
+shown_own : (q : Profile) (front : List Insn) (line : List ℕ) (c : AsmCode) (b : Bool) → cond b (Ok front) (line_of q line >>= λ i. cond (nat_lt (max_slots q) (slots (front ++ i ∷ []))) (Err code.TooLong) (Ok (front ++ i ∷ []))) ≡ Err c → (c ≡ code.TooLong) ⊎ (line_of q line ≡ Err c)
 shown_own q front line c true h = absurd cc
 shown_own q front line c false h = read_own q front line c (line_of q line) refl h
 
 -- after lines before it a line tells its own fault, or 83
-pub own_told : (q : Profile) (front : List Insn) (line : List ℕ) (c : Code) → with_insn_line q front line ≡ Err c → (c ≡ code.TooLong) ⊎ (line_of q line ≡ Err c)
+pub own_told : (q : Profile) (front : List Insn) (line : List ℕ) (c : AsmCode) → with_insn_line q front line ≡ Err c → (c ≡ code.TooLong) ⊎ (line_of q line ≡ Err c)
 unfolding with_insn_line
 own_told q front line c h = shown_own q front line c (is_skipped line) h
 
 -- what operands tell is 81 or 82
-told_so : (c : Code) → Tells (failed Insn c) → (c ≡ code.Word) ⊎ (c ≡ code.Form) ⊎ (c ≡ code.Range)
+told_so : (c : AsmCode) → Tells (failed Insn c) → (c ≡ code.Word) ⊎ (c ≡ code.Form) ⊎ (c ≡ code.Range)
 told_so code.Memory h = absurd h
 told_so code.Word h = absurd h
 told_so code.Form h = inr (inl refl)
@@ -299,17 +299,17 @@ told_so code.Range h = inr (inr refl)
 told_so code.TooLong h = absurd h
 told_so code.Nothing h = absurd h
 
-words_told : (texts : List (List ℕ)) (o : Option Word) (c : Code) → (ok_or o code.Word >>= λ w. operands w texts) ≡ Err c → (c ≡ code.Word) ⊎ (c ≡ code.Form) ⊎ (c ≡ code.Range)
+words_told : (texts : List (List ℕ)) (o : Option Word) (c : AsmCode) → (ok_or o code.Word >>= λ w. operands w texts) ≡ Err c → (c ≡ code.Word) ⊎ (c ≡ code.Form) ⊎ (c ≡ code.Range)
 words_told texts None c h = inl (sym (same_code Insn code.Word c h))
 words_told texts (Some w) c h = told_so c (subst Tells h (operands_tell w texts))
 
-fields_told : (q : Profile) (texts : List (List ℕ)) (c : Code) → insn_of_words q texts ≡ Err c → (c ≡ code.Word) ⊎ (c ≡ code.Form) ⊎ (c ≡ code.Range)
+fields_told : (q : Profile) (texts : List (List ℕ)) (c : AsmCode) → insn_of_words q texts ≡ Err c → (c ≡ code.Word) ⊎ (c ≡ code.Form) ⊎ (c ≡ code.Range)
 unfolding insn_of_words
 fields_told q [] c h = inr (inl (sym (same_code Insn code.Form c h)))
 fields_told q (text ∷ texts) c h = words_told texts (word_named q text) c h
 
 -- a line by itself tells 80, 81 or 82
-pub line_told : (q : Profile) (line : List ℕ) (c : Code) → line_of q line ≡ Err c → (c ≡ code.Word) ⊎ (c ≡ code.Form) ⊎ (c ≡ code.Range)
+pub line_told : (q : Profile) (line : List ℕ) (c : AsmCode) → line_of q line ≡ Err c → (c ≡ code.Word) ⊎ (c ≡ code.Form) ⊎ (c ≡ code.Range)
 line_told q line c h = fields_told q (slice_split blank line) c h
 
 -- ---- no instruction

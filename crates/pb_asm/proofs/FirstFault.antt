@@ -4,8 +4,8 @@ use Rattle.std.specs.Prelude.{◌==◌}
 use Rattle.std.specs.List.{slice_split}
 use Rattle.pb_isa.specs.declared.insn.Insn.{Insn}
 use Rattle.pb_isa.specs.declared.profile.Profile.{Profile}
-use Rattle.pb_asm.specs.declared.fault.Code.{Code}
-use Rattle.pb_asm.specs.declared.fault.Code.TheVariants.{Nothing}
+use Rattle.pb_asm.specs.declared.fault.AsmCode.{AsmCode}
+use Rattle.pb_asm.specs.declared.fault.AsmCode.TheVariants.{Nothing}
 use Rattle.pb_asm.specs.Texts.{with_insn_line, insns_of_lines, some_of, program_of_text, IsFirstFault, HasNone}
 use Rattle.pb_base.specs.Reading.{◌>>=◌, numbered}
 use Rattle.pb_asm.specs.Codes.{asm_code}
@@ -16,7 +16,7 @@ record Stops (q : Profile) (n : ℕ) (start : List Insn) (lines : List (List ℕ
   here : List ℕ
   after : List (List ℕ)
   before : List Insn
-  cause : Code
+  cause : AsmCode
   parts : lines ≡ front ++ here ∷ after
   read : insns_of_lines q n start front ≡ Ok before
   fault : with_insn_line q before here ≡ Err cause
@@ -31,7 +31,7 @@ err_is : {A : Type 0} (p q : ℕ × ℕ) → failed {A = A} p ≡ failed {A = A}
 err_is p q e = cc
 
 -- a line is at fault itself, or the lines behind it stop where they do
-step : (q : Profile) (n : ℕ) (start : List Insn) (l : List ℕ) (ls : List (List ℕ)) (line told : ℕ) (r : Result (List Insn) Code) → with_insn_line q start l ≡ r → ((numbered asm_code n r) >>= (λ p. insns_of_lines q (n + 1) p ls)) ≡ Err (line, told)
+step : (q : Profile) (n : ℕ) (start : List Insn) (l : List ℕ) (ls : List (List ℕ)) (line told : ℕ) (r : Result (List Insn) AsmCode) → with_insn_line q start l ≡ r → ((numbered asm_code n r) >>= (λ p. insns_of_lines q (n + 1) p ls)) ≡ Err (line, told)
     → ((p : List Insn) → insns_of_lines q (n + 1) p ls ≡ Err (line, told) → Stops q (n + 1) p ls line told) → Stops q n start (l ∷ ls) line told
 step q n start l ls line told (Err c) is h others =
     let e = err_is (n + 1, asm_code c) (line, told) h in

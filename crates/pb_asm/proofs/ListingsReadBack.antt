@@ -27,8 +27,8 @@ use Rattle.pb_isa.specs.Bounds.{OperandFits, Fits}
 use Rattle.pb_isa.specs.Slots.{places_of, layout, slots}
 use Rattle.pb_isa.specs.Programs.{ProgramOf, IsProgram}
 use Rattle.pb_isa.specs.Profiles.{is_narrower, max_slots, IsOf}
-use Rattle.pb_asm.specs.declared.fault.Code.{Code}
-use Rattle.pb_asm.specs.declared.fault.Code.TheVariants as code
+use Rattle.pb_asm.specs.declared.fault.AsmCode.{AsmCode}
+use Rattle.pb_asm.specs.declared.fault.AsmCode.TheVariants as code
 use Rattle.pb_asm.specs.declared.names.Word.{Word}
 use Rattle.pb_asm.specs.declared.names.Word.TheVariants as word
 use Rattle.pb_asm.specs.Names.{name, words, IsWordOf, sizes, size_bits, reg_name, word_in}
@@ -171,7 +171,7 @@ unfolding operand_of_text
 operand_back (operand.Imm k) fits = rw (not_r k fits, imm_back k fits) refl
 operand_back (operand.Reg r) fits = rw (is_r r, reg_read r) refl
 
-based_back : (b : Reg) (o : ℤ) (read : Result ℤ Code) → read ≡ Ok o → base_and_offset (reg_name b) read ≡ Ok (b, o)
+based_back : (b : Reg) (o : ℤ) (read : Result ℤ AsmCode) → read ≡ Ok o → base_and_offset (reg_name b) read ≡ Ok (b, o)
 unfolding base_and_offset
 based_back b o read h = rw (reg_read b, h) refl
 
@@ -264,7 +264,7 @@ unfolding comma
 comma_read x texts = rw (before_there 44 x) refl
 
 -- a last word is read where it alone is left
-last_read : {A : Type 0} (read : List ℕ → Result A Code) (x : List ℕ) (a : A) → read x ≡ Ok a → last read (x ∷ []) ≡ Ok a
+last_read : {A : Type 0} (read : List ℕ → Result A AsmCode) (x : List ℕ) (a : A) → read x ≡ Ok a → last read (x ∷ []) ≡ Ok a
 unfolding last
 last_read read x a h = rw h refl
 
@@ -443,7 +443,7 @@ read_on q n before (i ∷ p) fits is most =
     let a = slots_append (before ++ i ∷ []) p in
     let whole : slots ((before ++ i ∷ []) ++ p) ≤ max_slots q = subst (λ (is : List Insn). slots is ≤ max_slots q) (sym grouped) most in
     let one_more : slots (before ++ i ∷ []) ≤ max_slots q = omega (arith, a, whole) in
-    ap (λ (r : Result (List Insn) Code). (numbered asm_code n r >>= λ is. insns_of_lines q (n + 1) is (map insn_text p ++ [] ∷ []))) (added q before i fits.0 is.0 one_more)
+    ap (λ (r : Result (List Insn) AsmCode). (numbered asm_code n r >>= λ is. insns_of_lines q (n + 1) is (map insn_text p ++ [] ∷ []))) (added q before i fits.0 is.0 one_more)
     ∙ read_on q (n + 1) (before ++ i ∷ []) p fits.1 is.1 whole ∙ ap Ok grouped
 
 -- instructions that take some slots are a program

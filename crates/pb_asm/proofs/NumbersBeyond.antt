@@ -15,8 +15,8 @@ use Rattle.pb_base.specs.Reading.{◌>>=◌, is_numeral, numeral_upto, is_skippe
 use Rattle.pb_isa.specs.declared.insn.Insn.{Insn}
 use Rattle.pb_asm.specs.Codes.{asm_code}
 use Rattle.pb_asm.specs.Texts.{with_insn_line}
-use Rattle.pb_asm.specs.declared.fault.Code.{Code}
-use Rattle.pb_asm.specs.declared.fault.Code.TheVariants as code
+use Rattle.pb_asm.specs.declared.fault.AsmCode.{AsmCode}
+use Rattle.pb_asm.specs.declared.fault.AsmCode.TheVariants as code
 use Rattle.pb_asm.specs.declared.names.Word.{Word}
 use Rattle.pb_asm.specs.declared.names.Word.TheVariants as word
 use Rattle.pb_asm.specs.Names.{name, IsWordOf, sizes, size_bits, reg_name}
@@ -118,18 +118,18 @@ bits_over w text h = cases (nat_le (digits_value 10 text) (2 ^ 64 - 1)) refl
     found false = refl
 
     cases : (b : Bool) → nat_le (digits_value 10 text) (2 ^ 64 - 1) ≡ b → bits_of_text w text ≡ Err code.Range
-    cases b le = ap (λ (r : Result ℕ Code). r >>= λ n. ok_or (size_in w n sizes) code.Range) (numeral_cases (2 ^ 64 - 1) text h.numeral b le) ∙ found b
+    cases b le = ap (λ (r : Result ℕ AsmCode). r >>= λ n. ok_or (size_in w n sizes) code.Range) (numeral_cases (2 ^ 64 - 1) text h.numeral b le) ∙ found b
 
 bits_line : (w : Width) (text : List ℕ) → IsUnlisted w text → above 33 text ≡ true
 bits_line w text h = above_less 33 48 text (omega arith) (digits_above text (digits_in text h.numeral).0)
 
 -- ---- places
 
-based_over : (b : Reg) (read : Result ℤ Code) → read ≡ Err code.Range → base_and_offset (reg_name b) read ≡ Err code.Range
+based_over : (b : Reg) (read : Result ℤ AsmCode) → read ≡ Err code.Range → base_and_offset (reg_name b) read ≡ Err code.Range
 unfolding base_and_offset
 based_over b read h = rw (reg_read b, h) refl
 
-abbrev inside : Reg → List ℕ → Result (Reg × ℤ) Code
+abbrev inside : Reg → List ℕ → Result (Reg × ℤ) AsmCode
 inside b text = at_plus (reg_name b ++ text) (split_once 43 (reg_name b ++ text))
 
 -- the offset of a place is, with either sign
@@ -169,7 +169,7 @@ then_cut : (x y : List ℕ) (ys : List (List ℕ)) → above 33 x ≡ true → b
 then_cut x y ys h e = comma_cut x y h ∙ ap (λ (ws : List (List ℕ)). (x ++ 44 ∷ []) ∷ ws) e
 
 -- a last word out of range is told before a word too many
-last_over : {A : Type 0} (read : List ℕ → Result A Code) (x : List ℕ) (others : List (List ℕ)) → read x ≡ Err code.Range → last read (x ∷ others) ≡ Err code.Range
+last_over : {A : Type 0} (read : List ℕ → Result A AsmCode) (x : List ℕ) (others : List (List ℕ)) → read x ≡ Err code.Range → last read (x ∷ others) ≡ Err code.Range
 unfolding last
 last_over read x others h = rw h refl
 

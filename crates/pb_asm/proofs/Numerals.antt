@@ -6,7 +6,7 @@ use Rattle.std.specs.List.{list_all}
 use Rattle.std.specs.Str.Parse.{digits_value, ParsesUnsigned}
 use Rattle.std.proofs.lemmas.Bool.{eqb-false, lt-leb, cases_lt}
 use Rattle.std.proofs.lemmas.Str.Parse.{IsNumeralModel, IsDigitsTest, numerals_by_value, parse_digits}
-use Rattle.pb_asm.specs.declared.fault.Code.TheVariants.{Form, Range}
+use Rattle.pb_asm.specs.declared.fault.AsmCode.TheVariants.{Form, Range}
 use Rattle.pb_base.specs.Reading.{is_numeral, numeral_upto}
 
 -- the library's test of digits is the definition's

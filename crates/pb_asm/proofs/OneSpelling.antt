@@ -26,8 +26,8 @@ use Rattle.pb_isa.specs.declared.profile.Profile.{Profile}
 use Rattle.pb_isa.specs.declared.profile.Profile.TheVariants.{One, Two}
 use Rattle.pb_isa.specs.Profiles.{is_narrower, IsOf}
 use Rattle.pb_isa.specs.Bounds.{OperandFits, Fits}
-use Rattle.pb_asm.specs.declared.fault.Code.{Code}
-use Rattle.pb_asm.specs.declared.fault.Code.TheVariants as code
+use Rattle.pb_asm.specs.declared.fault.AsmCode.{AsmCode}
+use Rattle.pb_asm.specs.declared.fault.AsmCode.TheVariants as code
 use Rattle.pb_asm.specs.declared.names.Word.{Word}
 use Rattle.pb_asm.specs.declared.names.Word.TheVariants as word
 use Rattle.pb_asm.specs.Names.{name, words, IsWordOf, is_word_of, sizes, size_bits, registers, word_in, if_word_of, word_named, reg_name, reg_spelled, reg_named}
@@ -44,26 +44,26 @@ use Rattle.pb_asm.proofs.ListingsReadBack.{line_back}
 -- ---- what a reading that ended well has read
 
 -- where two readings one after the other end well, each has
-pub then_ok : {A B : Type 0} (r : Result A Code) (f : A → Result B Code) (y : B) → r >>= f ≡ Ok y → (x : A) × (r ≡ Ok x) × (f x ≡ Ok y)
+pub then_ok : {A B : Type 0} (r : Result A AsmCode) (f : A → Result B AsmCode) (y : B) → r >>= f ≡ Ok y → (x : A) × (r ≡ Ok x) × (f x ≡ Ok y)
 then_ok (Ok x) f y h = (x, refl, h)
 then_ok (Err e) f y h = absurd cc
 
-pub ok_is : {A : Type 0} (x y : A) (r : Result A Code) → r ≡ Ok x → r ≡ Ok y → x ≡ y
+pub ok_is : {A : Type 0} (x y : A) (r : Result A AsmCode) → r ≡ Ok x → r ≡ Ok y → x ≡ y
 ok_is x y r g h = cc
 
 some_is : {A : Type 0} (x y : A) (o : Option A) → o ≡ Some x → o ≡ Some y → x ≡ y
 some_is x y o g h = cc
 
 -- a test whose reading ended well held; and so where the fault is the other way
-pub if_ok : {A : Type 0} (b : Bool) (r : Result A Code) (e : Code) (x : A) → cond b r (Err e) ≡ Ok x → (b ≡ true) × (r ≡ Ok x)
+pub if_ok : {A : Type 0} (b : Bool) (r : Result A AsmCode) (e : AsmCode) (x : A) → cond b r (Err e) ≡ Ok x → (b ≡ true) × (r ≡ Ok x)
 if_ok true r e x h = (refl, h)
 if_ok false r e x h = absurd cc
 
-pub else_ok : {A : Type 0} (b : Bool) (r : Result A Code) (e : Code) (x : A) → cond b (Err e) r ≡ Ok x → (b ≡ false) × (r ≡ Ok x)
+pub else_ok : {A : Type 0} (b : Bool) (r : Result A AsmCode) (e : AsmCode) (x : A) → cond b (Err e) r ≡ Ok x → (b ≡ false) × (r ≡ Ok x)
 else_ok true r e x h = absurd cc
 else_ok false r e x h = (refl, h)
 
-pub there_ok : {A : Type 0} (o : Option A) (e : Code) (x : A) → ok_or o e ≡ Ok x → o ≡ Some x
+pub there_ok : {A : Type 0} (o : Option A) (e : AsmCode) (x : A) → ok_or o e ≡ Ok x → o ≡ Some x
 there_ok None e x h = absurd cc
 there_ok (Some y) e x h = ap Some (ok_is y x (Ok y) refl h)
 
@@ -126,7 +126,7 @@ minus_is greatest text z lt h =
     let q = number_is greatest p.0 text lt p.1 in
     below greatest p.0 text z _ q p.2
   where
-    below : (greatest m : ℕ) (text : List ℕ) (z : ℤ) (c : Code) → (text ≡ decimal m) × (m ≤ greatest) → cond (m == 0) (Err c) (Ok (neg_ℤ (pos m))) ≡ Ok z → (n : ℕ) × (z ≡ negsuc n) × (text ≡ decimal (suc n)) × (n < greatest)
+    below : (greatest m : ℕ) (text : List ℕ) (z : ℤ) (c : AsmCode) → (text ≡ decimal m) × (m ≤ greatest) → cond (m == 0) (Err c) (Ok (neg_ℤ (pos m))) ≡ Ok z → (n : ℕ) × (z ≡ negsuc n) × (text ≡ decimal (suc n)) × (n < greatest)
     below greatest zero text z c q h = absurd cc
     below greatest (suc n) text z c q h =
         let p = else_ok (suc n == 0) (Ok (negsuc n)) c z h in
@@ -218,7 +218,7 @@ named_is q (Some v) w h =
     (ap Some p.1, subst (IsWordOf q) p.1 p.0)
 
 -- what is read as a word is its name, and the profile has it
-pub word_is : (q : Profile) (text : List ℕ) (c : Code) (w : Word) → ok_or (word_named q text) c ≡ Ok w → (text ≡ name w) × IsWordOf q w
+pub word_is : (q : Profile) (text : List ℕ) (c : AsmCode) (w : Word) → ok_or (word_named q text) c ≡ Ok w → (text ≡ name w) × IsWordOf q w
 word_is q text c w h =
     let n = named_is q (word_in text words) w (there_ok (word_named q text) c w h) in
     (word_among text words w n.0, n.1)
@@ -272,7 +272,7 @@ operand_is text a h = sort (slice_index text 0 == 114) h
 abbrev Place : List ℕ → Reg × ℤ → Type 0
 Place text p = (text ≡ reg_name p.0 ++ offset_text p.1) × FitsSigned w16 p.1
 
-based_is : (register digits : List ℕ) (c : ℕ) (offset : Result ℤ Code) (p : Reg × ℤ) → base_and_offset register offset ≡ Ok p → ((o : ℤ) → offset ≡ Ok o → Offset (c ∷ digits) o) → Place (register ++ c ∷ digits) p
+based_is : (register digits : List ℕ) (c : ℕ) (offset : Result ℤ AsmCode) (p : Reg × ℤ) → base_and_offset register offset ≡ Ok p → ((o : ℤ) → offset ≡ Ok o → Offset (c ∷ digits) o) → Place (register ++ c ∷ digits) p
 unfolding base_and_offset
 based_is register digits c offset p h read =
     let a = then_ok (reg_of_text register) _ p h in
@@ -313,7 +313,7 @@ comma_is (text ∷ texts) p h =
     ∙ ap (λ (q : List ℕ × List (List ℕ)). (q.0 ++ 44 ∷ []) ∷ q.1) (ok_is (a.0, texts) p (Ok (a.0, texts)) refl a.2)
 
 -- where a last word was read, no word stood behind it
-last_is : {A : Type 0} (read : List ℕ → Result A Code) (texts : List (List ℕ)) (x : A) → last read texts ≡ Ok x → (text : List ℕ) × (texts ≡ text ∷ []) × (read text ≡ Ok x)
+last_is : {A : Type 0} (read : List ℕ → Result A AsmCode) (texts : List (List ℕ)) (x : A) → last read texts ≡ Ok x → (text : List ℕ) × (texts ≡ text ∷ []) × (read text ≡ Ok x)
 unfolding last
 last_is read [] x h = absurd cc
 last_is read (text ∷ []) x h =
@@ -505,7 +505,7 @@ line_spelled q line i h =
     let a = words_are q (slice_split (λ b. b == 32) line) i h in
     (sym (join_with_byte-slice_split 32 line) ∙ a.0, a.1, a.2)
 
-pub read_of : (q : Profile) (texts : List (List ℕ)) (r : Result Insn Code) → Gives (λ _. false) (λ i. i) r (insn_of_words q texts) → IfOk r (IsOf q)
+pub read_of : (q : Profile) (texts : List (List ℕ)) (r : Result Insn AsmCode) → Gives (λ _. false) (λ i. i) r (insn_of_words q texts) → IfOk r (IsOf q)
 read_of q texts (Ok i) h = (words_are q texts i h).2
 read_of q texts (Err c) h = tt
 

@@ -10,8 +10,8 @@ use Rattle.pb_isa.specs.Slots.{places_of, layout, slots}
 use Rattle.pb_isa.specs.Programs.{ProgramOf, IsProgram}
 use Rattle.pb_isa.specs.declared.profile.Profile.{Profile}
 use Rattle.pb_isa.specs.Profiles.{max_slots, IsOf}
-use Rattle.pb_asm.specs.declared.fault.Code.{Code}
-use Rattle.pb_asm.specs.declared.fault.Code.TheVariants as code
+use Rattle.pb_asm.specs.declared.fault.AsmCode.{AsmCode}
+use Rattle.pb_asm.specs.declared.fault.AsmCode.TheVariants as code
 use Rattle.pb_base.specs.Reading.{◌>>=◌}
 use Rattle.pb_asm.specs.Operands.{line_of}
 use Rattle.pb_asm.specs.Listing.{insn_text}
@@ -82,7 +82,7 @@ one_more k before p q l ls false is h most others =
     let f = others (subst (λ (x : List Insn). slots x ≤ max_slots k) t.whole t.most) in
     record { rest = t.one ∷ f.rest; whole = f.whole ∙ ap (λ (x : List Insn). x ++ f.rest) (sym t.whole) ∙ append_assoc before (t.one ∷ []) f.rest; lines = kept_one l ls is ∙ ap (λ (xs : List (List ℕ)). l ∷ xs) f.lines ∙ ap (λ (x : List ℕ). x ∷ map insn_text f.rest) t.text; fits = (t.fits, f.fits); of_profile = (t.of_profile, f.of_profile); most = f.most }
 
-step : (k : Profile) (n : ℕ) (before q : List Insn) (l : List ℕ) (ls : List (List ℕ)) (r : Result (List Insn) Code) → with_insn_line k before l ≡ r → ((numbered asm_code n r) >>= (λ p. insns_of_lines k (n + 1) p ls)) ≡ Ok q → slots before ≤ max_slots k
+step : (k : Profile) (n : ℕ) (before q : List Insn) (l : List ℕ) (ls : List (List ℕ)) (r : Result (List Insn) AsmCode) → with_insn_line k before l ≡ r → ((numbered asm_code n r) >>= (λ p. insns_of_lines k (n + 1) p ls)) ≡ Ok q → slots before ≤ max_slots k
     → ((p : List Insn) → insns_of_lines k (n + 1) p ls ≡ Ok q → slots p ≤ max_slots k → Reading k p q ls) → Reading k before q (l ∷ ls)
 step k n before q l ls (Err e) is h most others = absurd cc
 step k n before q l ls (Ok p) is h most others = one_more k before p q l ls (is_skipped l) refl is most (others p h)
@@ -135,7 +135,7 @@ abbrev ReadOn : Profile → ℕ → List (List ℕ) → Type 0
 ReadOn k n ls = (before p : List Insn) → kept ls ≡ map insn_text p → AllByRecursion Fits p → AllByRecursion (IsOf k) p → slots (before ++ p) ≤ max_slots k → insns_of_lines k n before ls ≡ Ok (before ++ p)
 
 go_on : (k : Profile) (n : ℕ) (before p q : List Insn) (l : List ℕ) (ls : List (List ℕ)) → with_insn_line k before l ≡ Ok p → insns_of_lines k (n + 1) p ls ≡ Ok q → insns_of_lines k n before (l ∷ ls) ≡ Ok q
-go_on k n before p q l ls is h = ap (λ (r : Result (List Insn) Code). numbered asm_code n r >>= λ x. insns_of_lines k (n + 1) x ls) is ∙ h
+go_on k n before p q l ls is h = ap (λ (r : Result (List Insn) AsmCode). numbered asm_code n r >>= λ x. insns_of_lines k (n + 1) x ls) is ∙ h
 
 -- one more line in front is read, if it is skipped or an instruction's
 back_line : (k : Profile) (n : ℕ) (before p : List Insn) (l : List ℕ) (ls : List (List ℕ)) (b : Bool) → is_skipped l ≡ b → kept (l ∷ ls) ≡ map insn_text p → AllByRecursion Fits p → AllByRecursion (IsOf k) p → slots (before ++ p) ≤ max_slots k → ReadOn k (n + 1) ls → insns_of_lines k n before (l ∷ ls) ≡ Ok (before ++ p)

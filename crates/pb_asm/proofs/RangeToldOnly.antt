@@ -17,8 +17,8 @@ use Rattle.pb_isa.specs.declared.insn.Extension.{Extension}
 use Rattle.pb_isa.specs.declared.profile.Profile.{Profile}
 use Rattle.pb_isa.specs.Profiles.{is_narrower}
 use Rattle.pb_base.specs.Reading.{◌>>=◌, is_numeral, numeral_upto, no_word, numbered}
-use Rattle.pb_asm.specs.declared.fault.Code.{Code}
-use Rattle.pb_asm.specs.declared.fault.Code.TheVariants as code
+use Rattle.pb_asm.specs.declared.fault.AsmCode.{AsmCode}
+use Rattle.pb_asm.specs.declared.fault.AsmCode.TheVariants as code
 use Rattle.pb_asm.specs.declared.names.Word.{Word}
 use Rattle.pb_asm.specs.declared.names.Word.TheVariants as word
 use Rattle.pb_asm.specs.Names.{name, IsWordOf, sizes, size_bits, word_named, reg_name, reg_named}
@@ -36,15 +36,15 @@ use Rattle.pb_asm.proofs.NumbersBeyond.{range_told}
 -- ---- what a reading that ended out of range has read
 
 -- a reading ended out of range
-abbrev IsOver : {A : Type 0} → Result A Code → Type 0
+abbrev IsOver : {A : Type 0} → Result A AsmCode → Type 0
 IsOver r = r ≡ Err code.Range
 
 -- of two readings one after the other, the first did, or the second
-then_over : {A B P : Type 0} (r : Result A Code) (f : A → Result B Code) → IsOver (r >>= f) → (IsOver r → P) → ((x : A) → r ≡ Ok x → IsOver (f x) → P) → P
+then_over : {A B P : Type 0} (r : Result A AsmCode) (f : A → Result B AsmCode) → IsOver (r >>= f) → (IsOver r → P) → ((x : A) → r ≡ Ok x → IsOver (f x) → P) → P
 then_over (Ok x) f h first later = later x refl h
 then_over {A = A} {B = B} (Err c) f h first later = first (moved B A c code.Range h)
 
-if_over : {A : Type 0} (b : Bool) (r : Result A Code) → IsOver (cond b r (Err code.Form)) → (b ≡ true) × IsOver r
+if_over : {A : Type 0} (b : Bool) (r : Result A AsmCode) → IsOver (cond b r (Err code.Form)) → (b ≡ true) × IsOver r
 if_over true r h = (refl, h)
 if_over false r h = absurd cc
 
@@ -155,7 +155,7 @@ bits_beyond w text h = then_over (numeral_upto code.Form code.Range (2 ^ 64 - 1)
 abbrev Inside : List ℕ → Type 0
 Inside text = (base : Reg) × (number : List ℕ) × (text ≡ reg_name base ++ number) × IsOffsetBeyond number
 
-based_beyond : (register digits : List ℕ) (c : ℕ) (offset : Result ℤ Code) → IsOver (base_and_offset register offset) → (IsOver offset → IsOffsetBeyond (c ∷ digits)) → Inside (register ++ c ∷ digits)
+based_beyond : (register digits : List ℕ) (c : ℕ) (offset : Result ℤ AsmCode) → IsOver (base_and_offset register offset) → (IsOver offset → IsOffsetBeyond (c ∷ digits)) → Inside (register ++ c ∷ digits)
 unfolding base_and_offset
 based_beyond register digits c offset h beyond =
     then_over (reg_of_text register) _ h (reg_never register) (λ r is over. then_over offset _ over (λ first. (r, c ∷ digits, ap (λ (t : List ℕ). t ++ c ∷ digits) (reg_is register r is), beyond first)) (λ o at end. ok_never _ end))
@@ -196,11 +196,11 @@ ended_never [] h = absurd cc
 ended_never (text ∷ texts) h = absurd cc
 
 -- the next word is out of range
-abbrev Next : {A : Type 0} → (List ℕ → Result A Code) → List (List ℕ) → Type 0
+abbrev Next : {A : Type 0} → (List ℕ → Result A AsmCode) → List (List ℕ) → Type 0
 Next read texts = (text : List ℕ) × (others : List (List ℕ)) × (texts ≡ text ∷ others) × IsOver (read text)
 
 -- a last word out of range is the next one, whatever stands behind it
-last_beyond : {A : Type 0} (read : List ℕ → Result A Code) (texts : List (List ℕ)) → IsOver (last read texts) → Next read texts
+last_beyond : {A : Type 0} (read : List ℕ → Result A AsmCode) (texts : List (List ℕ)) → IsOver (last read texts) → Next read texts
 unfolding last
 last_beyond read [] h = absurd cc
 last_beyond read (text ∷ others) h = then_over (read text) _ h (λ over. (text, others, refl, over)) (λ x is later. then_over (no_word code.Form others) _ later (ended_never others) (λ end at over. ok_never _ over))
@@ -398,7 +398,7 @@ range_is q line = (line_beyond q line, λ h. ap (line_of q) h.parts ∙ range_to
 -- ---- the code as it is told
 
 -- no other code has the number 82
-range_number : (c : Code) → asm_code c ≡ 82 → c ≡ code.Range
+range_number : (c : AsmCode) → asm_code c ≡ 82 → c ≡ code.Range
 range_number code.Memory h = let no : ⊥ = omega (arith, h) in absurd no
 range_number code.Word h = let no : ⊥ = omega (arith, h) in absurd no
 range_number code.Form h = let no : ⊥ = omega (arith, h) in absurd no
@@ -413,7 +413,7 @@ same_fault : (A : Type 0) (f g : ℕ × ℕ) → told_as A f ≡ told_as A g →
 same_fault A f g h = cc
 
 -- where 82 is told at a number, its line ended out of range
-told_range : (n : ℕ) (r : Result (List Insn) Code) → numbered asm_code n r ≡ Err (n + 1, 82) → IsOver r
+told_range : (n : ℕ) (r : Result (List Insn) AsmCode) → numbered asm_code n r ≡ Err (n + 1, 82) → IsOver r
 told_range n (Ok is) h = absurd cc
 told_range n (Err c) h = ap (failed (List Insn)) (range_number c (ap (λ (f : ℕ × ℕ). f.1) (same_fault (List Insn) (n + 1, asm_code c) (n + 1, 82) h)))
 

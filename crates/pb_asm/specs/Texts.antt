@@ -7,8 +7,8 @@ use Rattle.pb_isa.specs.declared.profile.Profile.{Profile}
 use Rattle.pb_isa.specs.Profiles.{max_slots}
 use Rattle.pb_isa.specs.Slots.{slots}
 use Rattle.pb_isa.specs.Programs.{ProgramOf}
-use Rattle.pb_asm.specs.declared.fault.Code.{Code}
-use Rattle.pb_asm.specs.declared.fault.Code.TheVariants.{TooLong, Nothing}
+use Rattle.pb_asm.specs.declared.fault.AsmCode.{AsmCode}
+use Rattle.pb_asm.specs.declared.fault.AsmCode.TheVariants.{TooLong, Nothing}
 use Rattle.pb_asm.specs.declared.fault.AsmFault.{AsmFault}
 use Rattle.pb_asm.specs.declared.lines.Lines.{Lines}
 use Rattle.pb_base.specs.Reading.{◌>>=◌, lines_of, is_skipped, in_turn, numbered}
@@ -21,7 +21,7 @@ instruction_lines text = filter (λ line. not (is_skipped line)) (lines_of text)
 
 -- The instructions so far, with the one of one more line. That it ends past the profile's last slot is told
 -- last of its line's faults.
-unfoldable pub with_insn_line : Profile → List Insn → List ℕ → Result (List Insn) Code
+unfoldable pub with_insn_line : Profile → List Insn → List ℕ → Result (List Insn) AsmCode
 with_insn_line p before line = if is_skipped line then Ok before else do
   i ← line_of p line
   if nat_lt (max_slots p) (slots (before ++ i ∷ [])) then Err TooLong else Ok (before ++ i ∷ [])
@@ -59,7 +59,7 @@ pub record IsFirstFault (p : Profile) (text : List ℕ) (line told : ℕ) : Type
   pub here : List ℕ
   pub after : List (List ℕ)
   pub before : List Insn
-  pub cause : Code
+  pub cause : AsmCode
   pub parts : lines_of text ≡ front ++ here ∷ after
   pub read : insns_of_lines p 0 [] front ≡ Ok before
   pub fault : with_insn_line p before here ≡ Err cause

@@ -1,14 +1,14 @@
 //! Why a text is no program. Which rule a code tells, `AsmFault` says.
 ghost use Rattle.std.specs.Prelude.{◌≡◌, ◌≢◌, ◌<◌, ◌+◌};
 ghost use Rattle.pb_asm.specs.Codes.{asm_code};
-ghost use Rattle.pb_asm.specs.declared.fault.Code.TheVariants.{Memory};
+ghost use Rattle.pb_asm.specs.declared.fault.AsmCode.TheVariants.{Memory};
 
 use std::alloc::{AllocError, AllocFailed};
 use thiserror::Error;
 
 /// What is wrong with a line, or with the text.
 #[derive(Clone, Copy, Debug, PartialEq, Eq, Drop)]
-pub enum Code {
+pub enum AsmCode {
     /// No memory. It is one of the codes, so that `?` ends a line at a refused growth as at a fault.
     Memory,
     /// A first word that is none of the profile's instructions'.
@@ -23,35 +23,35 @@ pub enum Code {
     Nothing,
 }
 
-impl Code {
+impl AsmCode {
     /// The number by which a code is told.
     pub fn code(self) -> u8
         ensures { result ≡ asm_code self }
     {
         match self {
-            Code::Memory => 1,
-            Code::Word => 80,
-            Code::Form => 81,
-            Code::Range => 82,
-            Code::TooLong => 83,
-            Code::Nothing => 84,
+            AsmCode::Memory => 1,
+            AsmCode::Word => 80,
+            AsmCode::Form => 81,
+            AsmCode::Range => 82,
+            AsmCode::TooLong => 83,
+            AsmCode::Nothing => 84,
         }
     }
 }
 
-impl From<AllocError> for Code {
+impl From<AllocError> for AsmCode {
     ghost from_gives = { λ _ e. e ≡ Memory };
 
-    fn from(_e: AllocError) -> Code {
-        Code::Memory
+    fn from(_e: AllocError) -> AsmCode {
+        AsmCode::Memory
     }
 }
 
-impl<T: Drop> From<AllocFailed<T>> for Code {
+impl<T: Drop> From<AllocFailed<T>> for AsmCode {
     ghost from_gives = { λ _ e. e ≡ Memory };
 
-    fn from(_e: AllocFailed<T>) -> Code {
-        Code::Memory
+    fn from(_e: AllocFailed<T>) -> AsmCode {
+        AsmCode::Memory
     }
 }
 
@@ -68,13 +68,13 @@ pub struct AsmFault {
 
 impl AsmFault {
     /// At the line of this index, which is counted from 0, where lines are told from 1.
-    pub fn at(index: usize, code: Code) -> AsmFault
+    pub fn at(index: usize, code: AsmCode) -> AsmFault
         requires { index < usize.MAX }
         ensures memory { code ≡ Memory → result ≡ record { line = 0; code = 1 } }
         ensures other { code ≢ Memory → result ≡ record { line = index + 1; code = asm_code code } }
     {
         let line = match code {
-            Code::Memory => 0,
+            AsmCode::Memory => 0,
             _ => index + 1,
         };
         AsmFault {

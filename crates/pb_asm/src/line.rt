@@ -5,12 +5,12 @@ ghost use Rattle.pb_isa.specs.Profiles.{IsOf};
 ghost use Rattle.std.specs.List.{slice_split};
 ghost use Rattle.pb_isa.specs.declared.insn.Insn.TheVariants as insn;
 ghost use Rattle.pb_base.specs.Reading.{Gives, texts_of, next_word, no_word, words_of};
-ghost use Rattle.pb_asm.specs.declared.fault.Code.TheVariants as code;
+ghost use Rattle.pb_asm.specs.declared.fault.AsmCode.TheVariants as code;
 ghost use Rattle.pb_asm.specs.Codes.{is_memory};
 ghost use Rattle.pb_asm.specs.Operands.{comma, last, alu_operands, mov_sx_operands, load_imm_operands, load_operands, store_imm_operands, store_operands, jump_if_operands, operands, insn_of_words, line_of, reg_of_text, operand_of_text, place_of_text, offset_of_text, imm_of_text};
 
 use crate::cuts::strip_suffix;
-use crate::fault::Code;
+use crate::fault::AsmCode;
 use crate::names::Word;
 use crate::operands::{bits_of, imm_of, numeral_upto, offset_of, operand_of, place_of, reg_of};
 use pb_isa::{AluOp, Cmp, Extension, Insn, Profile, Reg, Size, Width};
@@ -19,51 +19,51 @@ use std::alloc::{AllocError, Global};
 // What is left of a line's words. It can stand in a pair with what was read, since nothing that is read here has a
 // model of its own: a pair with one is beyond the borrow checker.
 #[derive(Clone, Copy)]
-struct Words<'a, 'b> {
+struct OperandWords<'a, 'b> {
     rest: &'b [&'a str],
 }
 
-impl<'a, 'b> Words<'a, 'b> {
+impl<'a, 'b> OperandWords<'a, 'b> {
     // The next word, and those after it.
-    fn next_word(self) -> Result<(&'a str, Words<'a, 'b>), Code>
+    fn next_word(self) -> Result<(&'a str, OperandWords<'a, 'b>), AsmCode>
         ensures { Gives (λ _. false) (λ x. (x.0.now, texts_of x.1.rest.now)) result
             (next_word code.Form (texts_of self.entry.rest.now)) }
     {
         match self.rest {
-            [] => Err(Code::Form),
-            [first, rest @ ..] => Ok((*first, Words { rest })),
+            [] => Err(AsmCode::Form),
+            [first, rest @ ..] => Ok((*first, OperandWords { rest })),
         }
     }
 
     // No word is left. It is the last test of each line, so that a word too many is told only where all before it are
     // read.
-    fn no_word(self) -> Result<(), Code>
+    fn no_word(self) -> Result<(), AsmCode>
         ensures { Gives (λ _. false) (λ x. x) result (no_word code.Form (texts_of self.entry.rest.now)) }
     {
         if self.rest.is_empty() {
             Ok(())
         } else {
-            Err(Code::Form)
+            Err(AsmCode::Form)
         }
     }
 
     // The next word, which has a comma at its end, and those after it. The comma is cut off before the word is read, so
     // that a word without one is told as 81 whatever it says.
     #[tactic(auto, unfolding(crate::specs::Operands::comma))]
-    fn comma(self) -> Result<(&'a str, Words<'a, 'b>), Code>
+    fn comma(self) -> Result<(&'a str, OperandWords<'a, 'b>), AsmCode>
         ensures { Gives (λ _. false) (λ x. (x.0.now, texts_of x.1.rest.now)) result
             (comma (texts_of self.entry.rest.now)) }
     {
         let (word, words) = self.next_word()?;
         match strip_suffix(word, ',') {
             Some(word) => Ok((word, words)),
-            None => Err(Code::Form),
+            None => Err(AsmCode::Form),
         }
     }
 
     // Behind `add64`: `r1, -32` or `r1, r2`.
     #[tactic(auto, unfolding(crate::specs::Operands::alu_operands, crate::specs::Operands::last))]
-    fn alu(self, op: AluOp, width: Width) -> Result<Insn, Code>
+    fn alu(self, op: AluOp, width: Width) -> Result<Insn, AsmCode>
         ensures { Gives (λ _. false) (λ i. i) result (alu_operands (insn.Alu op width) (texts_of self.entry.rest.now)) }
     {
         let (word, words) = self.comma()?;
@@ -81,7 +81,7 @@ impl<'a, 'b> Words<'a, 'b> {
 
     // Behind `movsx64`: `r0, r1, 8`.
     #[tactic(auto, unfolding(crate::specs::Operands::mov_sx_operands, crate::specs::Operands::last))]
-    fn mov_sx(self, width: Width) -> Result<Insn, Code>
+    fn mov_sx(self, width: Width) -> Result<Insn, AsmCode>
         ensures { Gives (λ _. false) (λ i. i) result (mov_sx_operands width (texts_of self.entry.rest.now)) }
     {
         let (word, words) = self.comma()?;
@@ -101,7 +101,7 @@ impl<'a, 'b> Words<'a, 'b> {
 
     // Behind `lddw`: `r0, 4294967303`. Its number has no sign, since it is a whole word.
     #[tactic(auto, unfolding(crate::specs::Operands::load_imm_operands, crate::specs::Operands::last))]
-    fn wide(self) -> Result<Insn, Code>
+    fn wide(self) -> Result<Insn, AsmCode>
         ensures { Gives (λ _. false) (λ i. i) result (load_imm_operands (texts_of self.entry.rest.now)) }
     {
         let (word, words) = self.comma()?;
@@ -114,7 +114,7 @@ impl<'a, 'b> Words<'a, 'b> {
 
     // Behind `ldxdw`: `r0, [r1+8]`.
     #[tactic(auto, unfolding(crate::specs::Operands::load_operands, crate::specs::Operands::last))]
-    fn load(self, size: Size, extension: Extension) -> Result<Insn, Code>
+    fn load(self, size: Size, extension: Extension) -> Result<Insn, AsmCode>
         ensures { Gives (λ _. false) (λ i. i) result
             (load_operands (insn.Load size extension) (texts_of self.entry.rest.now)) }
     {
@@ -134,7 +134,7 @@ impl<'a, 'b> Words<'a, 'b> {
 
     // Behind `stdw`: `[r10-8], 5`.
     #[tactic(auto, unfolding(crate::specs::Operands::store_imm_operands, crate::specs::Operands::last))]
-    fn store_imm(self, size: Size) -> Result<Insn, Code>
+    fn store_imm(self, size: Size) -> Result<Insn, AsmCode>
         ensures { Gives (λ _. false) (λ i. i) result
             (store_imm_operands (insn.StoreImm size) (texts_of self.entry.rest.now)) }
     {
@@ -153,7 +153,7 @@ impl<'a, 'b> Words<'a, 'b> {
 
     // Behind `stxdw`: `[r10-8], r2`.
     #[tactic(auto, unfolding(crate::specs::Operands::store_operands, crate::specs::Operands::last))]
-    fn store(self, size: Size) -> Result<Insn, Code>
+    fn store(self, size: Size) -> Result<Insn, AsmCode>
         ensures { Gives (λ _. false) (λ i. i) result (store_operands (insn.Store size) (texts_of self.entry.rest.now)) }
     {
         let (word, words) = self.comma()?;
@@ -171,7 +171,7 @@ impl<'a, 'b> Words<'a, 'b> {
 
     // Behind `jeq64`: `r1, 5, +2` or `r1, r2, +2`.
     #[tactic(auto, unfolding(crate::specs::Operands::jump_if_operands, crate::specs::Operands::last))]
-    fn jump_if(self, cmp: Cmp, width: Width) -> Result<Insn, Code>
+    fn jump_if(self, cmp: Cmp, width: Width) -> Result<Insn, AsmCode>
         ensures { Gives (λ _. false) (λ i. i) result
             (jump_if_operands (insn.JumpIf cmp width) (texts_of self.entry.rest.now)) }
     {
@@ -193,7 +193,7 @@ impl<'a, 'b> Words<'a, 'b> {
 
     // One register and nothing behind it, as `neg64` has it.
     #[tactic(auto, unfolding(crate::specs::Operands::last))]
-    fn last_reg(self) -> Result<Reg, Code>
+    fn last_reg(self) -> Result<Reg, AsmCode>
         ensures { Gives (λ _. false) (λ r. r) result (last reg_of_text (texts_of self.entry.rest.now)) }
     {
         let (word, words) = self.next_word()?;
@@ -204,7 +204,7 @@ impl<'a, 'b> Words<'a, 'b> {
 
     // One offset and nothing behind it, as `ja` has it.
     #[tactic(auto, unfolding(crate::specs::Operands::last))]
-    fn last_offset(self) -> Result<i16, Code>
+    fn last_offset(self) -> Result<i16, AsmCode>
         ensures { Gives (λ _. false) (λ o. o) result (last offset_of_text (texts_of self.entry.rest.now)) }
     {
         let (word, words) = self.next_word()?;
@@ -215,7 +215,7 @@ impl<'a, 'b> Words<'a, 'b> {
 
     // One immediate and nothing behind it, as `call` has it.
     #[tactic(auto, unfolding(crate::specs::Operands::last))]
-    fn last_imm(self) -> Result<i32, Code>
+    fn last_imm(self) -> Result<i32, AsmCode>
         ensures { Gives (λ _. false) (λ k. k) result (last imm_of_text (texts_of self.entry.rest.now)) }
     {
         let (word, words) = self.next_word()?;
@@ -225,7 +225,7 @@ impl<'a, 'b> Words<'a, 'b> {
     }
 
     // The operands that a first word asks for.
-    fn operands(self, word: Word) -> Result<Insn, Code>
+    fn operands(self, word: Word) -> Result<Insn, AsmCode>
         ensures { Gives (λ _. false) (λ i. i) result (operands word (texts_of self.entry.rest.now)) }
     {
         match word {
@@ -256,13 +256,13 @@ impl<'a, 'b> Words<'a, 'b> {
     // One instruction of a profile. The first word is looked at first, so that an unknown one is told whatever comes
     // behind it.
     #[tactic(auto, unfolding(crate::specs::Operands::insn_of_words))]
-    fn insn(self, profile: Profile) -> Result<Insn, Code>
+    fn insn(self, profile: Profile) -> Result<Insn, AsmCode>
         ensures { Gives (λ _. false) (λ i. i) result (insn_of_words profile (texts_of self.entry.rest.now)) }
     {
         let (first, words) = self.next_word()?;
         match Word::named(profile, first) {
             Some(word) => words.operands(word),
-            None => Err(Code::Word),
+            None => Err(AsmCode::Word),
         }
     }
 }
@@ -275,10 +275,10 @@ fn words_of(alloc: Global, text: &str) -> Result<Vec<&str>, AllocError>
 }
 
 /// The instruction of a line, which isn't empty and no remark.
-pub fn line_of(alloc: Global, profile: Profile, text: &str) -> Result<Insn, Code>
+pub fn line_of(alloc: Global, profile: Profile, text: &str) -> Result<Insn, AsmCode>
     ensures read { Gives is_memory (λ i. i) result (line_of profile text.now) }
     ensures of_profile { IfOk result (IsOf profile) }
 {
     let words = words_of(alloc, text)?;
-    Words { rest: &words }.insn(profile)
+    OperandWords { rest: &words }.insn(profile)
 }

@@ -3,12 +3,12 @@ ghost use Rattle.std.specs.Prelude.{◌≡◌, ◌≤◌, ◌<◌, ◌^◌, ◌-
 ghost use Rattle.std.specs.Char.{is_ascii_digit};
 ghost use Rattle.std.specs.List.{list_all};
 ghost use Rattle.pb_base.specs.Reading.{Gives, is_numeral, numeral_upto};
-ghost use Rattle.pb_asm.specs.declared.fault.Code.TheVariants as code;
+ghost use Rattle.pb_asm.specs.declared.fault.AsmCode.TheVariants as code;
 ghost use Rattle.pb_asm.specs.Operands.{minus, plus, imm_of_text, offset_of_text, reg_of_text, operand_of_text, size_in, bits_of_text, base_and_offset, place_of_text};
 ghost use Rattle.pb_asm.specs.Names.{sizes};
 
 use crate::cuts::{split_once, strip_prefix, strip_suffix};
-use crate::fault::Code;
+use crate::fault::AsmCode;
 use crate::names::reg_named;
 use pb_isa::{Operand, Reg, Size, Width};
 
@@ -34,34 +34,34 @@ fn is_numeral(text: &str) -> bool
 }
 
 /// A number, at most this. Its form is tested first, and then its range.
-pub fn numeral_upto(greatest: u64, text: &str) -> Result<u64, Code>
+pub fn numeral_upto(greatest: u64, text: &str) -> Result<u64, AsmCode>
     ensures value { Gives (λ _. false) (λ n. n) result (numeral_upto code.Form code.Range greatest text.now) }
     ensures bound { IfOk result (λ n. n ≤ greatest) }
 {
     if !is_numeral(text) {
-        return Err(Code::Form);
+        return Err(AsmCode::Form);
     }
     // What has the form and can't be parsed is beyond 64 bits, so that it is out of range whatever may stand there.
     let Ok(number) = text.parse::<u64>() else {
-        return Err(Code::Range);
+        return Err(AsmCode::Range);
     };
     if number <= greatest {
         Ok(number)
     } else {
-        Err(Code::Range)
+        Err(AsmCode::Range)
     }
 }
 
 // The digits behind a minus: at most this, and not zero, since `-0` would be a second spelling of `0`.
 #[tactic(auto, unfolding(crate::specs::Operands::minus))]
-fn minus(greatest: u32, text: &str) -> Result<i64, Code>
+fn minus(greatest: u32, text: &str) -> Result<i64, AsmCode>
     ensures value { Gives (λ _. false) (λ z. z) result (minus greatest text.now) }
     ensures low { IfOk result (λ z. neg_ℤ (pos greatest) ≤ℤ z) }
     ensures high { IfOk result (λ z. z ≤ℤ pos 0) }
 {
     let number = numeral_upto(u64::from(greatest), text)?;
     if number == 0 {
-        return Err(Code::Form);
+        return Err(AsmCode::Form);
     }
     Ok(-(number as i64))
 }
@@ -69,7 +69,7 @@ fn minus(greatest: u32, text: &str) -> Result<i64, Code>
 // Digits without a minus: below this. The limit and not the greatest is taken, so that one number says the range of
 // either sign.
 #[tactic(auto, unfolding(crate::specs::Operands::plus))]
-fn plus(limit: u32, text: &str) -> Result<i64, Code>
+fn plus(limit: u32, text: &str) -> Result<i64, AsmCode>
     requires { 0 < limit }
     ensures value { Gives (λ _. false) (λ z. z) result (plus limit text.now) }
     ensures low { IfOk result (λ z. pos 0 ≤ℤ z) }
@@ -80,7 +80,7 @@ fn plus(limit: u32, text: &str) -> Result<i64, Code>
 }
 
 /// An immediate, which has a sign only where it is negative: -2147483648 to 2147483647.
-pub fn imm_of(text: &str) -> Result<i32, Code>
+pub fn imm_of(text: &str) -> Result<i32, AsmCode>
     ensures { Gives (λ _. false) (λ z. z) result (imm_of_text text.now) }
 {
     let number = match strip_prefix(text, '-') {
@@ -91,7 +91,7 @@ pub fn imm_of(text: &str) -> Result<i32, Code>
 }
 
 /// An offset, which always has a sign: -32768 to +32767.
-pub fn offset_of(text: &str) -> Result<i16, Code>
+pub fn offset_of(text: &str) -> Result<i16, AsmCode>
     ensures { Gives (λ _. false) (λ z. z) result (offset_of_text text.now) }
 {
     if let Some(digits) = strip_prefix(text, '-') {
@@ -99,24 +99,24 @@ pub fn offset_of(text: &str) -> Result<i16, Code>
     }
     match strip_prefix(text, '+') {
         Some(digits) => Ok(plus(0x8000, digits)? as i16),
-        None => Err(Code::Form),
+        None => Err(AsmCode::Form),
     }
 }
 
 /// A register.
-pub fn reg_of(text: &str) -> Result<Reg, Code>
+pub fn reg_of(text: &str) -> Result<Reg, AsmCode>
     ensures { Gives (λ _. false) (λ r. r) result (reg_of_text text.now) }
 {
     match reg_named(text) {
         Some(reg) => Ok(reg),
-        None => Err(Code::Form),
+        None => Err(AsmCode::Form),
     }
 }
 
 /// An operand that may be a register or an immediate. Its first letter says which, so that what begins with an `r` is
 /// told as no register and not as no number.
 #[tactic(auto, unfolding(crate::specs::Operands::operand_of_text))]
-pub fn operand_of(text: &str) -> Result<Operand, Code>
+pub fn operand_of(text: &str) -> Result<Operand, AsmCode>
     ensures { Gives (λ _. false) (λ a. a) result (operand_of_text text.now) }
 {
     let bytes = text.as_bytes();
@@ -142,33 +142,33 @@ fn narrower_size(width: Width, bits: u64) -> Option<Size>
 /// How many bits a sign-extending move of this width takes from its source: 8 or 16, and to 64 bits also 32. Any other
 /// number, of any length, is told as 82, since it has the form.
 #[tactic(auto, unfolding(crate::specs::Operands::bits_of_text))]
-pub fn bits_of(width: Width, text: &str) -> Result<Size, Code>
+pub fn bits_of(width: Width, text: &str) -> Result<Size, AsmCode>
     ensures { Gives (λ _. false) (λ z. z) result (bits_of_text width text.now) }
 {
     let bits = numeral_upto(u64::MAX, text)?;
     match narrower_size(width, bits) {
         Some(size) => Ok(size),
-        None => Err(Code::Range),
+        None => Err(AsmCode::Range),
     }
 }
 
 /// A place in memory: a register and an offset in brackets. It is cut at the sign, since a register's name has none.
 #[tactic(auto, unfolding(crate::specs::Operands::place_of_text, crate::specs::Operands::base_and_offset))]
-pub fn place_of(text: &str) -> Result<(Reg, i16), Code>
+pub fn place_of(text: &str) -> Result<(Reg, i16), AsmCode>
     ensures { Gives (λ _. false) (λ p. p) result (place_of_text text.now) }
 {
     let Some(front) = strip_prefix(text, '[') else {
-        return Err(Code::Form);
+        return Err(AsmCode::Form);
     };
     let Some(inner) = strip_suffix(front, ']') else {
-        return Err(Code::Form);
+        return Err(AsmCode::Form);
     };
     if let Some((base, digits)) = split_once(inner, '+') {
         let base = reg_of(base)?;
         return Ok((base, plus(0x8000, digits)? as i16));
     }
     let Some((base, digits)) = split_once(inner, '-') else {
-        return Err(Code::Form);
+        return Err(AsmCode::Form);
     };
     let base = reg_of(base)?;
     Ok((base, minus(0x8000, digits)? as i16))

@@ -8,8 +8,8 @@ ghost use Rattle.pb_isa.specs.declared.profile.Profile.{Profile};
 ghost use Rattle.pb_isa.specs.declared.profile.Profile.TheVariants.{One};
 ghost use Rattle.pb_isa.specs.Profiles.{max_slots, IsOf};
 ghost use Rattle.pb_isa.specs.Programs.{ProgramOf, IsProgram};
-ghost use Rattle.pb_asm.specs.declared.fault.Code.{Code};
-ghost use Rattle.pb_asm.specs.declared.fault.Code.TheVariants as code;
+ghost use Rattle.pb_asm.specs.declared.fault.AsmCode.{AsmCode};
+ghost use Rattle.pb_asm.specs.declared.fault.AsmCode.TheVariants as code;
 ghost use Rattle.pb_asm.specs.declared.names.Word.{Word};
 ghost use Rattle.pb_asm.specs.Names.{name, IsWordOf};
 ghost use Rattle.pb_base.specs.Reading.{Gives, texts_of, lines_of, is_skipped, numbered};
@@ -19,7 +19,7 @@ ghost use Rattle.pb_asm.specs.Operands.{line_of};
 ghost use Rattle.pb_asm.specs.OutOfRange.{NumberPlace, line_with, FitsBefore, place_word, IsBeyond, EndsWord, IsOutOfRange};
 ghost use Rattle.pb_asm.specs.Texts.{instruction_lines, with_insn_line, insns_of_lines, program_of_text, ReadsProgram, ReadsLines, IsFirstFault, HasNone};
 
-use crate::fault::{AsmFault, Code};
+use crate::fault::{AsmCode, AsmFault};
 use crate::line::line_of;
 use crate::lines::Lines;
 use pb_isa::{Insn, NoProgram, Profile, Program};
@@ -37,7 +37,7 @@ impl Lines {
     // Adds what one line says in a profile. That it ends past the last slot is told last, since 83 is told where a line
     // has no other fault.
     #[tactic(auto, using(crate::proofs::SlotCounts::slots_push, crate::proofs::SlotCounts::fit_push, crate::proofs::SlotCounts::of_push), unfolding(crate::specs::Texts::with_insn_line))]
-    fn add(&mut self, alloc: Global, profile: Profile, line: &str) -> Result<(), Code>
+    fn add(&mut self, alloc: Global, profile: Profile, line: &str) -> Result<(), AsmCode>
         requires most { self.old.taken ≤ max_slots profile }
         requires fits { AllByRecursion Fits self.old.insns.items }
         requires of_profile { AllByRecursion (IsOf profile) self.old.insns.items }
@@ -54,7 +54,7 @@ impl Lines {
         let most = profile.max_slots();
         let slots = self.taken + slots_of(insn);
         if slots > most {
-            return Err(Code::TooLong);
+            return Err(AsmCode::TooLong);
         }
         // After the test, so that the instructions are within the profile's slots after every line.
         self.insns.push(insn)?;
@@ -123,7 +123,7 @@ pub fn assemble_in(alloc: Global, profile: Profile, text: &str) -> Result<Progra
 {
     let lines = lines_in(alloc, profile, text)?;
     if lines.insns.is_empty() {
-        let code = Code::Nothing.code();
+        let code = AsmCode::Nothing.code();
         return Err(AsmFault { line: 0, code });
     }
     match Program::new(alloc, profile, lines.insns) {
@@ -175,9 +175,9 @@ pub fn faults_are_told_where_they_are()
         ↔ ((i : Insn) × (line ≡ insn_text i) × Fits i × IsOf p i × (max_slots p < slots (before ++ i ∷ []))) }
     ensures nothing { (p : Profile) (text : List ℕ) → (program_of_text p text ≡ Err (0, 84))
         ↔ (instruction_lines text ≡ []) }
-    ensures line { (p : Profile) (line : List ℕ) (c : Code) → line_of p line ≡ Err c
+    ensures line { (p : Profile) (line : List ℕ) (c : AsmCode) → line_of p line ≡ Err c
         → (c ≡ code.Word) ⊎ (c ≡ code.Form) ⊎ (c ≡ code.Range) }
-    ensures own { (p : Profile) (before : List Insn) (line : List ℕ) (c : Code) → with_insn_line p before line ≡ Err c
+    ensures own { (p : Profile) (before : List Insn) (line : List ℕ) (c : AsmCode) → with_insn_line p before line ≡ Err c
         → (c ≡ code.TooLong) ⊎ (line_of p line ≡ Err c) }
 {}
 

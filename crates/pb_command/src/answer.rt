@@ -9,7 +9,7 @@ pub enum Verdict {
 
 /// A verdict on a file's bytes, and the text that tells it.
 #[derive(Drop)]
-pub struct Answer {
+pub struct VerdictText {
     pub verdict: Verdict,
     pub text: String,
 }

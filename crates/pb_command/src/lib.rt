@@ -16,7 +16,7 @@ mod paths;
 mod programs;
 mod reading;
 
-pub use answer::{Answer, Verdict};
+pub use answer::{Verdict, VerdictText};
 pub use carry::{command, sequential_command, status_of};
 pub use fault::Fault;
 pub use files::Files;

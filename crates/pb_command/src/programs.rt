@@ -8,7 +8,7 @@ ghost use Rattle.pb_command.specs.Programs.{IsNoProgramText, IsTextFault, IsMemo
 ghost use Rattle.pb_command.specs.declared.answer.Verdict.TheVariants as verdicts;
 ghost use Rattle.pb_command.specs.Programs.{Assembles, AsmLeaves, Lists, Checks, AnswerLeaves, refusal_line, acceptance_line};
 
-use crate::answer::{Answer, Verdict};
+use crate::answer::{Verdict, VerdictText};
 use crate::fault::Fault;
 use crate::paths::{PathFault, Paths};
 use crate::reading::{bytes_at, text_of};
@@ -80,27 +80,27 @@ fn refusal_line(alloc: Global, refused: Refused) -> Result<String, AllocError>
 }
 
 /// A refusal, and the line that tells it.
-pub fn refusal_of<'a>(alloc: Global, refused: Refused) -> Result<Answer, Fault<'a>>
+pub fn refusal_of<'a>(alloc: Global, refused: Refused) -> Result<VerdictText, Fault<'a>>
     ensures told { IfOk result
         (λ a. (a.verdict ≡ verdicts.Refused) × (string_bytes a.text ≡ refusal_line refused.slot refused.code)) }
     ensures fault { IfErr result IsMemoryFault }
 {
     let text = refusal_line(alloc, refused)?;
-    Ok(Answer {
+    Ok(VerdictText {
         verdict: Verdict::Refused,
         text,
     })
 }
 
 // The listing of bytes, read in this profile, or where they are refused.
-fn listing_of<'a>(alloc: Global, profile: Profile, bytes: &[u8]) -> Result<Answer, Fault<'a>>
+fn listing_of<'a>(alloc: Global, profile: Profile, bytes: &[u8]) -> Result<VerdictText, Fault<'a>>
     ensures told { IfOk result (λ a. Lists profile bytes.now a.verdict (string_bytes a.text)) }
     ensures fault { IfErr result IsMemoryFault }
 {
     match decode_in(alloc, profile, bytes) {
         Ok(program) => {
             let text = disassemble(alloc, &program)?;
-            Ok(Answer {
+            Ok(VerdictText {
                 verdict: Verdict::Accepted,
                 text,
             })
@@ -111,12 +111,12 @@ fn listing_of<'a>(alloc: Global, profile: Profile, bytes: &[u8]) -> Result<Answe
 }
 
 // That a program is accepted, and the line that tells it.
-fn acceptance_of<'a>(alloc: Global, slots: usize) -> Result<Answer, Fault<'a>>
+fn acceptance_of<'a>(alloc: Global, slots: usize) -> Result<VerdictText, Fault<'a>>
     ensures told { IfOk result (λ a. (a.verdict ≡ verdicts.Accepted) × (string_bytes a.text ≡ acceptance_line slots)) }
     ensures fault { IfErr result IsMemoryFault }
 {
     let text = format!(in alloc; "accepted {slots} slots\n")?;
-    Ok(Answer {
+    Ok(VerdictText {
         verdict: Verdict::Accepted,
         text,
     })
@@ -129,7 +129,7 @@ fn verdict_of<'a>(
     profile: Profile,
     version: Version,
     bytes: &[u8],
-) -> Result<Answer, Fault<'a>>
+) -> Result<VerdictText, Fault<'a>>
     ensures told { IfOk result (λ a. Checks profile version bytes.now a.verdict (string_bytes a.text)) }
     ensures fault { IfErr result IsMemoryFault }
 {
@@ -142,7 +142,7 @@ fn verdict_of<'a>(
 }
 
 /// Writes an answer.
-pub fn write_answer<'a, O: Sink>(answer: &Answer, out: &mut O) -> Result<Verdict, Fault<'a>>
+pub fn write_answer<'a, O: Sink>(answer: &VerdictText, out: &mut O) -> Result<Verdict, Fault<'a>>
     requires unfailed { O.failed out.old ≡ false }
     ensures ok { IfOk result (λ v. (v ≡ answer.now.verdict) × (O.failed out.new ≡ false)
         × Appends (O.taken out.old) (O.taken out.new) (string_bytes answer.now.text)) }

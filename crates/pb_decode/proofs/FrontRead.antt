@@ -23,9 +23,9 @@ use Rattle.pb_isa.specs.Bounds.{Fits}
 use Rattle.pb_decode.specs.declared.forms.Form.{Form}
 use Rattle.pb_decode.specs.declared.forms.Form.TheVariants as form
 use Rattle.pb_decode.specs.declared.forms.Source.TheVariants.{K, X}
-use Rattle.pb_decode.specs.declared.fields.Slot.{Slot}
-use Rattle.pb_decode.specs.declared.fault.Code.{Code}
-use Rattle.pb_decode.specs.declared.fault.Code.TheVariants.{Opcode, Register, Unused, CutOff, SecondSlot}
+use Rattle.pb_decode.specs.declared.fields.SlotFields.{SlotFields}
+use Rattle.pb_decode.specs.declared.fault.DecodeCode.{DecodeCode}
+use Rattle.pb_decode.specs.declared.fault.DecodeCode.TheVariants.{Opcode, Register, Unused, CutOff, SecondSlot}
 use Rattle.pb_decode.specs.Opcodes.{opcode, IsFormOf, form_of}
 use Rattle.pb_decode.specs.Fields.{slot_bytes, slot_of_bytes}
 use Rattle.pb_decode.specs.Encoding.{bits_of, first_slot, second_slot, second_bytes, insn_bytes}
@@ -40,23 +40,23 @@ use Rattle.pb_decode.proofs.Extending.{IsExtending, alu_offset, zero_offset, ext
 abbrev Read : Type 0
 Read = Insn × List ℕ
 
-abbrev done : {A : Type 0} → A → Result A Code
+abbrev done : {A : Type 0} → A → Result A DecodeCode
 done x = Ok x
 
 pub ok_is : {A : Type 0} (x y : A) → done x ≡ done y → x ≡ y
 ok_is x y e = cc
 
 -- where two readings one after the other end well, each has
-bind_ok : {A B : Type 0} (r : Result A Code) (f : A → Result B Code) (y : B) → (r >>= f) ≡ Ok y → (x : A) × (r ≡ Ok x) × (f x ≡ Ok y)
+bind_ok : {A B : Type 0} (r : Result A DecodeCode) (f : A → Result B DecodeCode) (y : B) → (r >>= f) ≡ Ok y → (x : A) × (r ≡ Ok x) × (f x ≡ Ok y)
 bind_ok (Ok x) f y e = (x, refl, e)
 bind_ok (Err d) f y e = absurd cc
 
-ok_or_ok : {A : Type 0} (c : Code) (o : Option A) (x : A) → ok_or o c ≡ Ok x → o ≡ Some x
+ok_or_ok : {A : Type 0} (c : DecodeCode) (o : Option A) (x : A) → ok_or o c ≡ Ok x → o ≡ Some x
 ok_or_ok c (Some y) x e = ap Some (ok_is y x e)
 ok_or_ok c None x e = absurd cc
 
 -- a form that comes through the test of its fields has none that isn't zero
-clean_ok : (p : Profile) (f g : Form) (s : Slot) (b : Bool) → is_clean p f s ≡ b → cond b (Ok f) (Err Unused) ≡ done g → (b ≡ true) × (f ≡ g)
+clean_ok : (p : Profile) (f g : Form) (s : SlotFields) (b : Bool) → is_clean p f s ≡ b → cond b (Ok f) (Err Unused) ≡ done g → (b ≡ true) × (f ≡ g)
 clean_ok p f g s true is e = (refl, ok_is f g e)
 clean_ok p f g s false is e = absurd cc
 
@@ -64,13 +64,13 @@ is_zero : (n : ℕ) → (n == 0) ≡ true → 0 ≡ n
 is_zero n h = sym (eqb-true n 0 h)
 
 -- what was read from a slot and the bytes behind it
-abbrev Takes : Profile → Slot → List ℕ → Read → Type 0
+abbrev Takes : Profile → SlotFields → List ℕ → Read → Type 0
 Takes p s rest x = (slot_bytes s ++ rest ≡ insn_bytes x.0 ++ x.1) × Fits x.0 × IsOf p x.0
 
 -- where an instruction of one slot was read, and this is its slot, it is spelt by it
-single : (p : Profile) (i : Insn) (s : Slot) (rest : List ℕ) (x : Read) → first_slot i ≡ s → second_bytes i ≡ [] → Fits i → IsOf p i → done (i, rest) ≡ Ok x → Takes p s rest x
+single : (p : Profile) (i : Insn) (s : SlotFields) (rest : List ℕ) (x : Read) → first_slot i ≡ s → second_bytes i ≡ [] → Fits i → IsOf p i → done (i, rest) ≡ Ok x → Takes p s rest x
 single p i s rest x is alone fits of e =
-    let parts : slot_bytes s ++ rest ≡ insn_bytes i ++ rest = ap (λ (t : Slot). slot_bytes t ++ rest) (sym is) ∙ ap (λ (b : List ℕ). b ++ rest) (sym (append-nil (slot_bytes (first_slot i)))) ∙ ap (λ (b : List ℕ). (slot_bytes (first_slot i) ++ b) ++ rest) (sym alone) in
+    let parts : slot_bytes s ++ rest ≡ insn_bytes i ++ rest = ap (λ (t : SlotFields). slot_bytes t ++ rest) (sym is) ∙ ap (λ (b : List ℕ). b ++ rest) (sym (append-nil (slot_bytes (first_slot i)))) ∙ ap (λ (b : List ℕ). (slot_bytes (first_slot i) ++ b) ++ rest) (sym alone) in
     subst (Takes p s rest) (ok_is (i, rest) x e) (parts, fits, of)
 
 -- a word of 32 bits read with its sign fits an immediate, and one of 16 an offset
@@ -81,7 +81,7 @@ off_fits : (n : ℕ) → n < 2 ^ 16 → FitsSigned w16 (cast_signed w16 n)
 off_fits n lt = sfits_to_z {w = w16} {n = n} (record { fits = lt })
 
 -- a pair that is read has its second slot, with nothing but an immediate
-pair_cases : (d : Reg) (s : Slot) (rest : List ℕ) (x : Read) (short clean : Bool) → nat_lt (length rest) 8 ≡ short → is_second (slot_of_bytes rest) ≡ clean
+pair_cases : (d : Reg) (s : SlotFields) (rest : List ℕ) (x : Read) (short clean : Bool) → nat_lt (length rest) 8 ≡ short → is_second (slot_of_bytes rest) ≡ clean
     → cond short (Err CutOff) (cond clean (Ok (LoadImm d (s.imm + 2 ^ 32 * (slot_of_bytes rest).imm), drop 8 rest)) (Err SecondSlot)) ≡ done x
     → (8 ≤ length rest) × (is_second (slot_of_bytes rest) ≡ true) × ((LoadImm d (s.imm + 2 ^ 32 * (slot_of_bytes rest).imm), drop 8 rest) ≡ x)
 pair_cases d s rest x true clean p q e = absurd cc
@@ -89,7 +89,7 @@ pair_cases d s rest x false false p q e = absurd cc
 pair_cases d s rest x false true p q e = (ltb-false _ _ p, q, ok_is (LoadImm d (s.imm + 2 ^ 32 * (slot_of_bytes rest).imm), drop 8 rest) x e)
 
 -- a pair that is read is spelt so: both halves are those of its number
-pair_takes : (profile : Profile) (d : Reg) (s : Slot) (rest : List ℕ) (x : Read) → opcode form.LoadImm ≡ s.opcode → number d ≡ s.dst → 0 ≡ s.src → 0 ≡ s.offset → IsSlot s → AreBytes rest → pair_of d s.imm rest ≡ Ok x → Takes profile s rest x
+pair_takes : (profile : Profile) (d : Reg) (s : SlotFields) (rest : List ℕ) (x : Read) → opcode form.LoadImm ≡ s.opcode → number d ≡ s.dst → 0 ≡ s.src → 0 ≡ s.offset → IsSlot s → AreBytes rest → pair_of d s.imm rest ≡ Ok x → Takes profile s rest x
 pair_takes profile d s rest x o p z f is fits e =
     let c = pair_cases d s rest x (nat_lt (length rest) 8) (is_second (slot_of_bytes rest)) refl refl e in
     let t = slot_of_bytes rest in
@@ -103,9 +103,9 @@ pair_takes profile d s rest x o p z f is fits e =
     let v = low + 2 ^ 32 * high in
     let first : first_slot (LoadImm d v) ≡ s = same_slot s _ _ _ _ _ o p z f (omega (arith, below)) in
     let second : second_slot (v / 2 ^ 32) ≡ t = same_slot t _ _ _ _ _ (is_zero t.opcode a.0) (is_zero t.dst b.0) (is_zero t.src g.0) (is_zero t.offset g.1) (omega (arith, below)) in
-    let behind : rest ≡ second_bytes (LoadImm d v) ++ drop 8 rest = front_slot rest fits c.0 ∙ ap (λ (u : Slot). slot_bytes u ++ drop 8 rest) (sym second) in
+    let behind : rest ≡ second_bytes (LoadImm d v) ++ drop 8 rest = front_slot rest fits c.0 ∙ ap (λ (u : SlotFields). slot_bytes u ++ drop 8 rest) (sym second) in
     let parts : slot_bytes s ++ rest ≡ insn_bytes (LoadImm d v) ++ drop 8 rest =
-    ap (λ (u : Slot). slot_bytes u ++ rest) (sym first) ∙ ap (λ (bs : List ℕ). slot_bytes (first_slot (LoadImm d v)) ++ bs) behind ∙ sym (append_assoc (slot_bytes (first_slot (LoadImm d v))) (second_bytes (LoadImm d v)) (drop 8 rest)) in
+    ap (λ (u : SlotFields). slot_bytes u ++ rest) (sym first) ∙ ap (λ (bs : List ℕ). slot_bytes (first_slot (LoadImm d v)) ++ bs) behind ∙ sym (append_assoc (slot_bytes (first_slot (LoadImm d v))) (second_bytes (LoadImm d v)) (drop 8 rest)) in
     let v-fits : v < 2 ^ 64 = omega (arith, below, over) in
     subst (Takes profile s rest) c.2 (parts, v-fits, is_plain profile (LoadImm d v) tt)
 
@@ -114,7 +114,7 @@ abbrev IsAluRead : AluOp → Width → Reg → Reg → Operand → List ℕ → 
 IsAluRead op w d r a rest x n = done (cond (n == 0) (Alu op w d a) (MovSx w (size_of_bits n) d r), rest) ≡ Ok x
 
 -- arithmetic with a register that is read is spelt so, with an offset or without
-register_takes : (profile : Profile) (op : AluOp) (w : Width) (d r : Reg) (s : Slot) (rest : List ℕ) (x : Read) → opcode (form.Alu op w X) ≡ s.opcode → number d ≡ s.dst → number r ≡ s.src → 0 ≡ s.imm
+register_takes : (profile : Profile) (op : AluOp) (w : Width) (d r : Reg) (s : SlotFields) (rest : List ℕ) (x : Read) → opcode (form.Alu op w X) ≡ s.opcode → number d ≡ s.dst → number r ≡ s.src → 0 ≡ s.imm
     → (0 ≡ s.offset) ⊎ IsExtending profile op w s.offset → IsAluRead op w d r (operand.Reg r) rest x s.offset → Takes profile s rest x
 register_takes profile op w d r s rest x o p q z (inl f) e =
     single profile (Alu op w d (operand.Reg r)) s rest x (same_slot s _ _ _ _ _ o p q f z) refl tt (is_plain profile _ tt) (subst (IsAluRead op w d r (operand.Reg r) rest x) (sym f) e)
@@ -125,7 +125,7 @@ register_takes profile op w d r s rest x o p q z (inr h) e =
     single profile (MovSx w h.size d r) s rest x (same_slot s _ _ _ _ _ move p q (sym h.bits) z) refl tt (h.of_profile d r) extends
 
 -- what is read as an instruction of a form is spelt so: a case for each form
-form_takes : (profile : Profile) (f : Form) (d r : Reg) (s : Slot) (rest : List ℕ) (x : Read) → opcode f ≡ s.opcode → IsFormOf profile f → number d ≡ s.dst → number r ≡ s.src → IsSlot s → AreBytes rest → is_clean profile f s ≡ true → insn_of_form f d r s rest ≡ Ok x → Takes profile s rest x
+form_takes : (profile : Profile) (f : Form) (d r : Reg) (s : SlotFields) (rest : List ℕ) (x : Read) → opcode f ≡ s.opcode → IsFormOf profile f → number d ≡ s.dst → number r ≡ s.src → IsSlot s → AreBytes rest → is_clean profile f s ≡ true → insn_of_form f d r s rest ≡ Ok x → Takes profile s rest x
 form_takes profile (form.Alu op w K) d r s rest x o of p q is fits clean e =
     let a = and_parts (s.src == 0) (s.offset == 0) clean in
     let i = Alu op w d (operand.Imm (cast_signed w32 s.imm)) in
@@ -166,7 +166,7 @@ form_takes profile form.Exit d r s rest x o of p q is fits clean e =
     single profile _ s rest x (same_slot s _ _ _ _ _ o (is_zero s.dst a.0) (is_zero s.src b.0) (is_zero s.offset g.0) (is_zero s.imm g.1)) refl tt (is_plain profile _ tt) e
 
 -- what is read of a slot and the bytes behind it is spelt so, and is of the profile
-with_takes : (p : Profile) (s : Slot) (rest : List ℕ) (x : Read) → IsSlot s → AreBytes rest → first_with p s rest ≡ Ok x → Takes p s rest x
+with_takes : (p : Profile) (s : SlotFields) (rest : List ℕ) (x : Read) → IsSlot s → AreBytes rest → first_with p s rest ≡ Ok x → Takes p s rest x
 unfolding first_with
 with_takes p s rest x is fits e =
     let a = bind_ok (ok_or (form_of p s.opcode) Opcode) _ x e in
@@ -249,9 +249,9 @@ high_fits v lt = omega (arith, lt)
 pair_made : (d : Reg) (low h : ℕ) (rest : List ℕ) → 8 ≤ length rest → slot_of_bytes rest ≡ second_slot h → pair_of d low rest ≡ Ok (LoadImm d (low + 2 ^ 32 * h), drop 8 rest)
 pair_made d low h rest long is =
     ap (λ (b : Bool). cond b (Err CutOff) (cond (is_second (slot_of_bytes rest)) (Ok (LoadImm d (low + 2 ^ 32 * (slot_of_bytes rest).imm), drop 8 rest)) (Err SecondSlot))) (le-ltb (length rest) 8 long)
-    ∙ ap (λ (t : Slot). cond (is_second t) (Ok (LoadImm d (low + 2 ^ 32 * t.imm), drop 8 rest)) (Err SecondSlot)) is
+    ∙ ap (λ (t : SlotFields). cond (is_second t) (Ok (LoadImm d (low + 2 ^ 32 * t.imm), drop 8 rest)) (Err SecondSlot)) is
 
-long_enough : (s : Slot) (rest : List ℕ) → 8 ≤ length (slot_bytes s ++ rest)
+long_enough : (s : SlotFields) (rest : List ℕ) → 8 ≤ length (slot_bytes s ++ rest)
 long_enough s rest = let l = length-append (slot_bytes s) rest in omega (arith, l)
 
 -- the halves of a 64-bit immediate are read back as one
@@ -286,7 +286,7 @@ first_again p i rest fits of =
     let low = slot_is_low i fits in
     let grouped : insn_bytes i ++ rest ≡ slot_bytes (first_slot i) ++ (second_bytes i ++ rest) = append_assoc (slot_bytes (first_slot i)) (second_bytes i) rest in
     let s : slot_of_bytes (slot_bytes (first_slot i) ++ (second_bytes i ++ rest)) ≡ first_slot i = slot_back (first_slot i) (second_bytes i ++ rest) low.0 low.1 low.2 in
-    ap (first_of p) grouped ∙ ap (λ (t : Slot). first_with p t (second_bytes i ++ rest)) s ∙ with_again p i rest fits of
+    ap (first_of p) grouped ∙ ap (λ (t : SlotFields). first_with p t (second_bytes i ++ rest)) s ∙ with_again p i rest fits of
 
 -- no instruction's bytes begin another's
 pub one_insn : (p : Profile) (i j : Insn) (x y : List ℕ) → Fits i × IsOf p i → Fits j × IsOf p j → insn_bytes i ++ x ≡ insn_bytes j ++ y → (i ≡ j) × (x ≡ y)

@@ -11,8 +11,8 @@ use Rattle.pb_isa.specs.Registers.{reg_of}
 use Rattle.pb_decode.specs.declared.forms.Form.{Form}
 use Rattle.pb_decode.specs.declared.forms.Form.TheVariants.{Alu, Neg, LoadImm, Load, StoreImm, Store, Jump, JumpIf, Call, Exit}
 use Rattle.pb_decode.specs.declared.forms.Source.TheVariants.{K, X}
-use Rattle.pb_decode.specs.declared.fault.Code.{Code}
-use Rattle.pb_decode.specs.declared.fault.Code.TheVariants.{Length, TooLong, Opcode, Register, Unused, CutOff, SecondSlot}
+use Rattle.pb_decode.specs.declared.fault.DecodeCode.{DecodeCode}
+use Rattle.pb_decode.specs.declared.fault.DecodeCode.TheVariants.{Length, TooLong, Opcode, Register, Unused, CutOff, SecondSlot}
 use Rattle.pb_decode.specs.Opcodes.{opcode, IsFormOf, form_of}
 use Rattle.pb_decode.specs.Fields.{slot_of_bytes}
 use Rattle.pb_base.specs.Reading.{◌>>=◌}
@@ -27,8 +27,8 @@ abbrev Read : Type 0
 Read = Insn × List ℕ
 
 -- what the codes have to do with what was read
-abbrev Told : Profile → List ℕ → Result Read Code → Type 0
-Told profile bytes (Ok x) = (code : Code) → Applies profile bytes code → ⊥
+abbrev Told : Profile → List ℕ → Result Read DecodeCode → Type 0
+Told profile bytes (Ok x) = (code : DecodeCode) → Applies profile bytes code → ⊥
 Told profile bytes (Err code) = IsLowest profile bytes code
 
 no_none : {A : Type 0} (o : Option A) (x : A) → o ≡ Some x → o ≡ None → ⊥
@@ -52,7 +52,7 @@ has_pair Two = refl
 -- ---- step by step
 
 -- no code below 12 applies to a slot, since 10 and 11 are of the whole
-least_opcode : (profile : Profile) (bytes : List ℕ) (other : Code) → Applies profile bytes other → 12 ≤ decode_code other
+least_opcode : (profile : Profile) (bytes : List ℕ) (other : DecodeCode) → Applies profile bytes other → 12 ≤ decode_code other
 least_opcode profile bytes Length h = absurd h
 least_opcode profile bytes TooLong h = absurd h
 least_opcode profile bytes Opcode h = omega arith
@@ -70,7 +70,7 @@ no_opcode profile bytes none =
     }
 
 -- where a form has the opcode, no code below 13 applies; and so from code to code
-least_register : (profile : Profile) (bytes : List ℕ) → (Applies profile bytes Opcode → ⊥) → (other : Code) → Applies profile bytes other → 13 ≤ decode_code other
+least_register : (profile : Profile) (bytes : List ℕ) → (Applies profile bytes Opcode → ⊥) → (other : DecodeCode) → Applies profile bytes other → 13 ≤ decode_code other
 least_register profile bytes known Length h = absurd h
 least_register profile bytes known TooLong h = absurd h
 least_register profile bytes known Opcode h = absurd (known h)
@@ -79,7 +79,7 @@ least_register profile bytes known Unused h = omega arith
 least_register profile bytes known CutOff h = omega arith
 least_register profile bytes known SecondSlot h = omega arith
 
-least_unused : (profile : Profile) (bytes : List ℕ) → (Applies profile bytes Opcode → ⊥) → (Applies profile bytes Register → ⊥) → (other : Code) → Applies profile bytes other → 14 ≤ decode_code other
+least_unused : (profile : Profile) (bytes : List ℕ) → (Applies profile bytes Opcode → ⊥) → (Applies profile bytes Register → ⊥) → (other : DecodeCode) → Applies profile bytes other → 14 ≤ decode_code other
 least_unused profile bytes known low Length h = absurd h
 least_unused profile bytes known low TooLong h = absurd h
 least_unused profile bytes known low Opcode h = absurd (known h)
@@ -109,7 +109,7 @@ clean_fields profile bytes f is clean h =
     not_false (is_clean profile f (slot_of_bytes bytes)) clean (subst (λ (g : Form). is_clean profile g (slot_of_bytes bytes) ≡ false) same h.3)
 
 -- behind the first three tests only the two codes of a pair are left
-only_pair : (profile : Profile) (bytes : List ℕ) (f : Form) → Passed profile bytes f → (Applies profile bytes CutOff → ⊥) → (Applies profile bytes SecondSlot → ⊥) → (code : Code) → Applies profile bytes code → ⊥
+only_pair : (profile : Profile) (bytes : List ℕ) (f : Form) → Passed profile bytes f → (Applies profile bytes CutOff → ⊥) → (Applies profile bytes SecondSlot → ⊥) → (code : DecodeCode) → Applies profile bytes code → ⊥
 only_pair profile bytes f p a b Length h = h
 only_pair profile bytes f p a b TooLong h = h
 only_pair profile bytes f p a b Opcode h = known_opcode profile bytes f p.is h
@@ -119,10 +119,10 @@ only_pair profile bytes f p a b CutOff h = a h
 only_pair profile bytes f p a b SecondSlot h = b h
 
 -- so to a slot of another form than the pair's none applies
-none_applies : (profile : Profile) (bytes : List ℕ) (f : Form) → Passed profile bytes f → (LoadImm ≡ f → ⊥) → (code : Code) → Applies profile bytes code → ⊥
+none_applies : (profile : Profile) (bytes : List ℕ) (f : Form) → Passed profile bytes f → (LoadImm ≡ f → ⊥) → (code : DecodeCode) → Applies profile bytes code → ⊥
 none_applies profile bytes f p other = only_pair profile bytes f p (λ h. other (same_form profile f LoadImm (slot_of_bytes bytes).opcode p.is (has_pair profile) h.0)) (λ h. other (same_form profile f LoadImm (slot_of_bytes bytes).opcode p.is (has_pair profile) h.0))
 
-least_cut : (profile : Profile) (bytes : List ℕ) → Passed profile bytes LoadImm → (other : Code) → Applies profile bytes other → 15 ≤ decode_code other
+least_cut : (profile : Profile) (bytes : List ℕ) → Passed profile bytes LoadImm → (other : DecodeCode) → Applies profile bytes other → 15 ≤ decode_code other
 least_cut profile bytes p Length h = absurd h
 least_cut profile bytes p TooLong h = absurd h
 least_cut profile bytes p Opcode h = absurd (known_opcode profile bytes LoadImm p.is h)
@@ -134,7 +134,7 @@ least_cut profile bytes p SecondSlot h = omega arith
 not_short : (profile : Profile) (bytes : List ℕ) → 8 ≤ length (drop 8 bytes) → Applies profile bytes CutOff → ⊥
 not_short profile bytes long h = let lt = h.1 in omega (arith, long, lt)
 
-least_second : (profile : Profile) (bytes : List ℕ) → Passed profile bytes LoadImm → 8 ≤ length (drop 8 bytes) → (other : Code) → Applies profile bytes other → 16 ≤ decode_code other
+least_second : (profile : Profile) (bytes : List ℕ) → Passed profile bytes LoadImm → 8 ≤ length (drop 8 bytes) → (other : DecodeCode) → Applies profile bytes other → 16 ≤ decode_code other
 least_second profile bytes p long Length h = absurd h
 least_second profile bytes p long TooLong h = absurd h
 least_second profile bytes p long Opcode h = absurd (known_opcode profile bytes LoadImm p.is h)
@@ -166,7 +166,7 @@ insn_told profile bytes (JumpIf c w X) d r p = none_applies profile bytes (JumpI
 insn_told profile bytes Call d r p = none_applies profile bytes Call p (λ e. absurd cc)
 insn_told profile bytes Exit d r p = none_applies profile bytes Exit p (λ e. absurd cc)
 
-abbrev with_registers : Profile → List ℕ → Form → Reg → Reg → Result Read Code
+abbrev with_registers : Profile → List ℕ → Form → Reg → Reg → Result Read DecodeCode
 with_registers profile bytes f d r = clean_or_code profile f (slot_of_bytes bytes) >>= (λ g. insn_of_form g d r (slot_of_bytes bytes) (drop 8 bytes))
 
 clean_told : (profile : Profile) (bytes : List ℕ) (f : Form) (d r : Reg) → form_of profile (slot_of_bytes bytes).opcode ≡ Some f → (slot_of_bytes bytes).dst ≤ 10 → (slot_of_bytes bytes).src ≤ 10 → (b : Bool) → is_clean profile f (slot_of_bytes bytes) ≡ b
@@ -200,22 +200,22 @@ told profile bytes = form_told profile bytes (form_of profile (slot_of_bytes byt
 -- ---- both ways
 
 -- the code that is told at the front is the lowest that applies
-pub lowest : (profile : Profile) (bytes : List ℕ) (code : Code) → first_of profile bytes ≡ Err code → IsLowest profile bytes code
+pub lowest : (profile : Profile) (bytes : List ℕ) (code : DecodeCode) → first_of profile bytes ≡ Err code → IsLowest profile bytes code
 lowest profile bytes code e = subst (Told profile bytes) e (told profile bytes)
 
 -- where something is read, no code applies
-none_read : (profile : Profile) (bytes : List ℕ) (x : Read) (code : Code) → first_of profile bytes ≡ Ok x → Applies profile bytes code → ⊥
+none_read : (profile : Profile) (bytes : List ℕ) (x : Read) (code : DecodeCode) → first_of profile bytes ≡ Ok x → Applies profile bytes code → ⊥
 none_read profile bytes x code e = (subst (Told profile bytes) e (told profile bytes)) code
 
 -- where an instruction stands, no code applies
-pub insn_clean : (profile : Profile) (i : Insn) (rest : List ℕ) (code : Code) → Fits i → IsOf profile i → Applies profile (insn_bytes i ++ rest) code → ⊥
+pub insn_clean : (profile : Profile) (i : Insn) (rest : List ℕ) (code : DecodeCode) → Fits i → IsOf profile i → Applies profile (insn_bytes i ++ rest) code → ⊥
 insn_clean profile i rest code fits of h = none_read profile (insn_bytes i ++ rest) (i, rest) code (first_again profile i rest fits of) h
 
-code_of : ℕ → Code
+code_of : ℕ → DecodeCode
 code_of n = cond (nat_eq n 10) Length (cond (nat_eq n 11) TooLong (cond (nat_eq n 12) Opcode (cond (nat_eq n 13) Register (cond (nat_eq n 14) Unused (cond (nat_eq n 15) CutOff SecondSlot)))))
 
 -- the codes have numbers of their own
-code_back : (c : Code) → code_of (decode_code c) ≡ c
+code_back : (c : DecodeCode) → code_of (decode_code c) ≡ c
 unfolding code_of
 code_back Length = refl
 code_back TooLong = refl
@@ -225,15 +225,15 @@ code_back Unused = refl
 code_back CutOff = refl
 code_back SecondSlot = refl
 
-same_code : (c d : Code) → decode_code c ≤ decode_code d → decode_code d ≤ decode_code c → c ≡ d
+same_code : (c d : DecodeCode) → decode_code c ≤ decode_code d → decode_code d ≤ decode_code c → c ≡ d
 same_code c d p q = let e : decode_code c ≡ decode_code d = omega (arith, p, q) in sym (code_back c) ∙ ap code_of e ∙ code_back d
 
-read_lowest : (profile : Profile) (bytes : List ℕ) (code : Code) → IsLowest profile bytes code → (r : Result Read Code) → first_of profile bytes ≡ r → r ≡ Err code
+read_lowest : (profile : Profile) (bytes : List ℕ) (code : DecodeCode) → IsLowest profile bytes code → (r : Result Read DecodeCode) → first_of profile bytes ≡ r → r ≡ Err code
 read_lowest profile bytes code h (Ok x) e = absurd (none_read profile bytes x code e h.applies)
 read_lowest profile bytes code h (Err other) e =
     let o = lowest profile bytes other e in
     ap Err (same_code other code (o.least code h.applies) (h.least other o.applies))
 
 -- and the lowest that applies is the one that is told, since there is but one
-pub lowest_read : (profile : Profile) (bytes : List ℕ) (code : Code) → IsLowest profile bytes code → first_of profile bytes ≡ Err code
+pub lowest_read : (profile : Profile) (bytes : List ℕ) (code : DecodeCode) → IsLowest profile bytes code → first_of profile bytes ≡ Err code
 lowest_read profile bytes code h = read_lowest profile bytes code h (first_of profile bytes) refl

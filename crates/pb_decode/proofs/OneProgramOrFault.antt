@@ -14,8 +14,8 @@ use Rattle.pb_isa.specs.declared.profile.Profile.{Profile}
 use Rattle.pb_isa.specs.declared.profile.Profile.TheVariants as profiles
 use Rattle.pb_isa.specs.Profiles.{IsOf, max_slots}
 use Rattle.pb_isa.specs.Programs.{ProgramOf, IsProgram}
-use Rattle.pb_decode.specs.declared.fault.Code.{Code}
-use Rattle.pb_decode.specs.declared.fault.Code.TheVariants.{Length, TooLong}
+use Rattle.pb_decode.specs.declared.fault.DecodeCode.{DecodeCode}
+use Rattle.pb_decode.specs.declared.fault.DecodeCode.TheVariants.{Length, TooLong}
 use Rattle.pb_decode.specs.declared.fault.DecodeFault.{DecodeFault}
 use Rattle.pb_decode.specs.declared.fault.DecodeFault.TheVariants as faults
 use Rattle.pb_decode.specs.Encoding.{insn_bytes, encoding, in_profile, Encodes}
@@ -90,7 +90,7 @@ again : (profile : Profile) (i : Insn) (rest : List ℕ) → Each profile i → 
 again profile i rest of = first_again profile i rest of.0 of.1
 
 -- the same instructions in front of a fault
-pub same_front : (profile : Profile) (f g : List Insn) (x y : List ℕ) (c d : Code) → All profile f → All profile g → encoding f ++ x ≡ encoding g ++ y → first_of profile x ≡ Err c → first_of profile y ≡ Err d → (slots f ≡ slots g) × (c ≡ d)
+pub same_front : (profile : Profile) (f g : List Insn) (x y : List ℕ) (c d : DecodeCode) → All profile f → All profile g → encoding f ++ x ≡ encoding g ++ y → first_of profile x ≡ Err c → first_of profile y ≡ Err d → (slots f ≡ slots g) × (c ≡ d)
 same_front profile [] [] x y c d f-all g-all e p q = (refl, err_is (first_of profile y) c d (sym (ap (first_of profile) e) ∙ p) q)
 same_front profile [] (j ∷ g) x y c d f-all g-all e p q =
     let r : first_of profile x ≡ Ok (j, encoding g ++ y) = ap (first_of profile) (e ∙ append_assoc (insn_bytes j) (encoding g) y) ∙ again profile j (encoding g ++ y) (front_one profile j g g-all) in
@@ -121,7 +121,7 @@ not_nil i x e =
     omega (arith, h, k, l, z)
 
 -- no fault behind the beginning of a program
-pub none_inside : (profile : Profile) (p g : List Insn) (y : List ℕ) (d : Code) → All profile p → All profile g → encoding p ≡ encoding g ++ y → 0 < length y → first_of profile y ≡ Err d → ⊥
+pub none_inside : (profile : Profile) (p g : List Insn) (y : List ℕ) (d : DecodeCode) → All profile p → All profile g → encoding p ≡ encoding g ++ y → 0 < length y → first_of profile y ≡ Err d → ⊥
 none_inside profile [] [] y d p-all g-all e some q = let z : 0 ≡ length y = ap length e in omega (arith, z, some)
 none_inside profile [] (j ∷ g) y d p-all g-all e some q = not_nil j (encoding g ++ y) (e ∙ append_assoc (insn_bytes j) (encoding g) y)
 none_inside profile (i ∷ p) [] y d p-all g-all e some q = no_error (first_of profile y) (i, encoding p) d (ap (first_of profile) (sym e) ∙ again profile i (encoding p) (front_one profile i p p-all)) q
@@ -197,17 +197,17 @@ no_some o x p q = absurd cc
 some_same : {A : Type 0} (o : Option A) (x y : A) → o ≡ Some x → o ≡ Some y → x ≡ y
 some_same o x y p q = cc
 
-fault_all : (profile : Profile) (bytes : List ℕ) (slot : ℕ) (code : Code) (a : IsFaultAt profile bytes slot code) → All profile a.front
+fault_all : (profile : Profile) (bytes : List ℕ) (slot : ℕ) (code : DecodeCode) (a : IsFaultAt profile bytes slot code) → All profile a.front
 fault_all profile bytes slot code a = (a.fits, a.of_profile)
 
 -- a program's bytes have no fault
-pub not_both : (bytes : List ℕ) (p : ProgramOf) (slot : ℕ) (code : Code) → Encodes bytes p → IsDecodeFault p.profile bytes slot code → ⊥
+pub not_both : (bytes : List ℕ) (p : ProgramOf) (slot : ℕ) (code : DecodeCode) → Encodes bytes p → IsDecodeFault p.profile bytes slot code → ⊥
 not_both bytes p slot code h (inl w) = no_some (whole_fault p.profile bytes) code (none_whole p.profile bytes (program_whole bytes p h)) w.0
 not_both bytes p slot code h (inr a) =
     none_inside p.profile p.insns a.1.front a.1.rest code (all_of bytes p h) (fault_all p.profile bytes slot code a.1) (sym h.spelt ∙ a.1.parts) a.1.some (lowest_read p.profile a.1.rest code a.1.fault)
 
 -- two faults of the same bytes are one
-pub one_fault : (profile : Profile) (bytes : List ℕ) (s t : ℕ) (c d : Code) → IsDecodeFault profile bytes s c → IsDecodeFault profile bytes t d → (s ≡ t) × (c ≡ d)
+pub one_fault : (profile : Profile) (bytes : List ℕ) (s t : ℕ) (c d : DecodeCode) → IsDecodeFault profile bytes s c → IsDecodeFault profile bytes t d → (s ≡ t) × (c ≡ d)
 one_fault profile bytes s t c d (inl a) (inl b) = (a.1 ∙ sym b.1, some_same (whole_fault profile bytes) c d a.0 b.0)
 one_fault profile bytes s t c d (inl a) (inr b) = absurd (no_some (whole_fault profile bytes) c b.0 a.0)
 one_fault profile bytes s t c d (inr a) (inl b) = absurd (no_some (whole_fault profile bytes) d a.0 b.0)
@@ -227,7 +227,7 @@ is_program profile bytes p w h =
 
 -- what the bytes from here on are
 abbrev Rest : Profile → List ℕ → Type 0
-Rest profile bytes = ((p : List Insn) × AreSpelt profile bytes p) ⊎ ((slot : ℕ) × (code : Code) × IsFaultAt profile bytes slot code)
+Rest profile bytes = ((p : List Insn) × AreSpelt profile bytes p) ⊎ ((slot : ℕ) × (code : DecodeCode) × IsFaultAt profile bytes slot code)
 
 -- one more instruction in front of what the rest is
 behind : (profile : Profile) (i : Insn) (bytes after : List ℕ) → Each profile i → bytes ≡ insn_bytes i ++ after → Rest profile after → Rest profile bytes
@@ -243,7 +243,7 @@ even_rest i bytes after e even =
     let h = insn_len i in let k = some_place i in
     (omega (arith, l, h, even), omega (arith, l, h, k))
 
-from : (profile : Profile) (n : ℕ) (bytes : List ℕ) → length bytes ≤ suc n → 0 < length bytes → length bytes % 8 ≡ 0 → AreBytes bytes → (r : Result (Insn × List ℕ) Code) → first_of profile bytes ≡ r
+from : (profile : Profile) (n : ℕ) (bytes : List ℕ) → length bytes ≤ suc n → 0 < length bytes → length bytes % 8 ≡ 0 → AreBytes bytes → (r : Result (Insn × List ℕ) DecodeCode) → first_of profile bytes ≡ r
     → ((after : List ℕ) → length after ≤ n → length after % 8 ≡ 0 → AreBytes after → Rest profile after) → Rest profile bytes
 from profile n bytes le some even fits (Err code) is next = inr (0, code, record { front = []; rest = bytes; some = some; fits = tt; of_profile = tt; parts = refl; place = refl; fault = lowest profile bytes code is })
 from profile n bytes le some even fits (Ok x) is next =
@@ -258,7 +258,7 @@ walk profile n [] le even fits = inl ([], record { fits = tt; of_profile = tt; s
 walk profile zero (b ∷ bytes) le even fits = let no : ⊥ = omega (arith, le) in absurd no
 walk profile (suc n) (b ∷ bytes) le even fits = from profile n (b ∷ bytes) le (omega arith) even fits (first_of profile (b ∷ bytes)) refl (λ m. walk profile n m)
 
-chosen : (profile : Profile) (bytes : List ℕ) (o : Option Code) → whole_fault profile bytes ≡ o → AreBytes bytes → HasProgram profile bytes ⊎ HasFault profile bytes
+chosen : (profile : Profile) (bytes : List ℕ) (o : Option DecodeCode) → whole_fault profile bytes ≡ o → AreBytes bytes → HasProgram profile bytes ⊎ HasFault profile bytes
 chosen profile bytes (Some code) is fits = inr (0, code, inl (is, refl))
 chosen profile bytes None is fits =
     let w = whole_none profile bytes is in
@@ -274,7 +274,7 @@ either profile bytes fits = chosen profile bytes (whole_fault profile bytes) ref
 -- ---- both ways
 
 -- a program of the profile has no fault in it
-no_fault : (profile : Profile) (bytes : List ℕ) (p : ProgramOf) (slot : ℕ) (code : Code) → p.profile ≡ profile → Encodes bytes p → IsDecodeFault profile bytes slot code → ⊥
+no_fault : (profile : Profile) (bytes : List ℕ) (p : ProgramOf) (slot : ℕ) (code : DecodeCode) → p.profile ≡ profile → Encodes bytes p → IsDecodeFault profile bytes slot code → ⊥
 no_fault profile bytes p slot code is h f = not_both bytes p slot code h (subst (λ (v : Profile). IsDecodeFault v bytes slot code) (sym is) f)
 
 -- what came back: the program, or the fault
@@ -313,7 +313,7 @@ one_more profile bytes rest after p i fits parts all even some is =
     (parts ∙ ap (λ (b : List ℕ). encoding p ++ b) t.0 ∙ sym (append_assoc (encoding p) (insn_bytes i) after) ∙ ap (λ (b : List ℕ). b ++ after) (sym spelt), all_push profile p i all (t.1, t.2), e.0, e.1)
 
 -- the loop tells a fault: the slot is that of the rest
-pub fault_at : (profile : Profile) (bytes rest : List ℕ) (p : List Insn) (code : Code) (slot : ℕ) → bytes ≡ encoding p ++ rest → All profile p → 0 < length rest → first_of profile rest ≡ Err code → slot ≡ (length bytes - length rest) / 8 → IsFaultAt profile bytes slot code
+pub fault_at : (profile : Profile) (bytes rest : List ℕ) (p : List Insn) (code : DecodeCode) (slot : ℕ) → bytes ≡ encoding p ++ rest → All profile p → 0 < length rest → first_of profile rest ≡ Err code → slot ≡ (length bytes - length rest) / 8 → IsFaultAt profile bytes slot code
 fault_at profile bytes rest p code slot parts all some is at =
     let l : length bytes ≡ length (encoding p) + length rest = ap length parts ∙ length-append (encoding p) rest in
     let k = bytes_len p in

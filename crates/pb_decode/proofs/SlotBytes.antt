@@ -3,12 +3,12 @@ use Rattle.std.proofs.Common.{◌≡◌, ℕ, ◌+◌, ◌^◌, ◌<◌, ◌≤�
 use Rattle.std.proofs.lemmas.List.{get_or-append-add, get_or-drop}
 use Rattle.byteorder.specs.Numbers.{little_number-reads_back, little_from-lt}
 use Rattle.byteorder.specs.Endian.{little_bytes}
-use Rattle.pb_decode.specs.declared.fields.Slot.{Slot}
+use Rattle.pb_decode.specs.declared.fields.SlotFields.{SlotFields}
 use Rattle.pb_decode.specs.Fields.{slot_bytes, slot_of_bytes}
 use Rattle.pb_decode.specs.Faults.{AreBytes}
 
 -- what the fields are below
-pub record IsSlot (s : Slot) : Type 0 where
+pub record IsSlot (s : SlotFields) : Type 0 where
   pub offset : s.offset < 2 ^ 16
   pub imm : s.imm < 2 ^ 32
 
@@ -48,10 +48,10 @@ is_slot bytes fits =
     }
 
 -- a slot is its fields
-pub same_slot : (s : Slot) (o d r f k : ℕ) → o ≡ s.opcode → d ≡ s.dst → r ≡ s.src → f ≡ s.offset → k ≡ s.imm → record { opcode = o; dst = d; src = r; offset = f; imm = k } ≡ s
+pub same_slot : (s : SlotFields) (o d r f k : ℕ) → o ≡ s.opcode → d ≡ s.dst → r ≡ s.src → f ≡ s.offset → k ≡ s.imm → record { opcode = o; dst = d; src = r; offset = f; imm = k } ≡ s
 same_slot s o d r f k p q t u v = rw (p, q, t, u, v) refl
 
 -- the slot that its own bytes say
-pub slot_back : (s : Slot) (rest : List ℕ) → s.dst < 16 → s.src < 16 → IsSlot s → slot_of_bytes (slot_bytes s ++ rest) ≡ s
+pub slot_back : (s : SlotFields) (rest : List ℕ) → s.dst < 16 → s.src < 16 → IsSlot s → slot_of_bytes (slot_bytes s ++ rest) ≡ s
 slot_back s rest dst src fits =
     same_slot s _ _ _ _ _ refl (omega (arith, dst, src)) (omega (arith, dst, src)) (little_number-reads_back 2 s.offset (little_bytes 4 s.imm ++ rest) fits.offset) (little_number-reads_back 4 s.imm rest fits.imm)

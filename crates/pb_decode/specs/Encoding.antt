@@ -17,12 +17,12 @@ use Rattle.pb_isa.specs.Programs.{ProgramOf, IsProgram}
 use Rattle.pb_decode.specs.declared.forms.Form.{Form}
 use Rattle.pb_decode.specs.declared.forms.Form.TheVariants as form
 use Rattle.pb_decode.specs.declared.forms.Source.TheVariants.{K, X}
-use Rattle.pb_decode.specs.declared.fields.Slot.{Slot}
+use Rattle.pb_decode.specs.declared.fields.SlotFields.{SlotFields}
 use Rattle.pb_decode.specs.Opcodes.{opcode}
 use Rattle.pb_decode.specs.Fields.{slot_bytes}
 
 -- a slot of a form with these fields
-abbrev pub slot : Form → ℕ → ℕ → ℕ → ℕ → Slot
+abbrev pub slot : Form → ℕ → ℕ → ℕ → ℕ → SlotFields
 slot f dst src offset imm = record { opcode = opcode f; dst = dst; src = src; offset = offset; imm = imm }
 
 -- how many bits a sign-extending move takes of its source, which its offset says (section 4.1)
@@ -33,7 +33,7 @@ bits_of W = 32
 bits_of Dw = 64
 
 -- The first slot of an instruction, signed numbers in two's complement. A sign-extending move has the opcode of a move.
-abbrev pub first_slot : Insn → Slot
+abbrev pub first_slot : Insn → SlotFields
 first_slot (Alu op w dst (Imm imm)) = slot (form.Alu op w K) (number dst) 0 0 (cast_unsigned w32 imm)
 first_slot (Alu op w dst (Reg src)) = slot (form.Alu op w X) (number dst) (number src) 0 0
 first_slot (MovSx w z dst src) = slot (form.Alu Mov w X) (number dst) (number src) (bits_of z) 0
@@ -49,7 +49,7 @@ first_slot (Call imm) = slot form.Call 0 0 0 (cast_unsigned w32 imm)
 first_slot Exit = slot form.Exit 0 0 0 0
 
 -- a second slot: all is zero but the immediate
-abbrev pub second_slot : ℕ → Slot
+abbrev pub second_slot : ℕ → SlotFields
 second_slot imm = record { opcode = 0; dst = 0; src = 0; offset = 0; imm = imm }
 
 -- the bytes behind the first slot: the 64-bit immediate has its high half in a second one (section 5.4)

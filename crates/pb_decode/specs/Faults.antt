@@ -9,8 +9,8 @@ use Rattle.pb_isa.specs.declared.profile.Profile.{Profile}
 use Rattle.pb_isa.specs.Profiles.{IsOf, max_slots}
 use Rattle.pb_isa.specs.Slots.{slots}
 use Rattle.pb_isa.specs.Programs.{ProgramOf}
-use Rattle.pb_decode.specs.declared.fault.Code.{Code}
-use Rattle.pb_decode.specs.declared.fault.Code.TheVariants.{Length, TooLong, Opcode, Register, Unused, CutOff, SecondSlot}
+use Rattle.pb_decode.specs.declared.fault.DecodeCode.{DecodeCode}
+use Rattle.pb_decode.specs.declared.fault.DecodeCode.TheVariants.{Length, TooLong, Opcode, Register, Unused, CutOff, SecondSlot}
 use Rattle.pb_decode.specs.declared.fault.DecodeFault.{DecodeFault}
 use Rattle.pb_decode.specs.declared.fault.DecodeFault.TheVariants.{NoMemory, Refused}
 use Rattle.pb_decode.specs.declared.forms.Form.{Form}
@@ -21,7 +21,7 @@ use Rattle.pb_decode.specs.Encoding.{encoding, Encodes}
 use Rattle.pb_decode.specs.Reading.{is_clean, is_second}
 
 -- the numbers by which the faults are told
-abbrev pub decode_code : Code → ℕ
+abbrev pub decode_code : DecodeCode → ℕ
 decode_code Length = 10
 decode_code TooLong = 11
 decode_code Opcode = 12
@@ -33,7 +33,7 @@ decode_code SecondSlot = 16
 -- When a code applies to the bytes at the front, told by their first slot and the bytes behind it: no form of the profile
 -- has the opcode; a register is over 10, in either half; the form doesn't use a field that is not zero; the opcode is the
 -- pair's, and no slot stands behind, or one with more than an immediate. The codes of the whole apply to no slot.
-abbrev pub Applies : Profile → List ℕ → Code → Type 0
+abbrev pub Applies : Profile → List ℕ → DecodeCode → Type 0
 Applies p bytes Length = ⊥
 Applies p bytes TooLong = ⊥
 Applies p bytes Opcode = (f : Form) → IsFormOf p f → opcode f ≢ (slot_of_bytes bytes).opcode
@@ -43,16 +43,16 @@ Applies p bytes CutOff = (opcode LoadImm ≡ (slot_of_bytes bytes).opcode) × (l
 Applies p bytes SecondSlot = (opcode LoadImm ≡ (slot_of_bytes bytes).opcode) × (8 ≤ length (drop 8 bytes)) × (is_second (slot_of_bytes (drop 8 bytes)) ≡ false)
 
 -- the lowest code that applies
-pub record IsLowest (p : Profile) (bytes : List ℕ) (code : Code) : Type 0 where
+pub record IsLowest (p : Profile) (bytes : List ℕ) (code : DecodeCode) : Type 0 where
   pub applies : Applies p bytes code
-  pub least : (other : Code) → Applies p bytes other → decode_code code ≤ decode_code other
+  pub least : (other : DecodeCode) → Applies p bytes other → decode_code code ≤ decode_code other
 
 -- a fault, told
-abbrev pub told_as : ℕ → Code → DecodeFault
+abbrev pub told_as : ℕ → DecodeCode → DecodeFault
 told_as slot code = Refused (record { slot = slot; code = decode_code code })
 
 -- the fault of the whole, which is told before all others: no slots at all, or more than the profile has
-abbrev pub whole_fault : Profile → List ℕ → Option Code
+abbrev pub whole_fault : Profile → List ℕ → Option DecodeCode
 whole_fault p bytes =
     if (length bytes == 0) || not (length bytes % 8 == 0) then Some Length
     else if nat_lt (8 * max_slots p) (length bytes) then Some TooLong
@@ -60,7 +60,7 @@ whole_fault p bytes =
 
 -- The instructions in front are of the profile and spelt as they have to be, and a code applies to what stands behind
 -- them. Where it is a pair, its first slot is told.
-pub record IsFaultAt (p : Profile) (bytes : List ℕ) (slot : ℕ) (code : Code) : Type 0 where
+pub record IsFaultAt (p : Profile) (bytes : List ℕ) (slot : ℕ) (code : DecodeCode) : Type 0 where
   pub front : List Insn
   pub rest : List ℕ
   pub some : 0 < length rest
@@ -71,12 +71,12 @@ pub record IsFaultAt (p : Profile) (bytes : List ℕ) (slot : ℕ) (code : Code)
   pub fault : IsLowest p rest code
 
 -- the first slot at fault, with its lowest code
-abbrev pub IsDecodeFault : Profile → List ℕ → ℕ → Code → Type 0
+abbrev pub IsDecodeFault : Profile → List ℕ → ℕ → DecodeCode → Type 0
 IsDecodeFault p bytes slot code = (whole_fault p bytes ≡ Some code × (slot ≡ 0)) ⊎ ((whole_fault p bytes ≡ None) × IsFaultAt p bytes slot code)
 
 -- the first slot at fault with its lowest code, by the numbers that are told
 abbrev pub AreRefusedAs : Profile → List ℕ → ℕ → ℕ → Type 0
-AreRefusedAs p bytes slot told = (code : Code) × (told ≡ decode_code code) × IsDecodeFault p bytes slot code
+AreRefusedAs p bytes slot told = (code : DecodeCode) × (told ≡ decode_code code) × IsDecodeFault p bytes slot code
 
 -- why no program came back: memory was refused, or that is the fault
 abbrev pub IsRefusal : Profile → List ℕ → DecodeFault → Type 0
@@ -98,7 +98,7 @@ HasProgram profile bytes = (p : ProgramOf) × (p.profile ≡ profile) × Encodes
 
 -- the bytes have some fault in the profile
 abbrev pub HasFault : Profile → List ℕ → Type 0
-HasFault p bytes = (slot : ℕ) × (code : Code) × IsDecodeFault p bytes slot code
+HasFault p bytes = (slot : ℕ) × (code : DecodeCode) × IsDecodeFault p bytes slot code
 
 -- memory was refused, or what is told is that fault
 abbrev pub IsNoMemoryOr : ℕ → ℕ → DecodeFault → Type 0
@@ -114,4 +114,4 @@ pub record AreSpelt (p : Profile) (bytes : List ℕ) (is : List Insn) : Type 0 w
 -- memory was refused, or a slot is at fault
 abbrev pub IsRefusalInside : Profile → List ℕ → DecodeFault → Type 0
 IsRefusalInside p bytes NoMemory = Unit {0}
-IsRefusalInside p bytes (Refused r) = (code : Code) × (r.code ≡ decode_code code) × IsFaultAt p bytes r.slot code
+IsRefusalInside p bytes (Refused r) = (code : DecodeCode) × (r.code ≡ decode_code code) × IsFaultAt p bytes r.slot code

@@ -21,9 +21,9 @@ use Rattle.pb_decode.specs.declared.forms.Form.{Form}
 use Rattle.pb_decode.specs.declared.forms.Form.TheVariants as form
 use Rattle.pb_decode.specs.declared.forms.Source.{Source}
 use Rattle.pb_decode.specs.declared.forms.Source.TheVariants.{K, X}
-use Rattle.pb_decode.specs.declared.fields.Slot.{Slot}
-use Rattle.pb_decode.specs.declared.fault.Code.{Code}
-use Rattle.pb_decode.specs.declared.fault.Code.TheVariants.{Opcode, Register, Unused, CutOff, SecondSlot}
+use Rattle.pb_decode.specs.declared.fields.SlotFields.{SlotFields}
+use Rattle.pb_decode.specs.declared.fault.DecodeCode.{DecodeCode}
+use Rattle.pb_decode.specs.declared.fault.DecodeCode.TheVariants.{Opcode, Register, Unused, CutOff, SecondSlot}
 use Rattle.pb_decode.specs.Opcodes.{form_of}
 use Rattle.pb_decode.specs.Fields.{slot_of_bytes}
 
@@ -34,7 +34,7 @@ is_alu_offset Two Mov Bits32 n = (n == 0) || ((n == 8) || (n == 16))
 is_alu_offset p op w n = n == 0
 
 -- the fields that a form doesn't use are zero
-abbrev pub is_clean : Profile → Form → Slot → Bool
+abbrev pub is_clean : Profile → Form → SlotFields → Bool
 is_clean p (form.Alu op w K) s = (s.src == 0) && (s.offset == 0)
 is_clean p (form.Alu op w X) s = is_alu_offset p op w s.offset && (s.imm == 0)
 is_clean p (form.Neg w) s = (s.src == 0) && ((s.offset == 0) && (s.imm == 0))
@@ -49,11 +49,11 @@ is_clean p form.Call s = (s.dst == 0) && ((s.src == 0) && (s.offset == 0))
 is_clean p form.Exit s = (s.dst == 0) && ((s.src == 0) && ((s.offset == 0) && (s.imm == 0)))
 
 -- a second slot has nothing but an immediate
-abbrev pub is_second : Slot → Bool
+abbrev pub is_second : SlotFields → Bool
 is_second s = (s.opcode == 0) && ((s.dst == 0) && ((s.src == 0) && (s.offset == 0)))
 
 -- the 64-bit immediate of this low half, whose high half stands in the slot behind
-abbrev pub pair_of : Reg → ℕ → List ℕ → Result (Insn × List ℕ) Code
+abbrev pub pair_of : Reg → ℕ → List ℕ → Result (Insn × List ℕ) DecodeCode
 pair_of dst low rest =
     if nat_lt (length rest) 8 then Err CutOff
     else if is_second (slot_of_bytes rest) then Ok (LoadImm dst (low + 2 ^ 32 * (slot_of_bytes rest).imm), drop 8 rest)
@@ -69,13 +69,13 @@ abbrev pub size_of_bits : ℕ → Size
 size_of_bits n = if n == 8 then B else if n == 16 then H else W
 
 -- arithmetic; with an offset, which a move of a register alone has, it extends the sign of so many bits
-abbrev pub alu_of : AluOp → Width → Source → Reg → Reg → Slot → Insn
+abbrev pub alu_of : AluOp → Width → Source → Reg → Reg → SlotFields → Insn
 alu_of op w x dst src s =
     if s.offset == 0 then Alu op w dst (operand_of_source x src (cast_signed w32 s.imm))
     else MovSx w (size_of_bits s.offset) dst src
 
 -- the instruction of a form with these fields, and the bytes behind it
-abbrev pub insn_of_form : Form → Reg → Reg → Slot → List ℕ → Result (Insn × List ℕ) Code
+abbrev pub insn_of_form : Form → Reg → Reg → SlotFields → List ℕ → Result (Insn × List ℕ) DecodeCode
 insn_of_form (form.Alu op w x) dst src s rest = Ok (alu_of op w x dst src s, rest)
 insn_of_form (form.Neg w) dst src s rest = Ok (Neg w dst, rest)
 insn_of_form form.LoadImm dst src s rest = pair_of dst s.imm rest
@@ -88,11 +88,11 @@ insn_of_form form.Call dst src s rest = Ok (Call (cast_signed w32 s.imm), rest)
 insn_of_form form.Exit dst src s rest = Ok (Exit, rest)
 
 -- the form, unless a field that it doesn't use isn't zero
-abbrev pub clean_or_code : Profile → Form → Slot → Result Form Code
+abbrev pub clean_or_code : Profile → Form → SlotFields → Result Form DecodeCode
 clean_or_code p f s = if is_clean p f s then Ok f else Err Unused
 
 -- The opcode first, then both registers, then the unused fields, and last a pair's second slot.
-unfoldable pub first_with : Profile → Slot → List ℕ → Result (Insn × List ℕ) Code
+unfoldable pub first_with : Profile → SlotFields → List ℕ → Result (Insn × List ℕ) DecodeCode
 first_with p s rest = do
   known ← ok_or (form_of p s.opcode) Opcode
   dst ← ok_or (reg_of s.dst) Register
@@ -101,5 +101,5 @@ first_with p s rest = do
   insn_of_form clean dst src s rest
 
 -- of the slot in front, and the bytes behind it
-abbrev pub first_of : Profile → List ℕ → Result (Insn × List ℕ) Code
+abbrev pub first_of : Profile → List ℕ → Result (Insn × List ℕ) DecodeCode
 first_of p bytes = first_with p (slot_of_bytes bytes) (drop 8 bytes)

@@ -10,7 +10,7 @@ use thiserror::Error;
 /// What is wrong with the bytes. A slot is looked at in the order of the numbers, so that the first code that is found
 /// is the lowest.
 #[derive(Clone, Copy, Debug, PartialEq, Eq)]
-pub enum Code {
+pub enum DecodeCode {
     /// Their length is zero, or no multiple of 8.
     Length,
     /// More slots than the profile has.
@@ -27,19 +27,19 @@ pub enum Code {
     SecondSlot,
 }
 
-impl Code {
+impl DecodeCode {
     /// The number by which a code is told.
     pub fn code(self) -> u8
         ensures { result ≡ decode_code self }
     {
         match self {
-            Code::Length => 10,
-            Code::TooLong => 11,
-            Code::Opcode => 12,
-            Code::Register => 13,
-            Code::Unused => 14,
-            Code::CutOff => 15,
-            Code::SecondSlot => 16,
+            DecodeCode::Length => 10,
+            DecodeCode::TooLong => 11,
+            DecodeCode::Opcode => 12,
+            DecodeCode::Register => 13,
+            DecodeCode::Unused => 14,
+            DecodeCode::CutOff => 15,
+            DecodeCode::SecondSlot => 16,
         }
     }
 }

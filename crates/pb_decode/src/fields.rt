@@ -6,7 +6,7 @@ use byteorder::{ByteOrder, LittleEndian};
 
 /// A slot. Offset and immediate are words, whose sign is read later, since the halves of a 64-bit immediate have none.
 #[derive(Clone, Copy, Debug, PartialEq, Eq)]
-pub struct Slot {
+pub struct SlotFields {
     pub opcode: u8,
     pub dst: u8,
     pub src: u8,
@@ -14,13 +14,13 @@ pub struct Slot {
     pub imm: u32,
 }
 
-impl Slot {
+impl SlotFields {
     /// The slot in the first eight bytes. It can't fail, since any eight bytes are some slot.
-    pub fn at(bytes: &[u8]) -> Slot
+    pub fn at(bytes: &[u8]) -> SlotFields
         requires { 8 ≤ length bytes.now }
         ensures { result ≡ slot_of_bytes bytes.now }
     {
-        Slot {
+        SlotFields {
             opcode: bytes[0],
             dst: bytes[1] % 16,
             src: bytes[1] / 16,

@@ -8,32 +8,32 @@ ghost use Rattle.pb_isa.specs.Profiles.{IsOf, max_slots};
 ghost use Rattle.pb_isa.specs.declared.profile.Profile.{Profile};
 ghost use Rattle.pb_isa.specs.declared.profile.Profile.TheVariants.{One, Two};
 ghost use Rattle.pb_isa.specs.Registers.{reg_of};
-ghost use Rattle.pb_decode.specs.declared.fault.Code.{Code};
-ghost use Rattle.pb_decode.specs.declared.fault.Code.TheVariants.{Register};
+ghost use Rattle.pb_decode.specs.declared.fault.DecodeCode.{DecodeCode};
+ghost use Rattle.pb_decode.specs.declared.fault.DecodeCode.TheVariants.{Register};
 ghost use Rattle.pb_decode.specs.Fields.{slot_of_bytes};
 ghost use Rattle.pb_decode.specs.Encoding.{insn_bytes, encoding, Encodes, in_profile};
 ghost use Rattle.pb_decode.specs.Reading.{is_second, pair_of, operand_of_source, size_of_bits, alu_of, insn_of_form, first_of};
 ghost use Rattle.pb_decode.specs.Faults.{Applies, whole_fault, told_as, IsDecodeFault, AreRefusedAs, IsRefusal, IsRefusalInside, IsNoMemory, IsNoMemoryOr, AreSpelt, AreBytes, HasProgram, HasFault};
 
-use crate::fault::{Code, DecodeFault};
-use crate::fields::Slot;
+use crate::fault::{DecodeCode, DecodeFault};
+use crate::fields::SlotFields;
 use crate::forms::{Form, Source};
 use pb_base::Refused;
 use pb_isa::{AluOp, Insn, NoProgram, Operand, Profile, Program, Reg, Size, Width};
 use std::alloc::Global;
 
 // The register of a number.
-fn register(number: u8) -> Result<Reg, Code>
+fn register(number: u8) -> Result<Reg, DecodeCode>
     ensures { result ≡ ok_or (reg_of number) Register }
 {
     match Reg::of(number) {
         Some(reg) => Ok(reg),
-        None => Err(Code::Register),
+        None => Err(DecodeCode::Register),
     }
 }
 
 // Whether a slot has nothing but an immediate.
-fn is_second(slot: Slot) -> bool
+fn is_second(slot: SlotFields) -> bool
     ensures { result ≡ is_second slot }
 {
     slot.opcode == 0 && slot.dst == 0 && slot.src == 0 && slot.offset == 0
@@ -41,15 +41,15 @@ fn is_second(slot: Slot) -> bool
 
 // The 64-bit immediate of this low half, whose high half stands in the slot behind. A pair that is cut off is told
 // before one whose second slot is wrong, since there is no such slot.
-fn pair_of(dst: Reg, low: u32, bytes: &[u8]) -> Result<(Insn, &[u8]), Code>
+fn pair_of(dst: Reg, low: u32, bytes: &[u8]) -> Result<(Insn, &[u8]), DecodeCode>
     ensures { Gives (λ _. false) (λ x. (x.0, x.1.now)) result (pair_of dst low bytes.now) }
 {
     if bytes.len() < 8 {
-        return Err(Code::CutOff);
+        return Err(DecodeCode::CutOff);
     }
-    let second = Slot::at(bytes);
+    let second = SlotFields::at(bytes);
     if !is_second(second) {
-        return Err(Code::SecondSlot);
+        return Err(DecodeCode::SecondSlot);
     }
     let imm = u64::from(low) + 0x1_0000_0000 * u64::from(second.imm);
     Ok((Insn::LoadImm { dst, imm }, &bytes[8..]))
@@ -77,7 +77,7 @@ fn size_of_bits(bits: u16) -> Size
 }
 
 // Arithmetic. With an offset, which a move of a register alone has, it extends the sign of so many bits.
-fn alu_of(op: AluOp, width: Width, source: Source, dst: Reg, src: Reg, slot: Slot) -> Insn
+fn alu_of(op: AluOp, width: Width, source: Source, dst: Reg, src: Reg, slot: SlotFields) -> Insn
     ensures { result ≡ alu_of op width source dst src slot }
 {
     if slot.offset == 0 {
@@ -100,7 +100,13 @@ fn alu_of(op: AluOp, width: Width, source: Source, dst: Reg, src: Reg, slot: Slo
 }
 
 // The instruction of a form with these fields, and the bytes behind it. Only a pair takes more than its slot.
-fn insn_of(form: Form, dst: Reg, src: Reg, slot: Slot, bytes: &[u8]) -> Result<(Insn, &[u8]), Code>
+fn insn_of(
+    form: Form,
+    dst: Reg,
+    src: Reg,
+    slot: SlotFields,
+    bytes: &[u8],
+) -> Result<(Insn, &[u8]), DecodeCode>
     ensures { Gives (λ _. false) (λ x. (x.0, x.1.now)) result (insn_of_form form dst src slot bytes.now) }
 {
     let imm = slot.imm.cast_signed();
@@ -145,37 +151,37 @@ fn insn_of(form: Form, dst: Reg, src: Reg, slot: Slot, bytes: &[u8]) -> Result<(
 // The instruction at the front, and the bytes behind it; or the lowest code that applies. The tests stand in the order
 // of the codes, so that the first that fails tells it.
 #[tactic(auto, unfolding(crate::specs::Reading::first_with))]
-fn first_of(profile: Profile, bytes: &[u8]) -> Result<(Insn, &[u8]), Code>
+fn first_of(profile: Profile, bytes: &[u8]) -> Result<(Insn, &[u8]), DecodeCode>
     requires { 8 ≤ length bytes.now }
     ensures { Gives (λ _. false) (λ x. (x.0, x.1.now)) result (first_of profile bytes.now) }
 {
-    let slot = Slot::at(bytes);
+    let slot = SlotFields::at(bytes);
     let Some(form) = Form::of(profile, slot.opcode) else {
-        return Err(Code::Opcode);
+        return Err(DecodeCode::Opcode);
     };
     let dst = register(slot.dst)?;
     let src = register(slot.src)?;
     if !form.is_clean(profile, slot) {
-        return Err(Code::Unused);
+        return Err(DecodeCode::Unused);
     }
     insn_of(form, dst, src, slot, &bytes[8..])
 }
 
 // The fault of the whole, told at slot 0 before that of any slot.
-fn whole_fault(profile: Profile, bytes: &[u8]) -> Option<Code>
+fn whole_fault(profile: Profile, bytes: &[u8]) -> Option<DecodeCode>
     ensures { result ≡ whole_fault profile bytes.now }
 {
     if bytes.is_empty() || bytes.len() % 8 != 0 {
-        Some(Code::Length)
+        Some(DecodeCode::Length)
     } else if bytes.len() > 8 * profile.max_slots() {
-        Some(Code::TooLong)
+        Some(DecodeCode::TooLong)
     } else {
         None
     }
 }
 
 // A fault at a slot.
-fn refused(slot: u16, code: Code) -> DecodeFault
+fn refused(slot: u16, code: DecodeCode) -> DecodeFault
     ensures { result ≡ told_as slot code }
 {
     let code = code.code();
@@ -257,13 +263,13 @@ pub fn decode_in(alloc: Global, profile: Profile, bytes: &[u8]) -> Result<Progra
 pub fn either_program_or_fault()
     ensures either { (profile : Profile) (bytes : List ℕ) → AreBytes bytes
         → HasProgram profile bytes ⊎ HasFault profile bytes }
-    ensures not_both { (bytes : List ℕ) (p : ProgramOf) (slot : ℕ) (code : Code) → Encodes bytes p
+    ensures not_both { (bytes : List ℕ) (p : ProgramOf) (slot : ℕ) (code : DecodeCode) → Encodes bytes p
         → IsDecodeFault p.profile bytes slot code → ⊥ }
     ensures one_program { (bytes : List ℕ) (p q : ProgramOf) → p.profile ≡ q.profile → Encodes bytes p
         → Encodes bytes q → p ≡ q }
-    ensures one_fault { (profile : Profile) (bytes : List ℕ) (s t : ℕ) (c d : Code) → IsDecodeFault profile bytes s c
+    ensures one_fault { (profile : Profile) (bytes : List ℕ) (s t : ℕ) (c d : DecodeCode) → IsDecodeFault profile bytes s c
         → IsDecodeFault profile bytes t d → (s ≡ t) × (c ≡ d) }
-    ensures no_code { (profile : Profile) (i : Insn) (rest : List ℕ) (code : Code) → Fits i → IsOf profile i
+    ensures no_code { (profile : Profile) (i : Insn) (rest : List ℕ) (code : DecodeCode) → Fits i → IsOf profile i
         → Applies profile (insn_bytes i ++ rest) code → ⊥ }
 {}
 

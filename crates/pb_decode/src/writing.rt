@@ -4,7 +4,7 @@ ghost use Rattle.pb_isa.specs.declared.insn.Insn.TheVariants as insn;
 ghost use Rattle.pb_isa.specs.Registers.{number};
 ghost use Rattle.pb_decode.specs.Encoding.{slot, bits_of, first_slot, second_bytes, insn_bytes, encoding, Encodes};
 
-use crate::fields::Slot;
+use crate::fields::SlotFields;
 use crate::forms::{Form, Source};
 use pb_base::NoMemory;
 use pb_isa::{AluOp, Cmp, Insn, Operand, Program, Reg, Size, Width};
@@ -19,11 +19,11 @@ fn number(reg: Reg) -> u8
 }
 
 // A slot of a form.
-fn slot(form: Form, dst: u8, src: u8, offset: u16, imm: u32) -> Slot
+fn slot(form: Form, dst: u8, src: u8, offset: u16, imm: u32) -> SlotFields
     ensures { result ≡ slot form dst src offset imm }
 {
     let opcode = form.opcode();
-    Slot {
+    SlotFields {
         opcode,
         dst,
         src,
@@ -33,7 +33,7 @@ fn slot(form: Form, dst: u8, src: u8, offset: u16, imm: u32) -> Slot
 }
 
 // The slot of a form that takes both registers and no immediate.
-fn register_slot(form: Form, dst: Reg, src: Reg, offset: u16) -> Slot
+fn register_slot(form: Form, dst: Reg, src: Reg, offset: u16) -> SlotFields
     ensures slot { result ≡ slot form (number dst) (number src) offset 0 }
     ensures dst { result.dst < 16 }
     ensures src { result.src < 16 }
@@ -55,7 +55,7 @@ fn bits_of(size: Size) -> u16
 }
 
 // The slot of an arithmetic operation.
-fn alu_slot(op: AluOp, width: Width, dst: Reg, src: Operand) -> Slot
+fn alu_slot(op: AluOp, width: Width, dst: Reg, src: Operand) -> SlotFields
     ensures slot { result ≡ first_slot (insn.Alu op width dst src) }
     ensures dst { result.dst < 16 }
     ensures src { result.src < 16 }
@@ -70,7 +70,7 @@ fn alu_slot(op: AluOp, width: Width, dst: Reg, src: Operand) -> Slot
 }
 
 // The slot of a conditional jump.
-fn jump_slot(cmp: Cmp, width: Width, dst: Reg, src: Operand, offset: i16) -> Slot
+fn jump_slot(cmp: Cmp, width: Width, dst: Reg, src: Operand, offset: i16) -> SlotFields
     ensures slot { result ≡ first_slot (insn.JumpIf cmp width dst src offset) }
     ensures dst { result.dst < 16 }
     ensures src { result.src < 16 }
@@ -86,7 +86,7 @@ fn jump_slot(cmp: Cmp, width: Width, dst: Reg, src: Operand, offset: i16) -> Slo
 }
 
 // The first slot of an instruction. Fields that it doesn't use are zero, since it is read back only so.
-fn first_slot(insn: Insn) -> Slot
+fn first_slot(insn: Insn) -> SlotFields
     ensures slot { result ≡ first_slot insn }
     ensures dst { result.dst < 16 }
     ensures src { result.src < 16 }
@@ -156,7 +156,7 @@ fn put(out: &mut Vec<u8>, insn: Insn) -> Result<(), AllocError>
 {
     out.extend_from_slice(&first_slot(insn).bytes())?;
     if let Insn::LoadImm { imm, .. } = insn {
-        let second = Slot {
+        let second = SlotFields {
             opcode: 0,
             dst: 0,
             src: 0,

@@ -7,23 +7,23 @@ use Rattle.pb_kinds.specs.declared.frame.Kind.TheVariants.{Unset, Number, Stack,
 use Rattle.pb_kinds.specs.declared.frame.Frame.{Frame}
 use Rattle.pb_kinds.specs.Frames.{kind_of, is_unset}
 use Rattle.pb_kinds.specs.Ranges.{in_stack, are_written}
-use Rattle.pb_helpers.specs.declared.code.Code.{Code}
-use Rattle.pb_helpers.specs.declared.code.Code.TheVariants.{ReadsUnset, OutsideStack, UnwrittenByte, WrongArgument}
+use Rattle.pb_helpers.specs.declared.code.RuleCode.{RuleCode}
+use Rattle.pb_helpers.specs.declared.code.RuleCode.TheVariants.{ReadsUnset, OutsideStack, UnwrittenByte, WrongArgument}
 use Rattle.pb_helpers.specs.Codes.{code_number, when, CodesRiseWithin}
 use Rattle.pb_helpers.specs.Arguments.{unset, stack_writes, filled_bytes, taken_bytes, is_cell, call_rules}
 
 -- codes that rise from b on rise from any a below it on
-from_lower : (a b c : ℕ) (cs : List Code) → a ≤ b → CodesRiseWithin b c cs → CodesRiseWithin a c cs
+from_lower : (a b c : ℕ) (cs : List RuleCode) → a ≤ b → CodesRiseWithin b c cs → CodesRiseWithin a c cs
 from_lower a b c [] l h = omega arith
 from_lower a b c (x ∷ xs) l h = (omega (arith, h.0), h.1)
 
 -- two rising lists one after the other rise, where the second begins no lower than the first ends
-joined : (a b c : ℕ) (xs ys : List Code) → CodesRiseWithin a b xs → CodesRiseWithin b c ys → CodesRiseWithin a c (xs ++ ys)
+joined : (a b c : ℕ) (xs ys : List RuleCode) → CodesRiseWithin a b xs → CodesRiseWithin b c ys → CodesRiseWithin a c (xs ++ ys)
 joined a b c [] ys h k = from_lower a b c ys h k
 joined a b c (x ∷ xs) ys h k = (h.0, joined (code_number x) b c xs ys h.1 k)
 
 -- one code, if it is listed at all, lies from itself to itself
-one : (a : ℕ) (t : Bool) (c : Code) → a ≤ code_number c → CodesRiseWithin a (code_number c) (when t c)
+one : (a : ℕ) (t : Bool) (c : RuleCode) → a ≤ code_number c → CodesRiseWithin a (code_number c) (when t c)
 one a true c l = (l, omega arith)
 one a false c l = l
 
@@ -33,7 +33,7 @@ read_or_outside true u = one 21 u UnwrittenByte (omega arith)
 read_or_outside false u = (omega arith, omega arith)
 
 -- codes that rise up to b rise up to any c above it
-to_higher : (a b c : ℕ) (cs : List Code) → b ≤ c → CodesRiseWithin a b cs → CodesRiseWithin a c cs
+to_higher : (a b c : ℕ) (cs : List RuleCode) → b ≤ c → CodesRiseWithin a b cs → CodesRiseWithin a c cs
 to_higher a b c [] l h = omega arith
 to_higher a b c (x ∷ xs) l h = (h.0, to_higher (code_number x) b c xs l h.1)
 
@@ -58,7 +58,7 @@ wrong : (t : Bool) → CodesRiseWithin 26 31 (when t WrongArgument)
 wrong t = one 26 t WrongArgument (omega arith)
 
 -- three registers, then the bytes, then the wrong argument: the order of the rules is that of the codes
-with_place : (f : Frame) (cs : List Code) (t : Bool) → CodesRiseWithin 21 26 cs → CodesRiseWithin 21 31 (unset f 1 ++ unset f 2 ++ unset f 3 ++ cs ++ when t WrongArgument)
+with_place : (f : Frame) (cs : List RuleCode) (t : Bool) → CodesRiseWithin 21 26 cs → CodesRiseWithin 21 31 (unset f 1 ++ unset f 2 ++ unset f 3 ++ cs ++ when t WrongArgument)
 with_place f cs t h =
     joined 21 26 31 (unset f 1 ++ unset f 2 ++ unset f 3 ++ cs) (when t WrongArgument)
     (joined 21 21 26 (unset f 1 ++ unset f 2 ++ unset f 3) cs

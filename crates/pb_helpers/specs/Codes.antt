@@ -1,11 +1,11 @@
 -- The codes of the verifier's rules. They are this project's own profile. A definition lists all codes that an
 -- instruction breaks, by rising number, so that the lowest is the first, whatever order a body tests them in.
 use Rattle.std.specs.Prelude.{ℕ, ◌≤◌, Bool, true, false, List, [], ◌∷◌, map, Option, Some, None}
-use Rattle.pb_helpers.specs.declared.code.Code.{Code}
-use Rattle.pb_helpers.specs.declared.code.Code.TheVariants.{ReadsUnset, WritesR10, PointerArithmetic, PointerStored, OutsideStack, UnwrittenByte, OutsideRecord, WritesRecord, ThroughNumber, NotDeclared, WrongArgument, BackwardJump, JumpOutside, JumpIntoPair, Unreachable, FallsOff, ExitsWithPointer, PointerCompared}
+use Rattle.pb_helpers.specs.declared.code.RuleCode.{RuleCode}
+use Rattle.pb_helpers.specs.declared.code.RuleCode.TheVariants.{ReadsUnset, WritesR10, PointerArithmetic, PointerStored, OutsideStack, UnwrittenByte, OutsideRecord, WritesRecord, ThroughNumber, NotDeclared, WrongArgument, BackwardJump, JumpOutside, JumpIntoPair, Unreachable, FallsOff, ExitsWithPointer, PointerCompared}
 
 -- the number by which a code is told
-abbrev pub code_number : Code → ℕ
+abbrev pub code_number : RuleCode → ℕ
 code_number ReadsUnset = 21
 code_number WritesR10 = 22
 code_number PointerArithmetic = 23
@@ -26,12 +26,12 @@ code_number ExitsWithPointer = 37
 code_number PointerCompared = 38
 
 -- a code is listed where its rule is broken
-abbrev pub when : Bool → Code → List Code
+abbrev pub when : Bool → RuleCode → List RuleCode
 when true code = code ∷ []
 when false code = []
 
 -- of codes that are listed lowest first
-abbrev pub lowest_code : List Code → Option Code
+abbrev pub lowest_code : List RuleCode → Option RuleCode
 lowest_code [] = None
 lowest_code (c ∷ cs) = Some c
 
@@ -41,5 +41,5 @@ RisesWithin low high [] = low ≤ high
 RisesWithin low high (n ∷ ns) = (low ≤ n) × RisesWithin n high ns
 
 -- the codes are listed lowest first, all from low to high
-abbrev pub CodesRiseWithin : ℕ → ℕ → List Code → Type 0
+abbrev pub CodesRiseWithin : ℕ → ℕ → List RuleCode → Type 0
 CodesRiseWithin low high cs = RisesWithin low high (map code_number cs)

@@ -5,7 +5,7 @@ ghost use Rattle.pb_helpers.specs.Codes.{code_number, when, lowest_code};
 
 /// What is wrong with an instruction.
 #[derive(Clone, Copy, Debug, PartialEq, Eq)]
-pub enum Code {
+pub enum RuleCode {
     /// It reads an unset register.
     ReadsUnset,
     /// It writes R10.
@@ -44,35 +44,35 @@ pub enum Code {
     PointerCompared,
 }
 
-impl Code {
+impl RuleCode {
     /// The number by which a code is told.
     pub fn code(self) -> u8
         ensures { result ≡ code_number self }
     {
         match self {
-            Code::ReadsUnset => 21,
-            Code::WritesR10 => 22,
-            Code::PointerArithmetic => 23,
-            Code::PointerStored => 24,
-            Code::OutsideStack => 25,
-            Code::UnwrittenByte => 26,
-            Code::OutsideRecord => 27,
-            Code::WritesRecord => 28,
-            Code::ThroughNumber => 29,
-            Code::NotDeclared => 30,
-            Code::WrongArgument => 31,
-            Code::BackwardJump => 32,
-            Code::JumpOutside => 33,
-            Code::JumpIntoPair => 34,
-            Code::Unreachable => 35,
-            Code::FallsOff => 36,
-            Code::ExitsWithPointer => 37,
-            Code::PointerCompared => 38,
+            RuleCode::ReadsUnset => 21,
+            RuleCode::WritesR10 => 22,
+            RuleCode::PointerArithmetic => 23,
+            RuleCode::PointerStored => 24,
+            RuleCode::OutsideStack => 25,
+            RuleCode::UnwrittenByte => 26,
+            RuleCode::OutsideRecord => 27,
+            RuleCode::WritesRecord => 28,
+            RuleCode::ThroughNumber => 29,
+            RuleCode::NotDeclared => 30,
+            RuleCode::WrongArgument => 31,
+            RuleCode::BackwardJump => 32,
+            RuleCode::JumpOutside => 33,
+            RuleCode::JumpIntoPair => 34,
+            RuleCode::Unreachable => 35,
+            RuleCode::FallsOff => 36,
+            RuleCode::ExitsWithPointer => 37,
+            RuleCode::PointerCompared => 38,
         }
     }
 
     /// This code where its rule is broken.
-    pub fn when(self, broken: bool) -> Option<Code>
+    pub fn when(self, broken: bool) -> Option<RuleCode>
         ensures { result ≡ lowest_code (when broken self) }
     {
         if broken { Some(self) } else { None }

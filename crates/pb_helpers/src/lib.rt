@@ -19,5 +19,5 @@ pub use arguments::{
 };
 pub use ask::{Ask, Reply};
 pub use change::{Record, Version};
-pub use code::Code;
+pub use code::RuleCode;
 pub use table::HelperTable;

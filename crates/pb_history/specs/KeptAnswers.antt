@@ -2,11 +2,11 @@
 use Rattle.pb_base.specs.declared.cell.Cell.TheVariants.{Data, Ack}
 use Rattle.pb_steps.specs.declared.step.Answer.{Answer}
 use Rattle.pb_steps.specs.declared.step.Answer.TheVariants as answers
-use Rattle.pb_history.specs.declared.kept_answer.Form.{Form}
-use Rattle.pb_history.specs.declared.kept_answer.Form.TheVariants as forms
+use Rattle.pb_history.specs.declared.kept_answer.KeptForm.{KeptForm}
+use Rattle.pb_history.specs.declared.kept_answer.KeptForm.TheVariants as forms
 
 -- the answer that each form stands for
-abbrev pub answer_of : Form → Answer
+abbrev pub answer_of : KeptForm → Answer
 answer_of (forms.At at) = answers.At at
 answer_of (forms.Told told) = told.value
 answer_of forms.Absent = answers.Absent

@@ -11,13 +11,13 @@ use std::marker::Model;
 /// An answer as it is kept, in 16 bytes where an `Answer` has 64: what is told of a lock or of a version stands on the heap.
 #[derive(Drop)]
 pub struct KeptAnswer {
-    form: Form,
+    form: KeptForm,
 }
 
 // Fields lie in the order in which they stand here: a row behind what takes a byte needs no 8 more. So a marked cell
 // stands here by its parts, since a whole cell would.
 #[derive(Drop)]
-pub(crate) enum Form {
+pub(crate) enum KeptForm {
     At(Ts),
     /// A lock or a version.
     Told(Box<Answer>),
@@ -82,14 +82,14 @@ impl AnswerRoom {
 }
 
 // Keeps what is told of a lock or of a version in the room.
-fn told(answer: Answer, room: &mut AnswerRoom) -> Form
+fn told(answer: Answer, room: &mut AnswerRoom) -> KeptForm
     requires { room.old ≡ true }
     ensures { answer_of result ≡ answer }
 {
     match room.room.take() {
         Some(mut place) => {
             *place = answer;
-            Form::Told(place)
+            KeptForm::Told(place)
         }
         // There is room, since every caller asks for it.
         None => unreachable!(),
@@ -97,12 +97,12 @@ fn told(answer: Answer, room: &mut AnswerRoom) -> Form
 }
 
 // A marked cell, by its parts.
-fn marked(cell: Cell) -> Form
+fn marked(cell: Cell) -> KeptForm
     ensures { answer_of result ≡ Marked cell }
 {
     match cell {
-        Cell::Data(row, column) => Form::MarkedData(column, row),
-        Cell::Ack(observer, row, column) => Form::MarkedAck(observer, column, row),
+        Cell::Data(row, column) => KeptForm::MarkedData(column, row),
+        Cell::Ack(observer, row, column) => KeptForm::MarkedAck(observer, column, row),
     }
 }
 
@@ -115,19 +115,19 @@ impl KeptAnswer {
         ensures { result ≡ answer }
     {
         let form = match answer {
-            Answer::At(at) => Form::At(at),
+            Answer::At(at) => KeptForm::At(at),
             Answer::Locked { .. } | Answer::Found { .. } => told(answer, room),
-            Answer::Absent => Form::Absent,
-            Answer::Done => Form::Done,
-            Answer::Conflict => Form::Conflict,
-            Answer::Committed => Form::Committed,
-            Answer::Lost => Form::Lost,
-            Answer::RolledBack => Form::RolledBack,
-            Answer::Waits => Form::Waits,
-            Answer::CommittedAt(at) => Form::CommittedAt(at),
+            Answer::Absent => KeptForm::Absent,
+            Answer::Done => KeptForm::Done,
+            Answer::Conflict => KeptForm::Conflict,
+            Answer::Committed => KeptForm::Committed,
+            Answer::Lost => KeptForm::Lost,
+            Answer::RolledBack => KeptForm::RolledBack,
+            Answer::Waits => KeptForm::Waits,
+            Answer::CommittedAt(at) => KeptForm::CommittedAt(at),
             Answer::Marked(cell) => marked(cell),
-            Answer::NoMark => Form::NoMark,
-            Answer::StillBehind => Form::StillBehind,
+            Answer::NoMark => KeptForm::NoMark,
+            Answer::StillBehind => KeptForm::StillBehind,
         };
         KeptAnswer { form }
     }
@@ -137,9 +137,9 @@ impl KeptAnswer {
         ensures { IsTrue result ↔ (self.now ≡ other.now) }
     {
         match (&self.form, &other.form) {
-            (Form::Told(told), Form::Told(other)) => **told == **other,
-            (Form::At(at), Form::At(other)) => *at == *other,
-            (Form::Done, Form::Done) => true,
+            (KeptForm::Told(told), KeptForm::Told(other)) => **told == **other,
+            (KeptForm::At(at), KeptForm::At(other)) => *at == *other,
+            (KeptForm::Done, KeptForm::Done) => true,
             _ => self.get() == other.get(),
         }
     }
@@ -149,22 +149,22 @@ impl KeptAnswer {
         ensures { result ≡ self.now }
     {
         match &self.form {
-            Form::At(at) => Answer::At(*at),
-            Form::Told(told) => **told,
-            Form::Absent => Answer::Absent,
-            Form::Done => Answer::Done,
-            Form::Conflict => Answer::Conflict,
-            Form::Committed => Answer::Committed,
-            Form::Lost => Answer::Lost,
-            Form::RolledBack => Answer::RolledBack,
-            Form::Waits => Answer::Waits,
-            Form::CommittedAt(at) => Answer::CommittedAt(*at),
-            Form::MarkedData(column, row) => Answer::Marked(Cell::Data(*row, *column)),
-            Form::MarkedAck(observer, column, row) => {
+            KeptForm::At(at) => Answer::At(*at),
+            KeptForm::Told(told) => **told,
+            KeptForm::Absent => Answer::Absent,
+            KeptForm::Done => Answer::Done,
+            KeptForm::Conflict => Answer::Conflict,
+            KeptForm::Committed => Answer::Committed,
+            KeptForm::Lost => Answer::Lost,
+            KeptForm::RolledBack => Answer::RolledBack,
+            KeptForm::Waits => Answer::Waits,
+            KeptForm::CommittedAt(at) => Answer::CommittedAt(*at),
+            KeptForm::MarkedData(column, row) => Answer::Marked(Cell::Data(*row, *column)),
+            KeptForm::MarkedAck(observer, column, row) => {
                 Answer::Marked(Cell::Ack(*observer, *row, *column))
             }
-            Form::NoMark => Answer::NoMark,
-            Form::StillBehind => Answer::StillBehind,
+            KeptForm::NoMark => Answer::NoMark,
+            KeptForm::StillBehind => Answer::StillBehind,
         }
     }
 }

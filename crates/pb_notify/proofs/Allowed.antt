@@ -30,8 +30,8 @@ use Rattle.pb_history.specs.History.{Has, IsEntry}
 use Rattle.pb_history.specs.AcknowledgedTold.{TellsAcknowledged}
 use Rattle.pb_history.specs.Laws.{TransactionsAreTold, JournalsAreSound, AcknowledgedIsEarlier}
 use Rattle.pb_history.specs.TransactionsTold.{names_start, entries_naming, transaction_by, TellsTransactions}
-use Rattle.pb_txn.specs.declared.place.Place.TheVariants as orders
-use Rattle.pb_txn.specs.declared.place.Place as order
+use Rattle.pb_txn.specs.declared.place.PlanPlace.TheVariants as orders
+use Rattle.pb_txn.specs.declared.place.PlanPlace as order
 use Rattle.pb_txn.specs.Places as steps
 use Rattle.pb_txn.specs.Plans.{PlanOf}
 use Rattle.pb_txn.specs.Plans as plans
@@ -39,8 +39,8 @@ use Rattle.pb_txn.specs.Talks.{told}
 use Rattle.pb_txn.specs.Allowed.{IsInRange, IsTimely, PlansAreAllowed}
 use Rattle.pb_txn.specs.Forms.{PlansTalk, PlansEnd}
 use Rattle.pb_notify.specs.declared.look.Look.{Look}
-use Rattle.pb_notify.specs.declared.place.Place.{Place}
-use Rattle.pb_notify.specs.declared.place.Place.TheVariants.{Beginning, Observing, Acknowledging, Recalling, Starting, Computing, Asking, Planning, Sweeping, Over}
+use Rattle.pb_notify.specs.declared.place.RunPlace.{RunPlace}
+use Rattle.pb_notify.specs.declared.place.RunPlace.TheVariants.{Beginning, Observing, Acknowledging, Recalling, Starting, Computing, Asking, Planning, Sweeping, Over}
 use Rattle.pb_notify.specs.Forms.{IsAcknowledged}
 use Rattle.pb_notify.specs.Looks.{look_step}
 use Rattle.pb_notify.specs.Places.{step_at}
@@ -192,12 +192,12 @@ module _ (observers : List ObserverOf) (seats clock : ℕ) (journal : List Entry
           (λ t h. in_range t (ap (λ (z : TransactionOf). z.work) (same_transaction _ t kept.0 h (got_is ∙ kept.1)) ∙ kept.2.work)) i.talks_are
           (has_said journal seat i.s i.base i.plan read.recorded.bare said_by) next refused
 
-      later_on : (at : order.Place) → (at ≡ orders.Declaring → ⊥) → steps.step_at i.s.0 what at ≡ Some step → plans.next_of p ≡ Some step → why ≡ OutOfTimestamps
+      later_on : (at : order.PlanPlace) → (at ≡ orders.Declaring → ⊥) → steps.step_at i.s.0 what at ≡ Some step → plans.next_of p ≡ Some step → why ≡ OutOfTimestamps
       later_on at later here next =
           let kept = plan_keeps state.observers seat i.s (plans.fresh i.s.0 what) p i.plan u i.talks_are in
           goes_in_time state seat why seated i.s.0 kept.0 (record { there = got_is ∙ kept.1; mine = kept.2.seat }) at step later (plan_step i.s.0 what at step here) (timely next) refused
 
-      by_place : (at : order.Place) → p.place ≡ at → steps.step_at i.s.0 what at ≡ Some step → plans.next_of p ≡ Some step → why ≡ OutOfTimestamps
+      by_place : (at : order.PlanPlace) → p.place ≡ at → steps.step_at i.s.0 what at ≡ Some step → plans.next_of p ≡ Some step → why ≡ OutOfTimestamps
       by_place orders.Declaring is here next = absurd (at_declaration is here)
       by_place at is here next = later_on at (λ e. cc) here next
 
@@ -206,7 +206,7 @@ module _ (observers : List ObserverOf) (seats clock : ℕ) (journal : List Entry
           let ks = keeps (plans.fresh i.s.0 what) p i.plan i.talks_are in
           by_place p.place refl ((λ j. steps.step_at (sym ks.0 j) (sym ks.1 j) p.place) ∙ next) next
 
-    at_place : (n : ℕ) (place : Place) → talk.SoFar o observer.program row observer.column n place said → step_at o row observer.column place ≡ Some step → why ≡ OutOfTimestamps
+    at_place : (n : ℕ) (place : RunPlace) → talk.SoFar o observer.program row observer.column n place said → step_at o row observer.column place ≡ Some step → why ≡ OutOfTimestamps
     at_place n Beginning so next =
         begins_in_time state seat why seated o row observer there (subst (λ z. step_reason state seat z ≡ Some why) (sym (same_step (Begin (works.Run o row)) step next)) refused)
     at_place n (Observing s look) so next = at_look s _ None look [] (cell_begins state.observers seat s o row second observer.column look n said so) (omega arith) next

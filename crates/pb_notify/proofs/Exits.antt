@@ -1,7 +1,7 @@
 -- Where a machine stood before its exit, by what it left.
 use Rattle.std.proofs.Common.{◌≡◌, ℕ, ◌+◌, ◌-◌, ◌≤◌, ◌<◌, sym, ap, subst, ◌∙◌, arith}
 use Rattle.pb_isa.specs.Slots.{slots}
-use Rattle.pb_vm.specs.declared.moved.Phase.TheVariants.{Going, Over}
+use Rattle.pb_vm.specs.declared.moved.MachinePhase.TheVariants.{Going, Over}
 use Rattle.pb_vm.specs.MachineSlot.{IsAtSlot}
 use Rattle.pb_vm.specs.Position.{Position}
 use Rattle.pb_vm.specs.Moves.{EndedWith, EndsAt, Finishes}

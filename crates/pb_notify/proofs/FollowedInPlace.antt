@@ -10,11 +10,11 @@ use Rattle.pb_vm.specs.Position.{Position}
 use Rattle.pb_vm.specs.Moves.{Moves, IsStop, Advances}
 use Rattle.pb_vm.specs.declared.moved.Moved.{Moved}
 use Rattle.pb_vm.specs.declared.moved.Moved.TheVariants as moved
-use Rattle.pb_vm.specs.declared.moved.Phase.TheVariants.{Going}
+use Rattle.pb_vm.specs.declared.moved.MachinePhase.TheVariants.{Going}
 use Rattle.pb_notify.specs.declared.machine.stepped.Stepped.TheVariants as did
 use Rattle.pb_notify.specs.declared.need.Need.TheVariants.{Local}
-use Rattle.pb_notify.specs.declared.place.Place.{Place}
-use Rattle.pb_notify.specs.declared.place.Place.TheVariants.{Starting, Computing}
+use Rattle.pb_notify.specs.declared.place.RunPlace.{RunPlace}
+use Rattle.pb_notify.specs.declared.place.RunPlace.TheVariants.{Starting, Computing}
 use Rattle.pb_notify.specs.Steps.{WentOn, Proceeds, at_first, one_more, FollowsOn}
 use Rattle.pb_notify.specs.Places.{ComesFrom, MovesAt, GoesAt, ProceedsAt, FollowsAt, WaitsAt, GrowsAt, AtPlace, IsLocal, stored_step}
 use Rattle.pb_notify.specs.Runs.{RunOf, need_at, Computes, ComputesOn, ComputesSome}
@@ -67,37 +67,37 @@ proceeds_going v w at_first going = going
 proceeds_going v w (one_more u x on went) going = went.went.phase
 
 -- its last instruction is done from where all before it led
-pub followed_at : (before : Place) (m : Moved) (after : Place) → FollowsAt before m after → (last : Place) × ProceedsAt before last × MovesAt last m after
+pub followed_at : (before : RunPlace) (m : Moved) (after : RunPlace) → FollowsAt before m after → (last : RunPlace) × ProceedsAt before last × MovesAt last m after
 followed_at (Computing s v) m (Computing t w) h = (Computing s h.1.last, (refl, h.1.proceeds), (h.0, h.1.moves))
 followed_at _ m _ h = absurd h
 
 -- where none was done it stands still
-pub still_at : (place : Place) → IsLocal place → ProceedsAt place place
+pub still_at : (place : RunPlace) → IsLocal place → ProceedsAt place place
 still_at (Starting s seen) at = refl
 still_at (Computing s v) at = (refl, at_first)
 still_at _ at = absurd at
 
 -- what ended it was its exit, which takes memory
-pub exit_grows : (old : Place) (r : ℕ) (new : Place) → MovesAt old (moved.Ended r) new → GrowsAt old
+pub exit_grows : (old : RunPlace) (r : ℕ) (new : RunPlace) → MovesAt old (moved.Ended r) new → GrowsAt old
 exit_grows (Computing s v) r (Computing t w) h = (r, h.1.moves.at)
 exit_grows _ r _ h = absurd h
 
 -- a machine that goes on still fits its place
-pub proceeds_at : (locked : ℕ) (before after : Place) → ProceedsAt before after → AtPlace locked before → AtPlace locked after
+pub proceeds_at : (locked : ℕ) (before after : RunPlace) → ProceedsAt before after → AtPlace locked before → AtPlace locked after
 proceeds_at locked (Computing s v) (Computing t w) on at = (at.0, proceeds_going v w on.1 at.1)
 proceeds_at locked before after on at = subst (AtPlace locked) (sym on) at
 
 -- instructions change nothing about the step that is kept
-pub no_step_at : (o : ℕ) (row : Row) (column : ℕ) (before after : Place) → ProceedsAt before after → stored_step o row column after ≡ stored_step o row column before
+pub no_step_at : (o : ℕ) (row : Row) (column : ℕ) (before after : RunPlace) → ProceedsAt before after → stored_step o row column after ≡ stored_step o row column before
 no_step_at o row column (Computing s v) (Computing t w) on = refl
 no_step_at o row column before after on = ap (stored_step o row column) on
 
-asks_goes : (old new : Place) (q : Ask) → MovesAt old (moved.Asks q) new → GoesAt old (moved.Asks q) new
+asks_goes : (old new : RunPlace) (q : Ask) → MovesAt old (moved.Asks q) new → GoesAt old (moved.Asks q) new
 asks_goes (Computing s v) (Computing t w) q h = (h.0, h.1.moves)
 asks_goes _ _ q h = absurd h
 
 -- a machine that waits fits the look that its place has then
-pub waits_at : (locked : ℕ) (before after : Place) → AtPlace locked before → WaitsAt before after → AtPlace locked after
+pub waits_at : (locked : ℕ) (before after : RunPlace) → AtPlace locked before → WaitsAt before after → AtPlace locked after
 waits_at locked before after at w =
     let last = followed_at before (moved.Asks w.0) w.1 w.2 in
     subst (AtPlace locked) (sym w.3) (asks_at locked last.0 w.1 w.0 (proceeds_at locked before last.0 last.1 at) (asks_goes last.0 w.1 w.0 last.2))
@@ -105,7 +105,7 @@ waits_at locked before after at w =
 -- ---- a job
 
 -- the job, standing at this place
-abbrev job_at : RunOf → Place → RunOf
+abbrev job_at : RunOf → RunPlace → RunOf
 job_at j p = record j { place = p }
 
 -- its machine's instructions are as many of the job's
@@ -114,16 +114,16 @@ on_computing j s v w at_first = runs.at_first
 on_computing j s v w (one_more u x on went) =
     runs.one_more (job_at j (Computing s u)) (job_at j (Computing s x)) (on_computing j s v u on) refl (record { comes = record { stepped = did.Went x; steps = went; place_is = refl }; same = refl })
 
-pub on_at : (j : RunOf) (before after : Place) → ProceedsAt before after → ComputesOn (job_at j before) (job_at j after)
+pub on_at : (j : RunOf) (before after : RunPlace) → ProceedsAt before after → ComputesOn (job_at j before) (job_at j after)
 on_at j (Computing s v) (Computing t w) h = subst (λ (z : Ts). ComputesOn (job_at j (Computing s v)) (job_at j (Computing z w))) (sym h.0) (on_computing j s v w h.1)
 on_at j before after h = subst (λ p. ComputesOn (job_at j before) (job_at j p)) (sym h) runs.at_first
 
-local_at : (old : Place) (m : Moved) (new : Place) → MovesAt old m new → need_at old ≡ Local
+local_at : (old : RunPlace) (m : Moved) (new : RunPlace) → MovesAt old m new → need_at old ≡ Local
 local_at (Computing s v) m new h = refl
 local_at _ m new h = absurd h
 
 -- up to an ask the job did at least one
-pub some_at : (j : RunOf) (before after : Place) → WaitsAt before after → ComputesSome (job_at j before) (job_at j after)
+pub some_at : (j : RunOf) (before after : RunPlace) → WaitsAt before after → ComputesSome (job_at j before) (job_at j after)
 some_at j before after w =
     let last = followed_at before (moved.Asks w.0) w.1 w.2 in
     let x = Data j.row j.column in
@@ -137,7 +137,7 @@ some_at j before after w =
       };
     }
 
-pub grows_local : (place : Place) → GrowsAt place → need_at place ≡ Local
+pub grows_local : (place : RunPlace) → GrowsAt place → need_at place ≡ Local
 grows_local (Starting s seen) h = refl
 grows_local (Computing s v) h = refl
 grows_local _ h = absurd h

@@ -8,14 +8,14 @@ use Rattle.pb_isa.specs.Slots.{slots}
 use Rattle.pb_vm.specs.Position.{Position}
 use Rattle.pb_notify.specs.declared.machine.stepped.Stepped.{Stepped}
 use Rattle.pb_notify.specs.declared.machine.stepped.Stepped.TheVariants as did
-use Rattle.pb_notify.specs.declared.place.Place.{Place}
-use Rattle.pb_notify.specs.declared.place.Place.TheVariants.{Starting, Computing}
+use Rattle.pb_notify.specs.declared.place.RunPlace.{RunPlace}
+use Rattle.pb_notify.specs.declared.place.RunPlace.TheVariants.{Starting, Computing}
 use Rattle.pb_notify.specs.Places.{ComesFrom, Comes, place_of}
 use Rattle.pb_notify.specs.Steps.{Steps}
 use Rattle.pb_notify.specs.Runs.{RunOf, Computes, ComputesOn, ComputesSome, at_first, one_more}
 
 -- what is left of the program's slots, and at least one, so that an ask and the exit lower it too
-abbrev pub left : JudgedOf → Place → ℕ
+abbrev pub left : JudgedOf → RunPlace → ℕ
 left judged (Starting s seen) = slots judged.program.insns + 2
 left judged (Computing s v) = (slots v.judged.program.insns - v.taken) + 1
 left judged _ = 0
@@ -30,11 +30,11 @@ comes_by judged o s v (did.Went w) st =
 comes_by judged o s v (did.Asks w q) st = omega arith
 comes_by judged o s v (did.Ended r what) st = omega arith
 
-comes_less : (judged : JudgedOf) (o : ℕ) (s : Ts) (v : Position) (after : Place) → Comes o s v after → left judged after < (slots v.judged.program.insns - v.taken) + 1
+comes_less : (judged : JudgedOf) (o : ℕ) (s : Ts) (v : Position) (after : RunPlace) → Comes o s v after → left judged after < (slots v.judged.program.insns - v.taken) + 1
 comes_less judged o s v after c = subst (λ p. left judged p < (slots v.judged.program.insns - v.taken) + 1) (sym c.place_is) (comes_by judged o s v c.stepped c.steps)
 
 -- so from a start as from a machine that goes on
-less_left : (judged : JudgedOf) (o : ℕ) (x : Cell) (before after : Place) → ComesFrom o judged x before after → left judged after < left judged before
+less_left : (judged : JudgedOf) (o : ℕ) (x : Cell) (before after : RunPlace) → ComesFrom o judged x before after → left judged after < left judged before
 less_left judged o x (Starting s seen) after c = let l = comes_less judged o s _ after c.comes in omega (arith, l)
 less_left judged o x (Computing s v) after c = comes_less judged o s v after c
 less_left judged o x _ after c = absurd c

@@ -8,7 +8,7 @@ use Rattle.pb_base.specs.declared.content.Revision.{Revision}
 use Rattle.pb_isa.specs.Programs.{JudgedOf}
 use Rattle.pb_steps.specs.Declarations.{old_at}
 use Rattle.pb_helpers.specs.declared.ask.Ask.{Ask}
-use Rattle.pb_vm.specs.declared.moved.Phase.TheVariants as phases
+use Rattle.pb_vm.specs.declared.moved.MachinePhase.TheVariants as phases
 use Rattle.pb_vm.specs.Position.{Position}
 use Rattle.pb_steps.specs.declared.seen.Seen.{Seen}
 use Rattle.pb_steps.specs.declared.step.Step.{Step}
@@ -28,8 +28,8 @@ use Rattle.pb_notify.specs.declared.look.Looked.TheVariants.{On, Tells, Blocks}
 use Rattle.pb_notify.specs.declared.machine.stepped.Stepped.{Stepped}
 use Rattle.pb_notify.specs.declared.machine.stepped.Stepped.TheVariants as did
 use Rattle.pb_notify.specs.declared.need.JobEnd.TheVariants as ends
-use Rattle.pb_notify.specs.declared.place.Place.{Place}
-use Rattle.pb_notify.specs.declared.place.Place.TheVariants.{Beginning, Observing, Acknowledging, Recalling, Starting, Computing, Asking, Planning, Sweeping, Over}
+use Rattle.pb_notify.specs.declared.place.RunPlace.{RunPlace}
+use Rattle.pb_notify.specs.declared.place.RunPlace.TheVariants.{Beginning, Observing, Acknowledging, Recalling, Starting, Computing, Asking, Planning, Sweeping, Over}
 use Rattle.pb_notify.specs.Looks.{look_after, locked_after}
 use Rattle.pb_notify.specs.Steps.{Steps}
 use Rattle.pb_notify.specs.Places.{place_after, locked_at, after_begin, if_found, after_cell, if_recalled, seen_so_far, after_acknowledgment, after_recall, after_ask, by_outcome, place_of, Comes, ComesFrom, AtPlace, step_at}
@@ -106,7 +106,7 @@ at_outcome n r p (Some outcomes.Conflicted) is fits = tt
 at_outcome n r p (Some outcomes.Lost) is fits = tt
 
 -- so after any answer
-pub at_after : (second : Bool) (locked : ℕ) (place : Place) (a : Answer) → AtPlace locked place → AtPlace (locked_at locked place a) (place_after second locked place a)
+pub at_after : (second : Bool) (locked : ℕ) (place : RunPlace) (a : Answer) → AtPlace locked place → AtPlace (locked_at locked place a) (place_after second locked place a)
 at_after second locked Beginning a at = at_begun locked a at
 at_after second locked (Observing s look) a at = at_observed _ s (look_after locked look a) (look_few locked look a at)
 at_after second locked (Acknowledging s found look) a at = at_acknowledged _ second s found (look_after locked look a) (look_few locked look a at)
@@ -126,11 +126,11 @@ at_stepped locked o s v (did.Went w) steps few = (few, steps.went.phase)
 at_stepped locked o s v (did.Asks w q) steps few = (few, steps.phase)
 at_stepped locked o s v (did.Ended r what) steps few = (refl, tt)
 
-at_come : (locked o : ℕ) (s : Ts) (v : Position) (place : Place) → Comes o s v place → locked < MAX_LOCKED → AtPlace locked place
+at_come : (locked o : ℕ) (s : Ts) (v : Position) (place : RunPlace) → Comes o s v place → locked < MAX_LOCKED → AtPlace locked place
 at_come locked o s v place comes few = subst (AtPlace locked) (sym comes.place_is) (at_stepped locked o s v comes.stepped comes.steps few)
 
 -- and so after any instruction
-pub at_computed : (locked o : ℕ) (judged : JudgedOf) (x : Cell) (place next : Place) → ComesFrom o judged x place next → AtPlace locked place → AtPlace locked next
+pub at_computed : (locked o : ℕ) (judged : JudgedOf) (x : Cell) (place next : RunPlace) → ComesFrom o judged x place next → AtPlace locked place → AtPlace locked next
 at_computed locked o judged x (Starting s seen) next comes at = at_come locked o s _ next comes.comes at
 at_computed locked o judged x (Computing s v) next comes at = at_come locked o s v next comes at.0
 at_computed locked o judged x _ next comes at = absurd comes
@@ -138,7 +138,7 @@ at_computed locked o judged x _ next comes at = absurd comes
 -- ---- the whole job
 
 -- where it needs an answer there is a next step
-pub call_has_next : (o : ℕ) (row : Row) (column locked : ℕ) (place : Place) → AtPlace locked place → need_at place ≡ needs.Call → (s : Step) × (step_at o row column place ≡ Some s)
+pub call_has_next : (o : ℕ) (row : Row) (column locked : ℕ) (place : RunPlace) → AtPlace locked place → need_at place ≡ needs.Call → (s : Step) × (step_at o row column place ≡ Some s)
 call_has_next o row column locked Beginning at e = (_, refl)
 call_has_next o row column locked (Observing s look) at e = (_, refl)
 call_has_next o row column locked (Acknowledging s found look) at e = (_, refl)

@@ -32,8 +32,8 @@ use Rattle.pb_notify.specs.declared.look.Looked.TheVariants.{On, Tells, Blocks}
 use Rattle.pb_notify.specs.declared.machine.stepped.Stepped.{Stepped}
 use Rattle.pb_notify.specs.declared.machine.stepped.Stepped.TheVariants as did
 use Rattle.pb_notify.specs.declared.need.JobEnd.TheVariants as ends
-use Rattle.pb_notify.specs.declared.place.Place.{Place}
-use Rattle.pb_notify.specs.declared.place.Place.TheVariants.{Beginning, Observing, Acknowledging, Recalling, Starting, Computing, Asking, Planning, Sweeping, Over}
+use Rattle.pb_notify.specs.declared.place.RunPlace.{RunPlace}
+use Rattle.pb_notify.specs.declared.place.RunPlace.TheVariants.{Beginning, Observing, Acknowledging, Recalling, Starting, Computing, Asking, Planning, Sweeping, Over}
 use Rattle.pb_notify.specs.Looks.{look_after}
 use Rattle.pb_notify.specs.Steps.{Steps}
 use Rattle.pb_notify.specs.Places.{place_after, after_begin, if_found, after_cell, if_recalled, seen_so_far, after_acknowledgment, after_recall, after_ask, by_outcome, place_of, Comes, ComesFrom, IsToldBy, IsToldAt}
@@ -90,7 +90,7 @@ abbrev IsAsked : Position → Ask → Type 0
 IsAsked v q = (a : Placement) → IsPlacement (length v.bytes) a → AsksAt v q a
 
 -- the machine of a place, if it has one, was led there
-abbrev AtLed : Place → Type 0
+abbrev AtLed : RunPlace → Type 0
 AtLed (Computing s v) = IsLed v × HasSize v
 AtLed (Asking s v q look) = IsLed v × HasSize v × IsAsked v q
 AtLed place = Unit {0}
@@ -140,7 +140,7 @@ outcome_led r p (Some outcomes.Conflicted) = tt
 outcome_led r p (Some outcomes.Lost) = tt
 
 -- so after any answer
-answered_led : (second : Bool) (locked : ℕ) (place : Place) (a : Answer) → AtLed place → IsToldAt locked place a (place_after second locked place a) → AtLed (place_after second locked place a)
+answered_led : (second : Bool) (locked : ℕ) (place : RunPlace) (a : Answer) → AtLed place → IsToldAt locked place a (place_after second locked place a) → AtLed (place_after second locked place a)
 answered_led second locked Beginning a led is = begun_led a
 answered_led second locked (Observing s look) a led is = observed_led s (look_after locked look a)
 answered_led second locked (Acknowledging s found look) a led is = acknowledged_led second s found (look_after locked look a)
@@ -158,10 +158,10 @@ stepped_led o s v (did.Went w) size st = (went_led v w st.went, sized v w st.wen
 stepped_led o s v (did.Asks w q) size st = (asks_led v q w st, sized v w st.given size, asks_open v q w st)
 stepped_led o s v (did.Ended r what) size st = tt
 
-comes_led : (o : ℕ) (s : Ts) (v : Position) (place : Place) → HasSize v → Comes o s v place → AtLed place
+comes_led : (o : ℕ) (s : Ts) (v : Position) (place : RunPlace) → HasSize v → Comes o s v place → AtLed place
 comes_led o s v place size c = subst AtLed (sym c.place_is) (stepped_led o s v c.stepped size c.steps)
 
-computed_led : (o : ℕ) (judged : JudgedOf) (x : Cell) (place next : Place) → AtLed place → ComesFrom o judged x place next → AtLed next
+computed_led : (o : ℕ) (judged : JudgedOf) (x : Cell) (place next : RunPlace) → AtLed place → ComesFrom o judged x place next → AtLed next
 computed_led o judged x (Starting s seen) next led c = comes_led o s _ next c.size c.comes
 computed_led o judged x (Computing s v) next led c = comes_led o s v next led.1 c
 computed_led o judged x _ next led c = absurd c
@@ -178,7 +178,7 @@ reached_led j said k led (computed before from to reaches need c) = computed_led
 
 module _ (o : ℕ) (judged : JudgedOf) (row : Row) (column : ℕ) where
   -- a look goes on from what was said before it
-  machine_at : (said : List Received) (n : ℕ) (place : Place) (s : Ts) (v : Position) → MachineStandsAt place s v → talk.SoFar o judged row column n place said → AtLed place → IsMachineOf o judged row column place s v said
+  machine_at : (said : List Received) (n : ℕ) (place : RunPlace) (s : Ts) (v : Position) → MachineStandsAt place s v → talk.SoFar o judged row column n place said → AtLed place → IsMachineOf o judged row column place s v said
   machine_at said n (Computing t w) s v stands so led =
       subst (λ (z : Position). IsMachineOf o judged row column (Computing t w) s z said) stands.1
       (subst (λ (z : Ts). IsMachineOf o judged row column (Computing t w) z w said) stands.0
@@ -198,7 +198,7 @@ machines_are_led pt pe o judged row column said k s v reaches stands =
     let h = talk.holds o judged row column pt pe said k reaches in
     machine_at o judged row column said k.locked k.place s v stands h.so (reached_led (fresh o judged row column) said k tt reaches)
 
-asking_led : (place : Place) → AtLed place → IsAskingAt place
+asking_led : (place : RunPlace) → AtLed place → IsAskingAt place
 asking_led (Asking s v q look) led = led.2
 asking_led place led = tt
 
@@ -211,7 +211,7 @@ keeps_what p [] q t = ap (λ (z : PlanOf). z.what) t
 keeps_what p (r ∷ rs) q t = keeps_what (plans.answered p r.answer) rs q t.2
 
 module _ (o : ℕ) (judged : JudgedOf) (row : Row) (column : ℕ) where
-  ended_at : (n : ℕ) (place : Place) (said : List Received) → talk.SoFar o judged row column n place said → HasEnded o judged row column place said
+  ended_at : (n : ℕ) (place : RunPlace) (said : List Received) → talk.SoFar o judged row column n place said → HasEnded o judged row column place said
   ended_at n (Planning r p) said so = record {
     s = so.s;
     seen = so.seen;

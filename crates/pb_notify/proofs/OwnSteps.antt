@@ -25,8 +25,8 @@ use Rattle.pb_steps.specs.CommitPrimary.{commit_reasons}
 use Rattle.pb_steps.specs.CommitSecondary.{secondary_reasons}
 use Rattle.pb_steps.specs.Reasons.{Reasons, IsOwn, is_out, no_seat, if_of_seat, first_reason, reasons_of, own_reasons}
 use Rattle.pb_steps.specs.Steps.{step_reason}
-use Rattle.pb_txn.specs.declared.place.Place.{Place}
-use Rattle.pb_txn.specs.declared.place.Place.TheVariants.{Declaring}
+use Rattle.pb_txn.specs.declared.place.PlanPlace.{PlanPlace}
+use Rattle.pb_txn.specs.declared.place.PlanPlace.TheVariants.{Declaring}
 use Rattle.pb_txn.specs.Allowed.{IsTimely}
 use Rattle.pb_notify.specs.declared.look.Look.{Look}
 use Rattle.pb_notify.specs.declared.look.Look.TheVariants.{Reading, Clearing, Settling, ClearingAgain}
@@ -116,7 +116,7 @@ module _ (state : StateOf) (seat : ℕ) (why : Reason) (seated : seat < state.se
     own_step start reasons is e = sym (by_own reasons) ∙ ap (λ n. first_reason (own_reasons state seat n reasons)) (sym is) ∙ e
 
     -- a later step of a plan, at its time
-    pub goes_in_time : (p : Place) (step : Step) → (p ≡ Declaring → ⊥) → IsPlanStep s p step → IsTimely why → step_reason state seat step ≡ Some why → why ≡ OutOfTimestamps
+    pub goes_in_time : (p : PlanPlace) (step : Step) → (p ≡ Declaring → ⊥) → IsPlanStep s p step → IsTimely why → step_reason state seat step ≡ Some why → why ≡ OutOfTimestamps
     goes_in_time p (Declare start what) later i timely e = absurd (later i)
     goes_in_time p (Prewrite start x) later i timely e =
         absurd (none_why why (first_or _ AlreadyPrewritten why None timely.once (first_or _ NotDeclared why _ timely.declared (first_or _ WrongPhase why _ timely.phase (own_step start (prewrite_reasons x) i e)))))

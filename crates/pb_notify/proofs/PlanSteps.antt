@@ -13,8 +13,8 @@ use Rattle.pb_steps.specs.State.{TransactionOf}
 use Rattle.pb_history.specs.declared.entry.Received.{Received}
 use Rattle.pb_history.specs.TransactionsTold.{names_start, transaction_after, is_begin}
 use Rattle.pb_txn.specs.declared.place.Outcome.TheVariants as outcomes
-use Rattle.pb_txn.specs.declared.place.Place.{Place}
-use Rattle.pb_txn.specs.declared.place.Place.TheVariants.{Declaring, Prewriting, Stamping, CommittingPrimary, CommittingSecondary, Settling, Clearing, Over}
+use Rattle.pb_txn.specs.declared.place.PlanPlace.{PlanPlace}
+use Rattle.pb_txn.specs.declared.place.PlanPlace.TheVariants.{Declaring, Prewriting, Stamping, CommittingPrimary, CommittingSecondary, Settling, Clearing, Over}
 use Rattle.pb_txn.specs.Places.{declared_cells, place_after, after_prewrite, after_stamp, after_primary, step_at}
 use Rattle.pb_txn.specs.Plans.{PlanOf, answered}
 use Rattle.pb_txn.specs.Talks.{Talks}
@@ -31,11 +31,11 @@ keeps p q (r ∷ rs) talk = keeps (answered p r.answer) q rs talk.2
 -- ---- after an answer it declares no more
 
 -- its declaration was answered
-abbrev pub IsLater : Place → Type 0
+abbrev pub IsLater : PlanPlace → Type 0
 IsLater Declaring = ⊥
 IsLater _ = Unit {0}
 
-by_test : (b : Bool) (p q : Place) → IsLater p → IsLater q → IsLater (cond b p q)
+by_test : (b : Bool) (p q : PlanPlace) → IsLater p → IsLater q → IsLater (cond b p q)
 by_test true p q i j = i
 by_test false p q i j = j
 
@@ -52,7 +52,7 @@ primary_later count c Committed = by_test (nat_lt 1 count) (CommittingSecondary 
 primary_later count c _ = by_test (nat_lt 1 count) (Clearing 1 count outcomes.Lost) (Over outcomes.Lost) tt tt
 
 -- no answer leads back to the declaration
-later : (count : ℕ) (p : Place) (a : Answer) → IsLater (place_after count p a)
+later : (count : ℕ) (p : PlanPlace) (a : Answer) → IsLater (place_after count p a)
 later count Declaring a = by_test (nat_lt 0 count) (Prewriting 0) Stamping tt tt
 later count (Prewriting k) a = prewrite_later count k a
 later count Stamping a = stamp_later a
@@ -74,7 +74,7 @@ declaring_said_nothing p q (r ∷ rs) e talk = absurd (subst IsLater e (stays_la
 -- ---- what its steps are
 
 -- a step that a plan of this start may ask at this place
-abbrev pub IsPlanStep : ℕ → Place → Step → Type 0
+abbrev pub IsPlanStep : ℕ → PlanPlace → Step → Type 0
 IsPlanStep s p (Declare start what) = p ≡ Declaring
 IsPlanStep s p (Prewrite start x) = start.0 ≡ s
 IsPlanStep s p (Stamp start) = start.0 ≡ s
@@ -84,12 +84,12 @@ IsPlanStep s p (Settle x) = Unit {0}
 IsPlanStep s p (Clear x) = Unit {0}
 IsPlanStep s p _ = ⊥
 
-at_cell : (s : ℕ) (p : Place) (f : Cell → Step) (o : Option Cell) (t : Step) → ((x : Cell) → IsPlanStep s p (f x)) → option_map f o ≡ Some t → IsPlanStep s p t
+at_cell : (s : ℕ) (p : PlanPlace) (f : Cell → Step) (o : Option Cell) (t : Step) → ((x : Cell) → IsPlanStep s p (f x)) → option_map f o ≡ Some t → IsPlanStep s p t
 at_cell s p f None t h e = absurd cc
 at_cell s p f (Some x) t h e = subst (IsPlanStep s p) (same_step (f x) t e) (h x)
 
 -- the step at a place is one
-pub plan_step : (s : ℕ) (what : Declared) (p : Place) (t : Step) → step_at s what p ≡ Some t → IsPlanStep s p t
+pub plan_step : (s : ℕ) (what : Declared) (p : PlanPlace) (t : Step) → step_at s what p ≡ Some t → IsPlanStep s p t
 plan_step s what Declaring t e = subst (IsPlanStep s Declaring) (same_step (Declare (record { 0 = s }) what) t e) refl
 plan_step s what (Prewriting k) t e = at_cell s (Prewriting k) _ (slice_get (declared_cells what) k) t (λ x. refl) e
 plan_step s what Stamping t e = subst (IsPlanStep s Stamping) (same_step (Stamp (record { 0 = s })) t e) refl
@@ -100,7 +100,7 @@ plan_step s what (Clearing k end o) t e = at_cell s (Clearing k end o) _ (slice_
 plan_step s what (Over o) t e = absurd cc
 
 -- a plan begins no transaction
-no_begin : (s : ℕ) (p : Place) (t : Step) → IsPlanStep s p t → is_begin t ≡ false
+no_begin : (s : ℕ) (p : PlanPlace) (t : Step) → IsPlanStep s p t → is_begin t ≡ false
 no_begin s p (Begin work) i = absurd i
 no_begin s p _ i = refl
 

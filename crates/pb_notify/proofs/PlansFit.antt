@@ -9,8 +9,8 @@ use Rattle.pb_steps.specs.declared.step.Answer.{Answer}
 use Rattle.pb_steps.specs.declared.step.Answer.TheVariants as answers
 use Rattle.pb_txn.specs.declared.place.Outcome.{Outcome}
 use Rattle.pb_txn.specs.declared.place.Outcome.TheVariants as outcomes
-use Rattle.pb_txn.specs.declared.place.Place.{Place}
-use Rattle.pb_txn.specs.declared.place.Place.TheVariants.{Declaring, Prewriting, Stamping, CommittingPrimary, CommittingSecondary, Settling, Clearing, Over}
+use Rattle.pb_txn.specs.declared.place.PlanPlace.{PlanPlace}
+use Rattle.pb_txn.specs.declared.place.PlanPlace.TheVariants.{Declaring, Prewriting, Stamping, CommittingPrimary, CommittingSecondary, Settling, Clearing, Over}
 use Rattle.pb_txn.specs.Places.{declared_cells, place_after, prewrite_from, commit_from, clear_from, after_prewrite, after_stamp, after_primary, LiesWithin}
 use Rattle.pb_txn.specs.Plans.{PlanOf, next_of, outcome_of}
 
@@ -18,7 +18,7 @@ below : (a b : ℕ) → nat_lt a b ≡ true → a < b
 below a b e = grind (arith, e)
 
 -- the place that a test chooses
-by_test : (count : ℕ) (b : Bool) (p q : Place) → (b ≡ true → LiesWithin count p) → LiesWithin count q → LiesWithin count (cond b p q)
+by_test : (count : ℕ) (b : Bool) (p q : PlanPlace) → (b ≡ true → LiesWithin count p) → LiesWithin count q → LiesWithin count (cond b p q)
 by_test count true p q first second = first refl
 by_test count false p q first second = second
 
@@ -51,7 +51,7 @@ primary_after count c answers.Committed = commits count c 1 (omega arith)
 primary_after count c _ = clears count 1 count outcomes.Lost (omega arith) (omega arith)
 
 -- wherever an answer leads, the place lies within the cells
-pub fits_after : (count : ℕ) (p : Place) (a : Answer) → LiesWithin count p → LiesWithin count (place_after count p a)
+pub fits_after : (count : ℕ) (p : PlanPlace) (a : Answer) → LiesWithin count p → LiesWithin count (place_after count p a)
 fits_after count Declaring a fits = prewrites count 0
 fits_after count (Prewriting k) a fits = prewrite_after count k a fits
 fits_after count Stamping a fits = stamp_after count a
@@ -70,9 +70,9 @@ at_cell (x ∷ xs) zero f lt = (f x, refl)
 at_cell (x ∷ xs) (suc k) f lt = at_cell xs k f (omega (arith, lt))
 
 -- a plan that isn't over has a next step
-pub next_is : (p : PlanOf) (place : Place) → p.place ≡ place → LiesWithin (length (declared_cells p.what)) place → outcome_of p ≡ None → (s : Step) × (next_of p ≡ Some s)
+pub next_is : (p : PlanOf) (place : PlanPlace) → p.place ≡ place → LiesWithin (length (declared_cells p.what)) place → outcome_of p ≡ None → (s : Step) × (next_of p ≡ Some s)
 next_is p place is fits none = found p.place (subst (LiesWithin (length (declared_cells p.what))) (sym is) fits) none where
-  found : (at : Place) → LiesWithin (length (declared_cells p.what)) at → outcome_of (record p { place = at }) ≡ None → (s : Step) × (next_of (record p { place = at }) ≡ Some s)
+  found : (at : PlanPlace) → LiesWithin (length (declared_cells p.what)) at → outcome_of (record p { place = at }) ≡ None → (s : Step) × (next_of (record p { place = at }) ≡ Some s)
   found Declaring fits none = (steps.Declare (record { 0 = p.start }) p.what, refl)
   found (Prewriting k) fits none = at_cell _ k _ fits
   found Stamping fits none = (steps.Stamp (record { 0 = p.start }), refl)

@@ -42,8 +42,8 @@ use Rattle.pb_notify.specs.declared.machine.stepped.Stepped.TheVariants as did
 use Rattle.pb_notify.specs.declared.need.JobEnd.{JobEnd}
 use Rattle.pb_notify.specs.declared.need.JobEnd.TheVariants as ends
 use Rattle.pb_notify.specs.declared.need.Need.TheVariants as needs
-use Rattle.pb_notify.specs.declared.place.Place.{Place}
-use Rattle.pb_notify.specs.declared.place.Place.TheVariants.{Beginning, Observing, Acknowledging, Recalling, Starting, Computing, Asking, Planning, Sweeping, Over}
+use Rattle.pb_notify.specs.declared.place.RunPlace.{RunPlace}
+use Rattle.pb_notify.specs.declared.place.RunPlace.TheVariants.{Beginning, Observing, Acknowledging, Recalling, Starting, Computing, Asking, Planning, Sweeping, Over}
 use Rattle.pb_notify.specs.Looks.{look_after, locked_after}
 use Rattle.pb_notify.specs.Steps.{Steps}
 use Rattle.pb_notify.specs.Places.{place_after, locked_at, after_begin, if_found, after_cell, if_recalled, seen_so_far, after_acknowledgment, after_recall, after_ask, by_outcome, place_of, Comes, ComesFrom, AtPlace, step_at}
@@ -139,7 +139,7 @@ module _ (o : ℕ) (judged : JudgedOf) (row : Row) (column : ℕ) where
     pub whole : IsRunTalk o judged row column said end run
 
   -- what has been said at a place, with so many locks met
-  abbrev pub SoFar : ℕ → Place → List Received → Type 0
+  abbrev pub SoFar : ℕ → RunPlace → List Received → Type 0
   SoFar n Beginning said = (n ≡ 0) × (said ≡ [])
   SoFar n (Observing s look) said = InLook s cell None 0 (its_begin o row s) look n said
   SoFar n (Acknowledging s found look) said = (m : ℕ) × (base : List Received) × IsObserved o row column s found m base × InLook s ack None m base look n said
@@ -265,7 +265,7 @@ module _ (o : ℕ) (judged : JudgedOf) (row : Row) (column : ℕ) where
       few = i.few;
     }
 
-    said_more : (n : ℕ) (place : Place) (said : List Received) (t : Step) (a : Answer) → AtPlace n place → SoFar n place said → step_at o row column place ≡ Some t → CanAnswer t a
+    said_more : (n : ℕ) (place : RunPlace) (said : List Received) (t : Step) (a : Answer) → AtPlace n place → SoFar n place said → step_at o row column place ≡ Some t → CanAnswer t a
         → SoFar (locked_at n place a) (place_after second n place a) (said ++ told t a ∷ [])
     said_more n Beginning said t a at i e can =
         subst (λ u. CanAnswer u a → SoFar n (after_begin a) (said ++ told u a ∷ [])) (same_step (Begin (works.Run o row)) t e)
@@ -321,11 +321,11 @@ module _ (o : ℕ) (judged : JudgedOf) (row : Row) (column : ℕ) where
           few = few;
         }
 
-    comes_more : (n : ℕ) (s : Ts) (v : Position) (seen : Seen) (place : Place) (said : List Received) → n < MAX_LOCKED → IsGiven s seen v → AreAsked o second row column s seen v.talk n said
+    comes_more : (n : ℕ) (s : Ts) (v : Position) (seen : Seen) (place : RunPlace) (said : List Received) → n < MAX_LOCKED → IsGiven s seen v → AreAsked o second row column s seen v.talk n said
         → Comes o s v place → SoFar n place said
     comes_more n s v seen place said few given was c = subst (λ p. SoFar n p said) (sym c.place_is) (stepped_more n s v seen c.stepped said few given was c.steps)
 
-    computed_more : (n : ℕ) (place next : Place) (said : List Received) → AtPlace n place → SoFar n place said → ComesFrom o judged cell place next → SoFar n next said
+    computed_more : (n : ℕ) (place next : RunPlace) (said : List Received) → AtPlace n place → SoFar n place said → ComesFrom o judged cell place next → SoFar n next said
     computed_more n (Starting s seen) next said at i c = comes_more n s _ seen next said at (record { program = refl; bytes = refl; began = refl }) i c.comes
     computed_more n (Computing s v) next said at i c = comes_more n s v i.0 next said at.0 i.1 i.2 c
     computed_more n _ next said at i c = absurd c
@@ -401,7 +401,7 @@ module _ (o : ℕ) (judged : JudgedOf) (row : Row) (column : ℕ) where
     from_cell : (n : ℕ) (s : Ts) (said : List Received) → n < MAX_LOCKED → IsLooked s cell None 0 (its_begin o row s) n said Absent → CanEnd said
     from_cell n s said few look = record { rest = told (Sweep cell) Done ∷ []; end = ends.Clean; run = None; whole = absent s n said Absent Done look refl few tt }
 
-    can_end : (n : ℕ) (place : Place) (said : List Received) → AtPlace n place → SoFar n place said → CanEnd said
+    can_end : (n : ℕ) (place : RunPlace) (said : List Received) → AtPlace n place → SoFar n place said → CanEnd said
     can_end n Beginning said at i =
         let s : Ts = record { 0 = 0 } in
         let l = looks.ends s cell None 0 (its_begin o row s) Reading 0 (its_begin o row s) at_first in
@@ -444,7 +444,7 @@ module _ (o : ℕ) (judged : JudgedOf) (row : Row) (column : ℕ) where
           (said_more k.locked k.place said r.step r.answer h.at h.so ((λ i. step_at (sym h.observer i) (sym h.in_row i) (sym h.in_column i) k.place) ∙ next) can);
     }
 
-    holds_computed : (said : List Received) (k : RunOf) (place : Place) → Holds said k → ComesFrom k.observer k.judged (Data k.row k.column) k.place place → Holds said (record k { place = place })
+    holds_computed : (said : List Received) (k : RunOf) (place : RunPlace) → Holds said k → ComesFrom k.observer k.judged (Data k.row k.column) k.place place → Holds said (record k { place = place })
     holds_computed said k place h comes =
         let c : ComesFrom o judged cell k.place place = subst (λ (z : Type 0). z) (λ i. ComesFrom (h.observer i) (h.program i) (Data (h.in_row i) (h.in_column i)) k.place place) comes in
         record {
@@ -461,7 +461,7 @@ module _ (o : ℕ) (judged : JudgedOf) (row : Row) (column : ℕ) where
     holds said k (took before from r to reaches next can is told) = subst (Holds (before ++ r ∷ [])) (sym is) (holds_answered before from r (holds before from reaches) next can)
     holds said k (computed before from to reaches need c) = subst (Holds before) (sym c.same) (holds_computed before from to.place (holds before from reaches) c.comes)
 
-    ended : (said : List Received) (place : Place) (end : JobEnd) (n : ℕ) → SoFar n place said → need_at place ≡ needs.Over end → IsEnded end said
+    ended : (said : List Received) (place : RunPlace) (end : JobEnd) (n : ℕ) → SoFar n place said → need_at place ≡ needs.Over end → IsEnded end said
     ended said (Over other) end n i e = subst (λ z. IsEnded z said) (same_end other end e) i where
       same_end : (a b : JobEnd) → needs.Over a ≡ needs.Over b → a ≡ b
       same_end a b h = cc

@@ -21,14 +21,14 @@ use Rattle.pb_txn.specs.Talks.{Talks, told}
 use Rattle.pb_steps.specs.declared.seen.Seen.{Seen}
 use Rattle.pb_history.specs.declared.entry.Received.{Received}
 use Rattle.pb_notify.specs.declared.need.JobEnd.{JobEnd}
-use Rattle.pb_notify.specs.declared.place.Place.{Place}
-use Rattle.pb_notify.specs.declared.place.Place.TheVariants.{Computing, Asking, Planning, Sweeping}
+use Rattle.pb_notify.specs.declared.place.RunPlace.{RunPlace}
+use Rattle.pb_notify.specs.declared.place.RunPlace.TheVariants.{Computing, Asking, Planning, Sweeping}
 use Rattle.pb_notify.specs.Runs.{RunOf, fresh}
 use Rattle.pb_notify.specs.Talks.{Reaches}
 use Rattle.pb_notify.specs.Forms.{IsLooking, AreAsked, IsRunOn, IsRunTalk, WasMeant}
 
 -- the machine of a place stands at this position, begun at this start
-abbrev pub MachineStandsAt : Place → Ts → Position → Type 0
+abbrev pub MachineStandsAt : RunPlace → Ts → Position → Type 0
 MachineStandsAt (Computing t w) s v = (t ≡ s) × (w ≡ v)
 MachineStandsAt (Asking t w q look) s v = (t ≡ s) × (w ≡ v)
 MachineStandsAt place s v = ⊥
@@ -39,13 +39,13 @@ IsLed v = (a : Placement) → IsPlacement (length v.bytes) a → (here : State) 
 
 -- what was said since the machine had its last reply: nothing while it computes, and of one look at the cell while it
 -- asks
-abbrev pub IsSaidSince : Place → ℕ → List Received → List Received → Type 0
+abbrev pub IsSaidSince : RunPlace → ℕ → List Received → List Received → Type 0
 IsSaidSince (Computing s v) met base said = said ≡ base
 IsSaidSince (Asking s v q look) met base said = IsLooking s (Data q.row q.column) None met base said
 IsSaidSince place met base said = Unit {0}
 
 -- the program on the record of what was seen, from the start, with the replies that were read
-pub record IsMachineOf (o : ℕ) (judged : JudgedOf) (row : Row) (column : ℕ) (place : Place) (s : Ts) (v : Position) (said : List Received) : Type 0 where
+pub record IsMachineOf (o : ℕ) (judged : JudgedOf) (row : Row) (column : ℕ) (place : RunPlace) (s : Ts) (v : Position) (said : List Received) : Type 0 where
   pub seen : Seen
   pub program : v.judged ≡ judged
   pub bytes : v.bytes ≡ record_by (tells_old judged) (Data row column) seen.version seen.acknowledged.0 seen.old
@@ -58,7 +58,7 @@ pub record IsMachineOf (o : ℕ) (judged : JudgedOf) (row : Row) (column : ℕ) 
   pub led : IsLed v
 
 -- while it looks at a cell for its machine, the next instruction asks for that cell, at every placement
-abbrev pub IsAskingAt : Place → Type 0
+abbrev pub IsAskingAt : RunPlace → Type 0
 IsAskingAt (Asking s v q look) = (a : Placement) → IsPlacement (length v.bytes) a → AsksAt v q a
 IsAskingAt place = Unit {0}
 
@@ -88,7 +88,7 @@ pub record IsBeforeSweep (o : ℕ) (judged : JudgedOf) (row : Row) (column : ℕ
   pub ends : (w : Answer) → CanAnswer (Sweep (Data row column)) w → IsRunTalk o judged row column (said ++ told (Sweep (Data row column)) w ∷ []) end run
 
 -- what is known once the machine has ended: of the plan, or of what comes before the sweep
-abbrev pub HasEnded : ℕ → JudgedOf → Row → ℕ → Place → List Received → Type 0
+abbrev pub HasEnded : ℕ → JudgedOf → Row → ℕ → RunPlace → List Received → Type 0
 HasEnded o judged row column (Planning r p) said = IsEndedRun o judged row column r p said
 HasEnded o judged row column (Sweeping end) said = IsBeforeSweep o judged row column end said
 HasEnded o judged row column place said = Unit {0}

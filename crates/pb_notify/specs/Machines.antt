@@ -8,7 +8,7 @@ use Rattle.pb_isa.specs.Machine as machine
 use Rattle.pb_helpers.specs.declared.ask.Ask.{Ask}
 use Rattle.pb_helpers.specs.declared.ask.Reply.{Reply}
 use Rattle.pb_helpers.specs.Replies.{ask_of, reply_of}
-use Rattle.pb_vm.specs.declared.moved.Phase.TheVariants.{Going}
+use Rattle.pb_vm.specs.declared.moved.MachinePhase.TheVariants.{Going}
 use Rattle.pb_vm.specs.Position.{Position}
 use Rattle.pb_vm.specs.Moves.{EndsAt, RepliedWith}
 use Rattle.pb_vm.specs.MachineSlot.{IsAtSlot}

@@ -9,7 +9,7 @@ use Rattle.pb_base.specs.declared.content.Revision.{Revision}
 use Rattle.pb_isa.specs.Programs.{JudgedOf}
 use Rattle.pb_helpers.specs.declared.ask.Ask.{Ask}
 use Rattle.pb_helpers.specs.OldRecord.{tells_old, record_by}
-use Rattle.pb_vm.specs.declared.moved.Phase.TheVariants as phases
+use Rattle.pb_vm.specs.declared.moved.MachinePhase.TheVariants as phases
 use Rattle.pb_vm.specs.MachineSlot.{IsAtSlot}
 use Rattle.pb_vm.specs.Position.{Position}
 use Rattle.pb_steps.specs.declared.seen.Seen.{Seen}
@@ -32,8 +32,8 @@ use Rattle.pb_notify.specs.declared.look.Looked.TheVariants.{On, Tells, Blocks}
 use Rattle.pb_notify.specs.declared.machine.stepped.Stepped.{Stepped}
 use Rattle.pb_notify.specs.declared.machine.stepped.Stepped.TheVariants as did
 use Rattle.pb_notify.specs.declared.need.JobEnd.TheVariants as ends
-use Rattle.pb_notify.specs.declared.place.Place.{Place}
-use Rattle.pb_notify.specs.declared.place.Place.TheVariants.{Beginning, Observing, Acknowledging, Recalling, Starting, Computing, Asking, Planning, Sweeping, Over}
+use Rattle.pb_notify.specs.declared.place.RunPlace.{RunPlace}
+use Rattle.pb_notify.specs.declared.place.RunPlace.TheVariants.{Beginning, Observing, Acknowledging, Recalling, Starting, Computing, Asking, Planning, Sweeping, Over}
 use Rattle.pb_notify.specs.Looks.{look_step, look_after, locked_after}
 use Rattle.pb_notify.specs.Machines.{first_position, after_reply, HearsReply}
 use Rattle.pb_notify.specs.Steps.{Steps, WentOn, MovesOn, Proceeds, FollowsOn, IsAtExit}
@@ -44,7 +44,7 @@ use Rattle.pb_vm.specs.Moves.{AskedFor}
 -- ---- the step at a place
 
 -- the step at a place: a plan keeps its own, and there is none in the machine's turn or at the end
-abbrev pub stored_step : ℕ → Row → ℕ → Place → Option Step
+abbrev pub stored_step : ℕ → Row → ℕ → RunPlace → Option Step
 stored_step o row column Beginning = Some (steps.Begin (works.Run o row))
 stored_step o row column (Observing s look) = Some (look_step s (Data row column) None look)
 stored_step o row column (Acknowledging s found look) = Some (look_step s (Ack o row column) None look)
@@ -54,30 +54,30 @@ stored_step o row column (Sweeping end) = Some (steps.Sweep (Data row column))
 stored_step o row column _ = None
 
 -- the step at a place, for a run of this observer on this cell
-abbrev pub step_at : ℕ → Row → ℕ → Place → Option Step
+abbrev pub step_at : ℕ → Row → ℕ → RunPlace → Option Step
 step_at o row column (Planning r p) = plans.next_of p
 step_at o row column place = stored_step o row column place
 
 -- ---- where an answer leads
 
 -- the begin is answered with the start, and the look at the cell is next
-abbrev pub after_begin : Answer → Place
+abbrev pub after_begin : Answer → RunPlace
 after_begin (answers.At s) = Observing s Reading
 after_begin _ = Beginning
 
 -- a cell without a version is clean, whatever is acknowledged
-abbrev pub if_found : Ts → Option Revision → Place
+abbrev pub if_found : Ts → Option Revision → RunPlace
 if_found s None = Sweeping ends.Clean
 if_found s (Some found) = Acknowledging s found Reading
 
 -- after a look at the observed cell
-abbrev pub after_cell : Ts → Looked → Place
+abbrev pub after_cell : Ts → Looked → RunPlace
 after_cell s (On look) = Observing s look
 after_cell s (Tells a) = if_found s (version_in a)
 after_cell s Blocks = Over ends.Blocked
 
 -- the machine's turn, after a look at the cell as of a timestamp if there is one
-abbrev pub if_recalled : Ts → Seen → Option Ts → Place
+abbrev pub if_recalled : Ts → Seen → Option Ts → RunPlace
 if_recalled s seen None = Starting s seen
 if_recalled s seen (Some t) = Recalling s seen Reading
 
@@ -86,41 +86,41 @@ abbrev pub seen_so_far : Revision → Ts → Seen
 seen_so_far found acknowledged = record { version = found; acknowledged = acknowledged; old = None }
 
 -- a cell is dirty where its commit is greater than the acknowledged timestamp
-abbrev pub if_dirty : Bool → Ts → Revision → Ts → Place
+abbrev pub if_dirty : Bool → Ts → Revision → Ts → RunPlace
 if_dirty second s found acknowledged = if nat_lt acknowledged.0 found.commit.0 then if_recalled s (seen_so_far found acknowledged) (old_at second acknowledged) else Sweeping ends.Clean
 
 -- after a look at the acknowledgment: where it is absent the acknowledged timestamp is 0
-abbrev pub after_acknowledgment : Bool → Ts → Revision → Looked → Place
+abbrev pub after_acknowledgment : Bool → Ts → Revision → Looked → RunPlace
 after_acknowledgment second s found (On look) = Acknowledging s found look
 after_acknowledgment second s found (Tells a) = if_dirty second s found (acknowledged_in a)
 after_acknowledgment second s found Blocks = Over ends.Blocked
 
 -- after a look as of the acknowledged timestamp: deleted and absent are both no value of before
-abbrev pub after_recall : Ts → Seen → Looked → Place
+abbrev pub after_recall : Ts → Seen → Looked → RunPlace
 after_recall s seen (On look) = Recalling s seen look
 after_recall s seen (Tells a) = Starting s (record seen { old = value_in a })
 after_recall s seen Blocks = Over ends.Blocked
 
 -- after a look for the machine, which takes a value as its reply, or that there is none
-abbrev pub after_ask : Ts → Position → Ask → Looked → Place
+abbrev pub after_ask : Ts → Position → Ask → Looked → RunPlace
 after_ask s v q (On look) = Asking s v q look
 after_ask s v q (Tells a) = Computing s (after_reply v q (value_in a))
 after_ask s v q Blocks = Over ends.Blocked
 
 -- it sweeps the cell where it committed
-abbrev pub by_outcome : ℕ → PlanOf → Option Outcome → Place
+abbrev pub by_outcome : ℕ → PlanOf → Option Outcome → RunPlace
 by_outcome r p None = Planning r p
 by_outcome r p (Some (outcomes.Committed c)) = Sweeping (ends.Ran r)
 by_outcome r p (Some outcomes.Conflicted) = Over ends.Conflicted
 by_outcome r p (Some outcomes.Lost) = Over ends.Lost
 
 -- after an answer to its plan, which goes on or has an outcome
-abbrev pub after_plan : ℕ → PlanOf → Place
+abbrev pub after_plan : ℕ → PlanOf → RunPlace
 after_plan r p = by_outcome r p (outcome_of p)
 
 -- after so many reads that met a lock, of a program that is told what its cell held at the acknowledged timestamp, or
 -- isn't
-abbrev pub place_after : Bool → ℕ → Place → Answer → Place
+abbrev pub place_after : Bool → ℕ → RunPlace → Answer → RunPlace
 place_after second locked Beginning a = after_begin a
 place_after second locked (Observing s look) a = after_cell s (look_after locked look a)
 place_after second locked (Acknowledging s found look) a = after_acknowledgment second s found (look_after locked look a)
@@ -133,17 +133,17 @@ place_after second locked (Sweeping end) a = Over end
 place_after second locked (Over end) a = Over end
 
 -- where a look for the machine comes to its end, the machine is told
-abbrev pub IsToldBy : Position → Ask → Looked → Place → Type 0
+abbrev pub IsToldBy : Position → Ask → Looked → RunPlace → Type 0
 IsToldBy v q (Tells a) (Computing s w) = HearsReply v q a w
 IsToldBy v q looked place = Unit {0}
 
 -- only a look for the machine tells it anything
-abbrev pub IsToldAt : ℕ → Place → Answer → Place → Type 0
+abbrev pub IsToldAt : ℕ → RunPlace → Answer → RunPlace → Type 0
 IsToldAt locked (Asking s v q look) a place = IsToldBy v q (look_after locked look a) place
 IsToldAt locked before a place = Unit {0}
 
 -- how many reads met a lock by then
-abbrev pub locked_at : ℕ → Place → Answer → ℕ
+abbrev pub locked_at : ℕ → RunPlace → Answer → ℕ
 locked_at locked (Observing s look) a = locked_after locked look a
 locked_at locked (Acknowledging s found look) a = locked_after locked look a
 locked_at locked (Recalling s seen look) a = locked_after locked look a
@@ -153,60 +153,60 @@ locked_at locked _ a = locked
 -- ---- where an instruction leads
 
 -- the machine goes on, a cell is read for it, or its run is declared by a plan from the same start
-abbrev pub place_of : Ts → Stepped → Place
+abbrev pub place_of : Ts → Stepped → RunPlace
 place_of s (did.Went w) = Computing s w
 place_of s (did.Asks w q) = Asking s w q Reading
 place_of s (did.Ended r what) = Planning r (fresh s.0 what)
 
 -- one instruction of a run of this observer, begun at this start, leads from the position to the place
-pub record Comes (o : ℕ) (s : Ts) (v : Position) (place : Place) : Type 0 where
+pub record Comes (o : ℕ) (s : Ts) (v : Position) (place : RunPlace) : Type 0 where
   pub stepped : Stepped
   pub steps : Steps o v stepped
   pub place_is : place ≡ place_of s stepped
 
 -- the machine begins on the record of what was seen of the cell
-pub record Starts (o : ℕ) (judged : JudgedOf) (x : Cell) (s : Ts) (seen : Seen) (place : Place) : Type 0 where
+pub record Starts (o : ℕ) (judged : JudgedOf) (x : Cell) (s : Ts) (seen : Seen) (place : RunPlace) : Type 0 where
   pub size : length (record_by (tells_old judged) x seen.version seen.acknowledged.0 seen.old) ≡ judged.record_size
   pub comes : Comes o s (first_position judged (record_by (tells_old judged) x seen.version seen.acknowledged.0 seen.old) s.0) place
 
 -- from a place: the machine begins, or goes on where it stands
-abbrev pub ComesFrom : ℕ → JudgedOf → Cell → Place → Place → Type 0
+abbrev pub ComesFrom : ℕ → JudgedOf → Cell → RunPlace → RunPlace → Type 0
 ComesFrom o judged x (Starting s seen) place = Starts o judged x s seen place
 ComesFrom o judged x (Computing s v) place = Comes o s v place
 ComesFrom o judged x _ place = ⊥
 
 -- one instruction was done where the machine stands
-abbrev pub MovesAt : Place → Moved → Place → Type 0
+abbrev pub MovesAt : RunPlace → Moved → RunPlace → Type 0
 MovesAt (Computing s v) m (Computing t w) = (t ≡ s) × MovesOn v m w
 MovesAt before m after = ⊥
 
 -- one that isn't the exit
-abbrev pub GoesAt : Place → Moved → Place → Type 0
+abbrev pub GoesAt : RunPlace → Moved → RunPlace → Type 0
 GoesAt (Computing s v) moved.Went (Computing t w) = (t ≡ s) × WentOn v w
 GoesAt (Computing s v) (moved.Asks q) (Computing t w) = (t ≡ s) × AskedFor v q w
 GoesAt before m after = ⊥
 
 -- the machine waits for what it asked
-abbrev pub waiting : Place → Ask → Place
+abbrev pub waiting : RunPlace → Ask → RunPlace
 waiting (Computing s v) q = Asking s v q Reading
 waiting place q = place
 
 -- any number of instructions were done where the machine stands, and it goes on
-abbrev pub ProceedsAt : Place → Place → Type 0
+abbrev pub ProceedsAt : RunPlace → RunPlace → Type 0
 ProceedsAt (Computing s v) (Computing t w) = (t ≡ s) × Proceeds v w
 ProceedsAt before after = after ≡ before
 
 -- all up to the first that asks or ends were done where the machine stands
-abbrev pub FollowsAt : Place → Moved → Place → Type 0
+abbrev pub FollowsAt : RunPlace → Moved → RunPlace → Type 0
 FollowsAt (Computing s v) m (Computing t w) = (t ≡ s) × FollowsOn v m w
 FollowsAt before m after = ⊥
 
 -- and it waits for what it asked
-abbrev pub WaitsAt : Place → Place → Type 0
-WaitsAt before after = (q : Ask) × (place : Place) × FollowsAt before (moved.Asks q) place × (after ≡ waiting place q)
+abbrev pub WaitsAt : RunPlace → RunPlace → Type 0
+WaitsAt before after = (q : Ask) × (place : RunPlace) × FollowsAt before (moved.Asks q) place × (after ≡ waiting place q)
 
 -- the next instruction takes memory: the first, for its machine, or the exit, for what it declares
-abbrev pub GrowsAt : Place → Type 0
+abbrev pub GrowsAt : RunPlace → Type 0
 GrowsAt (Starting s seen) = Unit {0}
 GrowsAt (Computing s v) = IsAtExit v
 GrowsAt place = ⊥
@@ -215,7 +215,7 @@ GrowsAt place = ⊥
 
 -- wherever it may read, one lock more may be met; its machine goes or asks as the place says; a plan that it follows
 -- isn't over
-abbrev pub AtPlace : ℕ → Place → Type 0
+abbrev pub AtPlace : ℕ → RunPlace → Type 0
 AtPlace locked Beginning = locked < MAX_LOCKED
 AtPlace locked (Observing s look) = locked < MAX_LOCKED
 AtPlace locked (Acknowledging s found look) = locked < MAX_LOCKED
@@ -228,23 +228,23 @@ AtPlace locked (Sweeping end) = Unit {0}
 AtPlace locked (Over end) = Unit {0}
 
 -- its machine's next instruction is done
-abbrev pub IsLocal : Place → Type 0
+abbrev pub IsLocal : RunPlace → Type 0
 IsLocal (Starting s seen) = Unit {0}
 IsLocal (Computing s v) = v.phase ≡ phases.Going
 IsLocal place = ⊥
 
 -- the slot of that instruction: of the first, before the machine is started
-abbrev pub IsSlotAt : Place → Option ℕ → Type 0
+abbrev pub IsSlotAt : RunPlace → Option ℕ → Type 0
 IsSlotAt (Starting s seen) slot = slot ≡ Some 0
 IsSlotAt (Computing s v) slot = MatchOption slot ⊥ (IsAtSlot v)
 IsSlotAt place slot = slot ≡ None
 
 -- its plan is next
-abbrev pub IsPlanning : Place → Type 0
+abbrev pub IsPlanning : RunPlace → Type 0
 IsPlanning (Planning r p) = Unit {0}
 IsPlanning place = ⊥
 
 -- where its plan is next, the answer is one that the plan's step can have
-abbrev pub CanTakeAt : Place → Answer → Type 0
+abbrev pub CanTakeAt : RunPlace → Answer → Type 0
 CanTakeAt (Planning r p) a = CanTake (plans.next_of p) a
 CanTakeAt place a = Unit {0}

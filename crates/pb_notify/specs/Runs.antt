@@ -10,8 +10,8 @@ use Rattle.pb_steps.specs.declared.step.Answer.{Answer}
 use Rattle.pb_txn.specs.Plans as plans
 use Rattle.pb_notify.specs.declared.need.Need.{Need}
 use Rattle.pb_notify.specs.declared.need.Need.TheVariants as needs
-use Rattle.pb_notify.specs.declared.place.Place.{Place}
-use Rattle.pb_notify.specs.declared.place.Place.TheVariants.{Beginning, Starting, Computing, Over}
+use Rattle.pb_notify.specs.declared.place.RunPlace.{RunPlace}
+use Rattle.pb_notify.specs.declared.place.RunPlace.TheVariants.{Beginning, Starting, Computing, Over}
 use Rattle.pb_notify.specs.Places.{stored_step, step_at, place_after, locked_at, AtPlace, IsSlotAt, IsToldAt, ComesFrom, GrowsAt}
 
 -- the observer and its program, the row and column of the cell, how many reads met a lock, and where it stands
@@ -21,7 +21,7 @@ pub record RunOf : Type 0 where
   pub row : Row
   pub column : ℕ
   pub locked : ℕ
-  pub place : Place
+  pub place : RunPlace
 
 -- before its first step
 abbrev pub fresh : ℕ → JudgedOf → Row → ℕ → RunOf
@@ -36,7 +36,7 @@ abbrev pub HasNext : RunOf → Type 0
 HasNext j = (s : Step) × (next_of j ≡ Some s)
 
 -- in the machine's turn one instruction, at the end nothing, and else an answer of the table
-abbrev pub need_at : Place → Need
+abbrev pub need_at : RunPlace → Need
 need_at (Starting s seen) = needs.Local
 need_at (Computing s v) = needs.Local
 need_at (Over end) = needs.Over end
@@ -90,6 +90,6 @@ GrowsNext j = GrowsAt j.place
 -- ---- how a job is kept
 
 -- the step is kept as it comes, so that it can be lent, and the parts fit the place
-pub record IsJob (o : ℕ) (row : Row) (column locked : ℕ) (place : Place) (next : Option Step) : Type 0 where
+pub record IsJob (o : ℕ) (row : Row) (column locked : ℕ) (place : RunPlace) (next : Option Step) : Type 0 where
   pub stored : next ≡ stored_step o row column place
   pub at : AtPlace locked place

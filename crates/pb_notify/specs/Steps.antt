@@ -5,7 +5,7 @@ use Rattle.pb_isa.specs.Slots.{slots}
 use Rattle.pb_isa.specs.Machine.{Placement, IsPlacement}
 use Rattle.pb_vm.specs.Position.{Position}
 use Rattle.pb_vm.specs.declared.moved.Moved.{Moved}
-use Rattle.pb_vm.specs.declared.moved.Phase.TheVariants.{Going}
+use Rattle.pb_vm.specs.declared.moved.MachinePhase.TheVariants.{Going}
 use Rattle.pb_vm.specs.Moves.{Went, AskedFor, EndsAt, Moves, IsStop}
 use Rattle.pb_vm.specs.Finished.{Meant}
 use Rattle.pb_steps.specs.declared.step.Declared.{Declared}

@@ -1,7 +1,7 @@
 //! Jobs of observers: where a run stands, the step that is next, and how many locks its reads have met.
 use crate::need::Need;
 use crate::place::{
-    Place, compute, follow, keep_step, locked_at, move_on, step_at, take, tells_old, wait_at,
+    RunPlace, compute, follow, keep_step, locked_at, move_on, step_at, take, tells_old, wait_at,
 };
 use pb_base::{Cell, Column, NoMemory, ObserverNo, Row};
 use pb_steps::{Answer, Step, Work};
@@ -28,7 +28,7 @@ pub struct ObserverJob {
     row: Row,
     column: Column,
     locked: u8,
-    place: Place,
+    place: RunPlace,
     // The step at the place, kept so that it can be lent. At a plan's place there is none, since the plan lends its
     // own.
     next: Option<Step>,
@@ -64,7 +64,7 @@ impl ObserverJob {
             row,
             column,
             locked: 0,
-            place: Place::Beginning,
+            place: RunPlace::Beginning,
             next: Some(Step::Begin(Work::Run(observer, row))),
         }
     }
@@ -74,8 +74,8 @@ impl ObserverJob {
         ensures { result ≡ need_of self.now }
     {
         match &self.place {
-            Place::Starting(..) | Place::Computing(..) => Need::Local,
-            Place::Over(end) => Need::Over(*end),
+            RunPlace::Starting(..) | RunPlace::Computing(..) => Need::Local,
+            RunPlace::Over(end) => Need::Over(*end),
             _ => Need::Call,
         }
     }
@@ -85,8 +85,8 @@ impl ObserverJob {
         ensures { IsSlotOf self.now result }
     {
         match &self.place {
-            Place::Starting(..) => Some(0),
-            Place::Computing(_, machine) => Some(machine.slot()),
+            RunPlace::Starting(..) => Some(0),
+            RunPlace::Computing(_, machine) => Some(machine.slot()),
             _ => None,
         }
     }
@@ -97,7 +97,7 @@ impl ObserverJob {
         ensures some { need_of self.now ≡ Call → HasNext self.now }
     {
         match &self.place {
-            Place::Planning(_, plan) => plan.next(),
+            RunPlace::Planning(_, plan) => plan.next(),
             _ => self.next.as_ref(),
         }
     }
@@ -199,7 +199,7 @@ impl ObserverJob {
         ensures ok { OnOk result (Computes self.old self.new) }
         ensures same { OnErr result (self.new ≡ self.old) }
     {
-        let place = mem::replace(&mut self.place, Place::Beginning);
+        let place = mem::replace(&mut self.place, RunPlace::Beginning);
         let cell = Cell::Data(self.row, self.column);
         match compute(alloc, self.observer, &self.accepted, cell, place) {
             Ok(place) => {

@@ -4,7 +4,7 @@ ghost use Rattle.std.specs.Prelude.{◌≡◌, length, IfOk};
 ghost use Rattle.pb_steps.specs.Reads.{value_in};
 ghost use Rattle.pb_notify.specs.Machines.{first_position, after_reply, HearsReply};
 ghost use Rattle.pb_vm.specs.MachineSlot.{IsAtSlot};
-ghost use Rattle.pb_vm.specs.declared.moved.Phase.TheVariants.{Asking};
+ghost use Rattle.pb_vm.specs.declared.moved.MachinePhase.TheVariants.{Asking};
 
 mod stepped;
 

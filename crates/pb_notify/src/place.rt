@@ -4,11 +4,11 @@ ghost use Rattle.std.specs.Prelude.{◌≡◌, ◌<◌, ℕ, Some, length, IfOk,
 ghost use Rattle.pb_helpers.specs.OldRecord as versions;
 ghost use Rattle.pb_txn.specs.Plans.{PlanOf};
 ghost use Rattle.pb_txn.specs.Plans as plans;
-ghost use Rattle.pb_notify.specs.declared.place.Place.TheVariants as places;
+ghost use Rattle.pb_notify.specs.declared.place.RunPlace.TheVariants as places;
 ghost use Rattle.pb_notify.specs.Places.{stored_step, place_after, locked_at, place_of, CanTakeAt, AtPlace, IsLocal, IsToldBy, IsToldAt, Starts, Comes, ComesFrom, MovesAt, GoesAt, ProceedsAt, FollowsAt, WaitsAt, GrowsAt, waiting, by_outcome, IsPlanning};
-ghost use Rattle.pb_notify.specs.declared.place.Place.{Place};
+ghost use Rattle.pb_notify.specs.declared.place.RunPlace.{RunPlace};
 ghost use Rattle.pb_vm.specs.declared.moved.Moved.TheVariants.{Ended};
-ghost use Rattle.pb_vm.specs.declared.moved.Phase.TheVariants.{Going, Asking};
+ghost use Rattle.pb_vm.specs.declared.moved.MachinePhase.TheVariants.{Going, Asking};
 
 use crate::look::{Look, Looked, locked_after, look_after, look_step};
 use crate::machine::{Machine, Stepped};
@@ -25,7 +25,7 @@ use std::sync::Arc;
 
 /// What of a job is next, with the start of its transaction.
 #[derive(Drop)]
-pub enum Place {
+pub enum RunPlace {
     Beginning,
     /// Its look at the cell.
     Observing(Ts, Look),
@@ -47,31 +47,34 @@ pub enum Place {
 }
 
 /// The step at a place, but for those of a plan.
-pub fn step_at(observer: ObserverNo, row: Row, column: Column, place: &Place) -> Option<Step>
+pub fn step_at(observer: ObserverNo, row: Row, column: Column, place: &RunPlace) -> Option<Step>
     ensures { result ≡ stored_step observer row column place.now }
 {
     match place {
-        Place::Beginning => Some(Step::Begin(Work::Run(observer, row))),
-        Place::Observing(start, look) => Some(look_step(
+        RunPlace::Beginning => Some(Step::Begin(Work::Run(observer, row))),
+        RunPlace::Observing(start, look) => Some(look_step(
             *start,
             Cell::Data(row, column),
             None,
             *look,
         )),
-        Place::Acknowledging(start, _, look) => {
+        RunPlace::Acknowledging(start, _, look) => {
             Some(look_step(*start, Cell::Ack(observer, row, column), None, *look))
         }
-        Place::Recalling(start, seen, look) => Some(look_step(
+        RunPlace::Recalling(start, seen, look) => Some(look_step(
             *start,
             Cell::Data(row, column),
             Some(seen.acknowledged),
             *look,
         )),
-        Place::Asking(start, _, ask, look) => {
+        RunPlace::Asking(start, _, ask, look) => {
             Some(look_step(*start, Cell::Data(ask.row, ask.column), None, *look))
         }
-        Place::Sweeping(_) => Some(Step::Sweep(Cell::Data(row, column))),
-        Place::Starting(..) | Place::Computing(..) | Place::Planning(..) | Place::Over(_) => None,
+        RunPlace::Sweeping(_) => Some(Step::Sweep(Cell::Data(row, column))),
+        RunPlace::Starting(..)
+        | RunPlace::Computing(..)
+        | RunPlace::Planning(..)
+        | RunPlace::Over(_) => None,
     }
 }
 
@@ -83,7 +86,7 @@ pub fn keep_step(
     observer: ObserverNo,
     row: Row,
     column: Column,
-    place: &Place,
+    place: &RunPlace,
 )
     ensures { next.new ≡ stored_step observer row column place.now }
 {
@@ -91,35 +94,35 @@ pub fn keep_step(
 }
 
 /// How many reads met a lock after this answer.
-pub fn locked_at(locked: u8, place: &Place, answer: &Answer) -> u8
+pub fn locked_at(locked: u8, place: &RunPlace, answer: &Answer) -> u8
     requires { AtPlace locked place.now }
     ensures { result ≡ locked_at locked place.now answer.now }
 {
     match place {
-        Place::Observing(_, look) => locked_after(locked, *look, answer),
-        Place::Acknowledging(_, _, look) => locked_after(locked, *look, answer),
-        Place::Recalling(_, _, look) => locked_after(locked, *look, answer),
-        Place::Asking(_, _, _, look) => locked_after(locked, *look, answer),
+        RunPlace::Observing(_, look) => locked_after(locked, *look, answer),
+        RunPlace::Acknowledging(_, _, look) => locked_after(locked, *look, answer),
+        RunPlace::Recalling(_, _, look) => locked_after(locked, *look, answer),
+        RunPlace::Asking(_, _, _, look) => locked_after(locked, *look, answer),
         _ => locked,
     }
 }
 
 // What was found of the cell. Without a version there is no change to run on.
-fn after_cell(start: Ts, looked: Looked) -> Place
+fn after_cell(start: Ts, looked: Looked) -> RunPlace
     ensures { result ≡ Rattle.pb_notify.specs.Places.after_cell start looked }
 {
     match looked {
-        Looked::On(look) => Place::Observing(start, look),
+        Looked::On(look) => RunPlace::Observing(start, look),
         Looked::Tells(answer) => match version_in(answer) {
-            Some(version) => Place::Acknowledging(start, version, Look::Reading),
-            None => Place::Sweeping(JobEnd::Clean),
+            Some(version) => RunPlace::Acknowledging(start, version, Look::Reading),
+            None => RunPlace::Sweeping(JobEnd::Clean),
         },
-        Looked::Blocks => Place::Over(JobEnd::Blocked),
+        Looked::Blocks => RunPlace::Over(JobEnd::Blocked),
     }
 }
 
 // The machine's turn, if the cell is dirty: changed since the acknowledged change.
-fn if_dirty(second: bool, start: Ts, version: Revision, acknowledged: Ts) -> Place
+fn if_dirty(second: bool, start: Ts, version: Revision, acknowledged: Ts) -> RunPlace
     ensures { result ≡ Rattle.pb_notify.specs.Places.if_dirty second start version acknowledged }
 {
     if acknowledged < version.commit {
@@ -130,50 +133,50 @@ fn if_dirty(second: bool, start: Ts, version: Revision, acknowledged: Ts) -> Pla
         };
         // It is read only where the record tells it, since `Declare` refuses a run with a read too many.
         match old_at(second, acknowledged) {
-            None => Place::Starting(start, seen),
-            Some(_) => Place::Recalling(start, seen, Look::Reading),
+            None => RunPlace::Starting(start, seen),
+            Some(_) => RunPlace::Recalling(start, seen, Look::Reading),
         }
     } else {
-        Place::Sweeping(JobEnd::Clean)
+        RunPlace::Sweeping(JobEnd::Clean)
     }
 }
 
 // What was found of the acknowledgment.
-fn after_acknowledgment(second: bool, start: Ts, version: Revision, looked: Looked) -> Place
+fn after_acknowledgment(second: bool, start: Ts, version: Revision, looked: Looked) -> RunPlace
     ensures { result ≡ Rattle.pb_notify.specs.Places.after_acknowledgment second start version looked }
 {
     match looked {
-        Looked::On(look) => Place::Acknowledging(start, version, look),
+        Looked::On(look) => RunPlace::Acknowledging(start, version, look),
         Looked::Tells(answer) => if_dirty(second, start, version, acknowledged_in(answer)),
-        Looked::Blocks => Place::Over(JobEnd::Blocked),
+        Looked::Blocks => RunPlace::Over(JobEnd::Blocked),
     }
 }
 
 // What was found of the cell as of the acknowledged timestamp.
-fn after_recall(start: Ts, seen: Seen, looked: Looked) -> Place
+fn after_recall(start: Ts, seen: Seen, looked: Looked) -> RunPlace
     ensures { result ≡ Rattle.pb_notify.specs.Places.after_recall start seen looked }
 {
     match looked {
-        Looked::On(look) => Place::Recalling(start, seen, look),
+        Looked::On(look) => RunPlace::Recalling(start, seen, look),
         Looked::Tells(answer) => {
             let old = reply_in(answer).value();
-            Place::Starting(start, Seen { old, ..seen })
+            RunPlace::Starting(start, Seen { old, ..seen })
         }
-        Looked::Blocks => Place::Over(JobEnd::Blocked),
+        Looked::Blocks => RunPlace::Over(JobEnd::Blocked),
     }
 }
 
 // What was found of a cell that the machine asked for, which goes on with it. A lock too many ends the run, and the
 // machine with it.
-fn after_ask(start: Ts, machine: Machine, ask: Ask, looked: Looked) -> Place
+fn after_ask(start: Ts, machine: Machine, ask: Ask, looked: Looked) -> RunPlace
     requires { machine.phase ≡ Asking ask }
     ensures place { result ≡ Rattle.pb_notify.specs.Places.after_ask start machine ask looked }
     ensures told { IsToldBy machine ask looked result }
 {
     match looked {
-        Looked::On(look) => Place::Asking(start, machine, ask, look),
-        Looked::Tells(answer) => Place::Computing(start, machine.reply(ask, answer)),
-        Looked::Blocks => Place::Over(JobEnd::Blocked),
+        Looked::On(look) => RunPlace::Asking(start, machine, ask, look),
+        Looked::Tells(answer) => RunPlace::Computing(start, machine.reply(ask, answer)),
+        Looked::Blocks => RunPlace::Over(JobEnd::Blocked),
     }
 }
 
@@ -188,62 +191,62 @@ fn plan_takes(plan: &mut Plan, answer: Answer) -> Option<Outcome>
 }
 
 // Where a plan leads that is over so.
-fn after_outcome(end: u64, outcome: Outcome) -> Place
+fn after_outcome(end: u64, outcome: Outcome) -> RunPlace
     ensures { (p : PlanOf) → result ≡ by_outcome end p (Some outcome) }
 {
     match outcome {
-        Outcome::Committed(_) => Place::Sweeping(JobEnd::Ran(end)),
-        Outcome::Conflicted => Place::Over(JobEnd::Conflicted),
-        Outcome::Lost => Place::Over(JobEnd::Lost),
+        Outcome::Committed(_) => RunPlace::Sweeping(JobEnd::Ran(end)),
+        Outcome::Conflicted => RunPlace::Over(JobEnd::Conflicted),
+        Outcome::Lost => RunPlace::Over(JobEnd::Lost),
     }
 }
 
 // Where the answer of the next step leads, but for those of a plan.
-fn place_after(second: bool, locked: u8, place: Place, answer: Answer) -> Place
+fn place_after(second: bool, locked: u8, place: RunPlace, answer: Answer) -> RunPlace
     requires at { AtPlace locked place }
     requires other { IsPlanning place → ⊥ }
     ensures place { result ≡ place_after second locked place answer }
     ensures told { IsToldAt locked place answer result }
 {
     match place {
-        Place::Beginning => match answer {
-            Answer::At(start) => Place::Observing(start, Look::Reading),
-            _ => Place::Beginning,
+        RunPlace::Beginning => match answer {
+            Answer::At(start) => RunPlace::Observing(start, Look::Reading),
+            _ => RunPlace::Beginning,
         },
-        Place::Observing(start, look) => after_cell(start, look_after(locked, look, answer)),
-        Place::Acknowledging(start, version, look) => {
+        RunPlace::Observing(start, look) => after_cell(start, look_after(locked, look, answer)),
+        RunPlace::Acknowledging(start, version, look) => {
             after_acknowledgment(second, start, version, look_after(locked, look, answer))
         }
-        Place::Recalling(start, seen, look) => {
+        RunPlace::Recalling(start, seen, look) => {
             after_recall(start, seen, look_after(locked, look, answer))
         }
-        Place::Starting(start, seen) => Place::Starting(start, seen),
-        Place::Computing(start, machine) => Place::Computing(start, machine),
-        Place::Asking(start, machine, ask, look) => {
+        RunPlace::Starting(start, seen) => RunPlace::Starting(start, seen),
+        RunPlace::Computing(start, machine) => RunPlace::Computing(start, machine),
+        RunPlace::Asking(start, machine, ask, look) => {
             after_ask(start, machine, ask, look_after(locked, look, answer))
         }
         // It isn't here, since a plan takes its answers where it stands.
-        Place::Planning(..) => unreachable!(),
-        Place::Sweeping(end) => Place::Over(end),
-        Place::Over(end) => Place::Over(end),
+        RunPlace::Planning(..) => unreachable!(),
+        RunPlace::Sweeping(end) => RunPlace::Over(end),
+        RunPlace::Over(end) => RunPlace::Over(end),
     }
 }
 
 // Takes the answer where the place is moved for it: of the begin, and of a look as of an earlier timestamp or for the
 // machine. It isn't inlined, since the room for a second place is cleared at each entry.
 #[inline(never)]
-fn look_at(second: bool, locked: u8, place: &mut Place, answer: Answer)
+fn look_at(second: bool, locked: u8, place: &mut RunPlace, answer: Answer)
     requires at { AtPlace locked place.old }
     requires other { IsPlanning place.old → ⊥ }
     ensures place { place.new ≡ place_after second locked place.old answer }
     ensures told { IsToldAt locked place.old answer place.new }
 {
-    let before = mem::replace(place, Place::Beginning);
+    let before = mem::replace(place, RunPlace::Beginning);
     *place = place_after(second, locked, before, answer);
 }
 
 /// Takes the answer of the next step where the place stands, and tells whether it is a plan, which goes on.
-pub fn take(second: bool, locked: u8, place: &mut Place, answer: Answer) -> bool
+pub fn take(second: bool, locked: u8, place: &mut RunPlace, answer: Answer) -> bool
     requires at { AtPlace locked place.old }
     requires can { CanTakeAt place.old answer }
     ensures place { place.new ≡ place_after second locked place.old answer }
@@ -251,7 +254,7 @@ pub fn take(second: bool, locked: u8, place: &mut Place, answer: Answer) -> bool
     ensures plans { IsTrue result → IsPlanning place.old × IsPlanning place.new }
 {
     match place {
-        Place::Planning(end, plan) => {
+        RunPlace::Planning(end, plan) => {
             match plan_takes(plan, answer) {
                 None => true,
                 Some(outcome) => {
@@ -262,19 +265,19 @@ pub fn take(second: bool, locked: u8, place: &mut Place, answer: Answer) -> bool
             }
         }
         // These looks and the sweep are taken where they stand, since every run has them.
-        Place::Observing(start, look) => {
+        RunPlace::Observing(start, look) => {
             let (start, look) = (*start, *look);
             *place = after_cell(start, look_after(locked, look, answer));
             false
         }
-        Place::Acknowledging(start, version, look) => {
+        RunPlace::Acknowledging(start, version, look) => {
             let (start, version, look) = (*start, *version, *look);
             *place = after_acknowledgment(second, start, version, look_after(locked, look, answer));
             false
         }
-        Place::Sweeping(end) => {
+        RunPlace::Sweeping(end) => {
             let end = *end;
-            *place = Place::Over(end);
+            *place = RunPlace::Over(end);
             false
         }
         _ => {
@@ -292,25 +295,30 @@ pub fn tells_old(accepted: &Arc<Accepted>) -> bool
 }
 
 // Where an instruction leads.
-fn place_of(start: Ts, stepped: Stepped) -> Place
+fn place_of(start: Ts, stepped: Stepped) -> RunPlace
     ensures { result ≡ place_of start stepped }
 {
     match stepped {
-        Stepped::Went(machine) => Place::Computing(start, machine),
-        Stepped::Asks(machine, ask) => Place::Asking(start, machine, ask, Look::Reading),
-        Stepped::Ended(end, what) => Place::Planning(end, Plan::new(start, what)),
+        Stepped::Went(machine) => RunPlace::Computing(start, machine),
+        Stepped::Asks(machine, ask) => RunPlace::Asking(start, machine, ask, Look::Reading),
+        Stepped::Ended(end, what) => RunPlace::Planning(end, Plan::new(start, what)),
     }
 }
 
 // The next instruction of a machine.
-fn go_on(alloc: Global, observer: ObserverNo, start: Ts, machine: Machine) -> Result<Place, Place>
+fn go_on(
+    alloc: Global,
+    observer: ObserverNo,
+    start: Ts,
+    machine: Machine,
+) -> Result<RunPlace, RunPlace>
     requires { machine.phase ≡ Going }
     ensures ok { IfOk result (Comes observer start machine) }
     ensures same { IfErr result (λ p. p ≡ places.Computing start machine) }
 {
     match machine.step(alloc, observer) {
         Ok(stepped) => Ok(place_of(start, stepped)),
-        Err(machine) => Err(Place::Computing(start, machine)),
+        Err(machine) => Err(RunPlace::Computing(start, machine)),
     }
 }
 
@@ -333,57 +341,57 @@ fn begin(
     cell: Cell,
     start: Ts,
     seen: Seen,
-) -> Result<Place, Place>
+) -> Result<RunPlace, RunPlace>
     ensures ok { IfOk result (Starts observer accepted.now.value cell start seen) }
     ensures same { IfErr result (λ p. p ≡ places.Starting start seen) }
 {
     let record = record_by(accepted, cell, &seen);
     let Ok(machine) = Machine::start(alloc, accepted, record, start) else {
-        return Err(Place::Starting(start, seen));
+        return Err(RunPlace::Starting(start, seen));
     };
     match machine.step(alloc, observer) {
         Ok(stepped) => Ok(place_of(start, stepped)),
         // The first instruction is the exit, and its declaration was refused: the machine goes, since a start leads
         // there again.
-        Err(_) => Err(Place::Starting(start, seen)),
+        Err(_) => Err(RunPlace::Starting(start, seen)),
     }
 }
 
 // Does the next instruction of a machine where it stands, and tells what it did, if anything.
-fn move_at(place: &mut Place) -> Option<Moved>
+fn move_at(place: &mut RunPlace) -> Option<Moved>
     requires { IsLocal place.old }
     ensures { MatchOption result (GrowsAt place.old × (place.new ≡ place.old)) (λ m. MovesAt place.old m place.new) }
 {
     match place {
-        Place::Computing(_, machine) => machine.move_on(),
+        RunPlace::Computing(_, machine) => machine.move_on(),
         _ => None,
     }
 }
 
 // A machine that did its exit where it stands is before it again, with what it left.
-fn before_exit(place: Place) -> Place
-    requires { (old : Place) × (r : ℕ) × MovesAt old (Ended r) place }
-    ensures { (old : Place) (r : ℕ) → MovesAt old (Ended r) place → result ≡ old }
+fn before_exit(place: RunPlace) -> RunPlace
+    requires { (old : RunPlace) × (r : ℕ) × MovesAt old (Ended r) place }
+    ensures { (old : RunPlace) (r : ℕ) → MovesAt old (Ended r) place → result ≡ old }
 {
     match place {
-        Place::Computing(start, machine) => Place::Computing(start, machine.before_exit()),
+        RunPlace::Computing(start, machine) => RunPlace::Computing(start, machine.before_exit()),
         _ => unreachable!(),
     }
 }
 
 // A place whose machine did its exit is before it again, where it stands. It isn't inlined, since only exits need it.
 #[inline(never)]
-fn go_back(place: &mut Place)
-    requires { (old : Place) × (r : ℕ) × MovesAt old (Ended r) place.old }
-    ensures { (old : Place) (r : ℕ) → MovesAt old (Ended r) place.old → place.new ≡ old }
+fn go_back(place: &mut RunPlace)
+    requires { (old : RunPlace) × (r : ℕ) × MovesAt old (Ended r) place.old }
+    ensures { (old : RunPlace) (r : ℕ) → MovesAt old (Ended r) place.old → place.new ≡ old }
 {
-    let ended = mem::replace(place, Place::Beginning);
+    let ended = mem::replace(place, RunPlace::Beginning);
     *place = before_exit(ended);
 }
 
 /// Does the next instruction of a machine where it stands, if it is neither the first nor the exit, and tells what it
 /// did: a job is moved to another place at these two and at asks alone.
-pub fn move_on(place: &mut Place) -> Option<Moved>
+pub fn move_on(place: &mut RunPlace) -> Option<Moved>
     requires { IsLocal place.old }
     ensures { MatchOption result (GrowsAt place.old × (place.new ≡ place.old)) (λ m. GoesAt place.old m place.new) }
 {
@@ -396,40 +404,40 @@ pub fn move_on(place: &mut Place) -> Option<Moved>
 }
 
 // The place of a machine that asked where it stands: its look at that cell begins with a read.
-fn waiting(place: Place, ask: Ask) -> Place
+fn waiting(place: RunPlace, ask: Ask) -> RunPlace
     ensures { result ≡ waiting place ask }
 {
     match place {
-        Place::Computing(start, machine) => Place::Asking(start, machine, ask, Look::Reading),
+        RunPlace::Computing(start, machine) => RunPlace::Asking(start, machine, ask, Look::Reading),
         place => place,
     }
 }
 
 /// Lets a machine wait that asked where it stands.
 #[inline(never)]
-pub fn wait_at(place: &mut Place, ask: Ask)
+pub fn wait_at(place: &mut RunPlace, ask: Ask)
     ensures { place.new ≡ waiting place.old ask }
 {
-    let asking = mem::replace(place, Place::Beginning);
+    let asking = mem::replace(place, RunPlace::Beginning);
     *place = waiting(asking, ask);
 }
 
 // Does all instructions of a machine up to the next ask or the exit where it stands, and tells what the last one did;
 // none where it isn't started, and at an exit that was refused.
-fn follow_at(place: &mut Place) -> Option<Moved>
+fn follow_at(place: &mut RunPlace) -> Option<Moved>
     requires { IsLocal place.old }
     ensures { MatchOption result (GrowsAt place.old × (place.new ≡ place.old))
         (λ m. FollowsAt place.old m place.new) }
 {
     match place {
-        Place::Computing(_, machine) => machine.follow(),
+        RunPlace::Computing(_, machine) => machine.follow(),
         _ => None,
     }
 }
 
 /// Does all instructions of a machine up to the next ask or the exit where it stands, and tells whether it waits for
 /// what it asked; else it is before its exit, or isn't started.
-pub fn follow(place: &mut Place) -> bool
+pub fn follow(place: &mut RunPlace) -> bool
     requires { IsLocal place.old }
     ensures waits { IsTrue result → WaitsAt place.old place.new }
     ensures grows { IsFalse result → ProceedsAt place.old place.new × GrowsAt place.new }
@@ -456,15 +464,15 @@ pub fn compute(
     observer: ObserverNo,
     accepted: &Arc<Accepted>,
     cell: Cell,
-    place: Place,
-) -> Result<Place, Place>
+    place: RunPlace,
+) -> Result<RunPlace, RunPlace>
     requires { IsLocal place }
     ensures ok { IfOk result (ComesFrom observer accepted.now.value cell place) }
     ensures same { IfErr result (λ p. p ≡ place) }
 {
     match place {
-        Place::Starting(start, seen) => begin(alloc, observer, accepted, cell, start, seen),
-        Place::Computing(start, machine) => go_on(alloc, observer, start, machine),
+        RunPlace::Starting(start, seen) => begin(alloc, observer, accepted, cell, start, seen),
+        RunPlace::Computing(start, machine) => go_on(alloc, observer, start, machine),
         _ => unreachable!(),
     }
 }

@@ -13,8 +13,8 @@ use Rattle.pb_base.specs.declared.cell.Cell.TheVariants.{Data}
 use Rattle.pb_base.specs.declared.content.Content.{Content}
 use Rattle.pb_base.specs.declared.content.Content.TheVariants.{Value, Deleted}
 use Rattle.pb_base.specs.Batch.{Writes, content_in, is_unstamped, is_data_write, are_distinct, is_batch}
-use Rattle.pb_parse.specs.declared.script.code.Code.{Code}
-use Rattle.pb_parse.specs.declared.script.code.Code.TheVariants.{Form, Twice, Seventeenth}
+use Rattle.pb_parse.specs.declared.script.code.ScriptCode.{ScriptCode}
+use Rattle.pb_parse.specs.declared.script.code.ScriptCode.TheVariants.{Form, Twice, Seventeenth}
 use Rattle.pb_base.specs.Reading.{◌>>=◌, in_turn, next_word, no_word}
 use Rattle.pb_base.specs.declared.limits.TheConstants.{MAX_CELLS}
 use Rattle.pb_parse.specs.ScriptWords.{put_of, del_of, write_of, operation, cell_at, number_upto, content_of}
@@ -22,7 +22,7 @@ use Rattle.pb_parse.specs.ScriptLines.{cut, with_operation, batch_of}
 use Rattle.pb_parse.specs.Operations.{Say}
 
 -- where two readings in turn succeed, the first does, and the second with what it read
-pub bind_ok : {A B : Type 0} (r : Result A Code) (f : A → Result B Code) (y : B) → (r >>= f) ≡ Ok y → (x : A) × (r ≡ Ok x) × (f x ≡ Ok y)
+pub bind_ok : {A B : Type 0} (r : Result A ScriptCode) (f : A → Result B ScriptCode) (y : B) → (r >>= f) ≡ Ok y → (x : A) × (r ≡ Ok x) × (f x ≡ Ok y)
 bind_ok (Ok x) f y h = (x, refl, h)
 bind_ok (Err e) f y h = absurd cc
 
@@ -42,11 +42,11 @@ cell_is_data words c h =
     let b = bind_ok (number_upto (2 ^ 64 - 1) a.0.0) _ c a.2 in
     let d = bind_ok (next_word Form a.0.1) _ c b.2 in
     let e = bind_ok (number_upto 15 d.0.0) _ c d.2 in
-    sym (ap (λ (p : Cell × List (List ℕ)). is_data p.0) (ok_same {E = Code} (Data (record { 0 = b.0 }) e.0, d.0.1) c e.2))
+    sym (ap (λ (p : Cell × List (List ℕ)). is_data p.0) (ok_same {E = ScriptCode} (Data (record { 0 = b.0 }) e.0, d.0.1) c e.2))
 
 -- a value or a deletion of a data cell is what a batch may have
-is_written : (x : Cell) (k : Content) (w : Cell × Content) → is_data x ≡ true → is_unstamped k ≡ true → ◌≡◌ {A = Result (Cell × Content) Code} (Ok (x, k)) (Ok w) → is_data_write w ≡ true
-is_written x k w place plain h = sym (ap is_data_write (ok_same {E = Code} (x, k) w h)) ∙ (rw (place, plain) refl)
+is_written : (x : Cell) (k : Content) (w : Cell × Content) → is_data x ≡ true → is_unstamped k ≡ true → ◌≡◌ {A = Result (Cell × Content) ScriptCode} (Ok (x, k)) (Ok w) → is_data_write w ≡ true
+is_written x k w place plain h = sym (ap is_data_write (ok_same {E = ScriptCode} (x, k) w h)) ∙ (rw (place, plain) refl)
 
 -- so `put` writes what a batch may have
 plain_put : (words : List (List ℕ)) (w : Cell × Content) → put_of words ≡ Ok w → is_data_write w ≡ true
@@ -140,7 +140,7 @@ added before after text h =
           read = a.1;
           new = not_some (content_in before a.0.0) new.0;
           room = leb-false _ _ room.0;
-          all = ok_same {E = Code} (before ++ a.0 ∷ []) after room.1;
+          all = ok_same {E = ScriptCode} (before ++ a.0 ∷ []) after room.1;
         }
       ]
     ]
@@ -162,13 +162,13 @@ grown texts before after text o a =
 -- ---- operations in turn
 
 -- operations in turn are read only where the first of them is
-turn_open : (texts : List (List ℕ)) (after : Writes) (r : Result Writes Code) (more : Writes → Result Writes Code) → ((s : Writes) → r ≡ Ok s → more s ≡ Ok after → IsOpen texts after) → (r >>= more) ≡ Ok after → IsOpen texts after
+turn_open : (texts : List (List ℕ)) (after : Writes) (r : Result Writes ScriptCode) (more : Writes → Result Writes ScriptCode) → ((s : Writes) → r ≡ Ok s → more s ≡ Ok after → IsOpen texts after) → (r >>= more) ≡ Ok after → IsOpen texts after
 turn_open texts after (Ok s) more f h = f s refl h
 turn_open texts after (Err e) more f h = absurd cc
 
 -- operations in turn after others
 pub all_open : (n : ℕ) (front : List (List ℕ)) (before after : Writes) (texts : List (List ℕ)) → IsOpen front before → in_turn (λ _. with_operation) n before texts ≡ Ok after → IsOpen (front ++ texts) after
-all_open n front before after [] o h = rw append-nil (subst (IsOpen front) (ok_same {E = Code} before after h) o)
+all_open n front before after [] o h = rw append-nil (subst (IsOpen front) (ok_same {E = ScriptCode} before after h) o)
 all_open n front before after (t ∷ ts) o h =
     turn_open (front ++ t ∷ ts) after (with_operation before t) (λ s. in_turn (λ _. with_operation) (n + 1) s ts)
     (λ s is k. subst (λ (texts : List (List ℕ)). IsOpen texts after) (append_assoc front (t ∷ []) ts) (all_open (n + 1) (front ++ t ∷ []) s after ts (grown front before s t o (added before s t is)) k)) h
@@ -194,7 +194,7 @@ cut_some (b ∷ c ∷ bs) = cut_choice ((b == 59) && (c == 32)) (cut bs) (onto_f
 -- an open line with an operation is a batch
 closed : (texts : List (List ℕ)) (ws : Writes) → IsOpen texts ws → 0 < length texts → is_batch ws ≡ true
 closed texts ws o some =
-    let same : length ws ≡ length texts = sym (length-map {B = Result (Cell × Content) Code} ws (λ w. Ok w)) ∙ sym (ap length o.said) ∙ length-map texts operation in
+    let same : length ws ≡ length texts = sym (length-map {B = Result (Cell × Content) ScriptCode} ws (λ w. Ok w)) ∙ sym (ap length o.said) ∙ length-map texts operation in
     rw (lt-ltb 0 (length ws) (omega (arith, same)), le-leb (length ws) MAX_CELLS o.few, o.plain, o.distinct) refl
 
 -- what a line is read as is what its operations say

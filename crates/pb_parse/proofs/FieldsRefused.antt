@@ -15,8 +15,8 @@ use Rattle.pb_parse.specs.declared.event.Job.TheVariants.{Run}
 use Rattle.pb_parse.specs.declared.event.Event.{Event}
 use Rattle.pb_parse.specs.declared.event.Event.TheVariants.{Launch, Crash, Settle, Clear, Sweep}
 use Rattle.pb_parse.specs.declared.schedule.words.Order.{Order}
-use Rattle.pb_parse.specs.declared.schedule.fault.Code.{Code}
-use Rattle.pb_parse.specs.declared.schedule.fault.Code.TheVariants.{Form, Range, NoObserver}
+use Rattle.pb_parse.specs.declared.schedule.fault.ScheduleCode.{ScheduleCode}
+use Rattle.pb_parse.specs.declared.schedule.fault.ScheduleCode.TheVariants.{Form, Range, NoObserver}
 use Rattle.pb_parse.specs.ScheduleWords.{number_between, next_number, next_actor, next_row, first_named, observer_named, next_observer, next_change, next_run, next_job, once, launch_of, times_of, step_of, crash_of, next_data_cell, next_acknowledgment, next_cell, once_on, order_by, order_of_words, order_of}
 use Rattle.pb_parse.specs.EventLines.{name_of, IsActor, IsRow, IsNamed}
 use Rattle.pb_parse.specs.ScheduleFaults.{LaunchActor, ChangeNumber, RunName, RunRow, StepActor, StepTimes, CrashActor, SettleRow, SettleColumn, SettleName, SettleAckRow, ClearRow, ClearColumn, ClearName, ClearAckRow, SweepRow, SweepColumn, IsOutside, IsNoRow, IsNoColumn, IsNobody, StopsAtField}
@@ -25,29 +25,29 @@ use Rattle.pb_parse.proofs.Steps.{chosen, same_text, next_is, next_row_is, next_
 use Rattle.pb_parse.proofs.OrdersWritten.{actor_is}
 
 -- a fault of one reading after another is the first's, or the second's after what the first read
-pub bind_err : {A B : Type 0} (r : Result A Code) (f : A → Result B Code) (e : Code) → (r >>= f) ≡ Err e → (r ≡ Err e) ⊎ ((x : A) × (r ≡ Ok x) × (f x ≡ Err e))
+pub bind_err : {A B : Type 0} (r : Result A ScheduleCode) (f : A → Result B ScheduleCode) (e : ScheduleCode) → (r >>= f) ≡ Err e → (r ≡ Err e) ⊎ ((x : A) × (r ≡ Ok x) × (f x ≡ Err e))
 bind_err (Ok x) f e h = inr (x, refl, h)
 bind_err {A} {B} (Err d) f e h = inl (ap Err (err_is {A = B} d e h))
   where
-    err_is : {A : Type 0} (d e : Code) → ◌≡◌ {A = Result A Code} (Err d) (Err e) → d ≡ e
+    err_is : {A : Type 0} (d e : ScheduleCode) → ◌≡◌ {A = Result A ScheduleCode} (Err d) (Err e) → d ≡ e
     err_is d e h = cc
 
-err_same : {A : Type 0} (d e : Code) → ◌≡◌ {A = Result A Code} (Err d) (Err e) → e ≡ d
+err_same : {A : Type 0} (d e : ScheduleCode) → ◌≡◌ {A = Result A ScheduleCode} (Err d) (Err e) → e ≡ d
 err_same d e h = cc
 
 -- a word that is missing is a fault of the form
-next_fault : (words : List (List ℕ)) (cause : Code) → next_word Form words ≡ Err cause → cause ≡ Form
+next_fault : (words : List (List ℕ)) (cause : ScheduleCode) → next_word Form words ≡ Err cause → cause ≡ Form
 next_fault [] cause h = err_same {A = List ℕ × List (List ℕ)} Form cause h
 next_fault (w ∷ ws) cause h = absurd cc
 
-end_fault : (words : List (List ℕ)) (cause : Code) → no_word Form words ≡ Err cause → cause ≡ Form
+end_fault : (words : List (List ℕ)) (cause : ScheduleCode) → no_word Form words ≡ Err cause → cause ≡ Form
 end_fault [] cause h = absurd cc
 end_fault (w ∷ ws) cause h = err_same {A = Unit {0}} Form cause h
 
 -- ---- numbers
 
 -- a number is refused for its form, or as digits out of its range
-number_fault : (least greatest : ℕ) (word : List ℕ) (cause : Code) → number_between least greatest word ≡ Err cause → (cause ≡ Form) ⊎ IsOutside least greatest word cause
+number_fault : (least greatest : ℕ) (word : List ℕ) (cause : ScheduleCode) → number_between least greatest word ≡ Err cause → (cause ≡ Form) ⊎ IsOutside least greatest word cause
 number_fault least greatest word cause h =
     elim (bind_err (numeral_upto Form Range greatest word) _ cause h) [
       | inl own ↦ elim (chosen (is_numeral word) _ (Err Form) (Err cause) own) [
@@ -71,17 +71,17 @@ number_fault least greatest word cause h =
       ]
     ]
   where
-    ok_same : (x y : ℕ) → ◌≡◌ {A = Result ℕ Code} (Ok x) (Ok y) → x ≡ y
+    ok_same : (x y : ℕ) → ◌≡◌ {A = Result ℕ ScheduleCode} (Ok x) (Ok y) → x ≡ y
     ok_same x y h = cc
 
 -- the first word is digits out of this range
-record BadNumber (least greatest : ℕ) (words : List (List ℕ)) (cause : Code) : Type 0 where
+record BadNumber (least greatest : ℕ) (words : List (List ℕ)) (cause : ScheduleCode) : Type 0 where
   word : List ℕ
   rest : List (List ℕ)
   cut : words ≡ word ∷ rest
   outside : IsOutside least greatest word cause
 
-next_number_fault : (least greatest : ℕ) (words : List (List ℕ)) (cause : Code) → next_number least greatest words ≡ Err cause → (cause ≡ Form) ⊎ BadNumber least greatest words cause
+next_number_fault : (least greatest : ℕ) (words : List (List ℕ)) (cause : ScheduleCode) → next_number least greatest words ≡ Err cause → (cause ≡ Form) ⊎ BadNumber least greatest words cause
 unfolding next_number
 next_number_fault least greatest words cause h =
     elim (bind_err (next_word Form words) _ cause h) [
@@ -95,7 +95,7 @@ next_number_fault least greatest words cause h =
       ]
     ]
 
-next_row_fault : (words : List (List ℕ)) (cause : Code) → next_row words ≡ Err cause → (cause ≡ Form) ⊎ BadNumber 0 (2 ^ 64 - 1) words cause
+next_row_fault : (words : List (List ℕ)) (cause : ScheduleCode) → next_row words ≡ Err cause → (cause ≡ Form) ⊎ BadNumber 0 (2 ^ 64 - 1) words cause
 unfolding next_row
 next_row_fault words cause h =
     elim (bind_err (next_number 0 (2 ^ 64 - 1) words) _ cause h) [
@@ -106,14 +106,14 @@ next_row_fault words cause h =
 -- ---- names
 
 -- the first word names no observer
-record BadName (observers : List ObserverOf) (words : List (List ℕ)) (cause : Code) : Type 0 where
+record BadName (observers : List ObserverOf) (words : List (List ℕ)) (cause : ScheduleCode) : Type 0 where
   word : List ℕ
   rest : List (List ℕ)
   cut : words ≡ word ∷ rest
   nobody : IsNobody observers word cause
 
 -- a name is refused only where no observer has it
-named_fault : (observers : List ObserverOf) (name : List ℕ) (cause : Code) → observer_named observers name ≡ Err cause → IsNobody observers name cause
+named_fault : (observers : List ObserverOf) (name : List ℕ) (cause : ScheduleCode) → observer_named observers name ≡ Err cause → IsNobody observers name cause
 named_fault observers name cause h =
     elim (chosen (nat_lt (first_named observers name) (length observers)) (Ok (first_named observers name)) (Err NoObserver) (Err cause) h) [
       | inl some ↦ let e = some.1 in absurd cc
@@ -123,7 +123,7 @@ named_fault observers name cause h =
       }
     ]
 
-next_observer_fault : (observers : List ObserverOf) (words : List (List ℕ)) (cause : Code) → next_observer observers words ≡ Err cause → (cause ≡ Form) ⊎ BadName observers words cause
+next_observer_fault : (observers : List ObserverOf) (words : List (List ℕ)) (cause : ScheduleCode) → next_observer observers words ≡ Err cause → (cause ≡ Form) ⊎ BadName observers words cause
 unfolding next_observer
 next_observer_fault observers words cause h =
     elim (bind_err (next_word Form words) _ cause h) [
@@ -135,7 +135,7 @@ next_observer_fault observers words cause h =
     ]
 
 -- behind a name, a row
-record BadRowBehind (observers : List ObserverOf) (words : List (List ℕ)) (cause : Code) : Type 0 where
+record BadRowBehind (observers : List ObserverOf) (words : List (List ℕ)) (cause : ScheduleCode) : Type 0 where
   observer : ℕ
   behind : List (List ℕ)
   named : IsNamed observers observer
@@ -143,16 +143,16 @@ record BadRowBehind (observers : List ObserverOf) (words : List (List ℕ)) (cau
   row : BadNumber 0 (2 ^ 64 - 1) behind cause
 
 -- a name and a row, one of them at fault
-abbrev NameAndRow : List ObserverOf → List (List ℕ) → Code → Type 0
+abbrev NameAndRow : List ObserverOf → List (List ℕ) → ScheduleCode → Type 0
 NameAndRow observers words cause = (cause ≡ Form) ⊎ (BadName observers words cause ⊎ BadRowBehind observers words cause)
 
-abbrev named_row : {A : Type 0} → (ℕ → Row → A) → List ObserverOf → List (List ℕ) → Result (A × List (List ℕ)) Code
+abbrev named_row : {A : Type 0} → (ℕ → Row → A) → List ObserverOf → List (List ℕ) → Result (A × List (List ℕ)) ScheduleCode
 named_row make observers words = do
   observer ← next_observer observers words
   row ← next_row observer.1
   Ok (make observer.0 row.0, row.1)
 
-name_and_row : {A : Type 0} (observers : List ObserverOf) (words : List (List ℕ)) (cause : Code) (make : ℕ → Row → A) → AreWords words → named_row make observers words ≡ Err cause → NameAndRow observers words cause
+name_and_row : {A : Type 0} (observers : List ObserverOf) (words : List (List ℕ)) (cause : ScheduleCode) (make : ℕ → Row → A) → AreWords words → named_row make observers words ≡ Err cause → NameAndRow observers words cause
 name_and_row observers words cause make some h =
     elim (bind_err (next_observer observers words) _ cause h) [
       | inl own ↦ elim (next_observer_fault observers words cause own) [
@@ -172,22 +172,22 @@ name_and_row observers words cause make some h =
 -- ---- jobs
 
 -- `change` and a number out of its range
-record BadChange (words : List (List ℕ)) (cause : Code) : Type 0 where
+record BadChange (words : List (List ℕ)) (cause : ScheduleCode) : Type 0 where
   behind : List (List ℕ)
   written : words ≡ codes "change" ∷ behind
   number : BadNumber 1 MAX_CHANGES behind cause
 
 -- `run` with a name that nobody has, or a row out of range behind a name
-record BadRun (observers : List ObserverOf) (words : List (List ℕ)) (cause : Code) : Type 0 where
+record BadRun (observers : List ObserverOf) (words : List (List ℕ)) (cause : ScheduleCode) : Type 0 where
   behind : List (List ℕ)
   written : words ≡ codes "run" ∷ behind
   field : BadName observers behind cause ⊎ BadRowBehind observers behind cause
 
 -- why a job isn't read: its form, or one of its fields
-abbrev BadJob : List ObserverOf → List (List ℕ) → Code → Type 0
+abbrev BadJob : List ObserverOf → List (List ℕ) → ScheduleCode → Type 0
 BadJob observers words cause = (cause ≡ Form) ⊎ (BadChange words cause ⊎ BadRun observers words cause)
 
-change_fault : (words : List (List ℕ)) (cause : Code) → next_change words ≡ Err cause → (cause ≡ Form) ⊎ BadNumber 1 MAX_CHANGES words cause
+change_fault : (words : List (List ℕ)) (cause : ScheduleCode) → next_change words ≡ Err cause → (cause ≡ Form) ⊎ BadNumber 1 MAX_CHANGES words cause
 unfolding next_change
 change_fault words cause h =
     elim (bind_err (next_number 1 MAX_CHANGES words) _ cause h) [
@@ -195,7 +195,7 @@ change_fault words cause h =
       | inr a ↦ let e = a.2 in absurd cc
     ]
 
-run_fault : (observers : List ObserverOf) (words : List (List ℕ)) (cause : Code) → AreWords words → next_run observers words ≡ Err cause → NameAndRow observers words cause
+run_fault : (observers : List ObserverOf) (words : List (List ℕ)) (cause : ScheduleCode) → AreWords words → next_run observers words ≡ Err cause → NameAndRow observers words cause
 unfolding next_run
 run_fault observers words cause some h = name_and_row observers words cause Run some h
 
@@ -203,7 +203,7 @@ in_front : (words : List (List ℕ)) (x : List ℕ × List (List ℕ)) (word : L
 in_front words x word cut is = cut ∙ ap (λ (w : List ℕ). w ∷ x.1) (same_text x.0 word is)
 
 -- a job that isn't read is at fault for one of these
-job_fault : (observers : List ObserverOf) (words : List (List ℕ)) (cause : Code) → AreWords words → next_job observers words ≡ Err cause → BadJob observers words cause
+job_fault : (observers : List ObserverOf) (words : List (List ℕ)) (cause : ScheduleCode) → AreWords words → next_job observers words ≡ Err cause → BadJob observers words cause
 unfolding next_job
 job_fault observers words cause some h =
     elim (bind_err (next_word Form words) _ cause h) [
@@ -228,17 +228,17 @@ job_fault observers words cause some h =
 -- ---- cells
 
 -- a row, and digits that are no column behind it
-record BadColumn (words : List (List ℕ)) (cause : Code) : Type 0 where
+record BadColumn (words : List (List ℕ)) (cause : ScheduleCode) : Type 0 where
   row : Row
   behind : List (List ℕ)
   fits : IsRow row
   written : words ≡ decimal row.0 ∷ behind
   column : BadNumber 0 (COLUMNS - 1) behind cause
 
-abbrev BadDataCell : List (List ℕ) → Code → Type 0
+abbrev BadDataCell : List (List ℕ) → ScheduleCode → Type 0
 BadDataCell words cause = (cause ≡ Form) ⊎ (BadNumber 0 (2 ^ 64 - 1) words cause ⊎ BadColumn words cause)
 
-data_fault : (words : List (List ℕ)) (cause : Code) → next_data_cell words ≡ Err cause → BadDataCell words cause
+data_fault : (words : List (List ℕ)) (cause : ScheduleCode) → next_data_cell words ≡ Err cause → BadDataCell words cause
 unfolding next_data_cell
 data_fault words cause h =
     elim (bind_err (next_row words) _ cause h) [
@@ -256,20 +256,20 @@ data_fault words cause h =
           ]
     ]
 
-acknowledgment_fault : (observers : List ObserverOf) (words : List (List ℕ)) (cause : Code) → AreWords words → next_acknowledgment observers words ≡ Err cause → NameAndRow observers words cause
+acknowledgment_fault : (observers : List ObserverOf) (words : List (List ℕ)) (cause : ScheduleCode) → AreWords words → next_acknowledgment observers words ≡ Err cause → NameAndRow observers words cause
 unfolding next_acknowledgment
 acknowledgment_fault observers words cause some h = name_and_row observers words cause (acknowledgment observers) some h
 
-record BadAcknowledgment (observers : List ObserverOf) (words : List (List ℕ)) (cause : Code) : Type 0 where
+record BadAcknowledgment (observers : List ObserverOf) (words : List (List ℕ)) (cause : ScheduleCode) : Type 0 where
   behind : List (List ℕ)
   written : words ≡ codes "ack" ∷ behind
   field : BadName observers behind cause ⊎ BadRowBehind observers behind cause
 
-abbrev BadCell : List ObserverOf → List (List ℕ) → Code → Type 0
+abbrev BadCell : List ObserverOf → List (List ℕ) → ScheduleCode → Type 0
 BadCell observers words cause = BadDataCell words cause ⊎ BadAcknowledgment observers words cause
 
 -- a cell that isn't read is at fault for its form, or for one of its fields
-cell_fault : (observers : List ObserverOf) (words : List (List ℕ)) (cause : Code) → AreWords words → next_cell observers words ≡ Err cause → BadCell observers words cause
+cell_fault : (observers : List ObserverOf) (words : List (List ℕ)) (cause : ScheduleCode) → AreWords words → next_cell observers words ≡ Err cause → BadCell observers words cause
 cell_fault observers [] cause some h = inl (inl (err_same {A = Cell × List (List ℕ)} Form cause h))
 cell_fault observers (word ∷ words) cause some h = elim (chosen (bytes_eq word (codes "ack")) (next_acknowledgment observers words) _ (Err cause) h) [
   | inl p ↦ elim (acknowledgment_fault observers words cause some.1 p.1) [
@@ -282,11 +282,11 @@ cell_fault observers (word ∷ words) cause some h = elim (chosen (bytes_eq word
 -- ---- orders
 
 -- a line's fault: its form, or the field at which its words stop
-abbrev Blames : List ObserverOf → List (List ℕ) → Code → Type 0
+abbrev Blames : List ObserverOf → List (List ℕ) → ScheduleCode → Type 0
 Blames observers words cause = (cause ≡ Form) ⊎ StopsAtField observers words cause
 
 -- what stands behind a whole order is a fault of the form
-once_fault : (event : Event) (words : List (List ℕ)) (cause : Code) → once event words ≡ Err cause → cause ≡ Form
+once_fault : (event : Event) (words : List (List ℕ)) (cause : ScheduleCode) → once event words ≡ Err cause → cause ≡ Form
 unfolding once
 once_fault event words cause h =
     elim (bind_err (no_word Form words) _ cause h) [
@@ -294,7 +294,7 @@ once_fault event words cause h =
       | inr a ↦ let e = a.2 in absurd cc
     ]
 
-launch_job : (observers : List ObserverOf) (actor : ℕ) (words rest : List (List ℕ)) (cause : Code) → IsActor actor → words ≡ decimal actor ∷ rest → BadJob observers rest cause → Blames observers (codes "launch" ∷ words) cause
+launch_job : (observers : List ObserverOf) (actor : ℕ) (words rest : List (List ℕ)) (cause : ScheduleCode) → IsActor actor → words ≡ decimal actor ∷ rest → BadJob observers rest cause → Blames observers (codes "launch" ∷ words) cause
 launch_job observers actor words rest cause may is (inl form) = inl form
 launch_job observers actor words rest cause may is (inr (inl change)) =
     let n = change.number in
@@ -308,7 +308,7 @@ launch_job observers actor words rest cause may is (inr (inr run)) =
     ]
 
 -- a launch that isn't read is at fault for its form or for a field, and so with each verb below
-launch_fault : (observers : List ObserverOf) (words : List (List ℕ)) (cause : Code) → AreWords words → launch_of observers words ≡ Err cause → Blames observers (codes "launch" ∷ words) cause
+launch_fault : (observers : List ObserverOf) (words : List (List ℕ)) (cause : ScheduleCode) → AreWords words → launch_of observers words ≡ Err cause → Blames observers (codes "launch" ∷ words) cause
 unfolding launch_of
 launch_fault observers words cause some h =
     elim (bind_err (next_actor words) _ cause h) [
@@ -324,7 +324,7 @@ launch_fault observers words cause some h =
           ]
     ]
 
-times_fault : (words : List (List ℕ)) (cause : Code) → times_of words ≡ Err cause → (cause ≡ Form) ⊎ BadNumber 1 MAX_EVENTS words cause
+times_fault : (words : List (List ℕ)) (cause : ScheduleCode) → times_of words ≡ Err cause → (cause ≡ Form) ⊎ BadNumber 1 MAX_EVENTS words cause
 unfolding times_of
 times_fault [] cause h = absurd cc
 times_fault (word ∷ words) cause h =
@@ -339,7 +339,7 @@ times_fault (word ∷ words) cause h =
       ]
     ]
 
-step_fault : (observers : List ObserverOf) (words : List (List ℕ)) (cause : Code) → step_of words ≡ Err cause → Blames observers (codes "step" ∷ words) cause
+step_fault : (observers : List ObserverOf) (words : List (List ℕ)) (cause : ScheduleCode) → step_of words ≡ Err cause → Blames observers (codes "step" ∷ words) cause
 unfolding step_of
 step_fault observers words cause h =
     elim (bind_err (next_actor words) _ cause h) [
@@ -357,7 +357,7 @@ step_fault observers words cause h =
           ]
     ]
 
-crash_fault : (observers : List ObserverOf) (words : List (List ℕ)) (cause : Code) → crash_of words ≡ Err cause → Blames observers (codes "crash" ∷ words) cause
+crash_fault : (observers : List ObserverOf) (words : List (List ℕ)) (cause : ScheduleCode) → crash_of words ≡ Err cause → Blames observers (codes "crash" ∷ words) cause
 unfolding crash_of
 crash_fault observers words cause h =
     elim (bind_err (next_actor words) _ cause h) [
@@ -368,7 +368,7 @@ crash_fault observers words cause h =
       | inr a ↦ inl (once_fault (Crash a.0.0) a.0.1 cause a.2)
     ]
 
-on_fault : (make : Cell → Event) (r : Result (Cell × List (List ℕ)) Code) (cause : Code) → once_on make r ≡ Err cause → (cause ≡ Form) ⊎ (r ≡ Err cause)
+on_fault : (make : Cell → Event) (r : Result (Cell × List (List ℕ)) ScheduleCode) (cause : ScheduleCode) → once_on make r ≡ Err cause → (cause ≡ Form) ⊎ (r ≡ Err cause)
 unfolding once_on
 on_fault make r cause h =
     elim (bind_err r _ cause h) [
@@ -378,10 +378,10 @@ on_fault make r cause h =
 
 -- where a verb that names any cell may stop: at a row, a column, a name, or a row behind a name
 record CellFields (observers : List ObserverOf) (verb : List ℕ) : Type 0 where
-  blame_row : (words rest : List (List ℕ)) (word : List ℕ) (cause : Code) → words ≡ verb ∷ word ∷ rest → IsNoRow word cause → StopsAtField observers words cause
-  blame_column : (words rest : List (List ℕ)) (row : Row) (word : List ℕ) (cause : Code) → words ≡ verb ∷ decimal row.0 ∷ word ∷ rest → IsRow row → IsNoColumn word cause → StopsAtField observers words cause
-  blame_name : (words rest : List (List ℕ)) (word : List ℕ) (cause : Code) → words ≡ verb ∷ codes "ack" ∷ word ∷ rest → IsNobody observers word cause → StopsAtField observers words cause
-  blame_ack_row : (words rest : List (List ℕ)) (o : ℕ) (word : List ℕ) (cause : Code) → words ≡ verb ∷ codes "ack" ∷ name_of observers o ∷ word ∷ rest → IsNamed observers o → IsNoRow word cause → StopsAtField observers words cause
+  blame_row : (words rest : List (List ℕ)) (word : List ℕ) (cause : ScheduleCode) → words ≡ verb ∷ word ∷ rest → IsNoRow word cause → StopsAtField observers words cause
+  blame_column : (words rest : List (List ℕ)) (row : Row) (word : List ℕ) (cause : ScheduleCode) → words ≡ verb ∷ decimal row.0 ∷ word ∷ rest → IsRow row → IsNoColumn word cause → StopsAtField observers words cause
+  blame_name : (words rest : List (List ℕ)) (word : List ℕ) (cause : ScheduleCode) → words ≡ verb ∷ codes "ack" ∷ word ∷ rest → IsNobody observers word cause → StopsAtField observers words cause
+  blame_ack_row : (words rest : List (List ℕ)) (o : ℕ) (word : List ℕ) (cause : ScheduleCode) → words ≡ verb ∷ codes "ack" ∷ name_of observers o ∷ word ∷ rest → IsNamed observers o → IsNoRow word cause → StopsAtField observers words cause
 
 settle_fields : (observers : List ObserverOf) → CellFields observers (codes "settle")
 settle_fields observers = record {
@@ -399,7 +399,7 @@ clear_fields observers = record {
   blame_ack_row = λ words rest o word cause cut fits out. record { field = ClearAckRow o; word = word; rest = rest; cut = cut; fits = fits; refused = out };
 }
 
-bad_cell : (observers : List ObserverOf) (verb : List ℕ) (words : List (List ℕ)) (cause : Code) → CellFields observers verb → BadCell observers words cause → Blames observers (verb ∷ words) cause
+bad_cell : (observers : List ObserverOf) (verb : List ℕ) (words : List (List ℕ)) (cause : ScheduleCode) → CellFields observers verb → BadCell observers words cause → Blames observers (verb ∷ words) cause
 bad_cell observers verb words cause f (inl (inl form)) = inl form
 bad_cell observers verb words cause f (inl (inr (inl n))) = inr (f.blame_row (verb ∷ words) n.rest n.word cause (ap (λ (ws : List (List ℕ)). verb ∷ ws) n.cut) n.outside)
 bad_cell observers verb words cause f (inl (inr (inr c))) =
@@ -413,21 +413,21 @@ bad_cell observers verb words cause f (inr a) =
     ]
 
 -- `settle` and `clear` have the same fields, so one lemma serves both
-any_cell_fault : (observers : List ObserverOf) (verb : List ℕ) (make : Cell → Event) (words : List (List ℕ)) (cause : Code) → AreWords words → CellFields observers verb → once_on make (next_cell observers words) ≡ Err cause → Blames observers (verb ∷ words) cause
+any_cell_fault : (observers : List ObserverOf) (verb : List ℕ) (make : Cell → Event) (words : List (List ℕ)) (cause : ScheduleCode) → AreWords words → CellFields observers verb → once_on make (next_cell observers words) ≡ Err cause → Blames observers (verb ∷ words) cause
 any_cell_fault observers verb make words cause some f h =
     elim (on_fault make (next_cell observers words) cause h) [
       | inl form ↦ inl form
       | inr own ↦ bad_cell observers verb words cause f (cell_fault observers words cause some own)
     ]
 
-bad_data : (observers : List ObserverOf) (words : List (List ℕ)) (cause : Code) → BadDataCell words cause → Blames observers (codes "sweep" ∷ words) cause
+bad_data : (observers : List ObserverOf) (words : List (List ℕ)) (cause : ScheduleCode) → BadDataCell words cause → Blames observers (codes "sweep" ∷ words) cause
 bad_data observers words cause (inl form) = inl form
 bad_data observers words cause (inr (inl n)) = inr (record { field = SweepRow; word = n.word; rest = n.rest; cut = ap (λ (ws : List (List ℕ)). codes "sweep" ∷ ws) n.cut; fits = tt; refused = n.outside })
 bad_data observers words cause (inr (inr c)) =
     let n = c.column in
     inr (record { field = SweepColumn c.row; word = n.word; rest = n.rest; cut = ap (λ (ws : List (List ℕ)). codes "sweep" ∷ ws) (c.written ∙ ap (λ (ws : List (List ℕ)). decimal c.row.0 ∷ ws) n.cut); fits = c.fits; refused = n.outside })
 
-sweep_fault : (observers : List ObserverOf) (words : List (List ℕ)) (cause : Code) → once_on Sweep (next_data_cell words) ≡ Err cause → Blames observers (codes "sweep" ∷ words) cause
+sweep_fault : (observers : List ObserverOf) (words : List (List ℕ)) (cause : ScheduleCode) → once_on Sweep (next_data_cell words) ≡ Err cause → Blames observers (codes "sweep" ∷ words) cause
 sweep_fault observers words cause h =
     elim (on_fault Sweep (next_data_cell words) cause h) [
       | inl form ↦ inl form
@@ -435,13 +435,13 @@ sweep_fault observers words cause h =
     ]
 
 -- one verb: where the word is it, what stands behind is blamed, and else the other verbs say what
-verb_fault : (verb this : List ℕ) (r others : Result Order Code) (cause : Code) (P : List ℕ → Type 0) → cond (bytes_eq verb this) r others ≡ Err cause → (r ≡ Err cause → P this) → (others ≡ Err cause → P verb) → P verb
+verb_fault : (verb this : List ℕ) (r others : Result Order ScheduleCode) (cause : ScheduleCode) (P : List ℕ → Type 0) → cond (bytes_eq verb this) r others ≡ Err cause → (r ≡ Err cause → P this) → (others ≡ Err cause → P verb) → P verb
 verb_fault verb this r others cause P h mine rest = elim (chosen (bytes_eq verb this) r others (Err cause) h) [
   | inl p ↦ subst P (sym (same_text verb this p.0)) (mine p.1)
   | inr q ↦ rest q.1
 ]
 
-by_verb : (observers : List ObserverOf) (verb : List ℕ) (words : List (List ℕ)) (cause : Code) → AreWords words → order_by observers verb words ≡ Err cause → Blames observers (verb ∷ words) cause
+by_verb : (observers : List ObserverOf) (verb : List ℕ) (words : List (List ℕ)) (cause : ScheduleCode) → AreWords words → order_by observers verb words ≡ Err cause → Blames observers (verb ∷ words) cause
 by_verb observers verb words cause some h =
     let P = λ (v : List ℕ). Blames observers (v ∷ words) cause in
     verb_fault verb (codes "launch") _ _ cause P h (launch_fault observers words cause some)
@@ -452,11 +452,11 @@ by_verb observers verb words cause some h =
     (λ h. verb_fault verb (codes "sweep") _ _ cause P h (sweep_fault observers words cause) (λ h. inl (err_same {A = Order} Form cause h)))))))
 
 -- whatever a line's words begin with, its fault is its form or a field's
-words_blamed : (observers : List ObserverOf) (words : List (List ℕ)) (cause : Code) → AreWords words → order_of_words observers words ≡ Err cause → Blames observers words cause
+words_blamed : (observers : List ObserverOf) (words : List (List ℕ)) (cause : ScheduleCode) → AreWords words → order_of_words observers words ≡ Err cause → Blames observers words cause
 unfolding order_of_words
 words_blamed observers [] cause some h = inl (err_same {A = Order} Form cause h)
 words_blamed observers (verb ∷ words) cause some h = by_verb observers verb words cause some.1 h
 
 -- so a line that isn't of a wrong form stops at a field
-pub blamed : (observers : List ObserverOf) (line : List ℕ) (cause : Code) → order_of observers line ≡ Err cause → (cause ≡ Form) ⊎ StopsAtField observers (words_of line) cause
+pub blamed : (observers : List ObserverOf) (line : List ℕ) (cause : ScheduleCode) → order_of observers line ≡ Err cause → (cause ≡ Form) ⊎ StopsAtField observers (words_of line) cause
 blamed observers line cause h = words_blamed observers (words_of line) cause (words_are line) h

@@ -3,8 +3,8 @@ use Rattle.std.proofs.Common.{◌≡◌, ◌≢◌, ℕ, ◌+◌, List, [], leng
 use Rattle.std.specs.Prelude.{◌==◌, nat_le}
 use Rattle.std.specs.List.{slice_split}
 use Rattle.pb_base.specs.declared.limits.TheConstants.{MAX_CHANGES}
-use Rattle.pb_parse.specs.declared.script.code.Code.{Code}
-use Rattle.pb_parse.specs.declared.script.code.Code.TheVariants.{Memory, TooMany}
+use Rattle.pb_parse.specs.declared.script.code.ScriptCode.{ScriptCode}
+use Rattle.pb_parse.specs.declared.script.code.ScriptCode.TheVariants.{Memory, TooMany}
 use Rattle.pb_parse.specs.Codes.{script_code}
 use Rattle.pb_base.specs.Reading.{is_skipped, numbered}
 use Rattle.pb_parse.specs.ScriptLines.{Batches, batch_of, with_line, script_of}
@@ -16,11 +16,11 @@ use Rattle.pb_parse.proofs.FirstOperation.{bind_err, stops_with}
 use Rattle.pb_parse.proofs.OwnFaults.{err_same}
 
 -- a line is read by its text alone: its fault isn't want of memory
-line_by_text : (line : List ℕ) (cause : Code) → batch_of line ≡ Err cause → cause ≢ Memory
+line_by_text : (line : List ℕ) (cause : ScriptCode) → batch_of line ≡ Err cause → cause ≢ Memory
 line_by_text line cause h is = let s = stops_with line cause h in subst (IsFaultAfter s.before s.here) is s.fault
 
 -- a line is refused by its text and by how many stand before it; the definition has no want of memory
-by_text : (before : Batches) (line : List ℕ) (cause : Code) → with_line before line ≡ Err cause → cause ≢ Memory
+by_text : (before : Batches) (line : List ℕ) (cause : ScriptCode) → with_line before line ≡ Err cause → cause ≢ Memory
 unfolding with_line
 by_text before line cause h is =
     elim (chosen (is_skipped line) (Ok before) _ (Err cause) h) [
@@ -38,7 +38,7 @@ err_is : (p q : ℕ × ℕ) (b c : Result Batches (ℕ × ℕ)) → b ≡ Err p 
 err_is p q b c x y e = cc
 
 -- a fault that was numbered is of the line after those before it, with the number of its code
-numbered_err : (n line code : ℕ) (r : Result Batches Code) → numbered script_code n r ≡ Err (line, code) → (cause : Code) × (r ≡ Err cause) × (line ≡ n + 1) × (code ≡ script_code cause)
+numbered_err : (n line code : ℕ) (r : Result Batches ScriptCode) → numbered script_code n r ≡ Err (line, code) → (cause : ScriptCode) × (r ≡ Err cause) × (line ≡ n + 1) × (code ≡ script_code cause)
 numbered_err n line code (Ok b) h = absurd cc
 numbered_err n line code (Err c) h =
     let e : (n + 1, script_code c) ≡ (line, code) = err_is (n + 1, script_code c) (line, code) _ _ refl refl h in

@@ -5,8 +5,8 @@ use Rattle.pb_base.specs.declared.limits.TheConstants.{MAX_CELLS}
 use Rattle.std.proofs.lemmas.Bool.{leb-true}
 use Rattle.pb_base.specs.Batch.{Writes, content_in}
 use Rattle.pb_base.specs.Reading.{◌>>=◌}
-use Rattle.pb_parse.specs.declared.script.code.Code.{Code}
-use Rattle.pb_parse.specs.declared.script.code.Code.TheVariants.{Memory, Form, Range, Hex, Twice, Seventeenth, TooMany}
+use Rattle.pb_parse.specs.declared.script.code.ScriptCode.{ScriptCode}
+use Rattle.pb_parse.specs.declared.script.code.ScriptCode.TheVariants.{Memory, Form, Range, Hex, Twice, Seventeenth, TooMany}
 use Rattle.pb_parse.specs.ScriptWords.{operation}
 use Rattle.pb_parse.specs.ScriptLines.{cut, with_operation, batch_of}
 use Rattle.pb_parse.specs.Operations.{IsFaultAfter, StopsWith}
@@ -15,12 +15,12 @@ use Rattle.pb_parse.proofs.OwnFaults.{IsOwn, err_same, own_fault}
 use Rattle.pb_parse.proofs.Batches.{chosen, nothing_open, all_open}
 
 -- a fault of one reading after another is the first's, or the second's after what the first read
-pub bind_err : {A B : Type 0} (r : Result A Code) (f : A → Result B Code) (e : Code) → (r >>= f) ≡ Err e → (r ≡ Err e) ⊎ ((x : A) × (r ≡ Ok x) × (f x ≡ Err e))
+pub bind_err : {A B : Type 0} (r : Result A ScriptCode) (f : A → Result B ScriptCode) (e : ScriptCode) → (r >>= f) ≡ Err e → (r ≡ Err e) ⊎ ((x : A) × (r ≡ Ok x) × (f x ≡ Err e))
 bind_err (Ok x) f e h = inr (x, refl, h)
 bind_err {A} {B} (Err d) f e h = inl (ap Err (err_same {A = B} d e h))
 
 -- an operation's own fault is the line's, whatever stands before it
-own_after : (before : Writes) (text : List ℕ) (cause : Code) → IsOwn cause → operation text ≡ Err cause → IsFaultAfter before text cause
+own_after : (before : Writes) (text : List ℕ) (cause : ScriptCode) → IsOwn cause → operation text ≡ Err cause → IsFaultAfter before text cause
 own_after before text Form own h = h
 own_after before text Range own h = h
 own_after before text Hex own h = h
@@ -30,7 +30,7 @@ own_after before text Seventeenth own h = absurd own
 own_after before text TooMany own h = absurd own
 
 -- what an operation is refused for is one of the reasons that the format has
-fault_after : (before : Writes) (here : List ℕ) (cause : Code) → length before ≤ MAX_CELLS → with_operation before here ≡ Err cause → IsFaultAfter before here cause
+fault_after : (before : Writes) (here : List ℕ) (cause : ScriptCode) → length before ≤ MAX_CELLS → with_operation before here ≡ Err cause → IsFaultAfter before here cause
 unfolding with_operation
 fault_after before here cause few h =
     elim (bind_err (operation here) _ cause h) [
@@ -45,7 +45,7 @@ fault_after before here cause few h =
     ]
 
 -- a line that isn't read stops with its first operation at fault
-pub stops_with : (line : List ℕ) (cause : Code) → batch_of line ≡ Err cause → StopsWith line cause
+pub stops_with : (line : List ℕ) (cause : ScriptCode) → batch_of line ≡ Err cause → StopsWith line cause
 stops_with line cause h =
     let f = first_fault (λ _. with_operation) 0 [] (cut line) cause h in
     let o = all_open 0 [] [] f.before f.front nothing_open f.read in

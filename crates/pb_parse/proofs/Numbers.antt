@@ -6,7 +6,7 @@ use Rattle.std.specs.List.{list_all}
 use Rattle.std.specs.Str.Parse.{digits_value, ParsesUnsigned}
 use Rattle.std.proofs.lemmas.Bool.{eqb-false, lt-leb, cases_lt}
 use Rattle.std.proofs.lemmas.Str.Parse.{IsNumeralModel, IsDigitsTest, numerals_by_value, parse_digits}
-use Rattle.pb_parse.specs.declared.script.code.Code.TheVariants.{Range}
+use Rattle.pb_parse.specs.declared.script.code.ScriptCode.TheVariants.{Range}
 use Rattle.pb_parse.specs.ScriptWords.{number_upto}
 use Rattle.pb_base.specs.Reading.{is_numeral}
 

@@ -15,7 +15,7 @@ use Rattle.pb_parse.specs.declared.event.Job.TheVariants.{Change, Run}
 use Rattle.pb_parse.specs.declared.event.Event.{Event}
 use Rattle.pb_parse.specs.declared.event.Event.TheVariants.{Launch, Step, Crash, Settle, Clear, Sweep}
 use Rattle.pb_parse.specs.declared.schedule.words.Order.{Order}
-use Rattle.pb_parse.specs.declared.schedule.fault.Code.{Code}
+use Rattle.pb_parse.specs.declared.schedule.fault.ScheduleCode.{ScheduleCode}
 use Rattle.pb_parse.specs.ScheduleWords.{next_actor, next_change, next_run, next_job, once, launch_of, times_of, step_of, crash_of, next_data_cell, next_acknowledgment, next_cell, once_on, order_of_words, order_of}
 use Rattle.pb_parse.specs.EventLines.{name_of, cell_words, job_words, event_words, IsActor, IsRow, IsNamed, FitsJob, FitsCell, IsRowCell, FitsEvent, IsStep, IsLineOf}
 use Rattle.pb_parse.proofs.Blanks.{IsWord, AreWords, joined_words, decimal_word}
@@ -65,7 +65,7 @@ once_back : (e : Event) → once e [] ≡ Ok (record { event = e; times = 1 })
 unfolding once
 once_back e = refl
 
-once_on_back : (make : Cell → Event) (r : Result (Cell × List (List ℕ)) Code) (x : Cell) → r ≡ Ok (x, []) → once_on make r ≡ Ok (record { event = make x; times = 1 })
+once_on_back : (make : Cell → Event) (r : Result (Cell × List (List ℕ)) ScheduleCode) (x : Cell) → r ≡ Ok (x, []) → once_on make r ≡ Ok (record { event = make x; times = 1 })
 unfolding once_on
 once_on_back make r x is = rw is (once_back (make x))
 

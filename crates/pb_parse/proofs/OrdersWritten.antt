@@ -15,8 +15,8 @@ use Rattle.pb_parse.specs.declared.event.Job.TheVariants.{Change, Run}
 use Rattle.pb_parse.specs.declared.event.Event.{Event}
 use Rattle.pb_parse.specs.declared.event.Event.TheVariants.{Launch, Step, Crash, Settle, Clear, Sweep}
 use Rattle.pb_parse.specs.declared.schedule.words.Order.{Order}
-use Rattle.pb_parse.specs.declared.schedule.fault.Code.{Code}
-use Rattle.pb_parse.specs.declared.schedule.fault.Code.TheVariants.{Form}
+use Rattle.pb_parse.specs.declared.schedule.fault.ScheduleCode.{ScheduleCode}
+use Rattle.pb_parse.specs.declared.schedule.fault.ScheduleCode.TheVariants.{Form}
 use Rattle.pb_parse.specs.ScheduleWords.{number_between, next_number, next_actor, next_row, next_observer, next_change, next_run, next_job, once, launch_of, times_of, step_of, crash_of, next_data_cell, next_acknowledgment, next_cell, once_on, order_by, order_of_words, order_of}
 use Rattle.pb_parse.specs.EventLines.{name_of, cell_words, job_words, event_words, IsActor, FitsJob, FitsCell, IsRowCell, FitsEvent, AreWordsOf, IsLineOf}
 use Rattle.pb_parse.proofs.Blanks.{AreWords, words_are}
@@ -200,7 +200,7 @@ sweep_is observers words order h =
     once_written observers (Sweep a.0.0) (codes "sweep" ∷ words) a.0.1 order a.2 (ap (λ (ws : List (List ℕ)). codes "sweep" ∷ ws) x.cell.written) (x.data_cell, x.cell.fits)
 
 -- one verb: where the word is it, what stands behind says the order, and else the other verbs do
-verb_is : (verb : List ℕ) (this : List ℕ) (r others : Result Order Code) (order : Order) (P : List ℕ → Type 0) → cond (bytes_eq verb this) r others ≡ Ok order → (r ≡ Ok order → P this) → (others ≡ Ok order → P verb) → P verb
+verb_is : (verb : List ℕ) (this : List ℕ) (r others : Result Order ScheduleCode) (order : Order) (P : List ℕ → Type 0) → cond (bytes_eq verb this) r others ≡ Ok order → (r ≡ Ok order → P this) → (others ≡ Ok order → P verb) → P verb
 verb_is verb this r others order P h mine rest = elim (chosen (bytes_eq verb this) r others (Ok order) h) [
   | inl p ↦ subst P (sym (same_text verb this p.0)) (mine p.1)
   | inr q ↦ rest q.1

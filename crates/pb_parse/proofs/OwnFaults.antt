@@ -3,13 +3,13 @@ use Rattle.std.proofs.Common.{◌≡◌, ℕ, Bool, true, false, cond, List, [],
 use Rattle.std.specs.Prelude.{◌==◌}
 use Rattle.std.specs.List.{slice_split}
 use Rattle.hex.specs.Hex.{decode_of}
-use Rattle.pb_parse.specs.declared.script.code.Code.{Code}
-use Rattle.pb_parse.specs.declared.script.code.Code.TheVariants.{Memory, Form, Range, Hex, Twice, Seventeenth, TooMany}
+use Rattle.pb_parse.specs.declared.script.code.ScriptCode.{ScriptCode}
+use Rattle.pb_parse.specs.declared.script.code.ScriptCode.TheVariants.{Memory, Form, Range, Hex, Twice, Seventeenth, TooMany}
 use Rattle.pb_base.specs.Reading.{◌>>=◌, next_word, no_word}
 use Rattle.pb_parse.specs.ScriptWords.{number_upto, padded, content_of, cell_at, put_of, del_of, write_of, operation}
 
 -- a fault that an operation can have by itself: 70, 71 or 72
-abbrev pub IsOwn : Code → Type 0
+abbrev pub IsOwn : ScriptCode → Type 0
 IsOwn Form = Unit {0}
 IsOwn Range = Unit {0}
 IsOwn Hex = Unit {0}
@@ -19,24 +19,24 @@ IsOwn Seventeenth = ⊥
 IsOwn TooMany = ⊥
 
 -- what reads a part of an operation fails with none but these
-abbrev FaultIsOwn : {A : Type 0} → Result A Code → Type 0
-FaultIsOwn r = (e : Code) → r ≡ Err e → IsOwn e
+abbrev FaultIsOwn : {A : Type 0} → Result A ScriptCode → Type 0
+FaultIsOwn r = (e : ScriptCode) → r ≡ Err e → IsOwn e
 
-pub err_same : {A : Type 0} (d e : Code) → ◌≡◌ {A = Result A Code} (Err d) (Err e) → d ≡ e
+pub err_same : {A : Type 0} (d e : ScriptCode) → ◌≡◌ {A = Result A ScriptCode} (Err d) (Err e) → d ≡ e
 err_same d e is = cc
 
 good : {A : Type 0} (x : A) → FaultIsOwn (Ok x)
 good x e is = absurd cc
 
-own : {A : Type 0} (d : Code) → IsOwn d → FaultIsOwn {A = A} (Err d)
+own : {A : Type 0} (d : ScriptCode) → IsOwn d → FaultIsOwn {A = A} (Err d)
 own d o e is = subst IsOwn (err_same d e is) o
 
 -- two such readings one after the other are one
-bind : {A B : Type 0} (r : Result A Code) (f : A → Result B Code) → FaultIsOwn r → ((x : A) → FaultIsOwn (f x)) → FaultIsOwn (r >>= f)
+bind : {A B : Type 0} (r : Result A ScriptCode) (f : A → Result B ScriptCode) → FaultIsOwn r → ((x : A) → FaultIsOwn (f x)) → FaultIsOwn (r >>= f)
 bind (Ok x) f g h = h x
 bind (Err d) f g h = own d (g d refl)
 
-either : {A : Type 0} (b : Bool) (r s : Result A Code) → FaultIsOwn r → FaultIsOwn s → FaultIsOwn (cond b r s)
+either : {A : Type 0} (b : Bool) (r s : Result A ScriptCode) → FaultIsOwn r → FaultIsOwn s → FaultIsOwn (cond b r s)
 either true r s g h = g
 either false r s g h = h
 
@@ -77,5 +77,5 @@ unfolding write_of
 write words = bind (next_word Form words) _ (next words) (λ a. either _ _ _ (put a.1) (either _ _ _ (del a.1) (own Form tt)))
 
 -- so an operation has no fault that depends on those before it
-pub own_fault : (text : List ℕ) (cause : Code) → operation text ≡ Err cause → IsOwn cause
+pub own_fault : (text : List ℕ) (cause : ScriptCode) → operation text ≡ Err cause → IsOwn cause
 own_fault text cause h = write (slice_split (λ b. b == 32) text) cause h

@@ -3,7 +3,7 @@ use Rattle.std.proofs.Common.{◌≡◌, ℕ, ◌+◌, ◌≤◌, Bool, true, fa
 use Rattle.std.specs.Str.Pattern.{LacksTextAt, FindsText, SplitsAroundMatch}
 use Rattle.pb_base.specs.Batch.{Writes}
 use Rattle.pb_base.specs.Reading.{◌>>=◌, Fails, in_turn}
-use Rattle.pb_parse.specs.declared.script.code.Code.{Code}
+use Rattle.pb_parse.specs.declared.script.code.ScriptCode.{ScriptCode}
 use Rattle.pb_parse.specs.ScriptLines.{cut, with_operation}
 use Rattle.pb_parse.proofs.Cuts.{joint, cut_none, cut_some}
 
@@ -17,31 +17,31 @@ any_number step n m s [] = refl
 any_number step n m s (x ∷ xs) = same_then (λ t. in_turn (λ _. step) (n + 1) t xs) (λ t. in_turn (λ _. step) (m + 1) t xs) (step s x) (λ t. any_number step (n + 1) (m + 1) t xs)
 
 -- what is left of a line gives, after these writes
-abbrev pub from_here : Writes → List ℕ → Result Writes Code
+abbrev pub from_here : Writes → List ℕ → Result Writes ScriptCode
 from_here writes rest = in_turn (λ _. with_operation) 0 writes (cut rest)
 
 -- what a line gives from here is what its first part gives, and then the rest from what that left
-first_part : (w : Writes) (rest first after : List ℕ) (r : Result Writes Code) → SplitsAroundMatch (FindsText joint) rest first after → with_operation w first ≡ r → from_here w rest ≡ (r >>= λ t. from_here t after)
+first_part : (w : Writes) (rest first after : List ℕ) (r : Result Writes ScriptCode) → SplitsAroundMatch (FindsText joint) rest first after → with_operation w first ≡ r → from_here w rest ≡ (r >>= λ t. from_here t after)
 first_part w rest first after r split one =
     ap (λ (xs : List (List ℕ)). in_turn (λ _. with_operation) 0 w xs) (cut_some rest first after split)
-    ∙ ap (λ (q : Result Writes Code). q >>= λ t. in_turn (λ _. with_operation) 1 t (cut after)) one
+    ∙ ap (λ (q : Result Writes ScriptCode). q >>= λ t. in_turn (λ _. with_operation) 1 t (cut after)) one
     ∙ same_then (λ t. in_turn (λ _. with_operation) 1 t (cut after)) (λ t. from_here t after) r (λ t. any_number with_operation 1 0 t (cut after))
 
 -- one part more is read
-pub goes_on : (w v : Writes) (rest first after : List ℕ) (total : Result Writes Code) → SplitsAroundMatch (FindsText joint) rest first after → with_operation w first ≡ Ok v → from_here w rest ≡ total → from_here v after ≡ total
+pub goes_on : (w v : Writes) (rest first after : List ℕ) (total : Result Writes ScriptCode) → SplitsAroundMatch (FindsText joint) rest first after → with_operation w first ≡ Ok v → from_here w rest ≡ total → from_here v after ≡ total
 goes_on w v rest first after total split one before = sym (first_part w rest first after (Ok v) split one) ∙ before
 
 -- a part is at fault
-pub stops : (w : Writes) (rest first after : List ℕ) (total : Result Writes Code) (b : Bool) (code : Code) → SplitsAroundMatch (FindsText joint) rest first after → Fails b code (with_operation w first) → from_here w rest ≡ total → Fails b code total
+pub stops : (w : Writes) (rest first after : List ℕ) (total : Result Writes ScriptCode) (b : Bool) (code : ScriptCode) → SplitsAroundMatch (FindsText joint) rest first after → Fails b code (with_operation w first) → from_here w rest ≡ total → Fails b code total
 stops w rest first after total true code split fault before = tt
 stops w rest first after total false code split fault before = sym before ∙ first_part w rest first after (Err code) split fault
 
 -- ---- the last part
 
-same_end : (r : Result Writes Code) → (r >>= λ t. Ok t) ≡ r
+same_end : (r : Result Writes ScriptCode) → (r >>= λ t. Ok t) ≡ r
 same_end (Ok t) = refl
 same_end (Err e) = refl
 
 -- where no joint is left, what is left is one operation, and ends the line
-pub last_part : (w : Writes) (rest : List ℕ) (total : Result Writes Code) → ((i : ℕ) → i ≤ length rest → LacksTextAt joint rest i) → from_here w rest ≡ total → total ≡ with_operation w rest
+pub last_part : (w : Writes) (rest : List ℕ) (total : Result Writes ScriptCode) → ((i : ℕ) → i ≤ length rest → LacksTextAt joint rest i) → from_here w rest ≡ total → total ≡ with_operation w rest
 last_part w rest total none before = sym before ∙ ap (λ (xs : List (List ℕ)). in_turn (λ _. with_operation) 0 w xs) (cut_none rest none) ∙ same_end (with_operation w rest)

@@ -8,7 +8,7 @@ use Rattle.pb_base.specs.declared.limits.TheConstants.{MAX_CHANGES}
 use Rattle.pb_base.specs.Batch.{Writes, is_batch}
 use Rattle.pb_base.specs.Reading.{◌>>=◌, in_turn, is_skipped, numbered}
 use Rattle.pb_parse.specs.Codes.{script_code}
-use Rattle.pb_parse.specs.declared.script.code.Code.{Code}
+use Rattle.pb_parse.specs.declared.script.code.ScriptCode.{ScriptCode}
 use Rattle.pb_parse.specs.ScriptLines.{Batches, batch_of, with_line, script_of}
 use Rattle.pb_parse.specs.Scripts.{AreBatches}
 use Rattle.pb_parse.proofs.Batches.{bind_ok, ok_same, chosen, line_is_batch}
@@ -18,18 +18,18 @@ next_line : (before after : Batches) (line : List ℕ) → AreBatches before →
 unfolding with_line
 next_line before after line so_far h =
     elim (chosen (is_skipped line) (Ok before) _ (Ok after) h) [
-      | inl p ↦ subst AreBatches (ok_same {E = Code} before after p.1) so_far
+      | inl p ↦ subst AreBatches (ok_same {E = ScriptCode} before after p.1) so_far
       | inr q ↦ let a = bind_ok (batch_of line) _ after q.1 in
           elim (chosen (nat_le MAX_CHANGES (length before)) _ (Ok (before ++ a.0 ∷ [])) (Ok after) a.2) [
             | inl full ↦ let e = full.1 in absurd cc
             | inr room ↦ let few = leb-false _ _ room.0 in
-                subst AreBatches (ok_same {E = Code} (before ++ a.0 ∷ []) after room.1)
+                subst AreBatches (ok_same {E = ScriptCode} (before ++ a.0 ∷ []) after room.1)
                 (simp length-append (omega arith), All-push (λ (b : Writes). is_batch b ≡ true) before a.0 so_far.1 (line_is_batch line a.0 a.1))
           ]
     ]
 
 -- a line that is read isn't changed by its number
-next_numbered : (n : ℕ) (r : Result Batches Code) (after : Batches) → numbered script_code n r ≡ Ok after → r ≡ Ok after
+next_numbered : (n : ℕ) (r : Result Batches ScriptCode) (after : Batches) → numbered script_code n r ≡ Ok after → r ≡ Ok after
 next_numbered n (Ok b) after h = ap Ok (ok_same {E = ℕ × ℕ} b after h)
 next_numbered n (Err c) after h = absurd cc
 

@@ -12,27 +12,27 @@ use Rattle.pb_base.specs.Reading.{◌>>=◌, is_numeral, next_word, no_word, num
 use Rattle.pb_verify.specs.Observers.{ObserverOf}
 use Rattle.pb_parse.specs.declared.event.Event.{Event}
 use Rattle.pb_parse.specs.declared.schedule.words.Order.{Order}
-use Rattle.pb_parse.specs.declared.schedule.fault.Code.{Code}
-use Rattle.pb_parse.specs.declared.schedule.fault.Code.TheVariants.{Form, Range, NoObserver}
+use Rattle.pb_parse.specs.declared.schedule.fault.ScheduleCode.{ScheduleCode}
+use Rattle.pb_parse.specs.declared.schedule.fault.ScheduleCode.TheVariants.{Form, Range, NoObserver}
 use Rattle.pb_parse.specs.ScheduleWords.{number_between, next_number, next_row, first_named, observer_named, next_observer, once}
 use Rattle.pb_parse.specs.EventLines.{name_of, IsRow, IsNamed}
 use Rattle.pb_parse.proofs.Blanks.{IsWord, AreWords}
 use Rattle.pb_parse.proofs.Numerals.{decimal_of, numeral_of, value_of}
 
 -- where two readings in turn succeed, the first does, and the second with what it read
-pub then_ok : {A B : Type 0} (r : Result A Code) (f : A → Result B Code) (y : B) → (r >>= f) ≡ Ok y → (x : A) × (r ≡ Ok x) × (f x ≡ Ok y)
+pub then_ok : {A B : Type 0} (r : Result A ScheduleCode) (f : A → Result B ScheduleCode) (y : B) → (r >>= f) ≡ Ok y → (x : A) × (r ≡ Ok x) × (f x ≡ Ok y)
 then_ok (Ok x) f y h = (x, refl, h)
 then_ok (Err e) f y h = absurd cc
 
-pub ok_is : {A : Type 0} (x y : A) → ◌≡◌ {A = Result A Code} (Ok x) (Ok y) → x ≡ y
+pub ok_is : {A : Type 0} (x y : A) → ◌≡◌ {A = Result A ScheduleCode} (Ok x) (Ok y) → x ≡ y
 ok_is x y h = cc
 
-if_ok : {A : Type 0} (b : Bool) (r : Result A Code) (e : Code) (x : A) → cond b r (Err e) ≡ Ok x → (b ≡ true) × (r ≡ Ok x)
+if_ok : {A : Type 0} (b : Bool) (r : Result A ScheduleCode) (e : ScheduleCode) (x : A) → cond b r (Err e) ≡ Ok x → (b ≡ true) × (r ≡ Ok x)
 if_ok true r e x h = (refl, h)
 if_ok false r e x h = absurd cc
 
 -- what is read behind a test wasn't refused by it
-pub else_ok : {A : Type 0} (b : Bool) (r : Result A Code) (e : Code) (x : A) → cond b (Err e) r ≡ Ok x → (b ≡ false) × (r ≡ Ok x)
+pub else_ok : {A : Type 0} (b : Bool) (r : Result A ScheduleCode) (e : ScheduleCode) (x : A) → cond b (Err e) r ≡ Ok x → (b ≡ false) × (r ≡ Ok x)
 else_ok true r e x h = absurd cc
 else_ok false r e x h = (refl, h)
 

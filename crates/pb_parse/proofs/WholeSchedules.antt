@@ -9,8 +9,8 @@ use Rattle.pb_base.specs.Reading.{◌>>=◌, is_skipped, lines_of, numbered}
 use Rattle.pb_verify.specs.Observers.{ObserverOf}
 use Rattle.pb_parse.specs.declared.event.Event.{Event}
 use Rattle.pb_parse.specs.declared.schedule.words.Order.{Order}
-use Rattle.pb_parse.specs.declared.schedule.fault.Code.{Code}
-use Rattle.pb_parse.specs.declared.schedule.fault.Code.TheVariants.{TooMany}
+use Rattle.pb_parse.specs.declared.schedule.fault.ScheduleCode.{ScheduleCode}
+use Rattle.pb_parse.specs.declared.schedule.fault.ScheduleCode.TheVariants.{TooMany}
 use Rattle.pb_parse.specs.ScheduleCodes.{schedule_code}
 use Rattle.pb_parse.specs.ScheduleWords.{order_of}
 use Rattle.pb_parse.specs.Schedules.{with_order, with_event_line, events_of_lines, schedule_of}
@@ -86,12 +86,12 @@ one_more observers before p after l ls false is h most others =
     let f = others t.few in
     record {
       orders = t.order ∷ f.orders;
-      lines = ap (map (order_of observers)) (kept_one l ls is) ∙ ap (λ (r : Result Order Code). r ∷ map (order_of observers) (kept ls)) t.read ∙ ap (λ (rs : List (Result Order Code)). Ok t.order ∷ rs) f.lines;
+      lines = ap (map (order_of observers)) (kept_one l ls is) ∙ ap (λ (r : Result Order ScheduleCode). r ∷ map (order_of observers) (kept ls)) t.read ∙ ap (λ (rs : List (Result Order ScheduleCode)). Ok t.order ∷ rs) f.lines;
       whole = f.whole ∙ ap (λ (es : List Event). es ++ events_of f.orders) (sym t.whole) ∙ append_assoc before (asked t.order) (events_of f.orders);
       few = f.few;
     }
 
-step : (observers : List ObserverOf) (n : ℕ) (before after : List Event) (l : List ℕ) (ls : List (List ℕ)) (r : Result (List Event) Code) → with_event_line observers before l ≡ r → (numbered schedule_code n r >>= λ p. events_of_lines observers (n + 1) p ls) ≡ Ok after → length before ≤ MAX_EVENTS
+step : (observers : List ObserverOf) (n : ℕ) (before after : List Event) (l : List ℕ) (ls : List (List ℕ)) (r : Result (List Event) ScheduleCode) → with_event_line observers before l ≡ r → (numbered schedule_code n r >>= λ p. events_of_lines observers (n + 1) p ls) ≡ Ok after → length before ≤ MAX_EVENTS
     → ((p : List Event) → events_of_lines observers (n + 1) p ls ≡ Ok after → length p ≤ MAX_EVENTS → Reading observers p after ls) → Reading observers before after (l ∷ ls)
 step observers n before after l ls (Err e) is h most others = absurd cc
 step observers n before after l ls (Ok p) is h most others = one_more observers before p after l ls (is_skipped l) refl is most (others p h)
@@ -112,9 +112,9 @@ abbrev ReadOn : List ObserverOf → ℕ → List (List ℕ) → Type 0
 ReadOn observers n ls = (before : List Event) (orders : List Order) → AreOrders observers (kept ls) orders → length (before ++ events_of orders) ≤ MAX_EVENTS → events_of_lines observers n before ls ≡ Ok (before ++ events_of orders)
 
 go_on : (observers : List ObserverOf) (n : ℕ) (before p after : List Event) (l : List ℕ) (ls : List (List ℕ)) → with_event_line observers before l ≡ Ok p → events_of_lines observers (n + 1) p ls ≡ Ok after → events_of_lines observers n before (l ∷ ls) ≡ Ok after
-go_on observers n before p after l ls is h = ap (λ (r : Result (List Event) Code). numbered schedule_code n r >>= λ x. events_of_lines observers (n + 1) x ls) is ∙ h
+go_on observers n before p after l ls is h = ap (λ (r : Result (List Event) ScheduleCode). numbered schedule_code n r >>= λ x. events_of_lines observers (n + 1) x ls) is ∙ h
 
-heads : (r : Result Order Code) (rs : List (Result Order Code)) (q : Result Order Code) (qs : List (Result Order Code)) → r ∷ rs ≡ q ∷ qs → (r ≡ q) × (rs ≡ qs)
+heads : (r : Result Order ScheduleCode) (rs : List (Result Order ScheduleCode)) (q : Result Order ScheduleCode) (qs : List (Result Order ScheduleCode)) → r ∷ rs ≡ q ∷ qs → (r ≡ q) × (rs ≡ qs)
 heads r rs q qs h = (cc, cc)
 
 -- an order that fits is added whole
@@ -133,7 +133,7 @@ back_line observers n before (o ∷ os) l ls false is lines most others =
     let grouped : (before ++ asked o) ++ events_of os ≡ before ++ events_of (o ∷ os) = append_assoc before (asked o) (events_of os) in
     let whole : length ((before ++ asked o) ++ events_of os) ≤ MAX_EVENTS = subst (λ (es : List Event). length es ≤ MAX_EVENTS) (sym grouped) most in
     let room : length before + o.times ≤ MAX_EVENTS = let s = length_asked o in let a = length-append (before ++ asked o) (events_of os) in let b = length-append before (asked o) in omega (arith, s, a, b, whole) in
-    go_on observers n before (before ++ asked o) (before ++ events_of (o ∷ os)) l ls (shown_line observers before l is ∙ ap (λ (r : Result Order Code). r >>= with_order before) h.0 ∙ added before o room)
+    go_on observers n before (before ++ asked o) (before ++ events_of (o ∷ os)) l ls (shown_line observers before l is ∙ ap (λ (r : Result Order ScheduleCode). r >>= with_order before) h.0 ∙ added before o room)
     (others (before ++ asked o) os h.1 whole ∙ ap Ok grouped)
 
 -- lines that are orders, and fit together, are read on from any events

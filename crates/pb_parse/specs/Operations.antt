@@ -5,8 +5,8 @@ use Rattle.pb_base.specs.declared.limits.TheConstants.{MAX_CELLS}
 use Rattle.pb_base.specs.declared.cell.Cell.{Cell}
 use Rattle.pb_base.specs.declared.content.Content.{Content}
 use Rattle.pb_base.specs.Batch.{Writes, content_in, are_distinct}
-use Rattle.pb_parse.specs.declared.script.code.Code.{Code}
-use Rattle.pb_parse.specs.declared.script.code.Code.TheVariants.{Memory, Form, Range, Hex, Twice, Seventeenth, TooMany}
+use Rattle.pb_parse.specs.declared.script.code.ScriptCode.{ScriptCode}
+use Rattle.pb_parse.specs.declared.script.code.ScriptCode.TheVariants.{Memory, Form, Range, Hex, Twice, Seventeenth, TooMany}
 use Rattle.pb_parse.specs.ScriptWords.{operation}
 use Rattle.pb_parse.specs.ScriptLines.{cut}
 
@@ -15,7 +15,7 @@ abbrev pub Say : List (List ℕ) → Writes → Type 0
 Say texts writes = map operation texts ≡ map (λ w. Ok w) writes
 
 -- Why the operation of this text is at fault after those that say these writes: by itself; or it names one of their cells; or it names another, and they are as many as a transaction may have.
-abbrev pub IsFaultAfter : Writes → List ℕ → Code → Type 0
+abbrev pub IsFaultAfter : Writes → List ℕ → ScriptCode → Type 0
 IsFaultAfter before text Form = operation text ≡ Err Form
 IsFaultAfter before text Range = operation text ≡ Err Range
 IsFaultAfter before text Hex = operation text ≡ Err Hex
@@ -25,7 +25,7 @@ IsFaultAfter before text TooMany = ⊥
 IsFaultAfter before text Memory = ⊥
 
 -- the operations in front are read, of distinct cells and no more than a transaction may have, and the next is at fault after them
-pub record StopsWith (line : List ℕ) (cause : Code) : Type 0 where
+pub record StopsWith (line : List ℕ) (cause : ScriptCode) : Type 0 where
   pub front : List (List ℕ)
   pub here : List ℕ
   pub after : List (List ℕ)

@@ -9,8 +9,8 @@ use Rattle.pb_base.specs.Reading.{is_numeral, is_skipped, lines_of}
 use Rattle.pb_verify.specs.Observers.{ObserverOf}
 use Rattle.pb_parse.specs.declared.event.Event.{Event}
 use Rattle.pb_parse.specs.declared.schedule.words.Order.{Order}
-use Rattle.pb_parse.specs.declared.schedule.fault.Code.{Code}
-use Rattle.pb_parse.specs.declared.schedule.fault.Code.TheVariants.{Memory, Range, NoObserver}
+use Rattle.pb_parse.specs.declared.schedule.fault.ScheduleCode.{ScheduleCode}
+use Rattle.pb_parse.specs.declared.schedule.fault.ScheduleCode.TheVariants.{Memory, Range, NoObserver}
 use Rattle.pb_parse.specs.ScheduleCodes.{schedule_code}
 use Rattle.pb_parse.specs.ScheduleWords.{order_of}
 use Rattle.pb_parse.specs.Schedules.{with_event_line, events_of_lines}
@@ -22,7 +22,7 @@ pub record ScheduleStopsAt (observers : List ObserverOf) (text : List ℕ) (line
   pub here : List ℕ
   pub after : List (List ℕ)
   pub before : List Event
-  pub cause : Code
+  pub cause : ScheduleCode
   pub parts : lines_of text ≡ front ++ here ∷ after
   pub read : events_of_lines observers 0 [] front ≡ Ok before
   pub fault : with_event_line observers before here ≡ Err cause
@@ -93,30 +93,30 @@ FitsInFront observers SweepRow = Unit {0}
 FitsInFront observers (SweepColumn row) = IsRow row
 
 -- digits with no zero before another, whose value isn't in this range
-pub record IsOutside (least greatest : ℕ) (word : List ℕ) (cause : Code) : Type 0 where
+pub record IsOutside (least greatest : ℕ) (word : List ℕ) (cause : ScheduleCode) : Type 0 where
   pub numeral : is_numeral word ≡ true
   pub outside : (digits_value 10 word < least) ⊎ (greatest < digits_value 10 word)
   pub told : cause ≡ Range
 
 -- digits that are no actor's number; a word that is no number at all has no form, and is no field's fault
-abbrev pub IsNoActor : List ℕ → Code → Type 0
+abbrev pub IsNoActor : List ℕ → ScheduleCode → Type 0
 IsNoActor word cause = IsOutside 1 (MAX_SEATS - 1) word cause
 
 -- digits of 2^64 and more
-abbrev pub IsNoRow : List ℕ → Code → Type 0
+abbrev pub IsNoRow : List ℕ → ScheduleCode → Type 0
 IsNoRow word cause = IsOutside 0 (2 ^ 64 - 1) word cause
 
 -- digits above the last column
-abbrev pub IsNoColumn : List ℕ → Code → Type 0
+abbrev pub IsNoColumn : List ℕ → ScheduleCode → Type 0
 IsNoColumn word cause = IsOutside 0 (COLUMNS - 1) word cause
 
 -- the name of no observer
-pub record IsNobody (observers : List ObserverOf) (word : List ℕ) (cause : Code) : Type 0 where
+pub record IsNobody (observers : List ObserverOf) (word : List ℕ) (cause : ScheduleCode) : Type 0 where
   pub nobody : (o : ℕ) → o < length observers → name_of observers o ≢ word
   pub told : cause ≡ NoObserver
 
 -- the word can't stand in this field, for this cause
-abbrev pub IsRefusedAt : List ObserverOf → Field → List ℕ → Code → Type 0
+abbrev pub IsRefusedAt : List ObserverOf → Field → List ℕ → ScheduleCode → Type 0
 IsRefusedAt observers LaunchActor word cause = IsNoActor word cause
 IsRefusedAt observers (ChangeNumber actor) word cause = IsOutside 1 MAX_CHANGES word cause
 IsRefusedAt observers (RunName actor) word cause = IsNobody observers word cause
@@ -136,7 +136,7 @@ IsRefusedAt observers SweepRow word cause = IsNoRow word cause
 IsRefusedAt observers (SweepColumn row) word cause = IsNoColumn word cause
 
 -- up to a field the words are those of a line that is read, and the field's word can't stand there; the rest is free
-pub record StopsAtField (observers : List ObserverOf) (words : List (List ℕ)) (cause : Code) : Type 0 where
+pub record StopsAtField (observers : List ObserverOf) (words : List (List ℕ)) (cause : ScheduleCode) : Type 0 where
   pub field : Field
   pub word : List ℕ
   pub rest : List (List ℕ)

@@ -4,8 +4,8 @@ use Rattle.std.specs.Prelude.{ℕ, ◌&&◌, ◌==◌, nat_le, if◌then◌else�
 use Rattle.std.specs.List.{onto_first}
 use Rattle.pb_base.specs.declared.limits.TheConstants.{MAX_CELLS, MAX_CHANGES}
 use Rattle.pb_base.specs.Batch.{Writes, content_in}
-use Rattle.pb_parse.specs.declared.script.code.Code.{Code}
-use Rattle.pb_parse.specs.declared.script.code.Code.TheVariants.{Twice, Seventeenth, TooMany}
+use Rattle.pb_parse.specs.declared.script.code.ScriptCode.{ScriptCode}
+use Rattle.pb_parse.specs.declared.script.code.ScriptCode.TheVariants.{Twice, Seventeenth, TooMany}
 use Rattle.pb_parse.specs.Codes.{script_code}
 use Rattle.pb_base.specs.Reading.{◌>>=◌, in_turn, is_skipped, lines_of, numbered}
 use Rattle.pb_parse.specs.ScriptWords.{operation}
@@ -17,13 +17,13 @@ cut (b ∷ []) = (b ∷ []) ∷ []
 cut (b ∷ c ∷ bs) = if (b == 59) && (c == 32) then [] ∷ cut bs else onto_first b (cut (c ∷ bs))
 
 -- the writes of a line so far, with one more operation
-unfoldable pub with_operation : Writes → List ℕ → Result Writes Code
+unfoldable pub with_operation : Writes → List ℕ → Result Writes ScriptCode
 with_operation before text = do
   w ← operation text
   if is_some (content_in before w.0) then Err Twice else if nat_le MAX_CELLS (length before) then Err Seventeenth else Ok (before ++ w ∷ [])
 
 -- the transaction that a line is: what its operations write, in their order
-abbrev pub batch_of : List ℕ → Result Writes Code
+abbrev pub batch_of : List ℕ → Result Writes ScriptCode
 batch_of line = in_turn (λ _. with_operation) 0 [] (cut line)
 
 -- what a script is read as: of each transaction what it writes, in the order of the lines
@@ -31,7 +31,7 @@ abbrev pub Batches : Type 0
 Batches = List Writes
 
 -- the transactions so far, with what one more line adds
-unfoldable pub with_line : Batches → List ℕ → Result Batches Code
+unfoldable pub with_line : Batches → List ℕ → Result Batches ScriptCode
 with_line before line = if is_skipped line then Ok before else do
   batch ← batch_of line
   if nat_le MAX_CHANGES (length before) then Err TooMany else Ok (before ++ batch ∷ [])

@@ -5,8 +5,8 @@ use Rattle.std.specs.List.{slice_split, All}
 use Rattle.pb_base.specs.declared.limits.TheConstants.{MAX_CHANGES}
 use Rattle.pb_base.specs.Batch.{is_batch}
 use Rattle.pb_base.specs.declared.batch.Batch.{Batch}
-use Rattle.pb_parse.specs.declared.script.code.Code.{Code}
-use Rattle.pb_parse.specs.declared.script.code.Code.TheVariants.{Memory}
+use Rattle.pb_parse.specs.declared.script.code.ScriptCode.{ScriptCode}
+use Rattle.pb_parse.specs.declared.script.code.ScriptCode.TheVariants.{Memory}
 use Rattle.pb_parse.specs.declared.script.lines.ScriptFault.{ScriptFault}
 use Rattle.pb_parse.specs.Codes.{script_code}
 use Rattle.pb_parse.specs.ScriptLines.{Batches, with_line, lines_read}
@@ -26,7 +26,7 @@ pub record StopsAt (text : List ℕ) (line code : ℕ) : Type 0 where
   pub here : List ℕ
   pub after : List (List ℕ)
   pub before : Batches
-  pub cause : Code
+  pub cause : ScriptCode
   pub parts : slice_split (λ b. b == 10) text ≡ front ++ here ∷ after
   pub read : lines_read front ≡ Ok before
   pub fault : with_line before here ≡ Err cause

@@ -11,8 +11,8 @@ use Rattle.serde_json.specs.View.{view}
 use Rattle.serde_json.specs.declared.value.Value.{Value}
 use Rattle.pb_isa.specs.declared.profile.Profile.{Profile}
 use Rattle.pb_verify.specs.Observers.{ObserverOf}
-use Rattle.pb_registry.specs.declared.code.Code.{Code}
-use Rattle.pb_registry.specs.declared.code.Code.TheVariants.{Memory}
+use Rattle.pb_registry.specs.declared.code.ManifestCode.{ManifestCode}
+use Rattle.pb_registry.specs.declared.code.ManifestCode.TheVariants.{Memory}
 use Rattle.pb_registry.specs.declared.fault.RegistryFault.{RegistryFault}
 use Rattle.pb_registry.specs.Codes.{is_memory}
 use Rattle.pb_registry.specs.Judging.{IsObserver, AreObservers, HasOneMore, IsLowestAfter, IsFirstElementFault, TellsFault, names_of, fault_with, fault_at}
@@ -32,7 +32,7 @@ module _ (p : Profile) (vs : List Value) (i : ℕ) (v : Value) (lt : i < length 
         apart = apart;
       }
 
-  first_fault : (code : Code) → IsLowestAfter (names_of old) p (view v) code → IsFirstElementFault p (map view vs) i code
+  first_fault : (code : ManifestCode) → IsLowestAfter (names_of old) p (view v) code → IsFirstElementFault p (map view vs) i code
   first_fault code fault = record {
     before = old;
     good = subst (λ ds. AreObservers p ds old) (sym (take-map view i vs)) good;
@@ -41,7 +41,7 @@ module _ (p : Profile) (vs : List Value) (i : ℕ) (v : Value) (lt : i < length 
     fault = fault;
   }
 
-  pub told_fault : (code : Code) (f : RegistryFault) → f ≡ fault_at i code → (code ≢ Memory → IsLowestAfter (names_of old) p (view v) code) → (f ≡ fault_with None Memory) ⊎ TellsFault (Ok (record { profile = p; elements = map view vs })) f
+  pub told_fault : (code : ManifestCode) (f : RegistryFault) → f ≡ fault_at i code → (code ≢ Memory → IsLowestAfter (names_of old) p (view v) code) → (f ≡ fault_with None Memory) ⊎ TellsFault (Ok (record { profile = p; elements = map view vs })) f
   told_fault code f is fault = by (is_memory code) refl
     where
       by : (b : Bool) → is_memory code ≡ b → (f ≡ fault_with None Memory) ⊎ TellsFault (Ok (record { profile = p; elements = map view vs })) f

@@ -10,15 +10,15 @@ use Rattle.pb_isa.specs.Helpers.{HelperSet}
 use Rattle.pb_isa.specs.declared.profile.Profile.{Profile}
 use Rattle.pb_helpers.specs.declared.change.Version.{Version}
 use Rattle.pb_verify.specs.Observers.{ObserverOf}
-use Rattle.pb_registry.specs.declared.code.Code.{Code}
-use Rattle.pb_registry.specs.declared.code.Code.TheVariants.{Name}
-use Rattle.pb_registry.specs.declared.observer.Held.{Held}
+use Rattle.pb_registry.specs.declared.code.ManifestCode.{ManifestCode}
+use Rattle.pb_registry.specs.declared.code.ManifestCode.TheVariants.{Name}
+use Rattle.pb_registry.specs.declared.observer.RegisteredObserver.{RegisteredObserver}
 use Rattle.pb_registry.specs.Manifests.{WrittenOf, is_name, name_in, text_at, column_in, number_at, helpers_in, elements_at, version_in, bytes_in, members_of}
 use Rattle.pb_registry.specs.Observers.{observers_of}
 use Rattle.pb_registry.specs.Judging.{IsObserver, is_among, is_used, names_of}
 
 -- a name is a key of the map exactly where an observer has it
-pub found_name : (s : List ℕ) (es : List (String Global × Held)) → is_some (lookup (λ k. bytes_eq s (string_bytes k)) es) ≡ list_any (bytes_eq s) (names_of (observers_of es))
+pub found_name : (s : List ℕ) (es : List (String Global × RegisteredObserver)) → is_some (lookup (λ k. bytes_eq s (string_bytes k)) es) ≡ list_any (bytes_eq s) (names_of (observers_of es))
 found_name s [] = refl
 found_name s (e ∷ es) = at (bytes_eq s (string_bytes e.0)) (found_name s es)
   where
@@ -26,12 +26,12 @@ found_name s (e ∷ es) = at (bytes_eq s (string_bytes e.0)) (found_name s es)
     at true rest = refl
     at false rest = rest
 
-abbrev name_read : Result WrittenOf Code → Option (List ℕ)
+abbrev name_read : Result WrittenOf ManifestCode → Option (List ℕ)
 name_read (Ok w) = Some w.name
 name_read (Err c) = None
 
 -- the members of an observer read one after the other, each of them given
-abbrev written : Result (List ℕ) Code → Result ℕ Code → Result HelperSet Code → Result Version Code → Result (List ℕ) Code → Result WrittenOf Code
+abbrev written : Result (List ℕ) ManifestCode → Result ℕ ManifestCode → Result HelperSet ManifestCode → Result Version ManifestCode → Result (List ℕ) ManifestCode → Result WrittenOf ManifestCode
 written n a h v b = do
   name ← n
   column ← a
@@ -41,7 +41,7 @@ written n a h v b = do
   Ok (record { name = name; column = column; helpers = helpers; version = version; bytes = bytes })
 
 -- what is written has the name that is read
-name_kept : (s : List ℕ) (n : Bool) (a : Result ℕ Code) (h : Result HelperSet Code) (v : Result Version Code) (b : Result (List ℕ) Code) (w : WrittenOf) → written (if n then Ok s else Err Name) a h v b ≡ Ok w → Some s ≡ Some w.name
+name_kept : (s : List ℕ) (n : Bool) (a : Result ℕ ManifestCode) (h : Result HelperSet ManifestCode) (v : Result Version ManifestCode) (b : Result (List ℕ) ManifestCode) (w : WrittenOf) → written (if n then Ok s else Err Name) a h v b ≡ Ok w → Some s ≡ Some w.name
 name_kept s false a h v b w e = absurd (true≢false (sym (ap is_ok e)))
 name_kept s true (Err c) h v b w e = absurd (true≢false (sym (ap is_ok e)))
 name_kept s true (Ok column) (Err c) v b w e = absurd (true≢false (sym (ap is_ok e)))
@@ -49,7 +49,7 @@ name_kept s true (Ok column) (Ok helpers) (Err c) b w e = absurd (true≢false (
 name_kept s true (Ok column) (Ok helpers) (Ok version) (Err c) w e = absurd (true≢false (sym (ap is_ok e)))
 name_kept s true (Ok column) (Ok helpers) (Ok version) (Ok bytes) w e = ap name_read e
 
-name_of : (t : Option (List ℕ)) (a : Result ℕ Code) (h : Result HelperSet Code) (v : Result Version Code) (b : Result (List ℕ) Code) (w : WrittenOf) → written (name_in t) a h v b ≡ Ok w → t ≡ Some w.name
+name_of : (t : Option (List ℕ)) (a : Result ℕ ManifestCode) (h : Result HelperSet ManifestCode) (v : Result Version ManifestCode) (b : Result (List ℕ) ManifestCode) (w : WrittenOf) → written (name_in t) a h v b ≡ Ok w → t ≡ Some w.name
 name_of None a h v b w e = absurd (true≢false (sym (ap is_ok e)))
 name_of (Some s) a h v b w e = name_kept s (is_name s) a h v b w e
 
@@ -63,19 +63,19 @@ nothing_found None h = refl
 nothing_found (Some x) h = absurd (true≢false h)
 
 -- a key that is a new name isn't in the map
-pub new_name : (p : Profile) (es : List (String Global × Held)) (d : Data) (o : ObserverOf) (k : String Global) → IsObserver p d o → o.name ≡ string_bytes k → is_used (names_of (observers_of es)) d ≡ false → lookup (λ y. bytes_eq (string_bytes k) (string_bytes y)) es ≡ None
+pub new_name : (p : Profile) (es : List (String Global × RegisteredObserver)) (d : Data) (o : ObserverOf) (k : String Global) → IsObserver p d o → o.name ≡ string_bytes k → is_used (names_of (observers_of es)) d ≡ false → lookup (λ y. bytes_eq (string_bytes k) (string_bytes y)) es ≡ None
 new_name p es d o k (w, written, is) same new =
     let name : text_at (codes "name") d ≡ Some (string_bytes k) = named d w written ∙ ap Some (sym is.name ∙ same) in
     let unlike : list_any (bytes_eq (string_bytes k)) (names_of (observers_of es)) ≡ false = sym (ap (is_among (names_of (observers_of es))) name) ∙ new in
     nothing_found (lookup (λ y. bytes_eq (string_bytes k) (string_bytes y)) es) (found_name (string_bytes k) es ∙ unlike)
 
 -- a name that is none of the keys is none of the names
-apart_from : (s : List ℕ) (es : List (String Global × Held)) → AllByRecursion (λ y. bytes_eq s (string_bytes y) ≡ false) (keys_of es) → AllByRecursion (λ y. bytes_eq s y ≡ false) (names_of (observers_of es))
+apart_from : (s : List ℕ) (es : List (String Global × RegisteredObserver)) → AllByRecursion (λ y. bytes_eq s (string_bytes y) ≡ false) (keys_of es) → AllByRecursion (λ y. bytes_eq s y ≡ false) (names_of (observers_of es))
 apart_from s [] h = h
 apart_from s (e ∷ es) h = (h.0, apart_from s es h.1)
 
 -- distinct keys are distinct names
-pub distinct_names : (es : List (String Global × Held)) → IsDistinct (λ x y. bytes_eq (string_bytes x) (string_bytes y)) (keys_of es) → IsDistinct bytes_eq (names_of (observers_of es))
+pub distinct_names : (es : List (String Global × RegisteredObserver)) → IsDistinct (λ x y. bytes_eq (string_bytes x) (string_bytes y)) (keys_of es) → IsDistinct bytes_eq (names_of (observers_of es))
 unfolding IsDistinct
 distinct_names [] h = h
 distinct_names (e ∷ es) h = (apart_from (string_bytes e.0) es h.0, distinct_names es h.1)

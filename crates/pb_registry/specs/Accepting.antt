@@ -5,7 +5,7 @@ use Rattle.std.specs.Prelude.{◌≡◌, ◌⊎◌, ℕ, List}
 use Rattle.pb_isa.specs.declared.profile.Profile.{Profile}
 use Rattle.pb_isa.specs.Programs.{ProgramOf, JudgedOf}
 use Rattle.pb_isa.specs.Helpers.{HelperSet}
-use Rattle.pb_helpers.specs.declared.code.Code.{Code}
+use Rattle.pb_helpers.specs.declared.code.RuleCode.{RuleCode}
 use Rattle.pb_helpers.specs.declared.change.Version.{Version}
 use Rattle.pb_helpers.specs.Codes.{code_number}
 use Rattle.pb_decode.specs.Encoding.{Encodes}
@@ -25,7 +25,7 @@ pub record IsAcceptedCode (profile : Profile) (version : Version) (bytes : List 
 -- the first slot at fault, with its lowest code: of the bytes, or of the program that they encode
 abbrev pub IsRefusedCode : Profile → Version → List ℕ → HelperSet → ℕ → ℕ → Type 0
 IsRefusedCode profile version bytes helpers slot code =
-    AreRefusedAs profile bytes slot code ⊎ ((p : ProgramOf) × (p.profile ≡ profile) × Encodes bytes p × ((c : Code) × (code ≡ code_number c) × Refuses (judged_by version p helpers) slot c))
+    AreRefusedAs profile bytes slot code ⊎ ((p : ProgramOf) × (p.profile ≡ profile) × Encodes bytes p × ((c : RuleCode) × (code ≡ code_number c) × Refuses (judged_by version p helpers) slot c))
 
 -- memory was refused, or that is the fault
 abbrev pub IsAcceptFault : Profile → Version → List ℕ → HelperSet → VerifyFault → Type 0

@@ -1,11 +1,11 @@
 -- How the codes of a manifest's faults are told. Readers speak of codes by name; three have one number.
 use Rattle.std.specs.Prelude.{ℕ, Bool, true, false, Option, Some, None}
 use Rattle.pb_base.specs.declared.refusal.Refused.{Refused}
-use Rattle.pb_registry.specs.declared.code.Code.{Code}
-use Rattle.pb_registry.specs.declared.code.Code.TheVariants.{Memory, Text, Form, TooMany, Name, Column, Helpers, Record, Digits, Program}
+use Rattle.pb_registry.specs.declared.code.ManifestCode.{ManifestCode}
+use Rattle.pb_registry.specs.declared.code.ManifestCode.TheVariants.{Memory, Text, Form, TooMany, Name, Column, Helpers, Record, Digits, Program}
 
 -- 1 where memory ran out, else the number that docs/CODES.md explains
-abbrev pub number_of : Code → ℕ
+abbrev pub number_of : ManifestCode → ℕ
 number_of Memory = 1
 number_of Text = 50
 number_of Form = 51
@@ -18,11 +18,11 @@ number_of Digits = 55
 number_of (Program r) = 56
 
 -- the slot at fault and its code, where the program is refused, and nothing of any other fault
-abbrev pub refusal_of : Code → Option Refused
+abbrev pub refusal_of : ManifestCode → Option Refused
 refusal_of (Program r) = Some r
 refusal_of c = None
 
 -- the code of want of memory
-abbrev pub is_memory : Code → Bool
+abbrev pub is_memory : ManifestCode → Bool
 is_memory Memory = true
 is_memory _ = false

@@ -8,8 +8,8 @@ use Rattle.pb_isa.specs.declared.profile.Profile.{Profile}
 use Rattle.pb_isa.specs.Helpers.{HelperSet}
 use Rattle.pb_helpers.specs.declared.change.Version.{Version}
 use Rattle.pb_verify.specs.Observers.{ObserverOf}
-use Rattle.pb_registry.specs.declared.code.Code.{Code}
-use Rattle.pb_registry.specs.declared.code.Code.TheVariants.{Memory, Name, Program}
+use Rattle.pb_registry.specs.declared.code.ManifestCode.{ManifestCode}
+use Rattle.pb_registry.specs.declared.code.ManifestCode.TheVariants.{Memory, Name, Program}
 use Rattle.pb_registry.specs.declared.fault.RegistryFault.{RegistryFault}
 use Rattle.pb_registry.specs.Accepting.{IsAcceptedCode, IsRefusedCode}
 use Rattle.pb_registry.specs.Codes.{number_of, refusal_of, is_memory}
@@ -26,12 +26,12 @@ abbrev pub IsObserver : Profile → Data → ObserverOf → Type 0
 IsObserver p d o = (w : WrittenOf) × (members_of d ≡ Ok w) × IsUpload p w o
 
 -- the program that this code is isn't accepted with these helpers, for records of this version
-abbrev pub IsProgramFault : Profile → Version → List ℕ → HelperSet → Code → Type 0
+abbrev pub IsProgramFault : Profile → Version → List ℕ → HelperSet → ManifestCode → Type 0
 IsProgramFault p version bytes helpers (Program r) = IsRefusedCode p version bytes helpers r.slot r.code
 IsProgramFault p version bytes helpers c = ⊥
 
 -- the lowest code of an element by itself, that of its program last
-abbrev pub IsOwnFault : Profile → Data → Code → Type 0
+abbrev pub IsOwnFault : Profile → Data → ManifestCode → Type 0
 IsOwnFault p d c = (members_of d ≡ Err c) ⊎ ((w : WrittenOf) × (members_of d ≡ Ok w) × IsProgramFault p w.version w.bytes w.helpers c)
 
 -- the names of these observers, in their order
@@ -48,12 +48,12 @@ abbrev pub is_used : List (List ℕ) → Data → Bool
 is_used names d = is_among names (text_at (codes "name") d)
 
 -- a used name is 53 whatever else is wrong, as no own fault of an element has a lower number
-abbrev pub FaultAfter : Bool → Profile → Data → Code → Type 0
+abbrev pub FaultAfter : Bool → Profile → Data → ManifestCode → Type 0
 FaultAfter true p d c = c ≡ Name
 FaultAfter false p d c = IsOwnFault p d c
 
 -- the lowest code of an element after others with these names
-abbrev pub IsLowestAfter : List (List ℕ) → Profile → Data → Code → Type 0
+abbrev pub IsLowestAfter : List (List ℕ) → Profile → Data → ManifestCode → Type 0
 IsLowestAfter names p d c = FaultAfter (is_used names d) p d c
 
 -- the observer of this element stands behind those before
@@ -66,7 +66,7 @@ pub record AreObservers (p : Profile) (ds : List Data) (os : List ObserverOf) : 
   pub apart : IsDistinct bytes_eq (names_of os)
 
 -- the first element at fault is at this place, with this code: those before it are observers
-pub record IsFirstElementFault (p : Profile) (ds : List Data) (place : ℕ) (code : Code) : Type 0 where
+pub record IsFirstElementFault (p : Profile) (ds : List Data) (place : ℕ) (code : ManifestCode) : Type 0 where
   pub before : List ObserverOf
   pub good : AreObservers p (take place ds) before
   pub element : Data
@@ -74,22 +74,22 @@ pub record IsFirstElementFault (p : Profile) (ds : List Data) (place : ℕ) (cod
   pub fault : IsLowestAfter (names_of before) p element code
 
 -- how a code is told, of the whole or of the observer at a place
-abbrev pub fault_with : Option ℕ → Code → RegistryFault
+abbrev pub fault_with : Option ℕ → ManifestCode → RegistryFault
 fault_with place c = record { observer = place; code = number_of c; program = refusal_of c }
 
 -- how a code is told of the observer at a place; want of memory has no place, since it is no observer's fault
-abbrev pub fault_at : ℕ → Code → RegistryFault
+abbrev pub fault_at : ℕ → ManifestCode → RegistryFault
 fault_at place c = if is_memory c then fault_with None Memory else fault_with (Some place) c
 
 -- observers are taken only where the whole has no fault
-abbrev pub AreTaken : Result ManifestOf Code → List ObserverOf → Type 0
+abbrev pub AreTaken : Result ManifestOf ManifestCode → List ObserverOf → Type 0
 AreTaken (Ok m) os = AreObservers m.profile m.elements os
 AreTaken (Err c) os = ⊥
 
 -- the fault of the whole, or that of the first observer at fault
-abbrev pub TellsFault : Result ManifestOf Code → RegistryFault → Type 0
+abbrev pub TellsFault : Result ManifestOf ManifestCode → RegistryFault → Type 0
 TellsFault (Err c) f = f ≡ fault_with None c
-TellsFault (Ok m) f = (place : ℕ) × (c : Code) × IsFirstElementFault m.profile m.elements place c × (f ≡ fault_with (Some place) c)
+TellsFault (Ok m) f = (place : ℕ) × (c : ManifestCode) × IsFirstElementFault m.profile m.elements place c × (f ≡ fault_with (Some place) c)
 
 -- what reading a manifest tells: its observers, or its fault
 abbrev pub ReadsManifest : List ℕ → Result (List ObserverOf) RegistryFault → Type 0

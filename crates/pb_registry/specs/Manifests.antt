@@ -14,8 +14,8 @@ use Rattle.pb_isa.specs.declared.profile.Profile.TheVariants.{One, Two}
 use Rattle.pb_isa.specs.Helpers.{HelperSet}
 use Rattle.pb_helpers.specs.declared.change.Version.{Version}
 use Rattle.pb_helpers.specs.declared.change.Version.TheVariants.{First, Second}
-use Rattle.pb_registry.specs.declared.code.Code.{Code}
-use Rattle.pb_registry.specs.declared.code.Code.TheVariants.{Text, Form, TooMany, Name, Column, Helpers, Record, Digits}
+use Rattle.pb_registry.specs.declared.code.ManifestCode.{ManifestCode}
+use Rattle.pb_registry.specs.declared.code.ManifestCode.TheVariants.{Text, Form, TooMany, Name, Column, Helpers, Record, Digits}
 use Rattle.pb_registry.specs.Helpers.{helpers_of}
 
 -- how many members there are, by going over them
@@ -103,7 +103,7 @@ abbrev pub manifest_in : Data → Option ManifestOf
 manifest_in d = if member_count d == 2 then manifest_of (option_and_then profile_of (number_at (codes "profile") d)) (elements_at (codes "observers") d) else None
 
 -- the form comes first, then the number of observers
-abbrev pub whole_in : Option ManifestOf → Result ManifestOf Code
+abbrev pub whole_in : Option ManifestOf → Result ManifestOf ManifestCode
 whole_in None = Err Form
 whole_in (Some m) = if not (list_all (is_observer m.profile) m.elements) then Err Form else if nat_lt MAX_OBSERVERS (length m.elements) then Err TooMany else Ok m
 
@@ -118,12 +118,12 @@ abbrev pub is_name : List ℕ → Bool
 is_name s = nat_lt 0 (length s) && (nat_le (length s) 32 && list_all is_name_letter s)
 
 -- an observer's name, of its letters and length
-abbrev pub name_in : Option (List ℕ) → Result (List ℕ) Code
+abbrev pub name_in : Option (List ℕ) → Result (List ℕ) ManifestCode
 name_in None = Err Form
 name_in (Some s) = if is_name s then Ok s else Err Name
 
 -- 0 to 15
-abbrev pub column_in : Option ℕ → Result ℕ Code
+abbrev pub column_in : Option ℕ → Result ℕ ManifestCode
 column_in None = Err Form
 column_in (Some n) = if nat_lt n COLUMNS then Ok n else Err Column
 
@@ -132,27 +132,27 @@ abbrev pub numbers_of : List Data → List ℕ
 numbers_of ds = map (λ d. unwrap_or (number_in d) 0) ds
 
 -- the set that the numbers name, or that they name none
-abbrev pub helpers_or_fault : Option HelperSet → Result HelperSet Code
+abbrev pub helpers_or_fault : Option HelperSet → Result HelperSet ManifestCode
 helpers_or_fault None = Err Helpers
 helpers_or_fault (Some h) = Ok h
 
 -- a set out of the helpers 1 to 4
-abbrev pub helpers_in : Option (List Data) → Result HelperSet Code
+abbrev pub helpers_in : Option (List Data) → Result HelperSet ManifestCode
 helpers_in None = Err Form
 helpers_in (Some ds) = helpers_or_fault (helpers_of (numbers_of ds))
 
 -- bytes, or digits that aren't pairs of hexadecimal ones
-abbrev pub decoded : {E : Type 0} → Result (List ℕ) E → Result (List ℕ) Code
+abbrev pub decoded : {E : Type 0} → Result (List ℕ) E → Result (List ℕ) ManifestCode
 decoded (Ok bytes) = Ok bytes
 decoded (Err e) = Err Digits
 
 -- digits 0 to 9 and a to f, two for a byte
-abbrev pub bytes_in : Option (List ℕ) → Result (List ℕ) Code
+abbrev pub bytes_in : Option (List ℕ) → Result (List ℕ) ManifestCode
 bytes_in None = Err Form
 bytes_in (Some s) = if list_any is_ascii_uppercase s then Err Digits else decoded (decode_of s)
 
 -- the version of the change record: 1 where none is named
-abbrev pub version_in : Option ℕ → Result Version Code
+abbrev pub version_in : Option ℕ → Result Version ManifestCode
 version_in None = Ok First
 version_in (Some n) = if n == 1 then Ok First else if n == 2 then Ok Second else Err Record
 
@@ -165,7 +165,7 @@ pub record WrittenOf : Type 0 where
   pub bytes : List ℕ
 
 -- name, column, helpers, record and digits are read in this order, so the fault that is told has the lowest code
-unfoldable pub members_of : Data → Result WrittenOf Code
+unfoldable pub members_of : Data → Result WrittenOf ManifestCode
 members_of d = do
   name ← name_in (text_at (codes "name") d)
   column ← column_in (number_at (codes "column") d)
@@ -175,10 +175,10 @@ members_of d = do
   Ok (record { name = name; column = column; helpers = helpers; version = version; bytes = bytes })
 
 -- a text that isn't JSON is 50, before anything of its form is asked
-abbrev pub manifest_read : Option Data → Result ManifestOf Code
+abbrev pub manifest_read : Option Data → Result ManifestOf ManifestCode
 manifest_read None = Err Text
 manifest_read (Some d) = whole_in (manifest_in d)
 
 -- the manifest that a text is, or the fault of its whole
-abbrev pub manifest_of_text : List ℕ → Result ManifestOf Code
+abbrev pub manifest_of_text : List ℕ → Result ManifestOf ManifestCode
 manifest_of_text text = manifest_read (read text)

@@ -4,16 +4,16 @@ use Rattle.std.specs.Prelude.{List, map, String, string_bytes}
 use Rattle.std.specs.declared.alloc.Global.{Global}
 use Rattle.std.specs.Coded.{Coded, coded_list}
 use Rattle.pb_verify.specs.Observers.{ObserverOf, observer_code}
-use Rattle.pb_registry.specs.declared.observer.Held.{Held}
+use Rattle.pb_registry.specs.declared.observer.RegisteredObserver.{RegisteredObserver}
 use Rattle.pb_registry.specs.declared.observer.Written.{Written}
 use Rattle.pb_registry.specs.Manifests.{WrittenOf}
 
 -- an entry of the map is an observer: its key the name, its value the rest
-abbrev pub observer_of : String Global × Held → ObserverOf
+abbrev pub observer_of : String Global × RegisteredObserver → ObserverOf
 observer_of e = record { name = string_bytes e.0; column = e.1.column; program = e.1.program.value }
 
 -- the map's entries, in the order of the manifest
-abbrev pub observers_of : List (String Global × Held) → List ObserverOf
+abbrev pub observers_of : List (String Global × RegisteredObserver) → List ObserverOf
 observers_of es = map observer_of es
 
 -- each model has a code; that of a registry is the code of the list of its observers

@@ -6,7 +6,7 @@ use pb_base::Refused;
 
 /// What is wrong with a manifest.
 #[derive(Clone, Copy, Debug, PartialEq, Eq)]
-pub enum Code {
+pub enum ManifestCode {
     /// No memory.
     Memory,
     /// Not read as JSON.
@@ -29,20 +29,20 @@ pub enum Code {
     Program(Refused),
 }
 
-impl Code {
+impl ManifestCode {
     /// The number by which a code is told.
     pub fn number(self) -> u8
         ensures { result ≡ number_of self }
     {
         match self {
-            Code::Memory => 1,
-            Code::Text => 50,
-            Code::Form => 51,
-            Code::TooMany => 52,
-            Code::Name => 53,
-            Code::Column | Code::Helpers | Code::Record => 54,
-            Code::Digits => 55,
-            Code::Program(_) => 56,
+            ManifestCode::Memory => 1,
+            ManifestCode::Text => 50,
+            ManifestCode::Form => 51,
+            ManifestCode::TooMany => 52,
+            ManifestCode::Name => 53,
+            ManifestCode::Column | ManifestCode::Helpers | ManifestCode::Record => 54,
+            ManifestCode::Digits => 55,
+            ManifestCode::Program(_) => 56,
         }
     }
 
@@ -51,7 +51,7 @@ impl Code {
         ensures { result ≡ refusal_of self }
     {
         match self {
-            Code::Program(refused) => Some(refused),
+            ManifestCode::Program(refused) => Some(refused),
             _ => None,
         }
     }

@@ -2,7 +2,7 @@
 ghost use Rattle.std.specs.Prelude.{◌≡◌};
 ghost use Rattle.pb_registry.specs.Judging.{fault_with, fault_at};
 
-use crate::code::Code;
+use crate::code::ManifestCode;
 use pb_base::Refused;
 use std::error::Error;
 use std::fmt;
@@ -43,7 +43,7 @@ impl fmt::Display for RegistryFault {
 impl Error for RegistryFault {}
 
 /// A code as it is told: of the whole, or of the observer at a place.
-pub fn fault_with(observer: Option<u8>, code: Code) -> RegistryFault
+pub fn fault_with(observer: Option<u8>, code: ManifestCode) -> RegistryFault
     ensures { result ≡ fault_with observer code }
 {
     RegistryFault {
@@ -54,11 +54,11 @@ pub fn fault_with(observer: Option<u8>, code: Code) -> RegistryFault
 }
 
 /// A code as it is told of the observer at a place. Want of memory has none, since it isn't that observer's fault.
-pub fn fault_at(place: u8, code: Code) -> RegistryFault
+pub fn fault_at(place: u8, code: ManifestCode) -> RegistryFault
     ensures { result ≡ fault_at place code }
 {
     match code {
-        Code::Memory => fault_with(None, code),
+        ManifestCode::Memory => fault_with(None, code),
         _ => fault_with(Some(place), code),
     }
 }

@@ -7,9 +7,9 @@ ghost use Rattle.pb_registry.specs.Manifests.{member_count, number_at, elements_
 ghost use Rattle.pb_registry.specs.Views.{manifest_view};
 ghost use Rattle.pb_base.specs.Reading.{Gives};
 ghost use Rattle.pb_registry.specs.Codes.{is_memory};
-ghost use Rattle.pb_registry.specs.declared.code.Code.TheVariants.{Memory, Text};
+ghost use Rattle.pb_registry.specs.declared.code.ManifestCode.TheVariants.{Memory, Text};
 
-use crate::code::Code;
+use crate::code::ManifestCode;
 use pb_base::MAX_OBSERVERS;
 use pb_isa::Profile;
 use serde_json::Value;
@@ -24,15 +24,15 @@ pub struct Manifest<'a> {
 }
 
 /// The value that the text is read as. Of a member that is named twice the last one counts, as `serde_json` reads it.
-pub fn value_of(alloc: Global, text: &str) -> Result<Value, Code>
+pub fn value_of(alloc: Global, text: &str) -> Result<Value, ManifestCode>
     ensures ok { IfOk result (λ v. read text.now ≡ Some (view v)) }
     ensures err { IfErr result (λ e. e ≢ Memory → (e ≡ Text) × (read text.now ≡ None)) }
 {
     match Value::from_str(alloc, text) {
         Ok(value) => Ok(value),
         Err(error) => match error.classify() {
-            Category::Memory => Err(Code::Memory),
-            _ => Err(Code::Text),
+            Category::Memory => Err(ManifestCode::Memory),
+            _ => Err(ManifestCode::Text),
         },
     }
 }
@@ -156,18 +156,18 @@ fn manifest_in(value: &Value) -> Option<Manifest<'_>>
 }
 
 /// The manifest that a value is, each of its elements with the form of an observer.
-pub fn whole_in(value: &Value) -> Result<Manifest<'_>, Code>
+pub fn whole_in(value: &Value) -> Result<Manifest<'_>, ManifestCode>
     ensures whole { Gives is_memory manifest_view result (whole_in (manifest_in (view value.now))) }
     ensures few { IfOk result (λ m. length m.elements.now ≤ MAX_OBSERVERS) }
 {
     let Some(manifest) = manifest_in(value) else {
-        return Err(Code::Form);
+        return Err(ManifestCode::Form);
     };
     // The form of all elements comes before their number, since 51 is lower than 52.
     if !are_observers(manifest.profile, manifest.elements) {
-        Err(Code::Form)
+        Err(ManifestCode::Form)
     } else if manifest.elements.len() > MAX_OBSERVERS {
-        Err(Code::TooMany)
+        Err(ManifestCode::TooMany)
     } else {
         Ok(manifest)
     }

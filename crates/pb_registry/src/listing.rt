@@ -3,14 +3,14 @@ ghost use Rattle.std.specs.Prelude.{◌≡◌, ◌≢◌, ◌≤◌, ◌⊎◌, 
 ghost use Rattle.std.specs.List.{IsDistinct};
 ghost use Rattle.std.specs.Str.{bytes_eq};
 ghost use Rattle.serde_json.specs.View.{view};
-ghost use Rattle.pb_registry.specs.declared.code.Code.TheVariants.{Memory};
+ghost use Rattle.pb_registry.specs.declared.code.ManifestCode.TheVariants.{Memory};
 ghost use Rattle.pb_registry.specs.Observers.{observers_of};
 ghost use Rattle.pb_registry.specs.Judging.{AreObservers, HasOneMore, IsLowestAfter, TellsFault, is_used, names_of, fault_with};
 
-use crate::code::Code;
+use crate::code::ManifestCode;
 use crate::fault::{RegistryFault, fault_at};
 use crate::form::text_at;
-use crate::observer::{Held, observer_in};
+use crate::observer::{RegisteredObserver, observer_in};
 use indexmap::IndexMap;
 use pb_base::MAX_OBSERVERS;
 use pb_isa::Profile;
@@ -19,7 +19,7 @@ use serde_json::Value;
 use std::alloc::Global;
 
 // Asked of the element as it is written, since a used name is told before anything of the element is read.
-fn is_used(observers: &IndexMap<String, Held>, element: &Value) -> bool
+fn is_used(observers: &IndexMap<String, RegisteredObserver>, element: &Value) -> bool
     ensures { result ≡ is_used (names_of (observers_of observers.now.entries)) (view element.now) }
 {
     match text_at(element, "name") {
@@ -32,9 +32,9 @@ fn is_used(observers: &IndexMap<String, Held>, element: &Value) -> bool
 fn add_observer(
     alloc: Global,
     profile: Profile,
-    observers: &mut IndexMap<String, Held>,
+    observers: &mut IndexMap<String, RegisteredObserver>,
     element: &Value,
-) -> Result<(), Code>
+) -> Result<(), ManifestCode>
     ensures more { OnOk result
         (HasOneMore profile (view element.now) (observers_of observers.old.entries)
         (observers_of observers.new.entries)) }
@@ -43,16 +43,16 @@ fn add_observer(
         (λ c. c ≢ Memory → IsLowestAfter (names_of (observers_of observers.old.entries)) profile (view element.now) c) }
 {
     if is_used(observers, element) {
-        return Err(Code::Name);
+        return Err(ManifestCode::Name);
     }
     let Observer {
         name,
         column,
         program,
     } = observer_in(alloc, profile, element)?;
-    match observers.insert(name, Held { column, program }) {
+    match observers.insert(name, RegisteredObserver { column, program }) {
         Ok(_) => Ok(()),
-        Err(_) => Err(Code::Memory),
+        Err(_) => Err(ManifestCode::Memory),
     }
 }
 
@@ -61,7 +61,7 @@ pub fn observers_in(
     alloc: Global,
     profile: Profile,
     elements: &[Value],
-) -> Result<IndexMap<String, Held>, RegistryFault>
+) -> Result<IndexMap<String, RegisteredObserver>, RegistryFault>
     requires { length elements.now ≤ MAX_OBSERVERS }
     ensures ok { IfOk result (λ m. AreObservers profile (map view elements.now) (observers_of m.entries)) }
     ensures err { IfErr result (λ f. (f ≡ fault_with None Memory) ⊎ TellsFault

@@ -5,7 +5,7 @@ ghost use Rattle.pb_registry.specs.Judging.{IsJudged};
 use crate::fault::{RegistryFault, fault_with};
 use crate::form::{Manifest, value_of, whole_in};
 use crate::listing::observers_in;
-use crate::observer::Held;
+use crate::observer::RegisteredObserver;
 use indexmap::IndexMap;
 use pb_base::MAX_OBSERVERS;
 use pb_verify::Observer;
@@ -15,7 +15,7 @@ use std::marker::Model;
 /// The observers of a manifest, by their names and in its order.
 #[derive(Drop)]
 pub struct Registry {
-    observers: IndexMap<String, Held>,
+    observers: IndexMap<String, RegisteredObserver>,
 }
 
 impl Model for Registry {
@@ -63,7 +63,7 @@ impl Registry {
         let Ok(mut observers) = Vec::with_capacity(alloc, self.observers.len()) else {
             return Err(self);
         };
-        for (name, Held { column, program }) in self.observers {
+        for (name, RegisteredObserver { column, program }) in self.observers {
             observers
                 .push(Observer {
                     name,

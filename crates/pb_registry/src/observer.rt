@@ -4,7 +4,7 @@ ghost use Rattle.std.specs.List.{list_all, list_any};
 ghost use Rattle.std.specs.Char.{is_ascii_uppercase};
 ghost use Rattle.serde_json.specs.View.{view};
 ghost use Rattle.pb_registry.specs.Manifests.{is_name_letter, is_name, name_in, column_in, numbers_of, helpers_in, version_in, bytes_in, members_of, text_at, number_at, elements_at};
-ghost use Rattle.pb_registry.specs.declared.code.Code.TheVariants.{Memory};
+ghost use Rattle.pb_registry.specs.declared.code.ManifestCode.TheVariants.{Memory};
 ghost use Rattle.pb_registry.specs.Helpers.{helpers_of};
 ghost use Rattle.pb_registry.specs.Accepting.{IsAcceptedCode};
 ghost use Rattle.pb_registry.specs.Judging.{IsProgramFault, IsOwnFault, IsObserver};
@@ -13,7 +13,7 @@ ghost use Rattle.pb_base.specs.Reading.{Gives};
 ghost use Rattle.pb_registry.specs.Codes.{is_memory};
 
 use crate::accepting::accept_in;
-use crate::code::Code;
+use crate::code::ManifestCode;
 use crate::form::{elements_at, number_at, text_at};
 use hex::FromHexError;
 use pb_base::{COLUMNS, Column};
@@ -27,7 +27,7 @@ use std::sync::Arc;
 /// What a registry keeps of an observer beside its name, which is the map's key. The program is shared as it is read,
 /// so that taking the observers out copies none.
 #[derive(Drop)]
-pub struct Held {
+pub struct RegisteredObserver {
     pub column: Column,
     pub program: Arc<Accepted>,
 }
@@ -60,32 +60,32 @@ fn is_name(name: &str) -> bool
     !name.is_empty() && name.len() <= 32 && are_name_letters(name.as_bytes())
 }
 
-fn name_in(value: &Value) -> Result<&str, Code>
+fn name_in(value: &Value) -> Result<&str, ManifestCode>
     ensures { Gives is_memory (λ s. s.now) result (name_in (text_at (codes "name") (view value.now))) }
 {
     let Some(name) = text_at(value, "name") else {
-        return Err(Code::Form);
+        return Err(ManifestCode::Form);
     };
     if is_name(name) {
         Ok(name)
     } else {
-        Err(Code::Name)
+        Err(ManifestCode::Name)
     }
 }
 
-fn column_in(value: &Value) -> Result<Column, Code>
+fn column_in(value: &Value) -> Result<Column, ManifestCode>
     ensures { Gives is_memory (λ n. n) result (column_in (number_at (codes "column") (view value.now))) }
 {
     let Some(number) = number_at(value, "column") else {
-        return Err(Code::Form);
+        return Err(ManifestCode::Form);
     };
     // Before the number is made a byte, so that 256 isn't column 0.
     if number >= u64::from(COLUMNS) {
-        return Err(Code::Column);
+        return Err(ManifestCode::Column);
     }
     match Column::new(number as u8) {
         Some(column) => Ok(column),
-        None => Err(Code::Column),
+        None => Err(ManifestCode::Column),
     }
 }
 
@@ -105,25 +105,25 @@ fn helpers_of(elements: &[Value]) -> Option<HelperTable>
     Some(helpers)
 }
 
-fn helpers_in(value: &Value) -> Result<HelperTable, Code>
+fn helpers_in(value: &Value) -> Result<HelperTable, ManifestCode>
     ensures { Gives is_memory (λ h. h) result (helpers_in (elements_at (codes "helpers") (view value.now))) }
 {
     let Some(elements) = elements_at(value, "helpers") else {
-        return Err(Code::Form);
+        return Err(ManifestCode::Form);
     };
     match helpers_of(elements) {
         Some(helpers) => Ok(helpers),
-        None => Err(Code::Helpers),
+        None => Err(ManifestCode::Helpers),
     }
 }
 
-fn version_in(value: &Value) -> Result<Version, Code>
+fn version_in(value: &Value) -> Result<Version, ManifestCode>
     ensures { Gives is_memory (λ v. v) result (version_in (number_at (codes "record") (view value.now))) }
 {
     match number_at(value, "record") {
         None | Some(1) => Ok(Version::First),
         Some(2) => Ok(Version::Second),
-        Some(_) => Err(Code::Record),
+        Some(_) => Err(ManifestCode::Record),
     }
 }
 
@@ -133,20 +133,20 @@ fn has_upper(digits: &[u8]) -> bool
     digits.iter().any(|digit| digit.is_ascii_uppercase())
 }
 
-fn bytes_in(alloc: Global, value: &Value) -> Result<Vec<u8>, Code>
+fn bytes_in(alloc: Global, value: &Value) -> Result<Vec<u8>, ManifestCode>
     ensures { Gives is_memory (λ v. v.items) result (bytes_in (text_at (codes "code") (view value.now))) }
 {
     let Some(digits) = text_at(value, "code") else {
-        return Err(Code::Form);
+        return Err(ManifestCode::Form);
     };
     // `hex` takes capitals too, so that they are looked for here.
     if has_upper(digits.as_bytes()) {
-        return Err(Code::Digits);
+        return Err(ManifestCode::Digits);
     }
     match hex::decode(alloc, digits) {
         Ok(bytes) => Ok(bytes),
-        Err(FromHexError::OutOfMemory) => Err(Code::Memory),
-        Err(_) => Err(Code::Digits),
+        Err(FromHexError::OutOfMemory) => Err(ManifestCode::Memory),
+        Err(_) => Err(ManifestCode::Digits),
     }
 }
 
@@ -156,32 +156,32 @@ fn program_in(
     version: Version,
     bytes: &[u8],
     helpers: HelperTable,
-) -> Result<Arc<Accepted>, Code>
+) -> Result<Arc<Accepted>, ManifestCode>
     ensures ok { IfOk result (λ p. IsAcceptedCode profile version bytes.now helpers p.value) }
     ensures err { IfErr result (λ c. c ≢ Memory → IsProgramFault profile version bytes.now helpers c) }
 {
     match accept_in(alloc, profile, version, bytes, helpers) {
         Ok(program) => match Arc::new(alloc, program) {
             Ok(program) => Ok(program),
-            Err(_) => Err(Code::Memory),
+            Err(_) => Err(ManifestCode::Memory),
         },
-        Err(VerifyFault::NoMemory) => Err(Code::Memory),
-        Err(VerifyFault::Refused(refused)) => Err(Code::Program(refused)),
+        Err(VerifyFault::NoMemory) => Err(ManifestCode::Memory),
+        Err(VerifyFault::Refused(refused)) => Err(ManifestCode::Program(refused)),
     }
 }
 
-fn copy_of(alloc: Global, text: &str) -> Result<String, Code>
+fn copy_of(alloc: Global, text: &str) -> Result<String, ManifestCode>
     ensures { Gives is_memory string_bytes result (Ok text.now) }
 {
     match String::from_str(alloc, text) {
         Ok(copy) => Ok(copy),
-        Err(_) => Err(Code::Memory),
+        Err(_) => Err(ManifestCode::Memory),
     }
 }
 
 // Reads an observer as it is written. The name is copied last, where memory alone can be refused.
 #[tactic(auto, unfolding(crate::specs::Manifests::members_of))]
-fn members_of(alloc: Global, value: &Value) -> Result<Written, Code>
+fn members_of(alloc: Global, value: &Value) -> Result<Written, ManifestCode>
     ensures { Gives is_memory written_of result (members_of (view value.now)) }
 {
     let name = name_in(value)?;
@@ -201,7 +201,7 @@ fn members_of(alloc: Global, value: &Value) -> Result<Written, Code>
 
 /// Reads an observer, its program in this profile. The fault that is told has the lowest code, since members come by
 /// their codes and the program last.
-pub fn observer_in(alloc: Global, profile: Profile, value: &Value) -> Result<Observer, Code>
+pub fn observer_in(alloc: Global, profile: Profile, value: &Value) -> Result<Observer, ManifestCode>
     ensures ok { IfOk result (IsObserver profile (view value.now)) }
     ensures err { IfErr result (λ c. c ≢ Memory → IsOwnFault profile (view value.now) c) }
 {

@@ -22,7 +22,7 @@ use Rattle.pb_kinds.specs.declared.frame.Frame.{Frame}
 use Rattle.pb_kinds.specs.Frames.{kind_of, is_unset, is_pointer}
 use Rattle.pb_kinds.specs.Ranges.{in_stack, in_record, from_low, are_written, set_flags, with_written}
 use Rattle.pb_helpers.specs.Codes.{when}
-use Rattle.pb_helpers.specs.declared.code.Code.TheVariants.{PointerStored, PointerCompared, ExitsWithPointer}
+use Rattle.pb_helpers.specs.declared.code.RuleCode.TheVariants.{PointerStored, PointerCompared, ExitsWithPointer}
 use Rattle.pb_helpers.specs.Arguments.{unset, stack_reads}
 use Rattle.pb_verify.specs.Rules as rules
 use Rattle.pb_verify.specs.Rules.{at, reads, reads_operand, sets, numeric_rules, on_pointer, points, loads, bytes_of, falls, jump_rules, insn_rules}

@@ -15,7 +15,7 @@ use Rattle.pb_kinds.specs.declared.frame.Kind.TheVariants.{Unset, Number, Stack,
 use Rattle.pb_kinds.specs.declared.frame.Frame.{Frame}
 use Rattle.pb_kinds.specs.Frames.{kind_of, is_number_kind}
 use Rattle.pb_kinds.specs.Ranges.{from_low, with_written}
-use Rattle.pb_helpers.specs.declared.code.Code.TheVariants.{WrongArgument}
+use Rattle.pb_helpers.specs.declared.code.RuleCode.TheVariants.{WrongArgument}
 use Rattle.pb_helpers.specs.Codes.{when}
 use Rattle.pb_helpers.specs.Arguments.{unset, filled_bytes, taken_bytes, is_cell, is_place, read_rules, call_rules, stack_writes}
 use Rattle.pb_verify.specs.Rules.{falls, insn_rules}

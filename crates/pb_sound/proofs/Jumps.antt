@@ -14,8 +14,8 @@ use Rattle.pb_isa.specs.Machine as m
 use Rattle.pb_isa.specs.Machine.{Environment, State, does, target}
 use Rattle.pb_kinds.specs.declared.frame.Frame.{Frame}
 use Rattle.pb_kinds.specs.Frames.{kind_of, is_pointer}
-use Rattle.pb_helpers.specs.declared.code.Code.{Code}
-use Rattle.pb_helpers.specs.declared.code.Code.TheVariants.{PointerCompared, ExitsWithPointer}
+use Rattle.pb_helpers.specs.declared.code.RuleCode.{RuleCode}
+use Rattle.pb_helpers.specs.declared.code.RuleCode.TheVariants.{PointerCompared, ExitsWithPointer}
 use Rattle.pb_helpers.specs.Codes.{when}
 use Rattle.pb_helpers.specs.Arguments.{unset}
 use Rattle.pb_verify.specs.Rules.{reads, reads_operand, on_pointer, falls, jump_rules, insn_rules}
@@ -34,7 +34,7 @@ pub record Lands (p : List Insn) (n : ℕ) (o : ℤ) : Type 0 where
   pub leads : has_slot (ahead n o) to ≡ true
   pub first : is_some (insn_at p to) ≡ true
 
-cond_else : (b : Bool) (xs : List Code) (c : Code) → (if b then c ∷ [] else xs) ≡ [] → xs ≡ []
+cond_else : (b : Bool) (xs : List RuleCode) (c : RuleCode) → (if b then c ∷ [] else xs) ≡ [] → xs ≡ []
 cond_else true xs c e = cc
 cond_else false xs c e = e
 

@@ -5,18 +5,18 @@ use Rattle.std.proofs.lemmas.List.{length-replicate, get_or-append_right}
 use Rattle.pb_kinds.specs.declared.frame.Frame.{Frame}
 use Rattle.pb_kinds.specs.Frames.{has_byte}
 use Rattle.pb_kinds.specs.Ranges.{has_bytes, set_flags}
-use Rattle.pb_helpers.specs.declared.code.Code.{Code}
+use Rattle.pb_helpers.specs.declared.code.RuleCode.{RuleCode}
 use Rattle.pb_helpers.specs.Codes.{when}
 use Rattle.pb_isa.specs.Machine.{Map, with_entry, with_list, entries, push_front}
 use Rattle.pb_sound.specs.Fits.{HasValue}
 
 -- where no rule is broken none of a part is
-pub empty_parts : (xs ys : List Code) → xs ++ ys ≡ [] → (xs ≡ []) × (ys ≡ [])
+pub empty_parts : (xs ys : List RuleCode) → xs ++ ys ≡ [] → (xs ≡ []) × (ys ≡ [])
 empty_parts [] ys e = (refl, e)
 empty_parts (x ∷ xs) ys e = cc
 
 -- a code that isn't listed has its rule kept
-pub when_not : (b : Bool) (c : Code) → when b c ≡ [] → b ≡ false
+pub when_not : (b : Bool) (c : RuleCode) → when b c ≡ [] → b ≡ false
 when_not true c e = cc
 when_not false c e = refl
 
@@ -32,7 +32,7 @@ pub or_not : (a b : Bool) → (a || b) ≡ false → (a ≡ false) × (b ≡ fal
 or_not true b e = cc
 or_not false b e = (refl, e)
 
-pub cond_when : (a b : Bool) (c d : Code) → (if a then when (not b) c else d ∷ []) ≡ [] → (a ≡ true) × (b ≡ true)
+pub cond_when : (a b : Bool) (c d : RuleCode) → (if a then when (not b) c else d ∷ []) ≡ [] → (a ≡ true) × (b ≡ true)
 cond_when true true c d e = (refl, refl)
 cond_when true false c d e = cc
 cond_when false b c d e = cc

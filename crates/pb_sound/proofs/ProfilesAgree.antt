@@ -13,7 +13,7 @@ use Rattle.pb_isa.specs.Helpers.{Helper, Read, Write, Delete, Start, HelperSet, 
 use Rattle.pb_isa.specs.Machine.{Placement, Environment, State, Stuck, fetch, helps, calls, does, does_at, act, start}
 use Rattle.pb_isa.specs.Meaning.{Talk, Point, on, onward, point_after, environment_of, EndsWith, Means}
 use Rattle.pb_kinds.specs.declared.frame.Frame.{Frame}
-use Rattle.pb_helpers.specs.declared.code.Code.{Code}
+use Rattle.pb_helpers.specs.declared.code.RuleCode.{RuleCode}
 use Rattle.pb_helpers.specs.Codes.{lowest_code}
 use Rattle.pb_verify.specs.Rules.{insn_rules}
 use Rattle.pb_verify.specs.Arriving.{in_at, codes_at, faults, Accepts, Refuses}
@@ -71,7 +71,7 @@ module _ (p q : Profile) (is : List Insn) (h : HelperSet) (size : ℕ) where
   accepts : Accepts (judged_in p is h size) → Accepts (judged_in q is h size)
   accepts ok n inside = sym (faults_same n) ∙ ok n inside
 
-  refuses : (n : ℕ) (c : Code) → Refuses (judged_in p is h size) n c → Refuses (judged_in q is h size) n c
+  refuses : (n : ℕ) (c : RuleCode) → Refuses (judged_in p is h size) n c → Refuses (judged_in q is h size) n c
   refuses n c r = record { inside = r.inside; code = ap lowest_code (sym (faults_same n)) ∙ r.code; before = λ m l. sym (faults_same m) ∙ r.before m l }
 
   -- ---- runs

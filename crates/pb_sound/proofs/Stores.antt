@@ -19,7 +19,7 @@ use Rattle.pb_kinds.specs.Frames.{is_unset, is_pointer}
 use Rattle.pb_kinds.specs.Ranges.{in_stack, from_low, set_flags, with_written}
 use Rattle.pb_helpers.specs.Codes.{when}
 use Rattle.pb_helpers.specs.Arguments.{stack_writes}
-use Rattle.pb_helpers.specs.declared.code.Code.TheVariants.{PointerStored}
+use Rattle.pb_helpers.specs.declared.code.RuleCode.TheVariants.{PointerStored}
 use Rattle.pb_verify.specs.Rules.{at, reads, stores, bytes_of, insn_rules}
 use Rattle.pb_verify.specs.Following.{after, leads, with_store}
 use Rattle.pb_sound.specs.Fits.{HasValue, Holds, FitsFrame}

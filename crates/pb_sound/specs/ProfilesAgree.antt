@@ -8,7 +8,7 @@ use Rattle.pb_isa.specs.declared.profile.Profile.TheVariants.{One, Two}
 use Rattle.pb_isa.specs.Helpers.{HelperSet}
 use Rattle.pb_isa.specs.Programs.{ProgramOf, IsProgram, JudgedOf}
 use Rattle.pb_isa.specs.Meaning.{Talk, Means}
-use Rattle.pb_helpers.specs.declared.code.Code.{Code}
+use Rattle.pb_helpers.specs.declared.code.RuleCode.{RuleCode}
 use Rattle.pb_verify.specs.Arriving.{Accepts, Refuses}
 
 -- a program of this profile
@@ -30,7 +30,7 @@ SameAreAccepted = (is : List Insn) (helpers : HelperSet) (size : ℕ) → Accept
 -- both are refused at the same slot with the same code
 abbrev pub SameAreRefused : Type 0
 SameAreRefused =
-    (is : List Insn) (helpers : HelperSet) (size slot : ℕ) (code : Code) →
+    (is : List Insn) (helpers : HelperSet) (size slot : ℕ) (code : RuleCode) →
     Refuses (judged_in One is helpers size) slot code ↔ Refuses (judged_in Two is helpers size) slot code
 
 -- both end with the same result and writes, after the same asks and replies

@@ -21,8 +21,8 @@ use Rattle.pb_steps.specs.State.{StateOf, TransactionOf, is_in}
 use Rattle.pb_steps.specs.Reasons.{Reasons, first_reason, is_out, no_seat, if_of_seat, own_transaction, reasons_of, own_reasons}
 use Rattle.pb_steps.specs.Steps.{step_reason}
 use Rattle.pb_history.specs.Laws.{HistoriesAreTold, TransactionsAreTold, JournalsAreSound}
-use Rattle.pb_txn.specs.declared.place.Place.{Place}
-use Rattle.pb_txn.specs.declared.place.Place.TheVariants.{Declaring, Prewriting, Stamping, CommittingPrimary, CommittingSecondary, Settling, Clearing, Over}
+use Rattle.pb_txn.specs.declared.place.PlanPlace.{PlanPlace}
+use Rattle.pb_txn.specs.declared.place.PlanPlace.TheVariants.{Declaring, Prewriting, Stamping, CommittingPrimary, CommittingSecondary, Settling, Clearing, Over}
 use Rattle.pb_txn.specs.Places.{declared_cells, step_at}
 use Rattle.pb_txn.specs.Plans.{fresh}
 use Rattle.pb_txn.specs.Allowed.{IsInRange, IsTimely, PlansAreAllowed}
@@ -141,7 +141,7 @@ same_step t u e = cc
 
 module _ (state : StateOf) (seat s : ℕ) (what : Declared) (why : Reason) where
   -- what its transaction has come to, if there is one
-  abbrev Stands : Place → Type 0
+  abbrev Stands : PlanPlace → Type 0
   Stands p = (t : TransactionOf) → finite.get state.transactions s ≡ Some t → IsAt (declared_cells what) p (bare t) × HasCellsAt p what t
 
   own : (reasons : TransactionOf → Reasons) → ((t : TransactionOf) → finite.get state.transactions s ≡ Some t → first_reason (reasons t) ≡ Some why → IsTimely why)
@@ -152,7 +152,7 @@ module _ (state : StateOf) (seat s : ℕ) (what : Declared) (why : Reason) where
   abbrev Timely : Step → Type 0
   Timely z = step_reason state seat z ≡ Some why → IsTimely why
 
-  at_place : (p : Place) (step : Step) → Stands p → step_at s what p ≡ Some step → Timely step
+  at_place : (p : PlanPlace) (step : Step) → Stands p → step_at s what p ≡ Some step → Timely step
   at_place Declaring step is e =
       subst Timely (same_step (Declare (record { 0 = s }) what) step e) (own (declare_reasons state.observers s what) (λ t h f. at_declare t what why state s (is t h).0 f))
   at_place (Prewriting k) step is e =

@@ -20,8 +20,8 @@ use Rattle.pb_history.specs.declared.entry.Received.{Received}
 use Rattle.pb_history.specs.TransactionsTold.{committed_phase, transaction_from}
 use Rattle.pb_txn.specs.declared.place.Outcome.{Outcome}
 use Rattle.pb_txn.specs.declared.place.Outcome.TheVariants as outcomes
-use Rattle.pb_txn.specs.declared.place.Place.{Place}
-use Rattle.pb_txn.specs.declared.place.Place.TheVariants.{Declaring, Prewriting, Stamping, CommittingPrimary, CommittingSecondary, Settling, Clearing, Over}
+use Rattle.pb_txn.specs.declared.place.PlanPlace.{PlanPlace}
+use Rattle.pb_txn.specs.declared.place.PlanPlace.TheVariants.{Declaring, Prewriting, Stamping, CommittingPrimary, CommittingSecondary, Settling, Clearing, Over}
 use Rattle.pb_txn.specs.Places.{declared_cells, place_after, after_prewrite, after_stamp, after_primary, prewrite_from, commit_from, clear_from, step_at}
 use Rattle.pb_txn.specs.Plans.{PlanOf, answered}
 use Rattle.pb_txn.specs.Talks.{Talks}
@@ -43,7 +43,7 @@ itself : (n : ℕ) → (n == n) ≡ true
 itself n = eq-eqb n n refl
 
 -- the cells have this phase, and these are prewritten
-abbrev pub IsAt : List Cell → Place → TransactionOf → Type 0
+abbrev pub IsAt : List Cell → PlanPlace → TransactionOf → Type 0
 IsAt cells Declaring u = (u.phase ≡ phases.Reading) × (u.prewritten ≡ [])
 IsAt cells (Prewriting k) u = (u.phase ≡ phases.Declared) × (u.prewritten ≡ take k cells)
 IsAt cells Stamping u = (u.phase ≡ phases.Declared) × (u.prewritten ≡ cells)
@@ -77,14 +77,14 @@ module _ (observers : List ObserverOf) (seat s : ℕ) (what : Declared) where
       past : (a b : ℕ) → nat_lt a b ≡ false → b ≤ a
       past a b e = grind (arith, e)
 
-  by_lt : (b : Bool) (p q : Place) (u : TransactionOf) → IsAt cells p u → IsAt cells q u → IsAt cells (cond b p q) u
+  by_lt : (b : Bool) (p q : PlanPlace) (u : TransactionOf) → IsAt cells p u → IsAt cells q u → IsAt cells (cond b p q) u
   by_lt true p q u i j = i
   by_lt false p q u i j = j
 
   -- ---- one answered step
 
   -- the transaction that it makes
-  pub record Makes (place : Place) (step : Step) (answer : Answer) (u : TransactionOf) : Type 0 where
+  pub record Makes (place : PlanPlace) (step : Step) (answer : Answer) (u : TransactionOf) : Type 0 where
     pub v : TransactionOf
     pub at : IsAt cells place v
     pub told : (es : List Entry)
@@ -134,7 +134,7 @@ module _ (observers : List ObserverOf) (seat s : ℕ) (what : Declared) where
   clears : (k end : ℕ) (o : Outcome) (u : TransactionOf) → IsAt cells (clear_from k end o) u
   clears k end o u = by_lt (nat_lt k end) (Clearing k end o) (Over o) u tt tt
 
-  one : (p : Place) (u : TransactionOf) (t : Step) (a : Answer) → IsAt cells p u → step_at s what p ≡ Some t → CanAnswer t a → Makes (place_after (length cells) p a) t a u
+  one : (p : PlanPlace) (u : TransactionOf) (t : Step) (a : Answer) → IsAt cells p u → step_at s what p ≡ Some t → CanAnswer t a → Makes (place_after (length cells) p a) t a u
   one Declaring u t a i e can =
       subst (λ z. CanAnswer z a → Makes (prewrite_from (length cells) 0) z a u) (same_step (Declare start what) t e) (after_declare u a i) can
   one (Prewriting k) u t a i e can =

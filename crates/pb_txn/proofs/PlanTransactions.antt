@@ -16,8 +16,8 @@ use Rattle.pb_history.specs.declared.entry.Entry.{Entry}
 use Rattle.pb_history.specs.declared.entry.Received.{Received}
 use Rattle.pb_history.specs.History.{Has, IsEntry, IsForWork, TellsHistory}
 use Rattle.pb_history.specs.TransactionsTold.{TellsTransactions, transaction_from}
-use Rattle.pb_txn.specs.declared.place.Place.{Place}
-use Rattle.pb_txn.specs.declared.place.Place.TheVariants.{Declaring}
+use Rattle.pb_txn.specs.declared.place.PlanPlace.{PlanPlace}
+use Rattle.pb_txn.specs.declared.place.PlanPlace.TheVariants.{Declaring}
 use Rattle.pb_txn.specs.Places.{declared_cells}
 use Rattle.pb_txn.specs.Plans.{PlanOf, fresh, answered}
 use Rattle.pb_txn.specs.Talks.{Talks}
@@ -45,11 +45,11 @@ pub record HasCells (what : Declared) (t : TransactionOf) : Type 0 where
   pub apart : are_distinct t.declared ≡ true
 
 -- needed once the declaration was answered
-abbrev pub HasCellsAt : Place → Declared → TransactionOf → Type 0
+abbrev pub HasCellsAt : PlanPlace → Declared → TransactionOf → Type 0
 HasCellsAt Declaring what t = Unit {0}
 HasCellsAt _ what t = HasCells what t
 
-has_cells : (p : Place) (what : Declared) (t : TransactionOf) → HasCells what t → HasCellsAt p what t
+has_cells : (p : PlanPlace) (what : Declared) (t : TransactionOf) → HasCells what t → HasCellsAt p what t
 has_cells Declaring what t h = tt
 has_cells _ what t h = h
 

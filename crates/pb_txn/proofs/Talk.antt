@@ -13,8 +13,8 @@ use Rattle.pb_steps.specs.Answers.{CanAnswer}
 use Rattle.pb_history.specs.declared.entry.Received.{Received}
 use Rattle.pb_txn.specs.declared.place.Outcome.{Outcome}
 use Rattle.pb_txn.specs.declared.place.Outcome.TheVariants as outcomes
-use Rattle.pb_txn.specs.declared.place.Place.{Place}
-use Rattle.pb_txn.specs.declared.place.Place.TheVariants.{Declaring, Prewriting, Stamping, CommittingPrimary, CommittingSecondary, Settling, Clearing, Over}
+use Rattle.pb_txn.specs.declared.place.PlanPlace.{PlanPlace}
+use Rattle.pb_txn.specs.declared.place.PlanPlace.TheVariants.{Declaring, Prewriting, Stamping, CommittingPrimary, CommittingSecondary, Settling, Clearing, Over}
 use Rattle.pb_txn.specs.Places.{declared_cells, place_after, after_prewrite, after_stamp, after_primary, prewrite_from, commit_from, clear_from, step_at}
 use Rattle.pb_txn.specs.Plans.{PlanOf, fresh, answered, outcome_at}
 use Rattle.pb_txn.specs.Talks.{told, Talks}
@@ -81,7 +81,7 @@ module _ (s : Ts) (what : Declared) (x : Cell) (others : List Cell) where
   ready_more : (xs ys : List Received) → ready xs ++ ys ≡ ready (xs ++ ys)
   ready_more xs ys = ap (λ rs. declares ∷ rs) (append_assoc (prewrites s cells) xs ys)
 
-  pub data SoFar : Place → List Received → Type 0 where
+  pub data SoFar : PlanPlace → List Received → Type 0 where
     declaring : SoFar Declaring []
     prewriting : (before : List Cell) (y : Cell) (after : List Cell) → cells ≡ before ++ y ∷ after → SoFar (Prewriting (length before)) (declares ∷ prewrites s before)
     stamping : SoFar Stamping (declares ∷ prewrites s cells)
@@ -208,7 +208,7 @@ module _ (s : Ts) (what : Declared) (x : Cell) (others : List Cell) where
     at_seam : (before : List Cell) (y : Cell) (after : List Cell) → cells ≡ before ++ y ∷ after → slice_get (declared_cells what) (length before) ≡ Some y
     at_seam before y after at = ap (λ xs. slice_get xs (length before)) (cells_are ∙ at) ∙ seam before y after
 
-    pub said_more : (p : Place) (l : List Received) (t : Step) (a : Answer) → SoFar p l → step_at s.0 what p ≡ Some t → CanAnswer t a
+    pub said_more : (p : PlanPlace) (l : List Received) (t : Step) (a : Answer) → SoFar p l → step_at s.0 what p ≡ Some t → CanAnswer t a
         → SoFar (place_after (length cells) p a) (l ++ told t a ∷ [])
     said_more p l t a declaring e can =
         subst (λ u. CanAnswer u a → SoFar (prewrite_from (length cells) 0) (told u a ∷ [])) (of_step (Declare s what) t e) (first_more a) can
@@ -234,7 +234,7 @@ module _ (s : Ts) (what : Declared) (x : Cell) (others : List Cell) where
     no_step f before y after at e = some_none _ (ap (option_map f) (sym (at_seam before y after at)) ∙ e)
 
     -- where there is no step, it is over
-    pub stops : (p : Place) (l : List Received) → SoFar p l → step_at s.0 what p ≡ None → (o : Outcome) × (outcome_at p ≡ Some o)
+    pub stops : (p : PlanPlace) (l : List Received) → SoFar p l → step_at s.0 what p ≡ None → (o : Outcome) × (outcome_at p ≡ Some o)
     stops p l declaring e = absurd (some_none _ e)
     stops p l (prewriting before y after at) e = absurd (no_step (λ z. Prewrite s z) before y after at e)
     stops p l stamping e = absurd (some_none _ e)
@@ -255,7 +255,7 @@ module _ (s : Ts) (what : Declared) (x : Cell) (others : List Cell) where
 
   -- ---- what has been said can be ended
 
-  pub can_end : (p : Place) (l : List Received) → SoFar p l → (rest : List Received) × (o : Outcome) × Whole (l ++ rest) o
+  pub can_end : (p : PlanPlace) (l : List Received) → SoFar p l → (rest : List Received) × (o : Outcome) × Whole (l ++ rest) o
   can_end p l declaring = (paid (record { 0 = 0 }) (secondaries s others), outcomes.Committed (record { 0 = 0 }), committed x others _)
   can_end p l (prewriting before y after at) =
       let c : Ts = record { 0 = 0 } in
@@ -283,7 +283,7 @@ module _ (s : Ts) (what : Declared) (x : Cell) (others : List Cell) where
       (rest, o, subst (λ rs. Whole rs o) (sym (append_assoc said cs rest)) (ends (cs ++ rest) (are_cleared done (y ∷ left) cs c)))
   can_end p l (over o said whole) = ([], o, rw append-nil whole)
 
-  pub ended : (p : Place) (l : List Received) (o : Outcome) → SoFar p l → outcome_at p ≡ Some o → Whole l o
+  pub ended : (p : PlanPlace) (l : List Received) (o : Outcome) → SoFar p l → outcome_at p ≡ Some o → Whole l o
   ended p l o declaring e = absurd (none_some o e)
   ended p l o (prewriting before y after at) e = absurd (none_some o e)
   ended p l o stamping e = absurd (none_some o e)

@@ -14,8 +14,8 @@ use Rattle.pb_steps.specs.declared.step.Answer.{Answer}
 use Rattle.pb_steps.specs.declared.step.Answer.TheVariants as answers
 use Rattle.pb_txn.specs.declared.place.Outcome.{Outcome}
 use Rattle.pb_txn.specs.declared.place.Outcome.TheVariants as outcomes
-use Rattle.pb_txn.specs.declared.place.Place.{Place}
-use Rattle.pb_txn.specs.declared.place.Place.TheVariants.{Declaring, Prewriting, Stamping, CommittingPrimary, CommittingSecondary, Settling, Clearing, Over}
+use Rattle.pb_txn.specs.declared.place.PlanPlace.{PlanPlace}
+use Rattle.pb_txn.specs.declared.place.PlanPlace.TheVariants.{Declaring, Prewriting, Stamping, CommittingPrimary, CommittingSecondary, Settling, Clearing, Over}
 
 -- the cells that a declaration writes, the primary first: those of a script's batch; of a run the acknowledgment of its
 -- observer at the row and column of its record, and then the cells of its writes
@@ -26,34 +26,34 @@ declared_cells (declared.Run o f) = Ack o (record { 0 = recorded_row f.bytes }) 
 -- ---- where an answer leads
 
 -- the next cell to prewrite, or the stamp
-abbrev pub prewrite_from : ℕ → ℕ → Place
+abbrev pub prewrite_from : ℕ → ℕ → PlanPlace
 prewrite_from count k = if nat_lt k count then Prewriting k else Stamping
 
 -- the next secondary to commit, or the end
-abbrev pub commit_from : ℕ → Ts → ℕ → Place
+abbrev pub commit_from : ℕ → Ts → ℕ → PlanPlace
 commit_from count c k = if nat_lt k count then CommittingSecondary c k else Over (outcomes.Committed c)
 
 -- the next secondary to clear, or the end
-abbrev pub clear_from : ℕ → ℕ → Outcome → Place
+abbrev pub clear_from : ℕ → ℕ → Outcome → PlanPlace
 clear_from k end o = if nat_lt k end then Clearing k end o else Over o
 
 -- a conflict on the primary leaves nothing behind; after one on a later cell, the primary is settled
-abbrev pub after_prewrite : ℕ → ℕ → Answer → Place
+abbrev pub after_prewrite : ℕ → ℕ → Answer → PlanPlace
 after_prewrite count k answers.Conflict = if k == 0 then Over outcomes.Conflicted else Settling k
 after_prewrite count k _ = prewrite_from count (k + 1)
 
 -- the stamp is answered with the commit timestamp, which the end tells
-abbrev pub after_stamp : Answer → Place
+abbrev pub after_stamp : Answer → PlanPlace
 after_stamp (answers.At c) = CommittingPrimary c
 after_stamp _ = Stamping
 
 -- a primary that is lost has been decided against: all other cells are cleared
-abbrev pub after_primary : ℕ → Ts → Answer → Place
+abbrev pub after_primary : ℕ → Ts → Answer → PlanPlace
 after_primary count c answers.Committed = commit_from count c 1
 after_primary count c _ = clear_from 1 count outcomes.Lost
 
 -- where the answer of the step at a place leads, in a transaction of so many cells
-abbrev pub place_after : ℕ → Place → Answer → Place
+abbrev pub place_after : ℕ → PlanPlace → Answer → PlanPlace
 place_after count Declaring a = prewrite_from count 0
 place_after count (Prewriting k) a = after_prewrite count k a
 place_after count Stamping a = after_stamp a
@@ -66,7 +66,7 @@ place_after count (Over o) a = Over o
 -- ---- the step at a place
 
 -- the step at a place, but for the declaration, which a plan keeps by itself
-abbrev pub later_step : ℕ → List Cell → Place → Option Step
+abbrev pub later_step : ℕ → List Cell → PlanPlace → Option Step
 later_step s cells Declaring = None
 later_step s cells (Prewriting k) = option_map (λ x. steps.Prewrite (record { 0 = s }) x) (slice_get cells k)
 later_step s cells Stamping = Some (steps.Stamp (record { 0 = s }))
@@ -77,12 +77,12 @@ later_step s cells (Clearing k end o) = option_map (λ x. steps.Clear x) (slice_
 later_step s cells (Over o) = None
 
 -- the step at a place
-abbrev pub step_at : ℕ → Declared → Place → Option Step
+abbrev pub step_at : ℕ → Declared → PlanPlace → Option Step
 step_at s what Declaring = Some (steps.Declare (record { 0 = s }) what)
 step_at s what place = later_step s (declared_cells what) place
 
 -- the place lies within so many cells, and a secondary's isn't that of the primary
-abbrev pub LiesWithin : ℕ → Place → Type 0
+abbrev pub LiesWithin : ℕ → PlanPlace → Type 0
 LiesWithin count Declaring = Unit {0}
 LiesWithin count (Prewriting k) = k < count
 LiesWithin count Stamping = Unit {0}

@@ -8,15 +8,15 @@ use Rattle.pb_steps.specs.declared.step.Step.TheVariants as steps
 use Rattle.pb_steps.specs.declared.step.Answer.{Answer}
 use Rattle.pb_steps.specs.Answers.{CanAnswer}
 use Rattle.pb_txn.specs.declared.place.Outcome.{Outcome}
-use Rattle.pb_txn.specs.declared.place.Place.{Place}
-use Rattle.pb_txn.specs.declared.place.Place.TheVariants.{Declaring, Over}
+use Rattle.pb_txn.specs.declared.place.PlanPlace.{PlanPlace}
+use Rattle.pb_txn.specs.declared.place.PlanPlace.TheVariants.{Declaring, Over}
 use Rattle.pb_txn.specs.Places.{declared_cells, place_after, later_step, step_at, LiesWithin}
 
 -- a transaction's start, what it declares, and which step is next
 pub record PlanOf : Type 0 where
   pub start : ℕ
   pub what : Declared
-  pub place : Place
+  pub place : PlanPlace
 
 -- before its first step
 abbrev pub fresh : ℕ → Declared → PlanOf
@@ -31,7 +31,7 @@ abbrev pub answered : PlanOf → Answer → PlanOf
 answered p a = record p { place = place_after (length (declared_cells p.what)) p.place a }
 
 -- there is an outcome at the end alone
-abbrev pub outcome_at : Place → Option Outcome
+abbrev pub outcome_at : PlanPlace → Option Outcome
 outcome_at (Over o) = Some o
 outcome_at _ = None
 
@@ -51,7 +51,7 @@ what_in (steps.Declare s what) = what
 what_in _ = declared.Script []
 
 -- the declaration is kept as its step, and each later step as it comes, so that the next one can be lent
-pub record IsPlan (s : ℕ) (declare : Step) (later : Option Step) (place : Place) : Type 0 where
+pub record IsPlan (s : ℕ) (declare : Step) (later : Option Step) (place : PlanPlace) : Type 0 where
   pub declares : declare ≡ steps.Declare (record { 0 = s }) (what_in declare)
   pub stored : later ≡ later_step s (declared_cells (what_in declare)) place
   pub fits : LiesWithin (length (declared_cells (what_in declare))) place

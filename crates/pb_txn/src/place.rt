@@ -19,7 +19,7 @@ pub enum Outcome {
 
 /// Which step of a plan is next, with the places of the cells that it is about.
 #[derive(Clone, Copy)]
-pub enum Place {
+pub enum PlanPlace {
     Declaring,
     /// The cell at this place.
     Prewriting(usize),
@@ -36,45 +36,45 @@ pub enum Place {
 }
 
 // The next cell to prewrite, or the stamp.
-fn prewrite_from(count: usize, k: usize) -> Place
+fn prewrite_from(count: usize, k: usize) -> PlanPlace
     ensures place { result ≡ Rattle.pb_txn.specs.Places.prewrite_from count k }
     ensures fits { LiesWithin count result }
 {
     if k < count {
-        Place::Prewriting(k)
+        PlanPlace::Prewriting(k)
     } else {
-        Place::Stamping
+        PlanPlace::Stamping
     }
 }
 
 // The next secondary to commit, or the end. It is never the cell at 0, since that is the primary.
-fn commit_from(count: usize, commit: Ts, k: usize) -> Place
+fn commit_from(count: usize, commit: Ts, k: usize) -> PlanPlace
     requires { 0 < k }
     ensures place { result ≡ Rattle.pb_txn.specs.Places.commit_from count commit k }
     ensures fits { LiesWithin count result }
 {
     if k < count {
-        Place::CommittingSecondary(commit, k)
+        PlanPlace::CommittingSecondary(commit, k)
     } else {
-        Place::Over(Outcome::Committed(commit))
+        PlanPlace::Over(Outcome::Committed(commit))
     }
 }
 
 // The next secondary to clear, or the end. The primary is none of them, since it was settled or is lost.
-fn clear_from(k: usize, end: usize, outcome: Outcome) -> Place
+fn clear_from(k: usize, end: usize, outcome: Outcome) -> PlanPlace
     requires { 0 < k }
     ensures place { result ≡ Rattle.pb_txn.specs.Places.clear_from k end outcome }
     ensures fits { (count : ℕ) → end ≤ count → LiesWithin count result }
 {
     if k < end {
-        Place::Clearing(k, end, outcome)
+        PlanPlace::Clearing(k, end, outcome)
     } else {
-        Place::Over(outcome)
+        PlanPlace::Over(outcome)
     }
 }
 
 // After a prewrite: a conflict on the primary leaves nothing behind, since that is prewritten first.
-fn after_prewrite(count: usize, k: usize, answer: Answer) -> Place
+fn after_prewrite(count: usize, k: usize, answer: Answer) -> PlanPlace
     requires { k < count }
     ensures place { result ≡ Rattle.pb_txn.specs.Places.after_prewrite count k answer }
     ensures fits { LiesWithin count result }
@@ -82,9 +82,9 @@ fn after_prewrite(count: usize, k: usize, answer: Answer) -> Place
     match answer {
         Answer::Conflict => {
             if k == 0 {
-                Place::Over(Outcome::Conflicted)
+                PlanPlace::Over(Outcome::Conflicted)
             } else {
-                Place::Settling(k)
+                PlanPlace::Settling(k)
             }
         }
         _ => prewrite_from(count, k + 1),
@@ -92,28 +92,28 @@ fn after_prewrite(count: usize, k: usize, answer: Answer) -> Place
 }
 
 /// Where an answer leads.
-pub fn place_after(count: usize, place: Place, answer: Answer) -> Place
+pub fn place_after(count: usize, place: PlanPlace, answer: Answer) -> PlanPlace
     requires { LiesWithin count place }
     ensures place { result ≡ place_after count place answer }
     ensures fits { LiesWithin count result }
 {
     match place {
-        Place::Declaring => prewrite_from(count, 0),
-        Place::Prewriting(k) => after_prewrite(count, k, answer),
-        Place::Stamping => match answer {
-            Answer::At(commit) => Place::CommittingPrimary(commit),
-            _ => Place::Stamping,
+        PlanPlace::Declaring => prewrite_from(count, 0),
+        PlanPlace::Prewriting(k) => after_prewrite(count, k, answer),
+        PlanPlace::Stamping => match answer {
+            Answer::At(commit) => PlanPlace::CommittingPrimary(commit),
+            _ => PlanPlace::Stamping,
         },
-        Place::CommittingPrimary(commit) => match answer {
+        PlanPlace::CommittingPrimary(commit) => match answer {
             Answer::Committed => commit_from(count, commit, 1),
             // Who took the primary's lock off has decided against the transaction, and all other cells are
             // prewritten.
             _ => clear_from(1, count, Outcome::Lost),
         },
-        Place::CommittingSecondary(commit, k) => commit_from(count, commit, k + 1),
+        PlanPlace::CommittingSecondary(commit, k) => commit_from(count, commit, k + 1),
         // What is to be cleared are the cells before the one that conflicted, since no later one was prewritten.
-        Place::Settling(k) => clear_from(1, k, Outcome::Conflicted),
-        Place::Clearing(k, end, outcome) => clear_from(k + 1, end, outcome),
-        Place::Over(outcome) => Place::Over(outcome),
+        PlanPlace::Settling(k) => clear_from(1, k, Outcome::Conflicted),
+        PlanPlace::Clearing(k, end, outcome) => clear_from(k + 1, end, outcome),
+        PlanPlace::Over(outcome) => PlanPlace::Over(outcome),
     }
 }

@@ -4,7 +4,7 @@ ghost use Rattle.pb_steps.specs.Declarations.{IsKnown};
 ghost use Rattle.pb_txn.specs.Places.{declared_cells, later_step, LiesWithin};
 ghost use Rattle.pb_txn.specs.Plans.{what_in, IsDeclaration};
 
-use crate::place::{Outcome, Place, place_after};
+use crate::place::{Outcome, PlanPlace, place_after};
 use pb_base::{Cell, Ts};
 use pb_steps::{Answer, Declaration, Declared, Step};
 use std::marker::Model;
@@ -20,7 +20,7 @@ pub struct Plan {
     start: Ts,
     declare: Step,
     later: Option<Step>,
-    place: Place,
+    place: PlanPlace,
 }
 
 impl Model for Plan {
@@ -77,20 +77,23 @@ fn declared_by(step: &Step) -> &Declared
 }
 
 // The step at a place. For the declaration there is none, since a plan keeps that step from the start.
-fn step_at(start: Ts, what: &Declared, place: Place) -> Option<Step>
+fn step_at(start: Ts, what: &Declared, place: PlanPlace) -> Option<Step>
     requires { LiesWithin (length (declared_cells what.now)) place }
     ensures { result ≡ later_step start.0 (declared_cells what.now) place }
 {
     match place {
-        Place::Declaring => None,
-        Place::Prewriting(k) => Some(Step::Prewrite(start, cell_at(what, k))),
-        Place::Stamping => Some(Step::Stamp(start)),
-        Place::CommittingPrimary(_) => Some(Step::CommitPrimary(start)),
-        Place::CommittingSecondary(_, k) => Some(Step::CommitSecondary(start, cell_at(what, k))),
+        PlanPlace::Declaring => None,
+        PlanPlace::Prewriting(k) => Some(Step::Prewrite(start, cell_at(what, k))),
+        PlanPlace::Stamping => Some(Step::Stamp(start)),
+        PlanPlace::CommittingPrimary(_) => Some(Step::CommitPrimary(start)),
+        PlanPlace::CommittingSecondary(_, k) => Some(Step::CommitSecondary(
+            start,
+            cell_at(what, k),
+        )),
         // The primary goes first, since `Clear` of another cell waits as long as the primary's lock stands.
-        Place::Settling(_) => Some(Step::Settle(cell_at(what, 0))),
-        Place::Clearing(k, _, _) => Some(Step::Clear(cell_at(what, k))),
-        Place::Over(_) => None,
+        PlanPlace::Settling(_) => Some(Step::Settle(cell_at(what, 0))),
+        PlanPlace::Clearing(k, _, _) => Some(Step::Clear(cell_at(what, k))),
+        PlanPlace::Over(_) => None,
     }
 }
 
@@ -106,7 +109,7 @@ impl Plan {
             start,
             declare: Step::Declare(start, what),
             later: None,
-            place: Place::Declaring,
+            place: PlanPlace::Declaring,
         }
     }
 
@@ -115,7 +118,7 @@ impl Plan {
         ensures { MatchOption result (next_of self.now ≡ None) (λ s. next_of self.now ≡ Some s.now) }
     {
         match self.place {
-            Place::Declaring => Some(&self.declare),
+            PlanPlace::Declaring => Some(&self.declare),
             _ => self.later.as_ref(),
         }
     }
@@ -138,7 +141,7 @@ impl Plan {
         ensures { result ≡ outcome_of self.now }
     {
         match self.place {
-            Place::Over(outcome) => Some(outcome),
+            PlanPlace::Over(outcome) => Some(outcome),
             _ => None,
         }
     }

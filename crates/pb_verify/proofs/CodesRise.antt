@@ -19,8 +19,8 @@ use Rattle.pb_kinds.specs.declared.frame.Kind.{Kind}
 use Rattle.pb_kinds.specs.declared.frame.Kind.TheVariants.{Unset, Number, Stack, Record}
 use Rattle.pb_kinds.specs.declared.frame.Frame.{Frame}
 use Rattle.pb_kinds.specs.Frames.{kind_of, is_unset, is_pointer}
-use Rattle.pb_helpers.specs.declared.code.Code.{Code}
-use Rattle.pb_helpers.specs.declared.code.Code.TheVariants.{ReadsUnset, WritesR10, PointerArithmetic, PointerStored, OutsideStack, UnwrittenByte, OutsideRecord, JumpOutside, JumpIntoPair, FallsOff, ExitsWithPointer, PointerCompared}
+use Rattle.pb_helpers.specs.declared.code.RuleCode.{RuleCode}
+use Rattle.pb_helpers.specs.declared.code.RuleCode.TheVariants.{ReadsUnset, WritesR10, PointerArithmetic, PointerStored, OutsideStack, UnwrittenByte, OutsideRecord, JumpOutside, JumpIntoPair, FallsOff, ExitsWithPointer, PointerCompared}
 use Rattle.pb_helpers.specs.Codes.{code_number, when, CodesRiseWithin}
 use Rattle.pb_helpers.specs.Arguments.{unset, call_rules, ArgumentCodesRise}
 use Rattle.pb_verify.specs.Rules.{at, reads, sets, reads_operand, on_pointer, bytes_of, falls, numeric_rules, part_mov_rules, mov_rules, add_rules, alu_rules, loads, stores, load_rules, store_imm_rules, store_rules, jump_rules, jump_if_rules, insn_rules}
@@ -28,26 +28,26 @@ use Rattle.pb_verify.specs.Rules.{at, reads, sets, reads_operand, on_pointer, by
 -- ---- lists of codes that rise
 
 -- a list that rises from b rises from what is lower
-from_lower : (a b c : ℕ) (cs : List Code) → a ≤ b → CodesRiseWithin b c cs → CodesRiseWithin a c cs
+from_lower : (a b c : ℕ) (cs : List RuleCode) → a ≤ b → CodesRiseWithin b c cs → CodesRiseWithin a c cs
 from_lower a b c [] l h = omega arith
 from_lower a b c (x ∷ xs) l h = (omega (arith, h.0), h.1)
 
-to_higher : (a b c : ℕ) (cs : List Code) → b ≤ c → CodesRiseWithin a b cs → CodesRiseWithin a c cs
+to_higher : (a b c : ℕ) (cs : List RuleCode) → b ≤ c → CodesRiseWithin a b cs → CodesRiseWithin a c cs
 to_higher a b c [] l h = omega arith
 to_higher a b c (x ∷ xs) l h = (h.0, to_higher (code_number x) b c xs l h.1)
 
 -- lists of which one ends where the next begins rise as one
-joined : (a b c : ℕ) (xs ys : List Code) → CodesRiseWithin a b xs → CodesRiseWithin b c ys → CodesRiseWithin a c (xs ++ ys)
+joined : (a b c : ℕ) (xs ys : List RuleCode) → CodesRiseWithin a b xs → CodesRiseWithin b c ys → CodesRiseWithin a c (xs ++ ys)
 joined a b c [] ys h k = from_lower a b c ys h k
 joined a b c (x ∷ xs) ys h k = (h.0, joined (code_number x) b c xs ys h.1 k)
 
 -- a code that is listed where its rule is broken, within two numbers
-one : (a b : ℕ) (t : Bool) (c : Code) → a ≤ code_number c → code_number c ≤ b → CodesRiseWithin a b (when t c)
+one : (a b : ℕ) (t : Bool) (c : RuleCode) → a ≤ code_number c → code_number c ≤ b → CodesRiseWithin a b (when t c)
 one a b true c l m = (l, m)
 one a b false c l m = omega arith
 
 -- one code or the other, never both: the stack bytes of a load
-one_of_two : (a b : ℕ) (t u : Bool) (c d : Code) → a ≤ code_number c → code_number c ≤ b → a ≤ code_number d → code_number d ≤ b → CodesRiseWithin a b (if t then when u c else d ∷ [])
+one_of_two : (a b : ℕ) (t u : Bool) (c d : RuleCode) → a ≤ code_number c → code_number c ≤ b → a ≤ code_number d → code_number d ≤ b → CodesRiseWithin a b (if t then when u c else d ∷ [])
 one_of_two a b true u c d l m k n = one a b u c l m
 one_of_two a b false u c d l m k n = (k, n)
 
@@ -70,7 +70,7 @@ falls_rise : (p : List Insn) (m : ℕ) → CodesRiseWithin 34 36 (falls p m)
 falls_rise p m = one 34 36 (nat_eq m (slots p)) FallsOff (omega arith) (omega arith)
 
 -- 36 comes last of an instruction that goes on, above all codes of arithmetic, memory and calls
-with_falls : (p : List Insn) (m : ℕ) (cs : List Code) → CodesRiseWithin 21 34 cs → CodesRiseWithin 21 38 (cs ++ falls p m)
+with_falls : (p : List Insn) (m : ℕ) (cs : List RuleCode) → CodesRiseWithin 21 34 cs → CodesRiseWithin 21 38 (cs ++ falls p m)
 with_falls p m cs h = to_higher 21 36 38 (cs ++ falls p m) (omega arith) (joined 21 34 36 cs (falls p m) h (falls_rise p m))
 
 -- 21 of both operands, then 22 and 23

@@ -6,7 +6,7 @@ use Rattle.std.proofs.lemmas.Bool.Decides.{nat_tests}
 use Rattle.pb_isa.specs.declared.insn.Insn.{Insn}
 use Rattle.pb_isa.specs.Slots.{insn_at}
 use Rattle.pb_kinds.specs.declared.frame.Frame.{Frame}
-use Rattle.pb_helpers.specs.declared.code.Code.{Code}
+use Rattle.pb_helpers.specs.declared.code.RuleCode.{RuleCode}
 use Rattle.pb_helpers.specs.Codes.{lowest_code}
 use Rattle.pb_verify.specs.Following.{leads}
 use Rattle.pb_verify.specs.Arriving.{merge, has_slot, if_leads, gather, frame_before, frame_after, outs, in_at}
@@ -59,6 +59,6 @@ pub not_here : (n m : ℕ) → n < m → nat_eq m n ≡ false
 not_here n m h = grind (arith, nat_tests)
 
 -- where no code is found none is listed
-pub none_broken : (cs : List Code) → lowest_code cs ≡ None → cs ≡ []
+pub none_broken : (cs : List RuleCode) → lowest_code cs ≡ None → cs ≡ []
 none_broken [] e = refl
 none_broken (c ∷ cs) e = absurd (grind (arith, e))

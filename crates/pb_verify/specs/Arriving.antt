@@ -7,8 +7,8 @@ use Rattle.pb_isa.specs.Slots.{slots, insn_at}
 use Rattle.pb_isa.specs.Programs.{JudgedOf}
 use Rattle.pb_kinds.specs.declared.frame.Frame.{Frame}
 use Rattle.pb_kinds.specs.Frames.{join, entry_frame}
-use Rattle.pb_helpers.specs.declared.code.Code.{Code}
-use Rattle.pb_helpers.specs.declared.code.Code.TheVariants.{Unreachable}
+use Rattle.pb_helpers.specs.declared.code.RuleCode.{RuleCode}
+use Rattle.pb_helpers.specs.declared.code.RuleCode.TheVariants.{Unreachable}
 use Rattle.pb_helpers.specs.Codes.{lowest_code}
 use Rattle.pb_verify.specs.Rules.{insn_rules}
 use Rattle.pb_verify.specs.Following.{after, leads}
@@ -53,13 +53,13 @@ unfoldable pub in_at : List Insn → ℕ → Option Frame
 in_at p n = frame_before p n (outs p n)
 
 -- the codes at a slot: a second slot has no rules, and an instruction that nothing leads to breaks one
-abbrev pub codes_at : JudgedOf → ℕ → Option Insn → Option Frame → List Code
+abbrev pub codes_at : JudgedOf → ℕ → Option Insn → Option Frame → List RuleCode
 codes_at j n None f = []
 codes_at j n (Some i) None = Unreachable ∷ []
 codes_at j n (Some i) (Some f) = insn_rules j n f i
 
 -- the codes that are told of slot n: none where the rules hold there
-abbrev pub faults : JudgedOf → ℕ → List Code
+abbrev pub faults : JudgedOf → ℕ → List RuleCode
 faults j n = codes_at j n (insn_at j.program.insns n) (in_at j.program.insns n)
 
 -- the rules hold at every slot
@@ -67,7 +67,7 @@ abbrev pub Accepts : JudgedOf → Type 0
 Accepts j = (n : ℕ) → n < slots j.program.insns → faults j n ≡ []
 
 -- n is the least slot whose rules fail, and c the lowest code there
-pub record Refuses (j : JudgedOf) (n : ℕ) (c : Code) : Type 0 where
+pub record Refuses (j : JudgedOf) (n : ℕ) (c : RuleCode) : Type 0 where
   pub inside : n < slots j.program.insns
   pub code : lowest_code (faults j n) ≡ Some c
   pub before : (m : ℕ) → m < n → faults j m ≡ []

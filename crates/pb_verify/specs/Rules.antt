@@ -23,8 +23,8 @@ use Rattle.pb_kinds.specs.declared.frame.Kind.TheVariants.{Unset, Number, Stack,
 use Rattle.pb_kinds.specs.declared.frame.Frame.{Frame}
 use Rattle.pb_kinds.specs.Frames.{kind_of, is_pointer}
 use Rattle.pb_kinds.specs.Ranges.{in_record}
-use Rattle.pb_helpers.specs.declared.code.Code.{Code}
-use Rattle.pb_helpers.specs.declared.code.Code.TheVariants.{WritesR10, PointerArithmetic, PointerStored, OutsideRecord, WritesRecord, ThroughNumber, BackwardJump, JumpOutside, JumpIntoPair, FallsOff, ExitsWithPointer, PointerCompared}
+use Rattle.pb_helpers.specs.declared.code.RuleCode.{RuleCode}
+use Rattle.pb_helpers.specs.declared.code.RuleCode.TheVariants.{WritesR10, PointerArithmetic, PointerStored, OutsideRecord, WritesRecord, ThroughNumber, BackwardJump, JumpOutside, JumpIntoPair, FallsOff, ExitsWithPointer, PointerCompared}
 use Rattle.pb_helpers.specs.Codes.{when, CodesRiseWithin}
 use Rattle.pb_helpers.specs.Arguments.{unset, stack_reads, stack_writes, call_rules}
 
@@ -35,15 +35,15 @@ abbrev pub at : Frame → Reg → Kind
 at f r = kind_of f (number r)
 
 -- 21: a register that may be unset is read
-abbrev pub reads : Frame → Reg → List Code
+abbrev pub reads : Frame → Reg → List RuleCode
 reads f r = unset f (number r)
 
 -- 22: R10, the end of the stack, is never a destination
-abbrev pub sets : Reg → List Code
+abbrev pub sets : Reg → List RuleCode
 sets dst = when (nat_eq (number dst) 10) WritesR10
 
 -- the source operand: an immediate isn't read, and is no pointer
-abbrev pub reads_operand : Frame → Operand → List Code
+abbrev pub reads_operand : Frame → Operand → List RuleCode
 reads_operand f (operands.Imm imm) = []
 reads_operand f (operands.Reg src) = reads f src
 
@@ -61,32 +61,32 @@ abbrev pub bytes_of : Size → ℕ
 bytes_of z = byte_len (width z)
 
 -- 36: the instruction leads to slot m, which is the end of the program
-abbrev pub falls : List Insn → ℕ → List Code
+abbrev pub falls : List Insn → ℕ → List RuleCode
 falls p m = when (nat_eq m (slots p)) FallsOff
 
 -- ---- arithmetic
 
 -- reads destination and source, neither of which may be a pointer
-abbrev pub numeric_rules : Frame → Reg → Operand → List Code
+abbrev pub numeric_rules : Frame → Reg → Operand → List RuleCode
 numeric_rules f dst src = reads f dst ++ reads_operand f src ++ sets dst ++ when (on_pointer f dst src) PointerArithmetic
 
 -- a move of some of the source's bits, which doesn't read the destination: the source may not be a pointer
-abbrev pub part_mov_rules : Frame → Reg → Reg → List Code
+abbrev pub part_mov_rules : Frame → Reg → Reg → List RuleCode
 part_mov_rules f dst src = reads f src ++ sets dst ++ when (is_pointer (at f src)) PointerArithmetic
 
 -- mov doesn't read the destination; on 32 bits it moves no pointer
-abbrev pub mov_rules : Frame → Width → Reg → Operand → List Code
+abbrev pub mov_rules : Frame → Width → Reg → Operand → List RuleCode
 mov_rules f w dst (operands.Imm imm) = sets dst
 mov_rules f Bits64 dst (operands.Reg src) = reads f src ++ sets dst
 mov_rules f Bits32 dst (operands.Reg src) = part_mov_rules f dst src
 
 -- add64 and sub64 of an immediate may move a pointer
-abbrev pub add_rules : Frame → Width → Reg → Operand → List Code
+abbrev pub add_rules : Frame → Width → Reg → Operand → List RuleCode
 add_rules f Bits64 dst (operands.Imm imm) = reads f dst ++ sets dst
 add_rules f w dst src = numeric_rules f dst src
 
 -- by the operation: moves, sums that may move a pointer, and all others on numbers alone
-abbrev pub alu_rules : Frame → AluOp → Width → Reg → Operand → List Code
+abbrev pub alu_rules : Frame → AluOp → Width → Reg → Operand → List RuleCode
 alu_rules f Mov w dst src = mov_rules f w dst src
 alu_rules f Add w dst src = add_rules f w dst src
 alu_rules f Sub w dst src = add_rules f w dst src
@@ -95,51 +95,51 @@ alu_rules f op w dst src = numeric_rules f dst src
 -- ---- memory
 
 -- n bytes are loaded at this distance from a pointer. Nothing is said of an unset base, which is told as 21
-abbrev pub loads : ℕ → Frame → Kind → ℤ → ℕ → List Code
+abbrev pub loads : ℕ → Frame → Kind → ℤ → ℕ → List RuleCode
 loads size f Unset offset n = []
 loads size f Number offset n = ThroughNumber ∷ []
 loads size f (Stack k) offset n = stack_reads f (k +ℤ offset) n
 loads size f (Record k) offset n = when (not (in_record size (k +ℤ offset) n)) OutsideRecord
 
 -- n bytes are stored there: the record is read-only, so that a store to it is told as 28 wherever it goes
-abbrev pub stores : Kind → ℤ → ℕ → List Code
+abbrev pub stores : Kind → ℤ → ℕ → List RuleCode
 stores Unset offset n = []
 stores Number offset n = ThroughNumber ∷ []
 stores (Stack k) offset n = stack_writes (k +ℤ offset) n
 stores (Record k) offset n = WritesRecord ∷ []
 
 -- the base is read, the destination is set, and the bytes lie in stack or record, where those of the stack are written
-abbrev pub load_rules : ℕ → Frame → Size → Reg → Reg → ℤ → List Code
+abbrev pub load_rules : ℕ → Frame → Size → Reg → Reg → ℤ → List RuleCode
 load_rules size f z dst src offset = reads f src ++ sets dst ++ loads size f (at f src) offset (bytes_of z)
 
 -- the base is read, and the bytes lie in the stack
-abbrev pub store_imm_rules : Frame → Size → Reg → ℤ → List Code
+abbrev pub store_imm_rules : Frame → Size → Reg → ℤ → List RuleCode
 store_imm_rules f z dst offset = reads f dst ++ stores (at f dst) offset (bytes_of z)
 
 -- a pointer may not be stored
-abbrev pub store_rules : Frame → Size → Reg → Reg → ℤ → List Code
+abbrev pub store_rules : Frame → Size → Reg → Reg → ℤ → List RuleCode
 store_rules f z dst src offset = reads f dst ++ reads f src ++ when (is_pointer (at f src)) PointerStored ++ stores (at f dst) offset (bytes_of z)
 
 -- ---- jumps
 
 -- from slot n with this offset, which counts from the next slot. One code at most: a jump back has no target to test
-abbrev pub jump_rules : List Insn → ℕ → ℤ → List Code
+abbrev pub jump_rules : List Insn → ℕ → ℤ → List RuleCode
 jump_rules p n (negsuc z) = BackwardJump ∷ []
 jump_rules p n (pos z) = if nat_le (slots p) (n + 1 + z) then JumpOutside ∷ [] else when (is_none (insn_at p (n + 1 + z))) JumpIntoPair
 
 -- a comparison reads both sides, neither of which may be a pointer
-abbrev pub jump_if_rules : List Insn → ℕ → Frame → Reg → Operand → ℤ → List Code
+abbrev pub jump_if_rules : List Insn → ℕ → Frame → Reg → Operand → ℤ → List RuleCode
 jump_if_rules p n f dst src offset = reads f dst ++ reads_operand f src ++ jump_rules p n offset ++ falls p (n + 1) ++ when (on_pointer f dst src) PointerCompared
 
 -- the result is a number: 21 where it may be unset, and 37 where it is a pointer
-abbrev pub exit_rules : Frame → List Code
+abbrev pub exit_rules : Frame → List RuleCode
 exit_rules f = unset f 0 ++ when (is_pointer (kind_of f 0)) ExitsWithPointer
 
 -- ---- the rules
 
 -- the codes of the rules that the instruction at slot n breaks, lowest first. But for ja and exit an instruction leads to
 -- the slot after it, which has to be there
-abbrev pub insn_rules : JudgedOf → ℕ → Frame → Insn → List Code
+abbrev pub insn_rules : JudgedOf → ℕ → Frame → Insn → List RuleCode
 insn_rules j n f (Alu op w dst src) = alu_rules f op w dst src ++ falls j.program.insns (n + 1)
 insn_rules j n f (MovSx w z dst src) = part_mov_rules f dst src ++ falls j.program.insns (n + 1)
 insn_rules j n f (Neg w dst) = numeric_rules f dst (operands.Imm (pos 0)) ++ falls j.program.insns (n + 1)

@@ -3,7 +3,7 @@
 use Rattle.std.specs.Prelude.{◌≡◌, ◌⊎◌, ℕ}
 use Rattle.pb_isa.specs.Programs.{ProgramOf, JudgedOf}
 use Rattle.pb_isa.specs.Helpers.{HelperSet}
-use Rattle.pb_helpers.specs.declared.code.Code.{Code}
+use Rattle.pb_helpers.specs.declared.code.RuleCode.{RuleCode}
 use Rattle.pb_helpers.specs.Codes.{code_number}
 use Rattle.pb_verify.specs.declared.verifier.VerifyFault.{VerifyFault}
 use Rattle.pb_verify.specs.declared.verifier.VerifyFault.TheVariants.{NoMemory, Refused}
@@ -19,13 +19,13 @@ pub record IsAccepted (v : Version) (p : ProgramOf) (h : HelperSet) (a : JudgedO
 -- memory was refused, or this is the first slot at fault with its lowest code
 abbrev pub IsVerifyFault : JudgedOf → VerifyFault → Type 0
 IsVerifyFault j NoMemory = Unit {0}
-IsVerifyFault j (Refused r) = (c : Code) × (r.code ≡ code_number c) × Refuses j r.slot c
+IsVerifyFault j (Refused r) = (c : RuleCode) × (r.code ≡ code_number c) × Refuses j r.slot c
 
 -- the rules accept a program, or refuse it at one slot with one code, and not both
 pub record HasOneVerdict (j : JudgedOf) : Type 0 where
-  pub either : Accepts j ⊎ ((n : ℕ) × (c : Code) × Refuses j n c)
-  pub not_both : (n : ℕ) (c : Code) → Accepts j → ¬ (Refuses j n c)
-  pub one : (n m : ℕ) (c d : Code) → Refuses j n c → Refuses j m d → (n ≡ m) × (c ≡ d)
+  pub either : Accepts j ⊎ ((n : ℕ) × (c : RuleCode) × Refuses j n c)
+  pub not_both : (n : ℕ) (c : RuleCode) → Accepts j → ¬ (Refuses j n c)
+  pub one : (n m : ℕ) (c d : RuleCode) → Refuses j n c → Refuses j m d → (n ≡ m) × (c ≡ d)
 
 -- it holds of every program, with any helpers, for a record of any size
 abbrev pub EachHasOneVerdict : Type 0

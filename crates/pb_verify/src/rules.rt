@@ -10,7 +10,7 @@ ghost use Rattle.pb_verify.specs.Rules.{at, reads, sets, reads_operand, points, 
 ghost use Rattle.pb_verify.specs.Within.{IsNear, IsWithin};
 
 use pb_helpers::{
-    Code, HelperTable, Version, argument_code, argument_codes_rise, stack_read_code,
+    HelperTable, RuleCode, Version, argument_code, argument_codes_rise, stack_read_code,
     stack_write_code, unset_code,
 };
 use pb_isa::{AluOp, Insn, MAX_RECORD_BYTES, Operand, Program, RECORD_BYTES, Reg, Size, Width};
@@ -36,20 +36,20 @@ pub fn bytes_of(size: Size) -> u8
 }
 
 // 21. Reading is asked first of every rule, since 21 is the lowest code.
-fn reads(frame: &Frame, reg: Reg) -> Option<Code>
+fn reads(frame: &Frame, reg: Reg) -> Option<RuleCode>
     ensures { result ≡ lowest_code (reads frame.now reg) }
 {
     unset_code(frame, reg.number())
 }
 
 // 22. R10 stays the end of the stack, so that its kind is known at every slot.
-fn sets(dst: Reg) -> Option<Code>
+fn sets(dst: Reg) -> Option<RuleCode>
     ensures { result ≡ lowest_code (sets dst) }
 {
-    Code::WritesR10.when(dst.number() == 10)
+    RuleCode::WritesR10.when(dst.number() == 10)
 }
 
-fn reads_operand(frame: &Frame, src: Operand) -> Option<Code>
+fn reads_operand(frame: &Frame, src: Operand) -> Option<RuleCode>
     ensures { result ≡ lowest_code (reads_operand frame.now src) }
 {
     match src {
@@ -75,36 +75,36 @@ fn on_pointer(frame: &Frame, dst: Reg, src: Operand) -> bool
 
 // 36, of the slot that an instruction goes on to. Equality is enough, since no instruction takes a slot behind the
 // last.
-fn falls(program: &Program, slot: usize) -> Option<Code>
+fn falls(program: &Program, slot: usize) -> Option<RuleCode>
     ensures { result ≡ lowest_code (falls program.now.insns slot) }
 {
-    Code::FallsOff.when(slot == program.slots())
+    RuleCode::FallsOff.when(slot == program.slots())
 }
 
 // An operation on numbers alone: a pointer isn't calculated with, since what comes of it depends on where memory lies.
 #[tactic(auto, using(crate::proofs::LowestCode::lowest_append))]
-fn numeric(frame: &Frame, dst: Reg, src: Operand) -> Option<Code>
+fn numeric(frame: &Frame, dst: Reg, src: Operand) -> Option<RuleCode>
     ensures { result ≡ lowest_code (numeric_rules frame.now dst src) }
 {
     reads(frame, dst)
         .or(reads_operand(frame, src))
         .or(sets(dst))
-        .or(Code::PointerArithmetic.when(on_pointer(frame, dst, src)))
+        .or(RuleCode::PointerArithmetic.when(on_pointer(frame, dst, src)))
 }
 
 // A move of some of the source's bits, which takes no pointer, since a part of one points nowhere.
 #[tactic(auto, using(crate::proofs::LowestCode::lowest_append))]
-fn part_mov(frame: &Frame, dst: Reg, src: Reg) -> Option<Code>
+fn part_mov(frame: &Frame, dst: Reg, src: Reg) -> Option<RuleCode>
     ensures { result ≡ lowest_code (part_mov_rules frame.now dst src) }
 {
     let is_pointer = kind(frame, src).is_pointer();
     reads(frame, src)
         .or(sets(dst))
-        .or(Code::PointerArithmetic.when(is_pointer))
+        .or(RuleCode::PointerArithmetic.when(is_pointer))
 }
 
 #[tactic(auto, using(crate::proofs::LowestCode::lowest_append))]
-fn mov(frame: &Frame, width: Width, dst: Reg, src: Operand) -> Option<Code>
+fn mov(frame: &Frame, width: Width, dst: Reg, src: Operand) -> Option<RuleCode>
     ensures { result ≡ lowest_code (mov_rules frame.now width dst src) }
 {
     match src {
@@ -118,7 +118,7 @@ fn mov(frame: &Frame, width: Width, dst: Reg, src: Operand) -> Option<Code>
 
 // A sum or a difference. With an immediate, on 64 bits, it may move a pointer, since it is known how far.
 #[tactic(auto, using(crate::proofs::LowestCode::lowest_append))]
-fn add(frame: &Frame, width: Width, dst: Reg, src: Operand) -> Option<Code>
+fn add(frame: &Frame, width: Width, dst: Reg, src: Operand) -> Option<RuleCode>
     ensures { result ≡ lowest_code (add_rules frame.now width dst src) }
 {
     match width {
@@ -130,7 +130,7 @@ fn add(frame: &Frame, width: Width, dst: Reg, src: Operand) -> Option<Code>
     }
 }
 
-fn alu(frame: &Frame, op: AluOp, width: Width, dst: Reg, src: Operand) -> Option<Code>
+fn alu(frame: &Frame, op: AluOp, width: Width, dst: Reg, src: Operand) -> Option<RuleCode>
     ensures { result ≡ lowest_code (alu_rules frame.now op width dst src) }
 {
     match op {
@@ -160,15 +160,15 @@ fn in_record(version: Version, at: i64, bytes: u8) -> bool
 }
 
 // The bytes of a load. An unset base breaks nothing here, since it is told as 21.
-fn loads(version: Version, frame: &Frame, base: Kind, offset: i16, bytes: u8) -> Option<Code>
+fn loads(version: Version, frame: &Frame, base: Kind, offset: i16, bytes: u8) -> Option<RuleCode>
     requires { IsNear (2 ^ 62) base }
     ensures { result ≡ lowest_code (loads (size_of version) frame.now base offset bytes) }
 {
     match base {
         Kind::Unset => None,
-        Kind::Number => Some(Code::ThroughNumber),
+        Kind::Number => Some(RuleCode::ThroughNumber),
         Kind::Stack(at) => stack_read_code(frame, at + i64::from(offset), bytes),
-        Kind::Record(at) => Code::OutsideRecord.when(!in_record(
+        Kind::Record(at) => RuleCode::OutsideRecord.when(!in_record(
             version,
             at + i64::from(offset),
             bytes,
@@ -177,15 +177,15 @@ fn loads(version: Version, frame: &Frame, base: Kind, offset: i16, bytes: u8) ->
 }
 
 // The bytes of a store: one to the record is told as 28, wherever it goes, since the record is read-only.
-fn stores(base: Kind, offset: i16, bytes: u8) -> Option<Code>
+fn stores(base: Kind, offset: i16, bytes: u8) -> Option<RuleCode>
     requires { IsNear (2 ^ 62) base }
     ensures { result ≡ lowest_code (stores base offset bytes) }
 {
     match base {
         Kind::Unset => None,
-        Kind::Number => Some(Code::ThroughNumber),
+        Kind::Number => Some(RuleCode::ThroughNumber),
         Kind::Stack(at) => stack_write_code(at + i64::from(offset), bytes),
-        Kind::Record(_) => Some(Code::WritesRecord),
+        Kind::Record(_) => Some(RuleCode::WritesRecord),
     }
 }
 
@@ -197,7 +197,7 @@ fn load(
     dst: Reg,
     src: Reg,
     offset: i16,
-) -> Option<Code>
+) -> Option<RuleCode>
     requires { IsWithin (2 ^ 62) frame.now }
     ensures { result ≡ lowest_code (load_rules (size_of version) frame.now size dst src offset) }
 {
@@ -206,7 +206,7 @@ fn load(
 }
 
 #[tactic(auto, using(crate::proofs::LowestCode::lowest_append))]
-fn store_imm(frame: &Frame, size: Size, dst: Reg, offset: i16) -> Option<Code>
+fn store_imm(frame: &Frame, size: Size, dst: Reg, offset: i16) -> Option<RuleCode>
     requires { IsWithin (2 ^ 62) frame.now }
     ensures { result ≡ lowest_code (store_imm_rules frame.now size dst offset) }
 {
@@ -216,31 +216,31 @@ fn store_imm(frame: &Frame, size: Size, dst: Reg, offset: i16) -> Option<Code>
 
 // A pointer isn't stored (24), so that every load makes a number and no frame needs kinds for stack bytes.
 #[tactic(auto, using(crate::proofs::LowestCode::lowest_append))]
-fn store(frame: &Frame, size: Size, dst: Reg, src: Reg, offset: i16) -> Option<Code>
+fn store(frame: &Frame, size: Size, dst: Reg, src: Reg, offset: i16) -> Option<RuleCode>
     requires { IsWithin (2 ^ 62) frame.now }
     ensures { result ≡ lowest_code (store_rules frame.now size dst src offset) }
 {
     let access = stores(kind(frame, dst), offset, bytes_of(size));
     reads(frame, dst)
         .or(reads(frame, src))
-        .or(Code::PointerStored.when(kind(frame, src).is_pointer()))
+        .or(RuleCode::PointerStored.when(kind(frame, src).is_pointer()))
         .or(access)
 }
 
 // One code at most: a jump back is told as 32 alone, since it has no target among the later slots.
-fn jumps(program: &Program, slot: usize, offset: i16) -> Option<Code>
+fn jumps(program: &Program, slot: usize, offset: i16) -> Option<RuleCode>
     requires { slot < slots program.now.insns }
     ensures { result ≡ lowest_code (jump_rules program.now.insns slot offset) }
 {
     let slots = program.slots();
     if offset < 0 {
-        return Some(Code::BackwardJump);
+        return Some(RuleCode::BackwardJump);
     }
     let target = slot + 1 + offset as usize;
     if slots <= target {
-        return Some(Code::JumpOutside);
+        return Some(RuleCode::JumpOutside);
     }
-    Code::JumpIntoPair.when(program.at(target).is_none())
+    RuleCode::JumpIntoPair.when(program.at(target).is_none())
 }
 
 #[tactic(auto, using(crate::proofs::LowestCode::lowest_append))]
@@ -251,7 +251,7 @@ fn jump_if(
     dst: Reg,
     src: Operand,
     offset: i16,
-) -> Option<Code>
+) -> Option<RuleCode>
     requires { slot < slots program.now.insns }
     ensures { result ≡ lowest_code (jump_if_rules program.now.insns slot frame.now dst src offset) }
 {
@@ -261,14 +261,14 @@ fn jump_if(
         .or(reads_operand(frame, src))
         .or(jumps(program, slot, offset))
         .or(falls(program, slot + 1))
-        .or(Code::PointerCompared.when(on_pointer(frame, dst, src)))
+        .or(RuleCode::PointerCompared.when(on_pointer(frame, dst, src)))
 }
 
 #[tactic(auto, using(crate::proofs::LowestCode::lowest_append))]
-fn exit(frame: &Frame) -> Option<Code>
+fn exit(frame: &Frame) -> Option<RuleCode>
     ensures { result ≡ lowest_code (exit_rules frame.now) }
 {
-    unset_code(frame, 0).or(Code::ExitsWithPointer.when(frame.kinds[0].is_pointer()))
+    unset_code(frame, 0).or(RuleCode::ExitsWithPointer.when(frame.kinds[0].is_pointer()))
 }
 
 /// The lowest code of the rules that the instruction at a slot breaks.
@@ -280,7 +280,7 @@ pub fn lowest_broken(
     slot: usize,
     frame: &Frame,
     insn: Insn,
-) -> Option<Code>
+) -> Option<RuleCode>
     requires inside { slot < slots program.now.insns }
     requires near { IsWithin (2 ^ 62) frame.now }
     ensures { result ≡ lowest_code (insn_rules (judged_by version program.now helpers) slot frame.now insn) }

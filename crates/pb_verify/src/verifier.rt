@@ -35,7 +35,7 @@ use crate::op::Op;
 use crate::resolving::{resolve, resolve_next};
 use crate::rules::lowest_broken;
 use pb_base::Refused;
-use pb_helpers::{Code, HelperTable, Version};
+use pb_helpers::{HelperTable, RuleCode, Version};
 use pb_isa::{Insn, Program};
 use pb_kinds::{Frame, entry};
 use std::alloc::Global;
@@ -60,7 +60,7 @@ fn code_at(
     insn: Insn,
     frame: &Frame,
     is_reached: bool,
-) -> Option<Code>
+) -> Option<RuleCode>
     requires inside { slot < slots program.now.insns }
     requires near { IsWithinIf (2 ^ 62) (if is_reached then Some frame.now else None) }
     ensures value { result ≡ lowest_code (codes_at (judged_by version program.now helpers) slot (Some insn)
@@ -70,7 +70,7 @@ fn code_at(
     if is_reached {
         lowest_broken(program, helpers, version, slot, frame, insn)
     } else {
-        Some(Code::Unreachable)
+        Some(RuleCode::Unreachable)
     }
 }
 

@@ -21,7 +21,7 @@ mod vm;
 mod writes;
 
 pub use finished::Finished;
-pub use moved::{Moved, Phase};
+pub use moved::{MachinePhase, Moved};
 pub use pb_helpers::{Ask, Record, Reply};
 pub use pb_verify::Accepted;
 pub use vm::Vm;

@@ -15,7 +15,7 @@ use Rattle.pb_steps.specs.Answers.{CanAnswer}
 use Rattle.pb_history.specs.declared.entry.Received.{Received}
 use Rattle.pb_history.specs.History.{Has}
 use Rattle.pb_txn.specs.declared.place.Outcome.{Outcome}
-use Rattle.pb_txn.specs.declared.place.Place.{Place}
+use Rattle.pb_txn.specs.declared.place.PlanPlace.{PlanPlace}
 use Rattle.pb_txn.specs.Plans.{fresh}
 use Rattle.pb_txn.specs.Talks.{told}
 use Rattle.pb_txn.specs.Forms.{IsWhole, AreCleared, committed, conflicted_first, conflicted_later, lost, prewrites, secondaries}
@@ -172,7 +172,7 @@ module _ (s : Ts) (what : Declared) (x : Cell) (others : List Cell) where
             not_both (has_clear (said ++ (cs ++ rest))) some none
       ]
 
-  at_place : (p : Place) (said : List Received) → SoFar s what x others p said → has_commit said ≡ true → Commits s what said
+  at_place : (p : PlanPlace) (said : List Received) → SoFar s what x others p said → has_commit said ≡ true → Commits s what said
   at_place p said declaring e = cc
   at_place p said (prewriting before y after at) e = absurd (not_both _ e (no_prewrite s before))
   at_place p said stamping e = absurd (not_both _ e (no_prewrite s (x ∷ others)))

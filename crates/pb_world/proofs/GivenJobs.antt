@@ -20,8 +20,8 @@ use Rattle.pb_txn.specs.Changes.{new_change}
 use Rattle.pb_txn.specs.Changes as changes
 use Rattle.pb_notify.specs.declared.machine.stepped.Stepped.{Stepped}
 use Rattle.pb_notify.specs.declared.machine.stepped.Stepped.TheVariants as did
-use Rattle.pb_notify.specs.declared.place.Place.{Place}
-use Rattle.pb_notify.specs.declared.place.Place.TheVariants.{Starting, Computing}
+use Rattle.pb_notify.specs.declared.place.RunPlace.{RunPlace}
+use Rattle.pb_notify.specs.declared.place.RunPlace.TheVariants.{Starting, Computing}
 use Rattle.pb_notify.specs.Places.{place_of, Comes, ComesFrom}
 use Rattle.pb_notify.specs.Runs.{RunOf, fresh, need_at}
 use Rattle.pb_parse.specs.declared.event.Event.{Event}
@@ -106,10 +106,10 @@ stepped_goes s (did.Went w) = refl
 stepped_goes s (did.Asks w q) = refl
 stepped_goes s (did.Ended r what) = refl
 
-comes_on : (o : ℕ) (s : Ts) (v : Position) (place : Place) → Comes o s v place → is_over_need (need_at place) ≡ false
+comes_on : (o : ℕ) (s : Ts) (v : Position) (place : RunPlace) → Comes o s v place → is_over_need (need_at place) ≡ false
 comes_on o s v place c = subst (λ p. is_over_need (need_at p) ≡ false) (sym c.place_is) (stepped_goes s c.stepped)
 
-from_on : (o : ℕ) (judged : JudgedOf) (x : Cell) (place next : Place) → ComesFrom o judged x place next → is_over_need (need_at next) ≡ false
+from_on : (o : ℕ) (judged : JudgedOf) (x : Cell) (place next : RunPlace) → ComesFrom o judged x place next → is_over_need (need_at next) ≡ false
 from_on o judged x (Starting s seen) next c = comes_on o s _ next c.comes
 from_on o judged x (Computing s v) next c = comes_on o s v next c
 from_on o judged x _ next c = absurd c

@@ -4,21 +4,21 @@ ghost use Rattle.pb_command.specs.Programs.{IsMemoryFault, AnswerLeaves};
 ghost use Rattle.percobpf_story.specs.Frames.{KnowsFrames};
 
 use pb_base::Sink;
-use pb_command::{Answer, Fault, Paths, Verdict, bytes_at, refusal_of, write_answer};
+use pb_command::{Fault, Paths, Verdict, VerdictText, bytes_at, refusal_of, write_answer};
 use pb_decode::{DecodeFault, decode_in};
 use pb_isa::Profile;
 use pb_story::frames_text;
 use std::alloc::Global;
 
 // What is known before each slot of the program of these bytes, read in this profile, or where they are refused.
-fn frames_of<'a>(alloc: Global, profile: Profile, bytes: &[u8]) -> Result<Answer, Fault<'a>>
+fn frames_of<'a>(alloc: Global, profile: Profile, bytes: &[u8]) -> Result<VerdictText, Fault<'a>>
     ensures told { IfOk result (λ a. KnowsFrames profile bytes.now a.verdict (string_bytes a.text)) }
     ensures fault { IfErr result IsMemoryFault }
 {
     match decode_in(alloc, profile, bytes) {
         Ok(program) => {
             let text = frames_text(alloc, &program)?;
-            Ok(Answer {
+            Ok(VerdictText {
                 verdict: Verdict::Accepted,
                 text,
             })

@@ -12,7 +12,7 @@ use pb_helpers::{HelperTable, Record, Reply, Version};
 use pb_isa::Profile;
 use pb_registry::accept_in;
 use pb_verify::{Accepted, verify};
-use pb_vm::{Finished, Phase, Vm};
+use pb_vm::{Finished, MachinePhase, Vm};
 use std::alloc::Global;
 use std::process::Abort;
 use std::sync::Arc;
@@ -80,16 +80,16 @@ fn run_on(rt: &impl Abort, vm: Vm, reply: Reply) -> (Finished, u16) {
     let mut vm = vm;
     for _ in 0..5_000u32 {
         match vm.phase() {
-            Phase::Going => {
+            MachinePhase::Going => {
                 vm.step();
             }
-            Phase::Asking(_) => vm.reply(reply),
-            Phase::Over(_) => {}
+            MachinePhase::Asking(_) => vm.reply(reply),
+            MachinePhase::Over(_) => {}
         }
     }
     let taken = vm.taken();
     match vm.phase() {
-        Phase::Over(_) => (vm.finish(), taken),
+        MachinePhase::Over(_) => (vm.finish(), taken),
         _ => panic!(rt; "not ended"),
     }
 }

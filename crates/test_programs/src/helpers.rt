@@ -1,29 +1,29 @@
-use pb_helpers::{Code, HelperTable, argument_code};
+use pb_helpers::{HelperTable, RuleCode, argument_code};
 use pb_kinds::{Frame, Kind, entry, in_stack};
 use std::process::Abort;
 use std::rt::HostRuntime;
 use std::test::*;
 
 // The codes of the rules, by their numbers.
-const RULES: [(Code, u8); 18] = [
-    (Code::ReadsUnset, 21),
-    (Code::WritesR10, 22),
-    (Code::PointerArithmetic, 23),
-    (Code::PointerStored, 24),
-    (Code::OutsideStack, 25),
-    (Code::UnwrittenByte, 26),
-    (Code::OutsideRecord, 27),
-    (Code::WritesRecord, 28),
-    (Code::ThroughNumber, 29),
-    (Code::NotDeclared, 30),
-    (Code::WrongArgument, 31),
-    (Code::BackwardJump, 32),
-    (Code::JumpOutside, 33),
-    (Code::JumpIntoPair, 34),
-    (Code::Unreachable, 35),
-    (Code::FallsOff, 36),
-    (Code::ExitsWithPointer, 37),
-    (Code::PointerCompared, 38),
+const RULES: [(RuleCode, u8); 18] = [
+    (RuleCode::ReadsUnset, 21),
+    (RuleCode::WritesR10, 22),
+    (RuleCode::PointerArithmetic, 23),
+    (RuleCode::PointerStored, 24),
+    (RuleCode::OutsideStack, 25),
+    (RuleCode::UnwrittenByte, 26),
+    (RuleCode::OutsideRecord, 27),
+    (RuleCode::WritesRecord, 28),
+    (RuleCode::ThroughNumber, 29),
+    (RuleCode::NotDeclared, 30),
+    (RuleCode::WrongArgument, 31),
+    (RuleCode::BackwardJump, 32),
+    (RuleCode::JumpOutside, 33),
+    (RuleCode::JumpIntoPair, 34),
+    (RuleCode::Unreachable, 35),
+    (RuleCode::FallsOff, 36),
+    (RuleCode::ExitsWithPointer, 37),
+    (RuleCode::PointerCompared, 38),
 ];
 
 #[test]
@@ -116,6 +116,6 @@ fn undeclared_helpers_have_no_argument_rules(rt: HostRuntime) {
     let frame = entry();
     for helper in 1..5 {
         let code = argument_code(HelperTable::none(), helper, &frame);
-        assert!(rt; code == Some(Code::NotDeclared), "{helper}");
+        assert!(rt; code == Some(RuleCode::NotDeclared), "{helper}");
     }
 }

@@ -4,7 +4,7 @@ use pb_base::{Cell, Column, Content, NoMemory, Revision, Row, Ts};
 use pb_helpers::{HelperTable, Record, Reply};
 use pb_registry::accept;
 use pb_verify::Accepted;
-use pb_vm::{Finished, Phase, Vm};
+use pb_vm::{Finished, MachinePhase, Vm};
 use std::alloc::Global;
 use std::fs;
 use std::io::Read;
@@ -52,16 +52,16 @@ pub fn finished(vm: Vm) -> Option<(Finished, u16)> {
     let mut vm = vm;
     for _ in 0..1_024u32 {
         match vm.phase() {
-            Phase::Going => {
+            MachinePhase::Going => {
                 vm.step();
             }
-            Phase::Asking(_) => vm.reply(Reply::Absent),
-            Phase::Over(_) => {}
+            MachinePhase::Asking(_) => vm.reply(Reply::Absent),
+            MachinePhase::Over(_) => {}
         }
     }
     let taken = vm.taken();
     match vm.phase() {
-        Phase::Over(_) => Some((vm.finish(), taken)),
+        MachinePhase::Over(_) => Some((vm.finish(), taken)),
         _ => None,
     }
 }
@@ -101,7 +101,7 @@ pub fn file_starts(
     refusals: &mut Refusals,
 ) -> Result<bool, NoMemory> {
     match started_in(rt, path, refusals)? {
-        Some(vm) => Ok(vm.phase() == Phase::Going && vm.taken() == 0),
+        Some(vm) => Ok(vm.phase() == MachinePhase::Going && vm.taken() == 0),
         None => Ok(false),
     }
 }

@@ -5,7 +5,7 @@ use pb_base::{Content, NoMemory, Revision, Row, Ts};
 use pb_helpers::{Record, Reply};
 use pb_steps::{Answer, Declaration, Declared, EndedRun, Step, Work};
 use pb_verify::Observer;
-use pb_vm::{Finished, Phase, Vm};
+use pb_vm::{Finished, MachinePhase, Vm};
 use std::alloc::Global;
 use std::process::Abort;
 use std::rt::HostRuntime;
@@ -26,15 +26,15 @@ fn finished_by(rt: &impl Abort, vm: Vm, reply: Reply) -> Finished {
     let mut vm = vm;
     for _ in 0..64u32 {
         match vm.phase() {
-            Phase::Going => {
+            MachinePhase::Going => {
                 vm.step();
             }
-            Phase::Asking(_) => vm.reply(reply),
-            Phase::Over(_) => {}
+            MachinePhase::Asking(_) => vm.reply(reply),
+            MachinePhase::Over(_) => {}
         }
     }
     match vm.phase() {
-        Phase::Over(_) => vm.finish(),
+        MachinePhase::Over(_) => vm.finish(),
         _ => panic!(rt; "not ended"),
     }
 }

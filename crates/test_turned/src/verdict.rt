@@ -4,7 +4,7 @@ use pb_helpers::{HelperTable, Record, Reply, Version};
 use pb_isa::Profile;
 use pb_registry::accept_in;
 use pb_verify::{Accepted, VerifyFault};
-use pb_vm::{Phase, Vm};
+use pb_vm::{MachinePhase, Vm};
 use std::alloc::Global;
 use std::sync::Arc;
 use thiserror::Error;
@@ -69,10 +69,10 @@ fn start(alloc: Global, program: &Arc<Accepted>) -> Result<Vm, Fault> {
 
 // Does one instruction, with this reply where it asks for a cell.
 fn do_one(vm: &mut Vm, reply: Reply) {
-    if let Phase::Going = vm.phase() {
+    if let MachinePhase::Going = vm.phase() {
         vm.step();
     }
-    if let Phase::Asking(_) = vm.phase() {
+    if let MachinePhase::Asking(_) = vm.phase() {
         vm.reply(reply);
     }
 }
@@ -80,13 +80,13 @@ fn do_one(vm: &mut Vm, reply: Reply) {
 // After how many instructions a machine is at its end, of at most so many.
 fn end_of(vm: &mut Vm, most: usize, reply: Reply) -> Option<usize> {
     for done in 0..most {
-        if let Phase::Over(_) = vm.phase() {
+        if let MachinePhase::Over(_) = vm.phase() {
             return Some(done);
         }
         do_one(vm, reply);
     }
     match vm.phase() {
-        Phase::Over(_) => Some(most),
+        MachinePhase::Over(_) => Some(most),
         _ => None,
     }
 }

@@ -3,7 +3,7 @@ use pb_base::{Cell, Column, Content, NoMemory, Refused, Revision, Row, Ts};
 use pb_helpers::{HelperTable, Record, Reply};
 use pb_registry::accept;
 use pb_verify::{Accepted, VerifyFault};
-use pb_vm::{Finished, Phase, Vm};
+use pb_vm::{Finished, MachinePhase, Vm};
 use std::alloc::Global;
 use std::fs;
 use std::io::Read;
@@ -55,20 +55,20 @@ fn run(alloc: Global, program: &Arc<Accepted>, is_by_steps: bool) -> Option<Ran>
     let mut vm = Vm::start(alloc, program, record, Ts(3)).ok()?;
     for _ in 0..CALLS {
         match vm.phase() {
-            Phase::Going => {
+            MachinePhase::Going => {
                 if is_by_steps {
                     vm.step();
                 } else {
                     vm.follow();
                 }
             }
-            Phase::Asking(_) => vm.reply(Reply::Absent),
-            Phase::Over(_) => break,
+            MachinePhase::Asking(_) => vm.reply(Reply::Absent),
+            MachinePhase::Over(_) => break,
         }
     }
     let taken = vm.taken();
     match vm.phase() {
-        Phase::Over(_) => Some(Ran {
+        MachinePhase::Over(_) => Some(Ran {
             taken,
             finished: vm.finish(),
         }),

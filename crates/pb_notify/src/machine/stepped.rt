@@ -6,7 +6,7 @@ ghost use Rattle.pb_notify.specs.Steps.{Steps, MovesOn, FollowsOn, IsAtExit};
 ghost use Rattle.pb_vm.specs.MachineSlot.{IsAtSlot};
 ghost use Rattle.pb_vm.specs.Position.{Position};
 ghost use Rattle.pb_vm.specs.declared.moved.Moved.TheVariants.{Ended};
-ghost use Rattle.pb_vm.specs.declared.moved.Phase.TheVariants.{Going};
+ghost use Rattle.pb_vm.specs.declared.moved.MachinePhase.TheVariants.{Going};
 
 use crate::machine::{Machine, Standing};
 use pb_base::ObserverNo;

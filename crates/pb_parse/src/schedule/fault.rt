@@ -1,14 +1,14 @@
 //! Why a text is no schedule: a code inside, and at the public edge its number with the line.
 ghost use Rattle.std.specs.Prelude.{◌≡◌, ◌≢◌, ◌<◌, ◌+◌};
 ghost use Rattle.pb_parse.specs.ScheduleCodes.{schedule_code};
-ghost use Rattle.pb_parse.specs.declared.schedule.fault.Code.TheVariants.{Memory};
+ghost use Rattle.pb_parse.specs.declared.schedule.fault.ScheduleCode.TheVariants.{Memory};
 
 use std::alloc::AllocError;
 use thiserror::Error;
 
 /// What is wrong with a line.
 #[derive(Clone, Copy, Debug, PartialEq, Eq, Drop)]
-pub enum Code {
+pub enum ScheduleCode {
     /// No memory.
     Memory,
     /// Not of the form.
@@ -21,26 +21,26 @@ pub enum Code {
     NoObserver,
 }
 
-impl Code {
+impl ScheduleCode {
     /// The number by which a code is told.
     pub fn code(self) -> u8
         ensures { result ≡ schedule_code self }
     {
         match self {
-            Code::Memory => 1,
-            Code::Form => 90,
-            Code::Range => 91,
-            Code::TooMany => 92,
-            Code::NoObserver => 93,
+            ScheduleCode::Memory => 1,
+            ScheduleCode::Form => 90,
+            ScheduleCode::Range => 91,
+            ScheduleCode::TooMany => 92,
+            ScheduleCode::NoObserver => 93,
         }
     }
 }
 
-impl From<AllocError> for Code {
+impl From<AllocError> for ScheduleCode {
     ghost from_gives = { λ _ e. e ≡ Memory };
 
-    fn from(_e: AllocError) -> Code {
-        Code::Memory
+    fn from(_e: AllocError) -> ScheduleCode {
+        ScheduleCode::Memory
     }
 }
 
@@ -55,14 +55,14 @@ pub struct ScheduleFault {
 
 impl ScheduleFault {
     /// The fault of the line of this index, which counts from 0 where the told number counts from 1.
-    pub fn at(index: usize, code: Code) -> ScheduleFault
+    pub fn at(index: usize, code: ScheduleCode) -> ScheduleFault
         requires { index < usize.MAX }
         ensures memory { code ≡ Memory → result ≡ record { line = 0; code = 1 } }
         ensures other { code ≢ Memory → result ≡ record { line = index + 1; code = schedule_code code } }
     {
         // Want of memory is told at no line, since none is at fault.
         let line = match code {
-            Code::Memory => 0,
+            ScheduleCode::Memory => 0,
             _ => index + 1,
         };
         ScheduleFault {

@@ -5,8 +5,8 @@ ghost use Rattle.pb_base.specs.Reading.{words_of};
 ghost use Rattle.pb_verify.specs.Observers.{ObserverOf};
 ghost use Rattle.pb_parse.specs.declared.event.Event.{Event};
 ghost use Rattle.pb_parse.specs.declared.schedule.words.Order.{Order};
-ghost use Rattle.pb_parse.specs.declared.schedule.fault.Code.{Code};
-ghost use Rattle.pb_parse.specs.declared.schedule.fault.Code.TheVariants as code;
+ghost use Rattle.pb_parse.specs.declared.schedule.fault.ScheduleCode.{ScheduleCode};
+ghost use Rattle.pb_parse.specs.declared.schedule.fault.ScheduleCode.TheVariants as code;
 ghost use Rattle.pb_parse.specs.ScheduleWords.{order_of};
 ghost use Rattle.pb_parse.specs.Schedules.{with_event_line, schedule_of};
 ghost use Rattle.pb_parse.specs.EventLines.{IsLineOf, IsSchedule};
@@ -38,9 +38,9 @@ pub fn schedule_fault_is_first()
 /// those of a line, and there stands a number beyond its range, or a name that no observer has. Each line that stops so
 /// has that fault, whatever stands behind. Too many events are told exactly where a line is read, and goes past.
 pub fn schedule_faults_are_told_where_they_are()
-    ensures field { (observers : List ObserverOf) (line : List ℕ) (cause : Code)
+    ensures field { (observers : List ObserverOf) (line : List ℕ) (cause : ScheduleCode)
         → order_of observers line ≡ Err cause → (cause ≡ code.Form) ⊎ StopsAtField observers (words_of line) cause }
-    ensures told { (observers : List ObserverOf) (line : List ℕ) (cause : Code)
+    ensures told { (observers : List ObserverOf) (line : List ℕ) (cause : ScheduleCode)
         → StopsAtField observers (words_of line) cause → order_of observers line ≡ Err cause }
     ensures too_many { (observers : List ObserverOf) (before : List Event) (line : List ℕ)
         → (with_event_line observers before line ≡ Err code.TooMany) ↔ GoesPast observers before line }

@@ -7,21 +7,21 @@ ghost use Rattle.pb_parse.specs.Schedules.{with_order, with_event_line, schedule
 
 use crate::event::Event;
 use crate::reading::{first_line, is_skipped};
-use crate::schedule::fault::{Code, ScheduleFault};
+use crate::schedule::fault::{ScheduleCode, ScheduleFault};
 use crate::schedule::words::{Order, order_of};
 use pb_base::{MAX_EVENTS, MAX_OBSERVERS};
 use pb_verify::Observer;
 use std::alloc::Global;
 
 // Adds what an order asks for, by one growth however often it asks.
-fn append(events: &mut Vec<Event>, order: Order) -> Result<(), Code>
+fn append(events: &mut Vec<Event>, order: Order) -> Result<(), ScheduleCode>
     requires { vec_len events.old ≤ MAX_EVENTS }
     ensures read { Gives is_memory (λ _. events.new.items) result (with_order events.old.items order) }
     ensures most { vec_len events.new ≤ MAX_EVENTS }
 {
     // What is left is compared, since a sum with any `times` may go beyond its type.
     if order.times > MAX_EVENTS - events.len() {
-        return Err(Code::TooMany);
+        return Err(ScheduleCode::TooMany);
     }
     events.resize(events.len() + order.times, order.event)?;
     Ok(())
@@ -29,7 +29,7 @@ fn append(events: &mut Vec<Event>, order: Order) -> Result<(), Code>
 
 // Adds what one line asks for. That the events are too many comes last, since only a line that is read adds any.
 #[tactic(auto, unfolding(crate::specs::Schedules::with_event_line))]
-fn add_line(observers: &[Observer], events: &mut Vec<Event>, line: &str) -> Result<(), Code>
+fn add_line(observers: &[Observer], events: &mut Vec<Event>, line: &str) -> Result<(), ScheduleCode>
     requires few { length observers.now ≤ MAX_OBSERVERS }
     requires most { vec_len events.old ≤ MAX_EVENTS }
     ensures read { Gives is_memory (λ _. events.new.items) result

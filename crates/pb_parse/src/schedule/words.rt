@@ -3,7 +3,7 @@ ghost use Rattle.std.specs.Prelude.{◌≡◌, ◌≤◌, ◌-◌, ◌^◌, IfOk
 ghost use Rattle.pb_base.specs.declared.limits.TheConstants.{MAX_OBSERVERS};
 ghost use Rattle.pb_base.specs.Reading.{Gives, next_word, no_word};
 ghost use Rattle.pb_verify.specs.Observers.{observed_column};
-ghost use Rattle.pb_parse.specs.declared.schedule.fault.Code.TheVariants as code;
+ghost use Rattle.pb_parse.specs.declared.schedule.fault.ScheduleCode.TheVariants as code;
 ghost use Rattle.pb_parse.specs.declared.event.Event.TheVariants as event;
 ghost use Rattle.pb_parse.specs.Left.{words_left};
 ghost use Rattle.pb_parse.specs.ScheduleCodes.{is_memory};
@@ -11,7 +11,7 @@ ghost use Rattle.pb_parse.specs.ScheduleWords.{number_between, next_number, next
 
 use crate::event::{Event, Job};
 use crate::reading::{Numeral, first_word, number_of};
-use crate::schedule::fault::Code;
+use crate::schedule::fault::ScheduleCode;
 use pb_base::{
     COLUMNS, Cell, Column, MAX_CHANGES, MAX_EVENTS, MAX_OBSERVERS, MAX_SEATS, ObserverNo, Row,
 };
@@ -25,18 +25,18 @@ pub struct Order {
 }
 
 // A number in this range.
-fn number_between(least: u64, greatest: u64, word: &str) -> Result<u64, Code>
+fn number_between(least: u64, greatest: u64, word: &str) -> Result<u64, ScheduleCode>
     ensures value { Gives is_memory (λ n. n) result (number_between least greatest word.now) }
     ensures low { IfOk result (λ n. least ≤ n) }
     ensures high { IfOk result (λ n. n ≤ greatest) }
 {
     let number = match number_of(word) {
-        Numeral::Malformed => return Err(Code::Form),
-        Numeral::TooLarge => return Err(Code::Range),
+        Numeral::Malformed => return Err(ScheduleCode::Form),
+        Numeral::TooLarge => return Err(ScheduleCode::Range),
         Numeral::Value(number) => number,
     };
     if number > greatest || number < least {
-        return Err(Code::Range);
+        return Err(ScheduleCode::Range);
     }
     Ok(number)
 }
@@ -73,13 +73,13 @@ fn observer_named(observers: &[Observer], name: &str) -> Option<Named>
 // What is left of a line, if anything is: a cursor that goes on by `&mut`, since the borrow checker doesn't cover a
 // pair of what was read and the words left, where what was read has a model.
 #[derive(Drop)]
-struct Words<'a> {
+struct LineWords<'a> {
     rest: Option<&'a str>,
 }
 
-impl<'a> Words<'a> {
+impl<'a> LineWords<'a> {
     // The next word.
-    fn next_word(&mut self) -> Result<&'a str, Code>
+    fn next_word(&mut self) -> Result<&'a str, ScheduleCode>
         ensures { Gives is_memory (λ x. (x.now, words_left self.new.rest)) result
             (next_word code.Form (words_left self.old.rest)) }
     {
@@ -89,23 +89,23 @@ impl<'a> Words<'a> {
                 self.rest = rest;
                 Ok(word)
             }
-            None => Err(Code::Form),
+            None => Err(ScheduleCode::Form),
         }
     }
 
     // No word is left.
-    fn no_word(&self) -> Result<(), Code>
+    fn no_word(&self) -> Result<(), ScheduleCode>
         ensures { Gives is_memory (λ x. x) result (no_word code.Form (words_left self.now.rest)) }
     {
         if self.rest.is_some() {
-            return Err(Code::Form);
+            return Err(ScheduleCode::Form);
         }
         Ok(())
     }
 
     // A number in this range.
     #[tactic(auto, unfolding(crate::specs::ScheduleWords::next_number))]
-    fn number(&mut self, least: u64, greatest: u64) -> Result<u64, Code>
+    fn number(&mut self, least: u64, greatest: u64) -> Result<u64, ScheduleCode>
         ensures value { Gives is_memory (λ x. (x, words_left self.new.rest)) result
             (next_number least greatest (words_left self.old.rest)) }
         ensures low { IfOk result (λ x. least ≤ x) }
@@ -116,7 +116,7 @@ impl<'a> Words<'a> {
     }
 
     // Seat 0 is the main one, which asks what is no actor's, so that a text names actors from 1 on.
-    fn actor(&mut self) -> Result<u32, Code>
+    fn actor(&mut self) -> Result<u32, ScheduleCode>
         ensures { Gives is_memory (λ x. (x, words_left self.new.rest)) result (next_actor (words_left self.old.rest)) }
     {
         let number = self.number(1, u64::from(MAX_SEATS - 1))?;
@@ -124,7 +124,7 @@ impl<'a> Words<'a> {
     }
 
     #[tactic(auto, unfolding(crate::specs::ScheduleWords::next_row))]
-    fn row(&mut self) -> Result<Row, Code>
+    fn row(&mut self) -> Result<Row, ScheduleCode>
         ensures { Gives is_memory (λ x. (x, words_left self.new.rest)) result (next_row (words_left self.old.rest)) }
     {
         let number = self.number(0, u64::MAX)?;
@@ -133,7 +133,7 @@ impl<'a> Words<'a> {
 
     // The name of an observer. Any other word here is told as no observer's name, whatever it looks like.
     #[tactic(auto, unfolding(crate::specs::ScheduleWords::next_observer))]
-    fn observer(&mut self, observers: &[Observer]) -> Result<Named, Code>
+    fn observer(&mut self, observers: &[Observer]) -> Result<Named, ScheduleCode>
         requires { length observers.now ≤ MAX_OBSERVERS }
         ensures value { Gives is_memory (λ x. (x.number, words_left self.new.rest)) result
             (next_observer observers.now (words_left self.old.rest)) }
@@ -142,12 +142,12 @@ impl<'a> Words<'a> {
         let word = self.next_word()?;
         match observer_named(observers, word) {
             Some(observer) => Ok(observer),
-            None => Err(Code::NoObserver),
+            None => Err(ScheduleCode::NoObserver),
         }
     }
 
     #[tactic(auto, unfolding(crate::specs::ScheduleWords::next_change))]
-    fn change(&mut self) -> Result<Job, Code>
+    fn change(&mut self) -> Result<Job, ScheduleCode>
         ensures { Gives is_memory (λ x. (x, words_left self.new.rest)) result (next_change (words_left self.old.rest)) }
     {
         let number = self.number(1, MAX_CHANGES as u64)?;
@@ -155,7 +155,7 @@ impl<'a> Words<'a> {
     }
 
     #[tactic(auto, unfolding(crate::specs::ScheduleWords::next_run))]
-    fn run(&mut self, observers: &[Observer]) -> Result<Job, Code>
+    fn run(&mut self, observers: &[Observer]) -> Result<Job, ScheduleCode>
         requires { length observers.now ≤ MAX_OBSERVERS }
         ensures { Gives is_memory (λ x. (x, words_left self.new.rest)) result
             (next_run observers.now (words_left self.old.rest)) }
@@ -166,7 +166,7 @@ impl<'a> Words<'a> {
     }
 
     #[tactic(auto, unfolding(crate::specs::ScheduleWords::next_job))]
-    fn job(&mut self, observers: &[Observer]) -> Result<Job, Code>
+    fn job(&mut self, observers: &[Observer]) -> Result<Job, ScheduleCode>
         requires { length observers.now ≤ MAX_OBSERVERS }
         ensures { Gives is_memory (λ x. (x, words_left self.new.rest)) result
             (next_job observers.now (words_left self.old.rest)) }
@@ -175,12 +175,12 @@ impl<'a> Words<'a> {
         match sort {
             "change" => self.change(),
             "run" => self.run(observers),
-            _ => Err(Code::Form),
+            _ => Err(ScheduleCode::Form),
         }
     }
 
     #[tactic(auto, unfolding(crate::specs::ScheduleWords::once, crate::specs::ScheduleWords::launch_of))]
-    fn launch(&mut self, observers: &[Observer]) -> Result<Order, Code>
+    fn launch(&mut self, observers: &[Observer]) -> Result<Order, ScheduleCode>
         requires { length observers.now ≤ MAX_OBSERVERS }
         ensures { Gives is_memory (λ o. o) result (launch_of observers.now (words_left self.old.rest)) }
     {
@@ -195,7 +195,7 @@ impl<'a> Words<'a> {
 
     // How often: once where no word says it. So `next_word`, which misses a word, isn't called.
     #[tactic(auto, unfolding(crate::specs::ScheduleWords::times_of))]
-    fn times(&mut self) -> Result<usize, Code>
+    fn times(&mut self) -> Result<usize, ScheduleCode>
         ensures { Gives is_memory (λ n. n) result (times_of (words_left self.old.rest)) }
     {
         let Some(line) = self.rest else {
@@ -209,7 +209,7 @@ impl<'a> Words<'a> {
     }
 
     #[tactic(auto, unfolding(crate::specs::ScheduleWords::step_of))]
-    fn step(&mut self) -> Result<Order, Code>
+    fn step(&mut self) -> Result<Order, ScheduleCode>
         ensures { Gives is_memory (λ o. o) result (step_of (words_left self.old.rest)) }
     {
         let actor = self.actor()?;
@@ -221,7 +221,7 @@ impl<'a> Words<'a> {
     }
 
     #[tactic(auto, unfolding(crate::specs::ScheduleWords::once, crate::specs::ScheduleWords::crash_of))]
-    fn crash(&mut self) -> Result<Order, Code>
+    fn crash(&mut self) -> Result<Order, ScheduleCode>
         ensures { Gives is_memory (λ o. o) result (crash_of (words_left self.old.rest)) }
     {
         let actor = self.actor()?;
@@ -233,7 +233,7 @@ impl<'a> Words<'a> {
     }
 
     #[tactic(auto, unfolding(crate::specs::ScheduleWords::next_data_cell))]
-    fn data_cell(&mut self) -> Result<Cell, Code>
+    fn data_cell(&mut self) -> Result<Cell, ScheduleCode>
         ensures { Gives is_memory (λ x. (x, words_left self.new.rest)) result
             (next_data_cell (words_left self.old.rest)) }
     {
@@ -247,7 +247,7 @@ impl<'a> Words<'a> {
     }
 
     #[tactic(auto, unfolding(crate::specs::ScheduleWords::next_acknowledgment))]
-    fn acknowledgment(&mut self, observers: &[Observer]) -> Result<Cell, Code>
+    fn acknowledgment(&mut self, observers: &[Observer]) -> Result<Cell, ScheduleCode>
         requires { length observers.now ≤ MAX_OBSERVERS }
         ensures { Gives is_memory (λ x. (x, words_left self.new.rest)) result
             (next_acknowledgment observers.now (words_left self.old.rest)) }
@@ -259,13 +259,13 @@ impl<'a> Words<'a> {
 
     // A data cell, or behind `ack` an acknowledgment. The word is looked at before it is taken, since one that isn't
     // `ack` is read again as the row.
-    fn cell(&mut self, observers: &[Observer]) -> Result<Cell, Code>
+    fn cell(&mut self, observers: &[Observer]) -> Result<Cell, ScheduleCode>
         requires { length observers.now ≤ MAX_OBSERVERS }
         ensures { Gives is_memory (λ x. (x, words_left self.new.rest)) result
             (next_cell observers.now (words_left self.old.rest)) }
     {
         let Some(line) = self.rest else {
-            return Err(Code::Form);
+            return Err(ScheduleCode::Form);
         };
         let (first, rest) = first_word(line);
         if first == "ack" {
@@ -277,7 +277,7 @@ impl<'a> Words<'a> {
     }
 
     #[tactic(auto, unfolding(crate::specs::ScheduleWords::once, crate::specs::ScheduleWords::once_on))]
-    fn settle(&mut self, observers: &[Observer]) -> Result<Order, Code>
+    fn settle(&mut self, observers: &[Observer]) -> Result<Order, ScheduleCode>
         requires { length observers.now ≤ MAX_OBSERVERS }
         ensures { Gives is_memory (λ o. o) result
             (once_on event.Settle (next_cell observers.now (words_left self.old.rest))) }
@@ -291,7 +291,7 @@ impl<'a> Words<'a> {
     }
 
     #[tactic(auto, unfolding(crate::specs::ScheduleWords::once, crate::specs::ScheduleWords::once_on))]
-    fn clear(&mut self, observers: &[Observer]) -> Result<Order, Code>
+    fn clear(&mut self, observers: &[Observer]) -> Result<Order, ScheduleCode>
         requires { length observers.now ≤ MAX_OBSERVERS }
         ensures { Gives is_memory (λ o. o) result
             (once_on event.Clear (next_cell observers.now (words_left self.old.rest))) }
@@ -305,7 +305,7 @@ impl<'a> Words<'a> {
     }
 
     #[tactic(auto, unfolding(crate::specs::ScheduleWords::once, crate::specs::ScheduleWords::once_on))]
-    fn sweep(&mut self) -> Result<Order, Code>
+    fn sweep(&mut self) -> Result<Order, ScheduleCode>
         ensures { Gives is_memory (λ o. o) result (once_on event.Sweep (next_data_cell (words_left self.old.rest))) }
     {
         let cell = self.data_cell()?;
@@ -318,7 +318,7 @@ impl<'a> Words<'a> {
 
     // What the verb and the words behind it ask for.
     #[tactic(auto, unfolding(crate::specs::ScheduleWords::order_of_words))]
-    fn order(&mut self, observers: &[Observer]) -> Result<Order, Code>
+    fn order(&mut self, observers: &[Observer]) -> Result<Order, ScheduleCode>
         requires { length observers.now ≤ MAX_OBSERVERS }
         ensures { Gives is_memory (λ o. o) result (order_of_words observers.now (words_left self.old.rest)) }
     {
@@ -330,15 +330,15 @@ impl<'a> Words<'a> {
             "settle" => self.settle(observers),
             "clear" => self.clear(observers),
             "sweep" => self.sweep(),
-            _ => Err(Code::Form),
+            _ => Err(ScheduleCode::Form),
         }
     }
 }
 
 /// What a line asks for: the whole line is one order, so that a word behind its last one is a fault too.
-pub fn order_of(observers: &[Observer], line: &str) -> Result<Order, Code>
+pub fn order_of(observers: &[Observer], line: &str) -> Result<Order, ScheduleCode>
     requires { length observers.now ≤ MAX_OBSERVERS }
     ensures { Gives is_memory (λ o. o) result (order_of observers.now line.now) }
 {
-    Words { rest: Some(line) }.order(observers)
+    LineWords { rest: Some(line) }.order(observers)
 }

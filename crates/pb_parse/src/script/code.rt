@@ -1,13 +1,13 @@
 //! Why a script could not be read: a code inside, of which `ScriptFault` tells the number.
 ghost use Rattle.std.specs.Prelude.{◌≡◌};
 ghost use Rattle.pb_parse.specs.Codes.{script_code};
-ghost use Rattle.pb_parse.specs.declared.script.code.Code.TheVariants.{Memory};
+ghost use Rattle.pb_parse.specs.declared.script.code.ScriptCode.TheVariants.{Memory};
 
 use std::alloc::{AllocError, AllocFailed};
 
 /// What is wrong with a line.
 #[derive(Clone, Copy, Debug, PartialEq, Eq, Drop)]
-pub enum Code {
+pub enum ScriptCode {
     /// No memory.
     Memory,
     /// Not of the form.
@@ -24,35 +24,35 @@ pub enum Code {
     TooMany,
 }
 
-impl Code {
+impl ScriptCode {
     /// The number by which a code is told.
     pub fn code(self) -> u8
         ensures { result ≡ script_code self }
     {
         match self {
-            Code::Memory => 1,
-            Code::Form => 70,
-            Code::Range => 71,
-            Code::Hex => 72,
-            Code::Twice => 73,
-            Code::Seventeenth => 74,
-            Code::TooMany => 75,
+            ScriptCode::Memory => 1,
+            ScriptCode::Form => 70,
+            ScriptCode::Range => 71,
+            ScriptCode::Hex => 72,
+            ScriptCode::Twice => 73,
+            ScriptCode::Seventeenth => 74,
+            ScriptCode::TooMany => 75,
         }
     }
 }
 
-impl From<AllocError> for Code {
+impl From<AllocError> for ScriptCode {
     ghost from_gives = { λ _ e. e ≡ Memory };
 
-    fn from(_e: AllocError) -> Code {
-        Code::Memory
+    fn from(_e: AllocError) -> ScriptCode {
+        ScriptCode::Memory
     }
 }
 
-impl<T: Drop> From<AllocFailed<T>> for Code {
+impl<T: Drop> From<AllocFailed<T>> for ScriptCode {
     ghost from_gives = { λ _ e. e ≡ Memory };
 
-    fn from(_e: AllocFailed<T>) -> Code {
-        Code::Memory
+    fn from(_e: AllocFailed<T>) -> ScriptCode {
+        ScriptCode::Memory
     }
 }

@@ -9,10 +9,10 @@ ghost use Rattle.pb_parse.specs.ScriptLines.{Batches, cut, with_operation, batch
 ghost use Rattle.pb_base.specs.Reading.{is_skipped};
 ghost use Rattle.pb_parse.specs.Operations.{Say, StopsWith};
 ghost use Rattle.pb_parse.specs.Scripts.{Reads, StopsAt, AreBatches};
-ghost use Rattle.pb_parse.specs.declared.script.code.Code.TheVariants.{Memory};
+ghost use Rattle.pb_parse.specs.declared.script.code.ScriptCode.TheVariants.{Memory};
 
 use crate::reading::{first_line, is_skipped};
-use crate::script::code::Code;
+use crate::script::code::ScriptCode;
 use crate::script::words::{Change, operation};
 use pb_base::{Batch, Cell, MAX_CELLS, MAX_CHANGES};
 use std::alloc::{AllocError, Global};
@@ -32,24 +32,24 @@ fn names(writes: &[Change], cell: Cell) -> bool
 
 // Takes one more operation of a line.
 #[tactic(auto, unfolding(crate::specs::ScriptLines::with_operation))]
-fn add(writes: &mut Vec<Change>, text: &str) -> Result<(), Code>
+fn add(writes: &mut Vec<Change>, text: &str) -> Result<(), ScriptCode>
     ensures { Gives is_memory (λ _. writes_of writes.new.items) result
         (with_operation (writes_of writes.old.items) text.now) }
 {
     let write = operation(text)?;
     // Before the count, so that a 17th operation that names a cell of the line again is 73 and not 74.
     if names(writes, Cell::Data(write.0, write.1)) {
-        return Err(Code::Twice);
+        return Err(ScriptCode::Twice);
     }
     if writes.len() >= MAX_CELLS {
-        return Err(Code::Seventeenth);
+        return Err(ScriptCode::Seventeenth);
     }
     writes.push(write)?;
     Ok(())
 }
 
 // What its operations write, which are joined by `; `. Room is made for one, since most lines have no more.
-fn writes_in(alloc: Global, line: &str) -> Result<Vec<Change>, Code>
+fn writes_in(alloc: Global, line: &str) -> Result<Vec<Change>, ScriptCode>
     ensures { Gives is_memory (λ v. writes_of v.items) result (batch_of line.now) }
 {
     let mut writes = Vec::with_capacity(alloc, 1)?;
@@ -62,7 +62,7 @@ fn writes_in(alloc: Global, line: &str) -> Result<Vec<Change>, Code>
     Ok(writes)
 }
 
-fn batch_of(alloc: Global, line: &str) -> Result<Batch, Code>
+fn batch_of(alloc: Global, line: &str) -> Result<Batch, ScriptCode>
     ensures { Gives is_memory (λ b. b) result (batch_of line.now) }
 {
     match Batch::new(writes_in(alloc, line)?) {
@@ -74,7 +74,7 @@ fn batch_of(alloc: Global, line: &str) -> Result<Batch, Code>
 
 // Adds what one line says.
 #[tactic(auto, unfolding(crate::specs::ScriptLines::with_line))]
-fn add_line(alloc: Global, batches: &mut Vec<Batch>, line: &str) -> Result<(), Code>
+fn add_line(alloc: Global, batches: &mut Vec<Batch>, line: &str) -> Result<(), ScriptCode>
     ensures { Gives is_memory (λ _. batches.new.items) result (with_line batches.old.items line.now) }
 {
     if is_skipped(line) {
@@ -83,7 +83,7 @@ fn add_line(alloc: Global, batches: &mut Vec<Batch>, line: &str) -> Result<(), C
     let batch = batch_of(alloc, line)?;
     // After the line is read, since 75 comes last of its faults.
     if batches.len() >= MAX_CHANGES {
-        return Err(Code::TooMany);
+        return Err(ScriptCode::TooMany);
     }
     batches.push(batch)?;
     Ok(())
@@ -101,14 +101,14 @@ pub struct ScriptFault {
 
 impl ScriptFault {
     // The fault of the line of this index, which counts from 0.
-    fn at(index: usize, code: Code) -> ScriptFault
+    fn at(index: usize, code: ScriptCode) -> ScriptFault
         requires { index < usize.MAX }
         ensures memory { code ≡ Memory → result ≡ record { line = 0; code = 1 } }
         ensures other { code ≢ Memory → result ≡ record { line = index + 1; code = script_code code } }
     {
         // Want of memory is told at no line, since none is at fault.
         let line = match code {
-            Code::Memory => 0,
+            ScriptCode::Memory => 0,
             _ => index + 1,
         };
         ScriptFault {
@@ -157,5 +157,5 @@ pub fn reads_operations()
 /// The fault of a line is that of its first operation at fault: those before it are read, of distinct cells. It is the
 /// operation's own (70, 71 or 72), or else 73 where one before it names its cell, or else 74 where there are 16 before it.
 pub fn operation_fault_is_first()
-    ensures { (line : List ℕ) (cause : Code) → batch_of line ≡ Err cause → StopsWith line cause }
+    ensures { (line : List ℕ) (cause : ScriptCode) → batch_of line ≡ Err cause → StopsWith line cause }
 {}

@@ -3,7 +3,7 @@ use crate::vm::{VALUE, assembled, change, data, run, start_on};
 use pb_base::{Content, Row};
 use pb_helpers::Reply;
 use pb_verify::Accepted;
-use pb_vm::{Finished, Phase, Vm};
+use pb_vm::{Finished, MachinePhase, Vm};
 use std::alloc::Global;
 use std::process::Abort;
 use std::rt::HostRuntime;
@@ -116,7 +116,7 @@ const TWO_READS: &str =
 fn step_on(vm: Vm) -> Vm {
     let mut vm = vm;
     for _ in 0..64u32 {
-        if let Phase::Going = vm.phase() {
+        if let MachinePhase::Going = vm.phase() {
             vm.step();
         }
     }
@@ -125,7 +125,7 @@ fn step_on(vm: Vm) -> Vm {
 
 fn reply_on(vm: Vm, reply: Reply) -> Vm {
     let mut vm = vm;
-    if let Phase::Asking(_) = vm.phase() {
+    if let MachinePhase::Asking(_) = vm.phase() {
         vm.reply(reply);
     }
     step_on(vm)
@@ -144,7 +144,7 @@ fn two_asks(rt: HostRuntime) {
         let vm = reply_on(reply_on(step_on(vm), one), two);
         assert!(rt; vm.taken() == 20);
         match vm.phase() {
-            Phase::Over(end) => {
+            MachinePhase::Over(end) => {
                 let finished = vm.finish();
                 assert!(rt; end == wanted && finished.result() == wanted);
                 let talk = finished.talk();

@@ -4,7 +4,7 @@ ghost use Rattle.std.specs.Prelude.{◌<◌};
 use crate::vm::{assembled, change, start_on};
 use pb_base::{Column, Content, Row};
 use pb_helpers::{Ask, Reply};
-use pb_vm::{Moved, Phase, Vm};
+use pb_vm::{MachinePhase, Moved, Vm};
 use std::alloc::Global;
 use std::process::Abort;
 use std::rt::HostRuntime;
@@ -21,7 +21,7 @@ fn advance(rt: &impl Abort, vm: &mut Vm, most: u16) -> Moved
     requires { 0 < most }
 {
     match vm.phase() {
-        Phase::Going => vm.advance(most),
+        MachinePhase::Going => vm.advance(most),
         _ => panic!(rt; "it doesn't go on"),
     }
 }
@@ -32,9 +32,9 @@ fn as_many_as_are_asked_for(rt: HostRuntime) {
     let mut vm = started(&rt, rt.alloc(), text);
     assert!(rt; advance(&rt, &mut vm, 1) == Moved::Went && vm.taken() == 1);
     assert!(rt; advance(&rt, &mut vm, 3) == Moved::Went && vm.taken() == 4);
-    assert!(rt; vm.phase() == Phase::Going);
+    assert!(rt; vm.phase() == MachinePhase::Going);
     assert!(rt; advance(&rt, &mut vm, 1) == Moved::Ended(14) && vm.taken() == 5);
-    assert!(rt; vm.phase() == Phase::Over(14));
+    assert!(rt; vm.phase() == MachinePhase::Over(14));
 }
 
 #[test]
@@ -59,9 +59,9 @@ fn no_further_than_an_ask(rt: HostRuntime) {
         column: Column::new(3).expect(&rt, "a column"),
     };
     assert!(rt; advance(&rt, &mut vm, 100) == Moved::Asks(ask) && vm.taken() == 4);
-    assert!(rt; vm.phase() == Phase::Asking(ask));
+    assert!(rt; vm.phase() == MachinePhase::Asking(ask));
     match vm.phase() {
-        Phase::Asking(_) => vm.reply(Reply::Absent),
+        MachinePhase::Asking(_) => vm.reply(Reply::Absent),
         _ => panic!(rt; "it doesn't ask"),
     }
     assert!(rt; vm.taken() == 5);

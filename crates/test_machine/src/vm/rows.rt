@@ -5,7 +5,7 @@ use pb_helpers::{Ask, HelperTable, Reply, Version};
 use pb_isa::Profile;
 use pb_registry::accept_in;
 use pb_verify::VerifyFault;
-use pb_vm::{Moved, Phase};
+use pb_vm::{MachinePhase, Moved};
 use std::alloc::Global;
 use std::process::Abort;
 use std::rt::HostRuntime;
@@ -56,7 +56,7 @@ fn asks(rt: HostRuntime) {
         let record = change(&rt, 7, Content::Deleted);
         let mut vm = start_on(&rt, rt.alloc(), &program, record);
         for _ in 0..4u32 {
-            if let Phase::Going = vm.phase() {
+            if let MachinePhase::Going = vm.phase() {
                 assert!(rt; vm.step() == Moved::Went);
             }
         }
@@ -64,19 +64,19 @@ fn asks(rt: HostRuntime) {
             row: Row(7),
             column: crate::vm::column(&rt, 1),
         };
-        if let Phase::Going = vm.phase() {
+        if let MachinePhase::Going = vm.phase() {
             assert!(rt; vm.step() == Moved::Asks(ask));
         }
-        assert!(rt; vm.phase() == Phase::Asking(ask) && vm.taken() == 4);
-        if let Phase::Asking(_) = vm.phase() {
+        assert!(rt; vm.phase() == MachinePhase::Asking(ask) && vm.taken() == 4);
+        if let MachinePhase::Asking(_) = vm.phase() {
             vm.reply(reply);
         }
-        assert!(rt; vm.phase() == Phase::Going && vm.taken() == 5);
-        if let Phase::Going = vm.phase() {
+        assert!(rt; vm.phase() == MachinePhase::Going && vm.taken() == 5);
+        if let MachinePhase::Going = vm.phase() {
             assert!(rt; vm.step() == Moved::Ended(end));
         }
-        assert!(rt; vm.phase() == Phase::Over(end) && vm.taken() == 6);
-        if let Phase::Over(_) = vm.phase() {
+        assert!(rt; vm.phase() == MachinePhase::Over(end) && vm.taken() == 6);
+        if let MachinePhase::Over(_) = vm.phase() {
             let finished = vm.finish();
             assert!(rt; finished.talk().len() == 1 && finished.talk()[0] == (ask, reply));
             assert!(rt; finished.result() == end && finished.writes().is_empty());

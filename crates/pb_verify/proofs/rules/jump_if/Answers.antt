@@ -1,7 +1,7 @@
 use Rattle.std.proofs.Common.{◌+◌, rules, w16}
 use mir.Val.{SFits}
 use Rattle.std.proofs.lemmas.Int.{to_z-of_z}
-use Rattle.pb_helpers.specs.declared.code.Code.TheVariants.{PointerCompared}
+use Rattle.pb_helpers.specs.declared.code.RuleCode.TheVariants.{PointerCompared}
 use Rattle.pb_helpers.specs.Codes.{when}
 use Rattle.pb_verify.specs.Rules.{reads, reads_operand, on_pointer, jump_rules, falls}
 use Rattle.pb_verify.proofs.LowestCode.{or_five}

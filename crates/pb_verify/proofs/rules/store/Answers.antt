@@ -2,7 +2,7 @@ use Rattle.std.proofs.Common.{rules, w16}
 use mir.Val.{SFits}
 use Rattle.std.proofs.lemmas.Int.{to_z-of_z}
 use Rattle.pb_kinds.specs.Frames.{is_pointer}
-use Rattle.pb_helpers.specs.declared.code.Code.TheVariants.{PointerStored}
+use Rattle.pb_helpers.specs.declared.code.RuleCode.TheVariants.{PointerStored}
 use Rattle.pb_helpers.specs.Codes.{when}
 use Rattle.pb_verify.specs.Rules.{at, reads, stores, bytes_of}
 use Rattle.pb_verify.proofs.LowestCode.{or_four}

@@ -2,7 +2,7 @@ use Rattle.std.proofs.Common.{◌≡◌, IfOk, rules, sym, subst, ◌∙◌}
 use Rattle.pb_vm.specs.MachineSlot.{IsAtSlot}
 use Rattle.pb_vm.specs.Moves.{EndedWith, Finishes}
 use Rattle.pb_vm.specs.Position.{Position}
-use Rattle.pb_vm.specs.declared.moved.Phase.TheVariants.{Going}
+use Rattle.pb_vm.specs.declared.moved.MachinePhase.TheVariants.{Going}
 use Rattle.pb_notify.specs.Steps.{Steps}
 use Rattle.pb_notify.proofs.Exits.{at_exit, left}
 use Rattle.pb_notify.proofs.machine.Machine.step.Goals as goal

@@ -1,5 +1,5 @@
 use Rattle.std.proofs.Common.{rules}
-use Rattle.pb_parse.specs.declared.script.code.Code.TheVariants as code
+use Rattle.pb_parse.specs.declared.script.code.ScriptCode.TheVariants as code
 use Rattle.pb_parse.proofs.FirstPart.{left_over}
 use Rattle.pb_parse.proofs.script.words.no_word.Goals as goal
 
