@@ -22,7 +22,8 @@ pub fn operations_are_read_as_written()
 /// A line is read as a transaction exactly where it is the operations of the transaction's writes in their order, with
 /// `; ` between them, character for character. They are 1 to 16, and each is to another cell.
 pub fn lines_are_read_as_written()
-    ensures { (line : List ℕ) (batch : Writes) → (batch_of line ≡ Ok batch) ↔ IsBatchLine batch line }
+    ensures { (line : List ℕ) (batch : Writes)
+        → (batch_of line ≡ Ok batch) ↔ IsBatchLine batch line }
 {
     reads_operations();
 }
@@ -30,7 +31,8 @@ pub fn lines_are_read_as_written()
 /// A text is read as transactions exactly where those of its lines that are neither empty nor begin with `#` are the
 /// lines of these transactions, in their order, and they are at most 10,000. A newline stands between two lines.
 pub fn scripts_are_read_as_written()
-    ensures { (text : List ℕ) (batches : Batches) → (script_of text ≡ Ok batches) ↔ IsScriptOf batches text }
+    ensures { (text : List ℕ) (batches : Batches)
+        → (script_of text ≡ Ok batches) ↔ IsScriptOf batches text }
 {
     lines_are_read_as_written();
 }

@@ -8,7 +8,8 @@ ghost use Rattle.pb_asm.specs.Cuts.{strip_prefix, strip_suffix, split_once};
 pub fn strip_prefix(text: &str, c: char) -> Option<&str>
     requires some { 0 < c }
     requires ascii { c < 128 }
-    ensures { MatchOption result (strip_prefix c text.now ≡ None) (λ x. strip_prefix c text.now ≡ Some x.now) }
+    ensures { MatchOption result (strip_prefix c text.now ≡ None)
+        (λ x. strip_prefix c text.now ≡ Some x.now) }
 {
     text.strip_prefix(c)
 }
@@ -18,7 +19,8 @@ pub fn strip_prefix(text: &str, c: char) -> Option<&str>
 pub fn strip_suffix(text: &str, c: char) -> Option<&str>
     requires some { 0 < c }
     requires ascii { c < 128 }
-    ensures { MatchOption result (strip_suffix c text.now ≡ None) (λ x. strip_suffix c text.now ≡ Some x.now) }
+    ensures { MatchOption result (strip_suffix c text.now ≡ None)
+        (λ x. strip_suffix c text.now ≡ Some x.now) }
 {
     text.strip_suffix(c)
 }
@@ -26,7 +28,8 @@ pub fn strip_suffix(text: &str, c: char) -> Option<&str>
 /// What stands on both sides of the first such character.
 pub fn split_once(text: &str, c: char) -> Option<(&str, &str)>
     requires { c < 128 }
-    ensures { MatchOption result (split_once c text.now ≡ None) (λ x. split_once c text.now ≡ Some (x.0.now, x.1.now)) }
+    ensures { MatchOption result (split_once c text.now ≡ None)
+        (λ x. split_once c text.now ≡ Some (x.0.now, x.1.now)) }
 {
     text.split_once(c)
 }

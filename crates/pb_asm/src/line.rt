@@ -38,7 +38,8 @@ impl<'a, 'b> OperandWords<'a, 'b> {
     // No word is left. It is the last test of each line, so that a word too many is told only where all before it are
     // read.
     fn no_word(self) -> Result<(), AsmCode>
-        ensures { Gives (λ _. false) (λ x. x) result (no_word code.Form (texts_of self.entry.rest.now)) }
+        ensures { Gives (λ _. false) (λ x. x) result
+            (no_word code.Form (texts_of self.entry.rest.now)) }
     {
         if self.rest.is_empty() {
             Ok(())
@@ -64,7 +65,8 @@ impl<'a, 'b> OperandWords<'a, 'b> {
     // Behind `add64`: `r1, -32` or `r1, r2`.
     #[tactic(auto, unfolding(crate::specs::Operands::alu_operands, crate::specs::Operands::last))]
     fn alu(self, op: AluOp, width: Width) -> Result<Insn, AsmCode>
-        ensures { Gives (λ _. false) (λ i. i) result (alu_operands (insn.Alu op width) (texts_of self.entry.rest.now)) }
+        ensures { Gives (λ _. false) (λ i. i) result
+            (alu_operands (insn.Alu op width) (texts_of self.entry.rest.now)) }
     {
         let (word, words) = self.comma()?;
         let dst = reg_of(word)?;
@@ -82,7 +84,8 @@ impl<'a, 'b> OperandWords<'a, 'b> {
     // Behind `movsx64`: `r0, r1, 8`.
     #[tactic(auto, unfolding(crate::specs::Operands::mov_sx_operands, crate::specs::Operands::last))]
     fn mov_sx(self, width: Width) -> Result<Insn, AsmCode>
-        ensures { Gives (λ _. false) (λ i. i) result (mov_sx_operands width (texts_of self.entry.rest.now)) }
+        ensures { Gives (λ _. false) (λ i. i) result
+            (mov_sx_operands width (texts_of self.entry.rest.now)) }
     {
         let (word, words) = self.comma()?;
         let dst = reg_of(word)?;
@@ -102,7 +105,8 @@ impl<'a, 'b> OperandWords<'a, 'b> {
     // Behind `lddw`: `r0, 4294967303`. Its number has no sign, since it is a whole word.
     #[tactic(auto, unfolding(crate::specs::Operands::load_imm_operands, crate::specs::Operands::last))]
     fn wide(self) -> Result<Insn, AsmCode>
-        ensures { Gives (λ _. false) (λ i. i) result (load_imm_operands (texts_of self.entry.rest.now)) }
+        ensures { Gives (λ _. false) (λ i. i) result
+            (load_imm_operands (texts_of self.entry.rest.now)) }
     {
         let (word, words) = self.comma()?;
         let dst = reg_of(word)?;
@@ -154,7 +158,8 @@ impl<'a, 'b> OperandWords<'a, 'b> {
     // Behind `stxdw`: `[r10-8], r2`.
     #[tactic(auto, unfolding(crate::specs::Operands::store_operands, crate::specs::Operands::last))]
     fn store(self, size: Size) -> Result<Insn, AsmCode>
-        ensures { Gives (λ _. false) (λ i. i) result (store_operands (insn.Store size) (texts_of self.entry.rest.now)) }
+        ensures { Gives (λ _. false) (λ i. i) result
+            (store_operands (insn.Store size) (texts_of self.entry.rest.now)) }
     {
         let (word, words) = self.comma()?;
         let (dst, offset) = place_of(word)?;
@@ -194,7 +199,8 @@ impl<'a, 'b> OperandWords<'a, 'b> {
     // One register and nothing behind it, as `neg64` has it.
     #[tactic(auto, unfolding(crate::specs::Operands::last))]
     fn last_reg(self) -> Result<Reg, AsmCode>
-        ensures { Gives (λ _. false) (λ r. r) result (last reg_of_text (texts_of self.entry.rest.now)) }
+        ensures { Gives (λ _. false) (λ r. r) result
+            (last reg_of_text (texts_of self.entry.rest.now)) }
     {
         let (word, words) = self.next_word()?;
         let reg = reg_of(word)?;
@@ -205,7 +211,8 @@ impl<'a, 'b> OperandWords<'a, 'b> {
     // One offset and nothing behind it, as `ja` has it.
     #[tactic(auto, unfolding(crate::specs::Operands::last))]
     fn last_offset(self) -> Result<i16, AsmCode>
-        ensures { Gives (λ _. false) (λ o. o) result (last offset_of_text (texts_of self.entry.rest.now)) }
+        ensures { Gives (λ _. false) (λ o. o) result
+            (last offset_of_text (texts_of self.entry.rest.now)) }
     {
         let (word, words) = self.next_word()?;
         let offset = offset_of(word)?;
@@ -216,7 +223,8 @@ impl<'a, 'b> OperandWords<'a, 'b> {
     // One immediate and nothing behind it, as `call` has it.
     #[tactic(auto, unfolding(crate::specs::Operands::last))]
     fn last_imm(self) -> Result<i32, AsmCode>
-        ensures { Gives (λ _. false) (λ k. k) result (last imm_of_text (texts_of self.entry.rest.now)) }
+        ensures { Gives (λ _. false) (λ k. k) result
+            (last imm_of_text (texts_of self.entry.rest.now)) }
     {
         let (word, words) = self.next_word()?;
         let imm = imm_of(word)?;
@@ -226,7 +234,8 @@ impl<'a, 'b> OperandWords<'a, 'b> {
 
     // The operands that a first word asks for.
     fn operands(self, word: Word) -> Result<Insn, AsmCode>
-        ensures { Gives (λ _. false) (λ i. i) result (operands word (texts_of self.entry.rest.now)) }
+        ensures { Gives (λ _. false) (λ i. i) result
+            (operands word (texts_of self.entry.rest.now)) }
     {
         match word {
             Word::Alu(op, width) => self.alu(op, width),
@@ -257,7 +266,8 @@ impl<'a, 'b> OperandWords<'a, 'b> {
     // behind it.
     #[tactic(auto, unfolding(crate::specs::Operands::insn_of_words))]
     fn insn(self, profile: Profile) -> Result<Insn, AsmCode>
-        ensures { Gives (λ _. false) (λ i. i) result (insn_of_words profile (texts_of self.entry.rest.now)) }
+        ensures { Gives (λ _. false) (λ i. i) result
+            (insn_of_words profile (texts_of self.entry.rest.now)) }
     {
         let (first, words) = self.next_word()?;
         match Word::named(profile, first) {

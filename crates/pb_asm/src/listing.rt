@@ -55,7 +55,8 @@ fn three(
     third: &str,
 ) -> Result<String, AllocError>
     ensures { IfOk result (λ s. string_bytes s
-        ≡ name word ++ (codes " " ++ (first.now ++ (codes ", " ++ (second.now ++ (codes ", " ++ third.now)))))) }
+        ≡ name word ++ (codes " " ++ (first.now ++
+        (codes ", " ++ (second.now ++ (codes ", " ++ third.now)))))) }
 {
     let name = word.name();
     format!(in alloc; "{name} {first}, {second}, {third}")
@@ -64,7 +65,8 @@ fn three(
 // A first word and two operands.
 fn two(alloc: Global, word: Word, first: &str, second: &str) -> Result<String, AllocError>
     ensures { IfOk result
-        (λ s. string_bytes s ≡ name word ++ (codes " " ++ (first.now ++ (codes ", " ++ second.now)))) }
+        (λ s. string_bytes s ≡ name word ++ (codes " " ++
+        (first.now ++ (codes ", " ++ second.now)))) }
 {
     let name = word.name();
     format!(in alloc; "{name} {first}, {second}")

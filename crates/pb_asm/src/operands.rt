@@ -35,7 +35,8 @@ fn is_numeral(text: &str) -> bool
 
 /// A number, at most this. Its form is tested first, and then its range.
 pub fn numeral_upto(greatest: u64, text: &str) -> Result<u64, AsmCode>
-    ensures value { Gives (λ _. false) (λ n. n) result (numeral_upto code.Form code.Range greatest text.now) }
+    ensures value { Gives (λ _. false) (λ n. n) result
+        (numeral_upto code.Form code.Range greatest text.now) }
     ensures bound { IfOk result (λ n. n ≤ greatest) }
 {
     if !is_numeral(text) {

@@ -158,7 +158,8 @@ pub fn only_listings_are_read()
 
 /// The fault that is told is that of the first line at fault, after lines that are read; or no line has an instruction.
 pub fn fault_is_first()
-    ensures { (p : Profile) (text : List ℕ) (line told : ℕ) → program_of_text p text ≡ Err (line, told)
+    ensures { (p : Profile) (text : List ℕ) (line told : ℕ)
+        → program_of_text p text ≡ Err (line, told)
         → IsFirstFault p text line told ⊎ HasNone p text line told }
 {}
 
@@ -172,12 +173,14 @@ pub fn faults_are_told_where_they_are()
         ↔ ((w : Word) → IsWordOf p w → before_first (λ b. b == 32) line ≢ name w) }
     ensures too_long { (p : Profile) (before : List Insn) (line : List ℕ)
         → (with_insn_line p before line ≡ Err code.TooLong)
-        ↔ ((i : Insn) × (line ≡ insn_text i) × Fits i × IsOf p i × (max_slots p < slots (before ++ i ∷ []))) }
+        ↔ ((i : Insn) × (line ≡ insn_text i) × Fits i × IsOf p i
+        × (max_slots p < slots (before ++ i ∷ []))) }
     ensures nothing { (p : Profile) (text : List ℕ) → (program_of_text p text ≡ Err (0, 84))
         ↔ (instruction_lines text ≡ []) }
     ensures line { (p : Profile) (line : List ℕ) (c : AsmCode) → line_of p line ≡ Err c
         → (c ≡ code.Word) ⊎ (c ≡ code.Form) ⊎ (c ≡ code.Range) }
-    ensures own { (p : Profile) (before : List Insn) (line : List ℕ) (c : AsmCode) → with_insn_line p before line ≡ Err c
+    ensures own { (p : Profile) (before : List Insn) (line : List ℕ) (c : AsmCode)
+        → with_insn_line p before line ≡ Err c
         → (c ≡ code.TooLong) ⊎ (line_of p line ≡ Err c) }
 {}
 
@@ -185,10 +188,14 @@ pub fn faults_are_told_where_they_are()
 /// and goes beyond its field or isn't in its list, whatever comes behind the number's word; code 82 is told of it, and of
 /// no other line.
 pub fn numbers_out_of_range_are_told()
-    ensures read { (p : Profile) (line : List ℕ) → (line_of p line ≡ Err code.Range) ↔ IsOutOfRange p line }
-    ensures told { (p : Profile) (n : ℕ) (before : List Insn) (place : NumberPlace) (number rest : List ℕ)
+    ensures read { (p : Profile) (line : List ℕ)
+        → (line_of p line ≡ Err code.Range) ↔ IsOutOfRange p line }
+    ensures told { (p : Profile) (n : ℕ) (before : List Insn) (place : NumberPlace)
+        (number rest : List ℕ)
         → IsWordOf p (place_word place) → FitsBefore place → IsBeyond place number → EndsWord rest
-        → numbered asm_code n (with_insn_line p before (line_with place number rest)) ≡ Err (n + 1, 82) }
+        → numbered asm_code n (with_insn_line p before (line_with place number rest))
+        ≡ Err (n + 1, 82) }
     ensures only { (p : Profile) (n : ℕ) (before : List Insn) (line : List ℕ)
-        → numbered asm_code n (with_insn_line p before line) ≡ Err (n + 1, 82) → IsOutOfRange p line }
+        → numbered asm_code n (with_insn_line p before line) ≡ Err (n + 1, 82)
+        → IsOutOfRange p line }
 {}

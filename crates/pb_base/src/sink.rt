@@ -23,7 +23,8 @@ pub trait Sink {
     fn write(&mut self, piece: &[u8]) -> Result<usize, SinkFault>
         ensures bound { IfOk result (λ n. n ≤ length piece.now) }
         ensures bytes { WriteAppends (taken self.old) (taken self.new) result piece.now }
-        ensures fails { failed self.new ≡ (failed self.old || (nat_lt 0 (length piece.now) && took_none result)) };
+        ensures fails { failed self.new ≡ (failed self.old ||
+            (nat_lt 0 (length piece.now) && took_none result)) };
 
     /// Whether a write of a piece that isn't empty has failed or taken no byte.
     fn has_failed(&self) -> bool

@@ -43,7 +43,8 @@ fn run_files<'a, R: Threads + Wait + Sync, T: Tablet + Send, P: Paths, O: Sink>(
     requires few { workers < MAX_SEATS }
     requires empty { table.contents ≡ nothing }
     requires unfailed { O.failed out.old ≡ false }
-    ensures ran { RunLeaves (P.held paths.old) manifest.now script.now workers (spares_of T.contents spares.items)
+    ensures ran { RunLeaves (P.held paths.old) manifest.now script.now workers
+        (spares_of T.contents spares.items)
         (O.taken out.old) (O.taken out.new) (O.failed out.new) result }
     ensures same { P.held paths.new ≡ P.held paths.old }
     ensures quiet { P.failed paths.new ≡ P.failed paths.old }
@@ -93,7 +94,8 @@ fn replay_files<'a, T: Tablet, P: Paths, O: Sink>(
 ) -> Result<Verdict, Fault<'a>>
     requires empty { table.contents ≡ nothing }
     requires unfailed { O.failed out.old ≡ false }
-    ensures ran { ReplayLeaves (P.held paths.old) manifest.now script.now schedule.now clock.0 (O.taken out.old)
+    ensures ran { ReplayLeaves (P.held paths.old) manifest.now script.now schedule.now clock.0
+        (O.taken out.old)
         (O.taken out.new) (O.failed out.new) result }
     ensures same { P.held paths.new ≡ P.held paths.old }
     ensures quiet { P.failed paths.new ≡ P.failed paths.old }
@@ -164,8 +166,10 @@ pub fn sequential_command<T: Tablet, P: Paths, O: Sink, E: Sink>(
     requires empty { table.contents ≡ nothing }
     requires out_unfailed { O.failed out.old ≡ false }
     requires err_unfailed { E.failed err.old ≡ false }
-    ensures { Commands options.now (spares_of T.contents spares.items) (P.held paths.old) (P.held paths.new)
-        (P.failed paths.old) (P.failed paths.new) (O.taken out.old) (O.taken out.new) (O.failed out.new)
+    ensures { Commands options.now (spares_of T.contents spares.items) (P.held paths.old)
+        (P.held paths.new)
+        (P.failed paths.old) (P.failed paths.new) (O.taken out.old) (O.taken out.new)
+        (O.failed out.new)
         (E.taken err.old) (E.taken err.new) (E.failed err.new) result }
 {
     // None of these commands swaps, and tablets are linear, so that the spares are ended at once.
@@ -226,8 +230,10 @@ pub fn command<R: Threads + Wait + Sync, T: Tablet + Send, P: Paths, O: Sink, E:
     requires empty { table.contents ≡ nothing }
     requires out_unfailed { O.failed out.old ≡ false }
     requires err_unfailed { E.failed err.old ≡ false }
-    ensures { Commands options.now (spares_of T.contents spares.items) (P.held paths.old) (P.held paths.new)
-        (P.failed paths.old) (P.failed paths.new) (O.taken out.old) (O.taken out.new) (O.failed out.new)
+    ensures { Commands options.now (spares_of T.contents spares.items) (P.held paths.old)
+        (P.held paths.new)
+        (P.failed paths.old) (P.failed paths.new) (O.taken out.old) (O.taken out.new)
+        (O.failed out.new)
         (E.taken err.old) (E.taken err.new) (E.failed err.new) result }
 {
     match options {

@@ -60,7 +60,8 @@ pub fn assemble_file<'a, P: Paths>(
     output: &'a str,
     paths: &mut P,
 ) -> Result<Verdict, Fault<'a>>
-    ensures { AsmLeaves profile (P.held paths.old) (P.held paths.new) (P.failed paths.old) (P.failed paths.new)
+    ensures { AsmLeaves profile (P.held paths.old) (P.held paths.new) (P.failed paths.old)
+        (P.failed paths.new)
         input.now output.now result }
 {
     let bytes = bytes_of_text(alloc, profile, input, paths)?;
@@ -82,7 +83,8 @@ fn refusal_line(alloc: Global, refused: Refused) -> Result<String, AllocError>
 /// A refusal, and the line that tells it.
 pub fn refusal_of<'a>(alloc: Global, refused: Refused) -> Result<VerdictText, Fault<'a>>
     ensures told { IfOk result
-        (λ a. (a.verdict ≡ verdicts.Refused) × (string_bytes a.text ≡ refusal_line refused.slot refused.code)) }
+        (λ a. (a.verdict ≡ verdicts.Refused)
+        × (string_bytes a.text ≡ refusal_line refused.slot refused.code)) }
     ensures fault { IfErr result IsMemoryFault }
 {
     let text = refusal_line(alloc, refused)?;
@@ -112,7 +114,8 @@ fn listing_of<'a>(alloc: Global, profile: Profile, bytes: &[u8]) -> Result<Verdi
 
 // That a program is accepted, and the line that tells it.
 fn acceptance_of<'a>(alloc: Global, slots: usize) -> Result<VerdictText, Fault<'a>>
-    ensures told { IfOk result (λ a. (a.verdict ≡ verdicts.Accepted) × (string_bytes a.text ≡ acceptance_line slots)) }
+    ensures told { IfOk result (λ a. (a.verdict ≡ verdicts.Accepted)
+        × (string_bytes a.text ≡ acceptance_line slots)) }
     ensures fault { IfErr result IsMemoryFault }
 {
     let text = format!(in alloc; "accepted {slots} slots\n")?;
@@ -130,7 +133,8 @@ fn verdict_of<'a>(
     version: Version,
     bytes: &[u8],
 ) -> Result<VerdictText, Fault<'a>>
-    ensures told { IfOk result (λ a. Checks profile version bytes.now a.verdict (string_bytes a.text)) }
+    ensures told { IfOk result (λ a. Checks profile version bytes.now a.verdict
+        (string_bytes a.text)) }
     ensures fault { IfErr result IsMemoryFault }
 {
     // All helpers, since a program alone has no manifest that names its own.
@@ -164,7 +168,8 @@ pub fn list_file<'a, P: Paths, O: Sink>(
     out: &mut O,
 ) -> Result<Verdict, Fault<'a>>
     requires unfailed { O.failed out.old ≡ false }
-    ensures told { AnswerLeaves (Lists profile) (P.held paths.old file.now) file.now (O.taken out.old) (O.taken out.new)
+    ensures told { AnswerLeaves (Lists profile) (P.held paths.old file.now) file.now
+        (O.taken out.old) (O.taken out.new)
         (O.failed out.new) result }
     ensures same { P.held paths.new ≡ P.held paths.old }
     ensures quiet { P.failed paths.new ≡ P.failed paths.old }
@@ -185,7 +190,8 @@ pub fn check_file<'a, P: Paths, O: Sink>(
     out: &mut O,
 ) -> Result<Verdict, Fault<'a>>
     requires unfailed { O.failed out.old ≡ false }
-    ensures told { AnswerLeaves (Checks profile version) (P.held paths.old file.now) file.now (O.taken out.old)
+    ensures told { AnswerLeaves (Checks profile version) (P.held paths.old file.now) file.now
+        (O.taken out.old)
         (O.taken out.new) (O.failed out.new) result }
     ensures same { P.held paths.new ≡ P.held paths.old }
     ensures quiet { P.failed paths.new ≡ P.failed paths.old }

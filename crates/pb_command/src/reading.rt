@@ -40,8 +40,10 @@ pub fn texts_at<'a, P: Paths>(
     manifest: &'a str,
     script: &'a str,
 ) -> Result<(String, String), Fault<'a>>
-    ensures manifest { IfOk result (λ t. IsKnownAs (P.held paths.old manifest.now) (Ok (string_bytes t.0))) }
-    ensures script { IfOk result (λ t. IsKnownAs (P.held paths.old script.now) (Ok (string_bytes t.1))) }
+    ensures manifest { IfOk result (λ t. IsKnownAs (P.held paths.old manifest.now)
+        (Ok (string_bytes t.0))) }
+    ensures script { IfOk result (λ t. IsKnownAs (P.held paths.old script.now)
+        (Ok (string_bytes t.1))) }
     ensures same { P.held paths.new ≡ P.held paths.old }
     ensures quiet { P.failed paths.new ≡ P.failed paths.old }
     ensures fault { IfErr result (IsFileFault (P.held paths.old) (manifest.now ∷ script.now ∷ [])) }
@@ -60,12 +62,16 @@ pub fn three_texts_at<'a, P: Paths>(
     script: &'a str,
     schedule: &'a str,
 ) -> Result<(String, String, String), Fault<'a>>
-    ensures manifest { IfOk result (λ t. IsKnownAs (P.held paths.old manifest.now) (Ok (string_bytes t.0))) }
-    ensures script { IfOk result (λ t. IsKnownAs (P.held paths.old script.now) (Ok (string_bytes t.1))) }
-    ensures schedule { IfOk result (λ t. IsKnownAs (P.held paths.old schedule.now) (Ok (string_bytes t.2))) }
+    ensures manifest { IfOk result (λ t. IsKnownAs (P.held paths.old manifest.now)
+        (Ok (string_bytes t.0))) }
+    ensures script { IfOk result (λ t. IsKnownAs (P.held paths.old script.now)
+        (Ok (string_bytes t.1))) }
+    ensures schedule { IfOk result (λ t. IsKnownAs (P.held paths.old schedule.now)
+        (Ok (string_bytes t.2))) }
     ensures same { P.held paths.new ≡ P.held paths.old }
     ensures quiet { P.failed paths.new ≡ P.failed paths.old }
-    ensures fault { IfErr result (IsFileFault (P.held paths.old) (manifest.now ∷ script.now ∷ schedule.now ∷ [])) }
+    ensures fault { IfErr result (IsFileFault (P.held paths.old)
+        (manifest.now ∷ script.now ∷ schedule.now ∷ [])) }
 {
     let manifest_bytes = bytes_at(paths, manifest)?;
     let script_bytes = bytes_at(paths, script)?;

@@ -179,14 +179,20 @@ impl<T: Tablet> Shared<T> {
         requires few { seats ≤ MAX_SEATS }
         requires bounded { limit ≤ MAX_ENTRIES }
         requires numbered { length observers.items ≤ MAX_OBSERVERS }
-        ensures shared { IfOk result (λ s. s.0 ≡ record
-            { journal = []; state = opening observers.items seats last.0; opened = last.0; limit = limit }) }
+        ensures shared { IfOk result (λ s. s.0 ≡ record {
+          journal = [];
+          state = opening observers.items seats last.0;
+          opened = last.0;
+          limit = limit;
+        }) }
         ensures seats { IfOk result (λ s. AreSeats s.0 s.1.items) }
         ensures empty { OnOk result (is_nothing table.contents ≡ true) }
         ensures handed_back { IfErr result (λ e. e.table ≡ table) }
         ensures observers { IfErr result (λ e. e.observers ≡ observers) }
-        ensures full { is_nothing table.contents ≡ false → IfErr result (λ e. e.code ≡ reason_code reasons.NotEmpty) }
-        ensures memory { is_nothing table.contents ≡ true → IfErr result (λ e. e.code ≡ reason_code reasons.NoMemory) }
+        ensures full { is_nothing table.contents ≡ false
+            → IfErr result (λ e. e.code ≡ reason_code reasons.NotEmpty) }
+        ensures memory { is_nothing table.contents ≡ true
+            → IfErr result (λ e. e.code ≡ reason_code reasons.NoMemory) }
     {
         // Before any growth, since 4 is told of every table that has something, also where there is no memory.
         if !table.is_empty() {
@@ -260,7 +266,8 @@ impl<T: Tablet> Shared<T> {
         ensures entries { result.now ≡ self.now.journal }
         ensures legal { IsLegalTable self.now }
         ensures history { TellsHistory self.now.journal self.now.state }
-        ensures reads { TellsReads self.now.state.observers self.now.state.seats self.now.opened self.now.journal }
+        ensures reads { TellsReads self.now.state.observers self.now.state.seats self.now.opened
+            self.now.journal }
         ensures counts { TellsRunCounts self.now.journal self.now.state }
         ensures snapshots { IsSnapshotHistory self.now }
         ensures records { TellsRecords self.now.journal self.now.state }

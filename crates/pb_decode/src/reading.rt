@@ -107,7 +107,8 @@ fn insn_of(
     slot: SlotFields,
     bytes: &[u8],
 ) -> Result<(Insn, &[u8]), DecodeCode>
-    ensures { Gives (λ _. false) (λ x. (x.0, x.1.now)) result (insn_of_form form dst src slot bytes.now) }
+    ensures { Gives (λ _. false) (λ x. (x.0, x.1.now)) result
+        (insn_of_form form dst src slot bytes.now) }
 {
     let imm = slot.imm.cast_signed();
     let offset = slot.offset.cast_signed();
@@ -236,7 +237,8 @@ pub fn decode(alloc: Global, bytes: &[u8]) -> Result<Program, DecodeFault>
     ensures ok { IfOk result (λ p. Encodes bytes.now p) }
     ensures profile { IfOk result (λ p. p.profile ≡ One) }
     ensures err { IfErr result (IsRefusal One bytes.now) }
-    ensures program { (p : ProgramOf) → p.profile ≡ One → Encodes bytes.now p → IfOk result (λ q. q ≡ p)
+    ensures program { (p : ProgramOf) → p.profile ≡ One → Encodes bytes.now p
+        → IfOk result (λ q. q ≡ p)
         × IfErr result IsNoMemory }
     ensures fault { (slot told : ℕ) → AreRefusedAs One bytes.now slot told → IfOk result (λ _. ⊥)
         × IfErr result (IsNoMemoryOr slot told) }
@@ -250,9 +252,11 @@ pub fn decode_in(alloc: Global, profile: Profile, bytes: &[u8]) -> Result<Progra
     ensures ok { IfOk result (λ p. Encodes bytes.now p) }
     ensures profile { IfOk result (λ p. p.profile ≡ profile) }
     ensures err { IfErr result (IsRefusal profile bytes.now) }
-    ensures program { (p : ProgramOf) → p.profile ≡ profile → Encodes bytes.now p → IfOk result (λ q. q ≡ p)
+    ensures program { (p : ProgramOf) → p.profile ≡ profile → Encodes bytes.now p
+        → IfOk result (λ q. q ≡ p)
         × IfErr result IsNoMemory }
-    ensures fault { (slot told : ℕ) → AreRefusedAs profile bytes.now slot told → IfOk result (λ _. ⊥)
+    ensures fault { (slot told : ℕ) → AreRefusedAs profile bytes.now slot told
+        → IfOk result (λ _. ⊥)
         × IfErr result (IsNoMemoryOr slot told) }
 {
     program_of(alloc, profile, bytes)
@@ -263,13 +267,17 @@ pub fn decode_in(alloc: Global, profile: Profile, bytes: &[u8]) -> Result<Progra
 pub fn either_program_or_fault()
     ensures either { (profile : Profile) (bytes : List ℕ) → AreBytes bytes
         → HasProgram profile bytes ⊎ HasFault profile bytes }
-    ensures not_both { (bytes : List ℕ) (p : ProgramOf) (slot : ℕ) (code : DecodeCode) → Encodes bytes p
+    ensures not_both { (bytes : List ℕ) (p : ProgramOf) (slot : ℕ) (code : DecodeCode)
+        → Encodes bytes p
         → IsDecodeFault p.profile bytes slot code → ⊥ }
-    ensures one_program { (bytes : List ℕ) (p q : ProgramOf) → p.profile ≡ q.profile → Encodes bytes p
+    ensures one_program { (bytes : List ℕ) (p q : ProgramOf) → p.profile ≡ q.profile
+        → Encodes bytes p
         → Encodes bytes q → p ≡ q }
-    ensures one_fault { (profile : Profile) (bytes : List ℕ) (s t : ℕ) (c d : DecodeCode) → IsDecodeFault profile bytes s c
+    ensures one_fault { (profile : Profile) (bytes : List ℕ) (s t : ℕ) (c d : DecodeCode)
+        → IsDecodeFault profile bytes s c
         → IsDecodeFault profile bytes t d → (s ≡ t) × (c ≡ d) }
-    ensures no_code { (profile : Profile) (i : Insn) (rest : List ℕ) (code : DecodeCode) → Fits i → IsOf profile i
+    ensures no_code { (profile : Profile) (i : Insn) (rest : List ℕ) (code : DecodeCode) → Fits i
+        → IsOf profile i
         → Applies profile (insn_bytes i ++ rest) code → ⊥ }
 {}
 

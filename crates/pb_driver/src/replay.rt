@@ -33,7 +33,8 @@ fn run<T: Tablet, S: Sink>(
     sink: &mut S,
 ) -> Result<(), RunFault>
     requires unfailed { S.failed sink.old ≡ false }
-    ensures { EventsEnd world.old events.now (S.taken sink.old) (S.taken sink.new) (S.failed sink.new) result }
+    ensures { EventsEnd world.old events.now (S.taken sink.old) (S.taken sink.new)
+        (S.failed sink.new) result }
 {
     match world.run(alloc, events) {
         Ok(_notes) => match report(alloc, sink, world.shared()) {
@@ -55,7 +56,8 @@ fn run_on<T: Tablet, S: Sink>(
 ) -> Result<(), RunFault>
     requires seated { AreSeats shared seats.items }
     requires unfailed { S.failed sink.old ≡ false }
-    ensures { Replays shared seats.items batches.items events.now (S.taken sink.old) (S.taken sink.new)
+    ensures { Replays shared seats.items batches.items events.now (S.taken sink.old)
+        (S.taken sink.new)
         (S.failed sink.new) result }
 {
     match World::open(alloc, shared, seats, batches) {
@@ -89,7 +91,8 @@ pub fn replay_texts<T: Tablet, S: Sink>(
 ) -> Result<(), RunFault>
     requires empty { table.contents ≡ nothing }
     requires unfailed { S.failed sink.old ≡ false }
-    ensures { ReplaysTexts manifest.now script.now schedule.now last.0 (S.taken sink.old) (S.taken sink.new)
+    ensures { ReplaysTexts manifest.now script.now schedule.now last.0 (S.taken sink.old)
+        (S.taken sink.new)
         (S.failed sink.new) result }
 {
     let (observers, batches, events) = match read_replay(alloc, manifest, script, schedule) {

@@ -34,8 +34,8 @@ fn conclude<T: Tablet, S: Sink>(
     sink: &mut S,
 ) -> Result<Ran, RunFault>
     requires unfailed { S.failed sink.old ≡ false }
-    ensures { Concludes worked.shared worked.seats.items worked.refusals.items worked.unfinished.items
-        (S.taken sink.old) (S.taken sink.new) (S.failed sink.new) result }
+    ensures { Concludes worked.shared worked.seats.items worked.refusals.items
+        worked.unfinished.items (S.taken sink.old) (S.taken sink.new) (S.failed sink.new) result }
 {
     let Worked {
         shared,
@@ -78,7 +78,8 @@ fn run_on<R: Threads + Wait + Sync, T: Tablet + Send, S: Sink>(
     requires seated { AreSeats shared seats.items }
     requires some { 1 < vec_len seats }
     requires unfailed { S.failed sink.old ≡ false }
-    ensures { RunsOn shared seats.items batches.items (spares_of T.contents spares.items) (S.taken sink.old)
+    ensures { RunsOn shared seats.items batches.items (spares_of T.contents spares.items)
+        (S.taken sink.old)
         (S.taken sink.new) (S.failed sink.new) result }
 {
     // For the proof: where the seats agree, the journal's committed changes are those that aren't named as unfinished.
@@ -125,7 +126,8 @@ pub fn run_texts<R: Threads + Wait + Sync, T: Tablet + Send, S: Sink>(
     requires few { workers < MAX_SEATS }
     requires empty { table.contents ≡ nothing }
     requires unfailed { S.failed sink.old ≡ false }
-    ensures { RunsTexts manifest.now script.now workers last.0 (spares_of T.contents spares.items) (S.taken sink.old)
+    ensures { RunsTexts manifest.now script.now workers last.0 (spares_of T.contents spares.items)
+        (S.taken sink.old)
         (S.taken sink.new) (S.failed sink.new) result }
 {
     let (observers, batches) = match read_run(alloc, manifest, script) {

@@ -92,7 +92,8 @@ pub fn read_replay(
     script: &str,
     schedule: &str,
 ) -> Result<(Vec<Observer>, Vec<Batch>, Vec<Event>), RunFault>
-    ensures ok { IfOk result (λ t. IsReplayRead manifest.now script.now schedule.now t.0.items t.1.items t.2.items) }
+    ensures ok { IfOk result
+        (λ t. IsReplayRead manifest.now script.now schedule.now t.0.items t.1.items t.2.items) }
     ensures few { IfOk result (λ t. length t.0.items ≤ MAX_OBSERVERS) }
     ensures err { IfErr result (IsReplayUnread manifest.now script.now schedule.now) }
 {

@@ -66,7 +66,8 @@ impl Program {
     /// they are handed back.
     pub fn new(alloc: Global, profile: Profile, insns: Vec<Insn>) -> Result<Program, NoProgram>
         requires { AllByRecursion (IsOf profile) insns.items }
-        ensures ok { IfOk result (λ p. (p.profile ≡ profile) × (p.insns ≡ insns.items) × IsProgram p) }
+        ensures ok { IfOk result (λ p. (p.profile ≡ profile) × (p.insns ≡ insns.items)
+            × IsProgram p) }
         ensures fits { IfOk result (λ p. AllByRecursion Fits p.insns) }
         ensures err { IfErr result (IsRefused profile insns.items) }
     {

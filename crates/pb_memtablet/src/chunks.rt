@@ -44,7 +44,8 @@ fn does_start_by<K: Ord, V>(entries: &[(K, V)], key: &K) -> bool
 fn is_home<K: Ord, V>(chunks: &[Chunk<K, V>], key: &K, place: usize) -> bool
     requires { AreChunks K.cmp chunks.now }
     ensures home { result ≡ true → IsHome K.cmp chunks.now key.now place }
-    ensures started { result ≡ true → HoldsAt (λ c. starts_by K.cmp key.now c.items ≡ true) chunks.now place }
+    ensures started { result ≡ true → HoldsAt
+        (λ c. starts_by K.cmp key.now c.items ≡ true) chunks.now place }
 {
     if place >= chunks.len() || !does_start_by(&chunks[place], key) {
         return false;
@@ -60,7 +61,8 @@ fn home_of<K: Ord, V>(chunks: &[Chunk<K, V>], key: &K, likely: usize) -> usize
     requires chunks { AreChunks K.cmp chunks.now }
     requires some { 0 < length chunks.now }
     ensures home { IsHome K.cmp chunks.now key.now result }
-    ensures started { 0 < result → HoldsAt (λ c. starts_by K.cmp key.now c.items ≡ true) chunks.now result }
+    ensures started { 0 < result → HoldsAt (λ c. starts_by K.cmp key.now c.items
+        ≡ true) chunks.now result }
 {
     if is_home(chunks, key, likely) {
         return likely;
@@ -76,7 +78,8 @@ fn noted_home<K: Ord, V>(chunks: &[Chunk<K, V>], key: &K, likely: &Cell<usize>) 
     requires chunks { AreChunks K.cmp chunks.now }
     requires some { 0 < length chunks.now }
     ensures home { IsHome K.cmp chunks.now key.now result }
-    ensures started { 0 < result → HoldsAt (λ c. starts_by K.cmp key.now c.items ≡ true) chunks.now result }
+    ensures started { 0 < result → HoldsAt (λ c. starts_by K.cmp key.now c.items
+        ≡ true) chunks.now result }
 {
     let home = home_of(chunks, key, likely.get());
     likely.set(home);
@@ -199,7 +202,8 @@ fn part_chunk<K: Drop, V: Drop>(
     ensures entries { chunk_entries chunks.new.items ≡ chunk_entries chunks.old.items }
     ensures before { take place chunks.new.items ≡ take place chunks.old.items }
     ensures after { drop (place + 2) chunks.new.items ≡ drop (place + 1) chunks.old.items }
-    ensures halves { HoldsAt IsHalf chunks.new.items place × HoldsAt IsHalf chunks.new.items (place + 1) }
+    ensures halves { HoldsAt IsHalf chunks.new.items place
+        × HoldsAt IsHalf chunks.new.items (place + 1) }
     ensures each { All IsChunk chunks.new.items }
     ensures spares { All IsSpare spares.new.items }
     ensures len { vec_len chunks.new ≡ vec_len chunks.old + 1 }
@@ -231,7 +235,8 @@ fn roomy_home<K: Ord + Drop, V: Drop>(
     ensures entries { chunk_entries chunks.new.items ≡ chunk_entries chunks.old.items }
     ensures each { All IsChunk chunks.new.items }
     ensures spares { All IsSpare spares.new.items }
-    ensures len { vec_len chunks.new + vec_len spares.new ≡ vec_len chunks.old + vec_len spares.old }
+    ensures len { vec_len chunks.new + vec_len spares.new
+        ≡ vec_len chunks.old + vec_len spares.old }
     ensures spares_len { vec_len spares.old ≤ vec_len spares.new + 1 }
     ensures capacity { vec_capacity chunks.old ≤ vec_capacity chunks.new }
     ensures counts { AreCounts counts.new.items chunks.new.items }
@@ -289,12 +294,15 @@ pub(crate) fn put_among<K: Ord + Drop, V: Drop>(
     requires room { vec_len chunks.old + vec_len spares.old ≤ vec_capacity chunks.old }
     requires counts { AreCounts counts.old.items chunks.old.items }
     requires counts_room { vec_len chunks.old + vec_len spares.old ≤ vec_capacity counts.old }
-    ensures entries { chunk_entries chunks.new.items ≡ put K.cmp key value (chunk_entries chunks.old.items) }
-    ensures grown { length (chunk_entries chunks.new.items) ≡ length (chunk_entries chunks.old.items) + cond result
+    ensures entries { chunk_entries chunks.new.items
+        ≡ put K.cmp key value (chunk_entries chunks.old.items) }
+    ensures grown { length (chunk_entries chunks.new.items)
+        ≡ length (chunk_entries chunks.old.items) + cond result
         1 0 }
     ensures chunks { AreChunks K.cmp chunks.new.items }
     ensures spares { All IsSpare spares.new.items }
-    ensures len { vec_len chunks.new + vec_len spares.new ≡ vec_len chunks.old + vec_len spares.old }
+    ensures len { vec_len chunks.new + vec_len spares.new
+        ≡ vec_len chunks.old + vec_len spares.old }
     ensures spares_len { vec_len spares.old ≤ vec_len spares.new + 1 }
     ensures capacity { vec_capacity chunks.old ≤ vec_capacity chunks.new }
     ensures counts { AreCounts counts.new.items chunks.new.items }
@@ -328,7 +336,8 @@ pub(crate) fn put_both_among<K: Ord + Copy + Drop, V: Copy + Drop>(
     ensures entries { chunk_entries chunks.new.items ≡ cond result
         (put K.cmp next next_value (put K.cmp key value (chunk_entries chunks.old.items)))
         (chunk_entries chunks.old.items) }
-    ensures grown { length (chunk_entries chunks.new.items) ≡ length (chunk_entries chunks.old.items) + cond result
+    ensures grown { length (chunk_entries chunks.new.items)
+        ≡ length (chunk_entries chunks.old.items) + cond result
         2 0 }
     ensures chunks { AreChunks K.cmp chunks.new.items }
     ensures len { vec_len chunks.new ≡ vec_len chunks.old }
@@ -368,9 +377,11 @@ pub(crate) fn replace_among<K: Ord + Drop, V: Drop>(
 ) -> bool
     requires { AreChunks K.cmp chunks.old.items }
     ensures entries { chunk_entries chunks.new.items ≡ cond result (put K.cmp key value
-        (where_key K.cmp (λ k. not (eq_by_cmp K.cmp gone.now k)) (chunk_entries chunks.old.items))) (chunk_entries
+        (where_key K.cmp (λ k. not (eq_by_cmp K.cmp gone.now k)) (chunk_entries chunks.old.items)))
+        (chunk_entries
         chunks.old.items) }
-    ensures as_many { length (chunk_entries chunks.new.items) ≡ length (chunk_entries chunks.old.items) }
+    ensures as_many { length (chunk_entries chunks.new.items)
+        ≡ length (chunk_entries chunks.old.items) }
     ensures chunks { AreChunks K.cmp chunks.new.items }
     ensures len { vec_len chunks.new ≡ vec_len chunks.old }
     ensures capacity { vec_capacity chunks.old ≤ vec_capacity chunks.new }
@@ -394,7 +405,8 @@ fn retire_chunk<K: Drop, V: Drop>(
     requires spares { All IsSpare spares.old.items }
     ensures chunks { chunks.new.items ≡ remove chunks.old.items place }
     ensures spares { All IsSpare spares.new.items }
-    ensures len { vec_len chunks.new + vec_len spares.new ≤ vec_len chunks.old + vec_len spares.old }
+    ensures len { vec_len chunks.new + vec_len spares.new
+        ≤ vec_len chunks.old + vec_len spares.old }
     ensures spares_len { vec_len spares.old ≤ vec_len spares.new }
     ensures capacity { vec_capacity chunks.old ≤ vec_capacity chunks.new }
 {
@@ -416,13 +428,15 @@ pub(crate) fn take_among<K: Ord + Drop, V: Drop>(
     requires spares { All IsSpare spares.old.items }
     requires counts { AreCounts counts.old.items chunks.old.items }
     requires counts_room { vec_len chunks.old + vec_len spares.old ≤ vec_capacity counts.old }
-    ensures entries { chunk_entries chunks.new.items ≡ where_key K.cmp (λ k. not (eq_by_cmp K.cmp key.now k))
+    ensures entries { chunk_entries chunks.new.items
+        ≡ where_key K.cmp (λ k. not (eq_by_cmp K.cmp key.now k))
         (chunk_entries chunks.old.items) }
     ensures shrunk { length (chunk_entries chunks.new.items) + cond result 1 0 ≡ length
         (chunk_entries chunks.old.items) }
     ensures chunks { AreChunks K.cmp chunks.new.items }
     ensures spares { All IsSpare spares.new.items }
-    ensures len { vec_len chunks.new + vec_len spares.new ≤ vec_len chunks.old + vec_len spares.old }
+    ensures len { vec_len chunks.new + vec_len spares.new
+        ≤ vec_len chunks.old + vec_len spares.old }
     ensures spares_len { vec_len spares.old ≤ vec_len spares.new }
     ensures capacity { vec_capacity chunks.old ≤ vec_capacity chunks.new }
     ensures counts { AreCounts counts.new.items chunks.new.items }

@@ -47,7 +47,8 @@ impl ListTablet {
 
 // Whether two slots are of one cell and one sort.
 pub(crate) fn is_beside(slot: &Slot, other: &Slot) -> bool
-    ensures { IsTrue result ↔ ((slot.now.cell ≡ other.now.cell) × (slot.now.sort ≡ other.now.sort)) }
+    ensures { IsTrue result ↔ ((slot.now.cell ≡ other.now.cell)
+        × (slot.now.sort ≡ other.now.sort)) }
 {
     slot.cell == other.cell && slot.sort == other.sort
 }
@@ -162,7 +163,8 @@ fn change_pair(
     ensures some { result ≤ length edits.now }
     ensures lists { AreLists entries.new.entries marks.now.entries }
     ensures of_sort { AllPutOfSort (drop result edits.now) }
-    ensures contents { after_edits (drop result edits.now) (contents_of entries.new.entries marks.now.entries)
+    ensures contents { after_edits (drop result edits.now)
+        (contents_of entries.new.entries marks.now.entries)
         ≡ after_edits edits.now (contents_of entries.old.entries marks.now.entries) }
     ensures room { count_by is_put (drop result edits.now) ≤ entries.new.room }
     ensures marked { count_by is_mark (drop result edits.now) ≡ count_by is_mark edits.now }

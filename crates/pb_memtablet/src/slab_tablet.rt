@@ -150,8 +150,10 @@ fn renew_entry(
     ensures stored { AreStored items.new.slots keys.new.entries }
     ensures renewed { IsTrue result
         → seen items.new.slots keys.new.entries ≡ put slot_cmp slot.now item.now
-        (where_key slot_cmp (λ k. not (eq_by_cmp slot_cmp gone.now k)) (seen items.old.slots keys.old.entries)) }
-    ensures same { result ≡ false → seen items.new.slots keys.new.entries ≡ seen items.old.slots keys.old.entries }
+        (where_key slot_cmp (λ k. not (eq_by_cmp slot_cmp gone.now k))
+        (seen items.old.slots keys.old.entries)) }
+    ensures same { result ≡ false → seen items.new.slots keys.new.entries
+        ≡ seen items.old.slots keys.old.entries }
     ensures same_room { result ≡ false → keys.old.room ≤ keys.new.room }
     ensures room { keys.old.room ≤ keys.new.room + 1 }
     ensures len { slab_len items.new ≡ slab_len items.old }
@@ -232,7 +234,8 @@ fn change(
     requires slots { HasRoomFor items.old (cond (is_put edit.now) 1 0) }
     requires mark_room { cond (is_mark edit.now) 1 0 ≤ marks.old.room }
     ensures kept { AreKept items.new.slots keys.new.entries marks.new.entries }
-    ensures contents { contents_of (seen items.new.slots keys.new.entries) marks.new.entries ≡ after_edit edit.now
+    ensures contents { contents_of (seen items.new.slots keys.new.entries) marks.new.entries
+        ≡ after_edit edit.now
         (contents_of (seen items.old.slots keys.old.entries) marks.old.entries) }
     ensures room { keys.old.room ≤ keys.new.room + cond (is_put edit.now) 1 0 }
     ensures mark_room { marks.old.room ≤ marks.new.room + cond (is_mark edit.now) 1 0 }
@@ -262,7 +265,8 @@ fn change_pair(
     ensures kept { AreKept items.new.slots keys.new.entries marks.now.entries }
     ensures of_sort { AllPutOfSort (drop result edits.now) }
     ensures contents { after_edits (drop result edits.now)
-        (contents_of (seen items.new.slots keys.new.entries) marks.now.entries) ≡ after_edits edits.now
+        (contents_of (seen items.new.slots keys.new.entries) marks.now.entries)
+        ≡ after_edits edits.now
         (contents_of (seen items.old.slots keys.old.entries) marks.now.entries) }
     ensures room { count_by is_put (drop result edits.now) ≤ keys.new.room }
     ensures slots { HasRoomFor items.new (count_by is_put (drop result edits.now)) }
@@ -304,7 +308,8 @@ fn change_each(
     requires slots { HasRoomFor items.old (count_by is_put edits.now) }
     requires mark_room { count_by is_mark edits.now ≤ marks.old.room }
     ensures kept { AreKept items.new.slots keys.new.entries marks.new.entries }
-    ensures contents { contents_of (seen items.new.slots keys.new.entries) marks.new.entries ≡ after_edits edits.now
+    ensures contents { contents_of (seen items.new.slots keys.new.entries) marks.new.entries
+        ≡ after_edits edits.now
         (contents_of (seen items.old.slots keys.old.entries) marks.old.entries) }
 {
     for edit in edits {
@@ -325,7 +330,8 @@ fn change_all(
     requires slots { HasRoomFor items.old (count_by is_put edits.now) }
     requires mark_room { count_by is_mark edits.now ≤ marks.old.room }
     ensures kept { AreKept items.new.slots keys.new.entries marks.new.entries }
-    ensures contents { contents_of (seen items.new.slots keys.new.entries) marks.new.entries ≡ after_edits edits.now
+    ensures contents { contents_of (seen items.new.slots keys.new.entries) marks.new.entries
+        ≡ after_edits edits.now
         (contents_of (seen items.old.slots keys.old.entries) marks.old.entries) }
 {
     let done = change_pair(keys, items, marks, edits);
@@ -350,7 +356,8 @@ fn last_entry(
     slot: &Slot,
 ) -> Option<(Slot, Item)>
     requires { AreStored items.now.slots keys.now.entries }
-    ensures { result ≡ last_or None (entries_up_to slot_cmp slot.now (seen items.now.slots keys.now.entries)) }
+    ensures { result ≡ last_or None (entries_up_to slot_cmp slot.now
+        (seen items.now.slots keys.now.entries)) }
 {
     entry_at(items, keys.last_up_to(slot))
 }
@@ -366,7 +373,8 @@ fn newest_in(
     requires stored { AreStored items.now.slots keys.now.entries }
     requires sorted { IsTrue (is_sorted slot_cmp (seen items.now.slots keys.now.entries)) }
     requires of_sort { AllOfSort (seen items.now.slots keys.now.entries) }
-    ensures { IsNewest (map.from_sorted (seen items.now.slots keys.now.entries)) cell sort high result }
+    ensures { IsNewest
+        (map.from_sorted (seen items.now.slots keys.now.entries)) cell sort high result }
 {
     let highest = Slot {
         cell,

@@ -129,7 +129,8 @@ pub(crate) fn take_from<K: Ord + Drop, V: Drop>(
     likely: &Cell<usize>,
 ) -> bool
     requires { IsTrue (is_sorted K.cmp entries.old.items) }
-    ensures items { entries.new.items ≡ where_key K.cmp (λ k. not (eq_by_cmp K.cmp key.now k)) entries.old.items }
+    ensures items { entries.new.items ≡ where_key K.cmp
+        (λ k. not (eq_by_cmp K.cmp key.now k)) entries.old.items }
     ensures capacity { vec_capacity entries.old ≤ vec_capacity entries.new }
     ensures len { vec_len entries.new + cond result 1 0 ≡ vec_len entries.old }
 {
@@ -145,7 +146,8 @@ pub(crate) fn take_from<K: Ord + Drop, V: Drop>(
 // Whether the key is above the one before a place.
 fn is_above_previous<K: Ord, V>(entries: &[(K, V)], place: usize, key: &K) -> bool
     requires { place ≤ length entries.now }
-    ensures { result ≡ true → 0 < place → HoldsAt (λ e. K.cmp key.now e.0 ≡ Greater) entries.now (place - 1) }
+    ensures { result ≡ true → 0 < place → HoldsAt
+        (λ e. K.cmp key.now e.0 ≡ Greater) entries.now (place - 1) }
 {
     if place == 0 {
         return true;
@@ -179,7 +181,8 @@ pub(crate) fn replace_in<K: Ord + Drop, V: Drop>(
 ) -> bool
     requires { IsTrue (is_sorted K.cmp entries.old.items) }
     ensures items { entries.new.items ≡ cond result
-        (put K.cmp key value (where_key K.cmp (λ k. not (eq_by_cmp K.cmp gone.now k)) entries.old.items))
+        (put K.cmp key value (where_key K.cmp
+        (λ k. not (eq_by_cmp K.cmp gone.now k)) entries.old.items))
         entries.old.items }
     ensures capacity { vec_capacity entries.old ≤ vec_capacity entries.new }
     ensures len { vec_len entries.new ≡ vec_len entries.old }
@@ -197,7 +200,8 @@ pub(crate) fn replace_in<K: Ord + Drop, V: Drop>(
 // Whether the next key belongs right behind the key, which would stand at a place.
 fn fits_behind<K: Ord, V>(entries: &[(K, V)], place: usize, key: &K, next: &K, value: &V) -> bool
     requires { IsGap K.cmp entries.now key.now place }
-    ensures { result ≡ true → IsGap K.cmp (insert entries.now place (key.now, value.now)) next.now (place + 1) }
+    ensures { result ≡ true → IsGap K.cmp (insert entries.now place (key.now, value.now)) next.now
+        (place + 1) }
 {
     if !next.cmp(key).is_gt() {
         return false;
@@ -212,7 +216,8 @@ fn fits_behind<K: Ord, V>(entries: &[(K, V)], place: usize, key: &K, next: &K, v
 fn insert_both<T: Copy + Drop>(elements: &mut Vec<T>, place: usize, first: T, second: T)
     requires within { place ≤ vec_len elements.old }
     requires room { vec_len elements.old + 2 ≤ vec_capacity elements.old }
-    ensures items { elements.new.items ≡ insert (insert elements.old.items place first) (place + 1) second }
+    ensures items { elements.new.items ≡ insert (insert elements.old.items place first)
+        (place + 1) second }
     ensures capacity { vec_capacity elements.old ≤ vec_capacity elements.new }
     ensures len { vec_len elements.new ≡ vec_len elements.old + 2 }
 {

@@ -176,7 +176,8 @@ impl<K: Ord + Drop, V: Drop> SortedList<K, V> {
 
     /// Takes the key out. It takes no room.
     pub fn take_out(&mut self, key: &K)
-        ensures entries { self.new.entries ≡ where_key K.cmp (λ k. not (eq_by_cmp K.cmp key.now k)) self.old.entries }
+        ensures entries { self.new.entries ≡ where_key K.cmp
+            (λ k. not (eq_by_cmp K.cmp key.now k)) self.old.entries }
         ensures room { self.old.room ≤ self.new.room }
     {
         if take_among(
@@ -206,7 +207,8 @@ impl<K: Ord + Copy + Drop, V: Copy + Drop> SortedList<K, V> {
     /// the first, they are put together.
     pub fn put_both(&mut self, key: K, value: V, next: K, next_value: V)
         requires { 2 ≤ self.old.room }
-        ensures entries { self.new.entries ≡ put K.cmp next next_value (put K.cmp key value self.old.entries) }
+        ensures entries { self.new.entries ≡ put K.cmp next next_value
+            (put K.cmp key value self.old.entries) }
         ensures room { self.old.room ≤ self.new.room + 2 }
     {
         if put_both_among(

@@ -93,7 +93,8 @@ impl ObserverJob {
 
     /// The next step, where it needs an answer.
     pub fn next(&self) -> Option<&Step>
-        ensures next { MatchOption result (next_of self.now ≡ None) (λ s. next_of self.now ≡ Some s.now) }
+        ensures next { MatchOption result (next_of self.now ≡ None)
+            (λ s. next_of self.now ≡ Some s.now) }
         ensures some { need_of self.now ≡ Call → HasNext self.now }
     {
         match &self.place {

@@ -143,7 +143,8 @@ fn if_dirty(second: bool, start: Ts, version: Revision, acknowledged: Ts) -> Run
 
 // What was found of the acknowledgment.
 fn after_acknowledgment(second: bool, start: Ts, version: Revision, looked: Looked) -> RunPlace
-    ensures { result ≡ Rattle.pb_notify.specs.Places.after_acknowledgment second start version looked }
+    ensures { result
+        ≡ Rattle.pb_notify.specs.Places.after_acknowledgment second start version looked }
 {
     match looked {
         Looked::On(look) => RunPlace::Acknowledging(start, version, look),
@@ -325,7 +326,8 @@ fn go_on(
 // The record of what was seen of a cell, of the version that the program is accepted for: no other has the size for
 // which the verifier judged it.
 fn record_by(accepted: &Arc<Accepted>, cell: Cell, seen: &Seen) -> Record
-    ensures record { result ≡ versions.record_by (versions.tells_old accepted.now.value) cell seen.now.version
+    ensures record { result ≡ versions.record_by
+        (versions.tells_old accepted.now.value) cell seen.now.version
         seen.now.acknowledged.0 seen.now.old }
     ensures size { length result ≡ accepted.now.value.record_size }
 {
@@ -360,7 +362,8 @@ fn begin(
 // Does the next instruction of a machine where it stands, and tells what it did, if anything.
 fn move_at(place: &mut RunPlace) -> Option<Moved>
     requires { IsLocal place.old }
-    ensures { MatchOption result (GrowsAt place.old × (place.new ≡ place.old)) (λ m. MovesAt place.old m place.new) }
+    ensures { MatchOption result (GrowsAt place.old × (place.new ≡ place.old))
+        (λ m. MovesAt place.old m place.new) }
 {
     match place {
         RunPlace::Computing(_, machine) => machine.move_on(),
@@ -393,7 +396,8 @@ fn go_back(place: &mut RunPlace)
 /// did: a job is moved to another place at these two and at asks alone.
 pub fn move_on(place: &mut RunPlace) -> Option<Moved>
     requires { IsLocal place.old }
-    ensures { MatchOption result (GrowsAt place.old × (place.new ≡ place.old)) (λ m. GoesAt place.old m place.new) }
+    ensures { MatchOption result (GrowsAt place.old × (place.new ≡ place.old))
+        (λ m. GoesAt place.old m place.new) }
 {
     let moved = move_at(place);
     if let Some(Moved::Ended(_)) = moved {

@@ -69,7 +69,8 @@ fn has_text(value: &Value, name: &str) -> bool
 
 /// The elements of a member that is an array.
 pub fn elements_at<'a>(value: &'a Value, name: &str) -> Option<&'a Vec<Value>>
-    ensures { option_map (λ v. map view v.now.items) result ≡ elements_at name.now (view value.now) }
+    ensures { option_map (λ v. map view v.now.items) result
+        ≡ elements_at name.now (view value.now) }
 {
     value.get(name).and_then(Value::as_array)
 }

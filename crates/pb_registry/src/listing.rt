@@ -38,9 +38,11 @@ fn add_observer(
     ensures more { OnOk result
         (HasOneMore profile (view element.now) (observers_of observers.old.entries)
         (observers_of observers.new.entries)) }
-    ensures apart { OnOk result (IsDistinct bytes_eq (names_of (observers_of observers.new.entries))) }
+    ensures apart { OnOk result (IsDistinct bytes_eq
+        (names_of (observers_of observers.new.entries))) }
     ensures err { IfErr result
-        (λ c. c ≢ Memory → IsLowestAfter (names_of (observers_of observers.old.entries)) profile (view element.now) c) }
+        (λ c. c ≢ Memory → IsLowestAfter (names_of (observers_of observers.old.entries)) profile
+        (view element.now) c) }
 {
     if is_used(observers, element) {
         return Err(ManifestCode::Name);
@@ -63,7 +65,8 @@ pub fn observers_in(
     elements: &[Value],
 ) -> Result<IndexMap<String, RegisteredObserver>, RegistryFault>
     requires { length elements.now ≤ MAX_OBSERVERS }
-    ensures ok { IfOk result (λ m. AreObservers profile (map view elements.now) (observers_of m.entries)) }
+    ensures ok { IfOk result (λ m. AreObservers profile (map view elements.now)
+        (observers_of m.entries)) }
     ensures err { IfErr result (λ f. (f ≡ fault_with None Memory) ⊎ TellsFault
         (Ok (record { profile = profile; elements = map view elements.now })) f) }
 {

@@ -61,7 +61,8 @@ fn is_name(name: &str) -> bool
 }
 
 fn name_in(value: &Value) -> Result<&str, ManifestCode>
-    ensures { Gives is_memory (λ s. s.now) result (name_in (text_at (codes "name") (view value.now))) }
+    ensures { Gives is_memory (λ s. s.now) result
+        (name_in (text_at (codes "name") (view value.now))) }
 {
     let Some(name) = text_at(value, "name") else {
         return Err(ManifestCode::Form);
@@ -74,7 +75,8 @@ fn name_in(value: &Value) -> Result<&str, ManifestCode>
 }
 
 fn column_in(value: &Value) -> Result<Column, ManifestCode>
-    ensures { Gives is_memory (λ n. n) result (column_in (number_at (codes "column") (view value.now))) }
+    ensures { Gives is_memory (λ n. n) result
+        (column_in (number_at (codes "column") (view value.now))) }
 {
     let Some(number) = number_at(value, "column") else {
         return Err(ManifestCode::Form);
@@ -106,7 +108,8 @@ fn helpers_of(elements: &[Value]) -> Option<HelperTable>
 }
 
 fn helpers_in(value: &Value) -> Result<HelperTable, ManifestCode>
-    ensures { Gives is_memory (λ h. h) result (helpers_in (elements_at (codes "helpers") (view value.now))) }
+    ensures { Gives is_memory (λ h. h) result
+        (helpers_in (elements_at (codes "helpers") (view value.now))) }
 {
     let Some(elements) = elements_at(value, "helpers") else {
         return Err(ManifestCode::Form);
@@ -118,7 +121,8 @@ fn helpers_in(value: &Value) -> Result<HelperTable, ManifestCode>
 }
 
 fn version_in(value: &Value) -> Result<Version, ManifestCode>
-    ensures { Gives is_memory (λ v. v) result (version_in (number_at (codes "record") (view value.now))) }
+    ensures { Gives is_memory (λ v. v) result
+        (version_in (number_at (codes "record") (view value.now))) }
 {
     match number_at(value, "record") {
         None | Some(1) => Ok(Version::First),
@@ -134,7 +138,8 @@ fn has_upper(digits: &[u8]) -> bool
 }
 
 fn bytes_in(alloc: Global, value: &Value) -> Result<Vec<u8>, ManifestCode>
-    ensures { Gives is_memory (λ v. v.items) result (bytes_in (text_at (codes "code") (view value.now))) }
+    ensures { Gives is_memory (λ v. v.items) result
+        (bytes_in (text_at (codes "code") (view value.now))) }
 {
     let Some(digits) = text_at(value, "code") else {
         return Err(ManifestCode::Form);
@@ -158,7 +163,8 @@ fn program_in(
     helpers: HelperTable,
 ) -> Result<Arc<Accepted>, ManifestCode>
     ensures ok { IfOk result (λ p. IsAcceptedCode profile version bytes.now helpers p.value) }
-    ensures err { IfErr result (λ c. c ≢ Memory → IsProgramFault profile version bytes.now helpers c) }
+    ensures err { IfErr result (λ c. c ≢ Memory
+        → IsProgramFault profile version bytes.now helpers c) }
 {
     match accept_in(alloc, profile, version, bytes, helpers) {
         Ok(program) => match Arc::new(alloc, program) {

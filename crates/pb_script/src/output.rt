@@ -20,7 +20,8 @@ use std::collections::BTreeMap;
 // Notes what a committed script transaction wrote.
 fn note_batch(table: &mut BTreeMap<Cell, Newest>, batch: &Batch, commit: Ts) -> Result<(), NoMemory>
     ensures { OnOk result
-        ((puts : List Put) → AreNewest puts table.old → AreNewest (puts ++ map (put_by commit) batch.now) table.new) }
+        ((puts : List Put) → AreNewest puts table.old
+        → AreNewest (puts ++ map (put_by commit) batch.now) table.new) }
 {
     for place in 0..batch.len() {
         let (cell, content) = batch.at(place);

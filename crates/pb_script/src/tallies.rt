@@ -20,7 +20,8 @@ fn phase_is_committed(phase: Option<Phase>) -> bool
 
 // Whether the entry begins a run of the observer that is committed. Begins are counted, since a run has one.
 fn begins_committed_run<T: Tablet>(shared: &Shared<T>, number: usize, entry: &Entry) -> bool
-    ensures { result ≡ begins_committed_run shared.now.state number entry.now.step entry.now.answer }
+    ensures { result
+        ≡ begins_committed_run shared.now.state number entry.now.step entry.now.answer }
 {
     let Step::Begin(Work::Run(observer, _)) = &entry.step else {
         return false;
@@ -49,7 +50,8 @@ fn tally_of<T: Tablet>(
     number: usize,
     observer: &Observer,
 ) -> Result<Tally, NoMemory>
-    ensures { IfOk result (λ t. IsTally shared.now.state.observers shared.now.journal number observer.now t) }
+    ensures { IfOk result
+        (λ t. IsTally shared.now.state.observers shared.now.journal number observer.now t) }
 {
     let name = String::from_str(alloc, observer.name.as_str())?;
     let runs = run_count(shared, number);
@@ -62,7 +64,8 @@ pub(crate) fn tallies_of<T: Tablet>(
     shared: &Shared<T>,
 ) -> Result<Vec<Tally>, NoMemory>
     ensures { IfOk result
-        (λ v. AreTallies shared.now.state.observers shared.now.journal 0 shared.now.state.observers v.items) }
+        (λ v. AreTallies shared.now.state.observers shared.now.journal 0
+        shared.now.state.observers v.items) }
 {
     let mut tallies = Vec::new(alloc);
     let observers = shared.observers();

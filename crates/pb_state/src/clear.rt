@@ -13,7 +13,8 @@ use pb_store::Tablet;
 impl<T: Tablet> Parts<T> {
     pub(crate) fn clear(&mut self, seat: u32, cell: &Cell) -> Result<Answer, NoMemory>
         requires { step_reason self.old seat (Step.Clear cell.now) ≡ None }
-        ensures taken { IfOk result (λ a. TableStep self.old seat (Step.Clear cell.now) a self.new) }
+        ensures taken { IfOk result (λ a. TableStep self.old seat
+            (Step.Clear cell.now) a self.new) }
         ensures same { OnErr result (self.new ≡ self.old) }
     {
         let Some((start, primary)) = any_lock_on(&self.table, cell) else {

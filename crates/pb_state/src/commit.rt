@@ -38,7 +38,8 @@ fn is_observed(observers: &[Observer], cell: &Cell) -> bool
 fn commit_edits(cell: &Cell, start: Ts, commit: Ts) -> [Edit; 2]
     ensures edits { AreEdits result }
     ensures committed { (c : Contents)
-        → after_edits result c ≡ record c { entries = commit_lock c.entries cell.now start.0 commit.0 } }
+        → after_edits result c
+        ≡ record c { entries = commit_lock c.entries cell.now start.0 commit.0 } }
 {
     let lock = slot_of(cell, Sort::Lock, start);
     let record = slot_of(cell, Sort::Write, commit);
@@ -49,8 +50,10 @@ fn commit_edits(cell: &Cell, start: Ts, commit: Ts) -> [Edit; 2]
 fn marking_edits(cell: &Cell, start: Ts, commit: Ts) -> [Edit; 3]
     ensures edits { AreEdits result }
     ensures committed { (c : Contents)
-        → after_edits result c ≡ record c
-        { entries = commit_lock c.entries cell.now start.0 commit.0; marks = map.insert c.marks cell.now tt } }
+        → after_edits result c ≡ record c {
+          entries = commit_lock c.entries cell.now start.0 commit.0;
+          marks = map.insert c.marks cell.now tt;
+        } }
 {
     let lock = slot_of(cell, Sort::Lock, start);
     let record = slot_of(cell, Sort::Write, commit);

@@ -26,7 +26,8 @@ impl<T: Tablet> Parts<T> {
 
     pub(crate) fn commit_primary(&mut self, seat: u32, start: Ts) -> Result<Answer, NoMemory>
         requires { step_reason self.old seat (Step.CommitPrimary start) ≡ None }
-        ensures taken { IfOk result (λ a. TableStep self.old seat (Step.CommitPrimary start) a self.new) }
+        ensures taken { IfOk result (λ a. TableStep self.old seat
+            (Step.CommitPrimary start) a self.new) }
         ensures same { OnErr result (self.new ≡ self.old) }
     {
         // The step isn't refused, so that its transaction is there, stamped, and has declared a primary.

@@ -13,7 +13,8 @@ use pb_store::Tablet;
 
 impl<T: Tablet> Parts<T> {
     pub(crate) fn secondary_reason(&self, seat: u32, start: Ts, cell: &Cell) -> Option<Reason>
-        ensures { result ≡ first_reason (own_reasons self.now seat start.0 (secondary_reasons cell.now)) }
+        ensures { result ≡ first_reason (own_reasons self.now seat start.0
+            (secondary_reasons cell.now)) }
     {
         let Some(transaction) = self.own(seat, start) else {
             return Some(Reason::NotOfSeat);
@@ -34,7 +35,8 @@ impl<T: Tablet> Parts<T> {
         cell: &Cell,
     ) -> Result<Answer, NoMemory>
         requires { step_reason self.old seat (Step.CommitSecondary start cell.now) ≡ None }
-        ensures taken { IfOk result (λ a. TableStep self.old seat (Step.CommitSecondary start cell.now) a self.new) }
+        ensures taken { IfOk result (λ a. TableStep self.old seat
+            (Step.CommitSecondary start cell.now) a self.new) }
         ensures same { OnErr result (self.new ≡ self.old) }
     {
         let Some(transaction) = self.transactions.get(start) else {

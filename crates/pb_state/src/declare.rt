@@ -13,7 +13,8 @@ use pb_store::Tablet;
 impl<T: Tablet> Parts<T> {
     pub(crate) fn declare_reason(&self, seat: u32, start: Ts, what: &Declared) -> Option<Reason>
         ensures { result ≡ first_reason
-            (own_reasons self.now seat start.0 (declare_reasons self.now.observers start.0 what.now)) }
+            (own_reasons self.now seat start.0
+            (declare_reasons self.now.observers start.0 what.now)) }
     {
         let Some(transaction) = self.own(seat, start) else {
             return Some(Reason::NotOfSeat);
@@ -35,7 +36,8 @@ impl<T: Tablet> Parts<T> {
         what: &Declaration,
     ) -> Result<Answer, NoMemory>
         requires { step_reason self.old seat (Step.Declare start what.now) ≡ None }
-        ensures taken { IfOk result (λ a. TableStep self.old seat (Step.Declare start what.now) a self.new) }
+        ensures taken { IfOk result (λ a. TableStep self.old seat
+            (Step.Declare start what.now) a self.new) }
         ensures same { OnErr result (self.new ≡ self.old) }
     {
         // It is there, since the step isn't refused. Only one more owner of the declaration takes memory.

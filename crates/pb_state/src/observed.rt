@@ -188,7 +188,8 @@ fn tells_old(program: &Arc<Accepted>) -> bool
 
 // The record of what was seen of a cell, of the version that the program is accepted for.
 fn record_by(program: &Arc<Accepted>, cell: &Cell, seen: &Seen) -> Record
-    ensures { result ≡ versions.record_by (versions.tells_old program.now.value) cell.now seen.now.version
+    ensures { result ≡ versions.record_by
+        (versions.tells_old program.now.value) cell.now seen.now.version
         seen.now.acknowledged.0 seen.now.old }
 {
     let version = program.version();
@@ -203,8 +204,10 @@ fn is_newer_run(
     finished: &Finished,
     seen: &Seen,
 ) -> bool
-    ensures { result ≡ (nat_lt seen.now.acknowledged.0 seen.now.version.commit.0 && is_made_of program.now.value
-        (versions.record_by (versions.tells_old program.now.value) cell.now seen.now.version seen.now.acknowledged.0
+    ensures { result ≡
+        (nat_lt seen.now.acknowledged.0 seen.now.version.commit.0 && is_made_of program.now.value
+        (versions.record_by
+        (versions.tells_old program.now.value) cell.now seen.now.version seen.now.acknowledged.0
         seen.now.old) start.0 finished.now) }
 {
     if seen.acknowledged >= seen.version.commit {
@@ -223,7 +226,8 @@ fn is_run(
     finished: &Finished,
     seen: &Seen,
 ) -> bool
-    ensures { result ≡ is_run program.now.value cell.now start.0 reads.now finished.now (Some seen.now) }
+    ensures { result ≡ is_run program.now.value cell.now start.0 reads.now finished.now
+        (Some seen.now) }
 {
     let at = old_at(tells_old(program), seen.acknowledged);
     is_newer_run(program, cell, start, finished, seen)
@@ -239,7 +243,8 @@ fn is_run_by(
     reads: &[RecordedRead],
     finished: &Finished,
 ) -> bool
-    ensures { result ≡ is_run_by (Some observer.now) cell.now acknowledgment.now start.0 reads.now finished.now }
+    ensures { result ≡ is_run_by
+        (Some observer.now) cell.now acknowledgment.now start.0 reads.now finished.now }
 {
     let second = tells_old(&observer.program);
     match seen_in(cell, acknowledgment, second, reads) {

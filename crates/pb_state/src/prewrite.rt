@@ -15,7 +15,8 @@ use pb_store::{Edit, Item, Sort, Tablet};
 fn lock_edits(cell: &Cell, start: Ts, content: Content, primary: Cell) -> [Edit; 2]
     ensures edits { AreEdits result }
     ensures lock { (c : Contents)
-        → after_edits result c ≡ record c { entries = put_lock c.entries cell.now start.0 content primary } }
+        → after_edits result c
+        ≡ record c { entries = put_lock c.entries cell.now start.0 content primary } }
 {
     let data = slot_of(cell, Sort::Data, start);
     let lock = slot_of(cell, Sort::Lock, start);
@@ -27,7 +28,8 @@ fn lock_edits(cell: &Cell, start: Ts, content: Content, primary: Cell) -> [Edit;
 
 impl<T: Tablet> Parts<T> {
     pub(crate) fn prewrite_reason(&self, seat: u32, start: Ts, cell: &Cell) -> Option<Reason>
-        ensures { result ≡ first_reason (own_reasons self.now seat start.0 (prewrite_reasons cell.now)) }
+        ensures { result ≡ first_reason (own_reasons self.now seat start.0
+            (prewrite_reasons cell.now)) }
     {
         let Some(transaction) = self.own(seat, start) else {
             return Some(Reason::NotOfSeat);
@@ -37,7 +39,8 @@ impl<T: Tablet> Parts<T> {
 
     pub(crate) fn prewrite(&mut self, seat: u32, start: Ts, cell: &Cell) -> Result<Answer, NoMemory>
         requires { step_reason self.old seat (Step.Prewrite start cell.now) ≡ None }
-        ensures taken { IfOk result (λ a. TableStep self.old seat (Step.Prewrite start cell.now) a self.new) }
+        ensures taken { IfOk result (λ a. TableStep self.old seat
+            (Step.Prewrite start cell.now) a self.new) }
         ensures same { OnErr result (self.new ≡ self.old) }
     {
         if is_taken(&self.table, cell, start) {

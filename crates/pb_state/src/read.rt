@@ -37,7 +37,8 @@ impl<T: Tablet> Parts<T> {
     }
 
     pub(crate) fn read_at_reason(&self, seat: u32, start: Ts, at: Ts) -> Option<Reason>
-        ensures { result ≡ first_reason (own_reasons self.now seat start.0 (read_at_reasons start.0 at.0)) }
+        ensures { result ≡ first_reason (own_reasons self.now seat start.0
+            (read_at_reasons start.0 at.0)) }
     {
         let Some(transaction) = self.own(seat, start) else {
             return Some(Reason::NotOfSeat);
@@ -61,7 +62,8 @@ impl<T: Tablet> Parts<T> {
     ) -> Result<Answer, NoMemory>
         requires sound { IsSoundTable self.old }
         requires allowed { step_reason self.old seat (read_step start cell.now at) ≡ None }
-        ensures taken { IfOk result (λ a. TableStep self.old seat (read_step start cell.now at) a self.new) }
+        ensures taken { IfOk result (λ a. TableStep self.old seat
+            (read_step start cell.now at) a self.new) }
         ensures same { OnErr result (self.new ≡ self.old) }
     {
         // For the proof: a write record's data stand.

@@ -94,8 +94,10 @@ pub(crate) fn commit_of<T: Tablet>(table: &Table<T>, cell: &Cell, start: Ts) -> 
 // Whether a lock stands on the cell, or a write record of this timestamp or later.
 pub(crate) fn is_taken<T: Tablet>(table: &Table<T>, cell: &Cell, from: Ts) -> bool
     ensures { MatchBool result
-        (SomeLock table.now.contents.entries cell.now ⊎ SomeWriteFrom table.now.contents.entries cell.now from.0)
-        (NoLock table.now.contents.entries cell.now × NoWriteFrom table.now.contents.entries cell.now from.0) }
+        (SomeLock table.now.contents.entries cell.now
+        ⊎ SomeWriteFrom table.now.contents.entries cell.now from.0)
+        (NoLock table.now.contents.entries cell.now
+        × NoWriteFrom table.now.contents.entries cell.now from.0) }
 {
     if table.newest(*cell, Sort::Lock, LAST).is_some() {
         return true;

@@ -91,7 +91,8 @@ fn is_any_late<T: Tablet>(
     requires numbered { length observers.now ≤ MAX_OBSERVERS }
     ensures { MatchBool result
         (SomeLate table.now.contents.entries row column commit.0 observers.now)
-        (AreOnTime table.now.contents.entries row column commit.0 observers.now (length observers.now)) }
+        (AreOnTime table.now.contents.entries row column commit.0 observers.now
+        (length observers.now)) }
 {
     for place in 0..observers.len() {
         // Each place is a number, since there are at most 32 observers.
@@ -125,7 +126,8 @@ fn is_behind<T: Tablet>(table: &Table<T>, observers: &[Observer], cell: &Cell) -
 // Takes the mark off. It takes no memory, though `apply` may be refused for all that a contract says.
 fn unmark_edits(cell: &Cell) -> [Edit; 1]
     ensures edits { AreEdits result }
-    ensures unmarked { (c : Contents) → after_edits result c ≡ record c { marks = map.remove c.marks cell.now } }
+    ensures unmarked { (c : Contents) → after_edits result c
+        ≡ record c { marks = map.remove c.marks cell.now } }
 {
     [Edit::Unmark(*cell)]
 }
@@ -134,7 +136,8 @@ impl<T: Tablet> Parts<T> {
     pub(crate) fn sweep(&mut self, seat: u32, cell: &Cell) -> Result<Answer, NoMemory>
         requires sound { IsSoundTable self.old }
         requires allowed { step_reason self.old seat (Step.Sweep cell.now) ≡ None }
-        ensures taken { IfOk result (λ a. TableStep self.old seat (Step.Sweep cell.now) a self.new) }
+        ensures taken { IfOk result (λ a. TableStep self.old seat
+            (Step.Sweep cell.now) a self.new) }
         ensures same { OnErr result (self.new ≡ self.old) }
     {
         // For the proof: a write record's data stand.

@@ -194,8 +194,10 @@ impl Transaction {
         edits: &[Edit],
     ) -> Result<(), NoMemory>
         requires { AreEdits edits.now }
-        ensures ok { OnOk result (self.new ≡ record self.old { prewritten = self.old.prewritten ++ cell ∷ [] }) }
-        ensures applied { OnOk result (table.new.contents ≡ after_edits edits.now table.old.contents) }
+        ensures ok { OnOk result
+            (self.new ≡ record self.old { prewritten = self.old.prewritten ++ cell ∷ [] }) }
+        ensures applied { OnOk result (table.new.contents
+            ≡ after_edits edits.now table.old.contents) }
         ensures err { OnErr result (self.new ≡ self.old) }
         ensures kept { OnErr result (table.new.contents ≡ table.old.contents) }
     {

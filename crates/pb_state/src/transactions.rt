@@ -116,7 +116,8 @@ impl Transactions {
     }
 
     pub(crate) fn set_phase(&mut self, start: Ts, phase: Phase)
-        requires { (t : TransactionOf) → map.get self.old start.0 ≡ Some t → is_reading t.phase ≡ false }
+        requires { (t : TransactionOf) → map.get self.old start.0 ≡ Some t
+            → is_reading t.phase ≡ false }
         ensures { (t : TransactionOf) → map.get self.old start.0 ≡ Some t
             → self.new ≡ map.insert self.old start.0 (record t { phase = phase }) }
     {
@@ -167,8 +168,10 @@ impl Transactions {
     ) -> Result<(), NoMemory>
         requires { AreEdits edits.now }
         ensures ok { OnOk result ((t : TransactionOf) → map.get self.old start.0 ≡ Some t
-            → self.new ≡ map.insert self.old start.0 (record t { prewritten = t.prewritten ++ cell ∷ [] })) }
-        ensures applied { OnOk result (table.new.contents ≡ after_edits edits.now table.old.contents) }
+            → self.new ≡ map.insert self.old start.0
+            (record t { prewritten = t.prewritten ++ cell ∷ [] })) }
+        ensures applied { OnOk result (table.new.contents
+            ≡ after_edits edits.now table.old.contents) }
         ensures err { OnErr result (self.new ≡ self.old) }
         ensures kept { OnErr result (table.new.contents ≡ table.old.contents) }
     {

@@ -11,14 +11,16 @@ use pb_base::{Cell, NoMemory};
 // Puts the item into the slot, alone, since `apply` takes edits of one row and a tablet has entries of many.
 fn put_in<T: Tablet>(tablet: &mut T, slot: &Slot, item: &Item) -> Result<(), NoMemory>
     requires { IsOfSort slot.now.sort item.now }
-    ensures { OnOk result (T.contents tablet.new ≡ after_edit (Put slot.now item.now) (T.contents tablet.old)) }
+    ensures { OnOk result (T.contents tablet.new
+        ≡ after_edit (Put slot.now item.now) (T.contents tablet.old)) }
 {
     tablet.apply(&[Edit::Put(*slot, *item)])
 }
 
 // Marks the cell, alone as well.
 fn mark_in<T: Tablet>(tablet: &mut T, cell: &Cell) -> Result<(), NoMemory>
-    ensures { OnOk result (T.contents tablet.new ≡ after_edit (Mark cell.now) (T.contents tablet.old)) }
+    ensures { OnOk result (T.contents tablet.new
+        ≡ after_edit (Mark cell.now) (T.contents tablet.old)) }
 {
     tablet.apply(&[Edit::Mark(*cell)])
 }
@@ -27,7 +29,8 @@ fn mark_in<T: Tablet>(tablet: &mut T, cell: &Cell) -> Result<(), NoMemory>
 // each place anew.
 fn copy_entries<T: Tablet>(from: &T, to: &mut T) -> Result<(), NoMemory>
     requires { T.contents to.old ≡ nothing }
-    ensures { OnOk result (T.contents to.new ≡ record { entries = (T.contents from.now).entries; marks = map.empty }) }
+    ensures { OnOk result (T.contents to.new
+        ≡ record { entries = (T.contents from.now).entries; marks = map.empty }) }
 {
     let mut after: Option<Slot> = None;
     while let Some((slot, item)) = from.next_entry(after) {
@@ -39,7 +42,11 @@ fn copy_entries<T: Tablet>(from: &T, to: &mut T) -> Result<(), NoMemory>
 
 // Marks all cells that are marked in another tablet, in one that has its entries and no mark yet.
 fn copy_marks<T: Tablet>(from: &T, to: &mut T) -> Result<(), NoMemory>
-    requires { T.contents to.old ≡ record { entries = (T.contents from.now).entries; marks = map.empty } }
+    requires { T.contents to.old ≡ record {
+      entries =
+          (T.contents from.now).entries;
+      marks = map.empty;
+    } }
     ensures { OnOk result (T.contents to.new ≡ T.contents from.now) }
 {
     let mut after: Option<Cell> = None;

@@ -137,7 +137,8 @@ fn cell_of(slot: &Option<Slot>) -> Option<Cell>
 // The first entry after the slot, or of all, in the first tablet that has one.
 fn entry_after<T: Tablet>(parts: &[(Row, T)], after: &Option<Slot>) -> Option<(Slot, Item)>
     requires { IsTiling (tiles_of T.contents parts.now) }
-    ensures { result ≡ slice_get (entries_after after.now (all_entries (tiles_of T.contents parts.now))) 0 }
+    ensures { result ≡ slice_get (entries_after after.now
+        (all_entries (tiles_of T.contents parts.now))) 0 }
 {
     for i in start_in(parts, cell_of(after))..parts.len() {
         let next = parts[i].1.next_entry(*after);
@@ -167,7 +168,8 @@ impl<T: Tablet> Table<T> {
         ensures firsts { IfOk result (λ table. table.firsts ≡ firsts_of parts.items) }
         ensures accepted { OnOk result (table_reason (tiles_of T.contents parts.items) ≡ None) }
         ensures handed_back { IfErr result (λ e. e.0 ≡ parts) }
-        ensures refused { IfErr result (λ e. TellsReason (table_reason (tiles_of T.contents parts.items)) e.1) }
+        ensures refused { IfErr result (λ e. TellsReason
+            (table_reason (tiles_of T.contents parts.items)) e.1) }
     {
         if parts.is_empty() {
             return Err((parts, Reason::NoTablet.refusal()));
@@ -214,8 +216,10 @@ impl<T: Tablet> Table<T> {
 
     /// The first entry after the given slot, or of all. Behind it stand the others.
     pub fn next_entry(&self, after: Option<Slot>) -> Option<(Slot, Item)>
-        ensures entry { result ≡ slice_get (entries_after after (map.entries self.now.contents.entries)) 0 }
-        ensures rest { IfSome result (λ e. entries_after (Some e.0) (map.entries self.now.contents.entries) ≡ drop 1
+        ensures entry { result ≡ slice_get (entries_after after
+            (map.entries self.now.contents.entries)) 0 }
+        ensures rest { IfSome result (λ e. entries_after (Some e.0)
+            (map.entries self.now.contents.entries) ≡ drop 1
             (entries_after after (map.entries self.now.contents.entries))) }
     {
         entry_after(&self.parts, &after)
@@ -260,10 +264,12 @@ impl<T: Tablet> Table<T> {
         ensures same { self.new ≡ self.old }
         ensures some { 0 < length self.old.firsts }
         ensures answered { IfOk result (λ old. T.contents old ≡ nothing) }
-        ensures accepted { OnOk result (swap_reason (T.contents tablet) place (length self.old.firsts) ≡ None) }
+        ensures accepted { OnOk result (swap_reason (T.contents tablet) place
+            (length self.old.firsts) ≡ None) }
         ensures handed_back { IfErr result (λ e. T.contents e.0 ≡ nothing) }
         ensures refused { IfErr result (λ e. e.1 ≡ refusal_by
-            (unwrap_or (swap_reason (T.contents tablet) place (length self.old.firsts)) reasons.NoMemory)) }
+            (unwrap_or (swap_reason (T.contents tablet) place
+            (length self.old.firsts)) reasons.NoMemory)) }
     {
         // In the order of `swap_reason`, and memory last, since the new tablet is written to once nothing else
         // refuses it.

@@ -36,7 +36,8 @@ pub trait Tablet {
 
     /// The first entry after the given slot, or of all.
     fn next_entry(&self, after: Option<Slot>) -> Option<(Slot, Item)>
-        ensures entry { result ≡ slice_get (entries_after after (map.entries (contents self.now).entries)) 0 }
+        ensures entry { result ≡ slice_get (entries_after after
+            (map.entries (contents self.now).entries)) 0 }
         ensures sort { IfSome result (λ e. IsOfSort e.0.sort e.1) };
 
     /// Whether it has no entry and no mark.

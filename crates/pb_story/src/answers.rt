@@ -11,7 +11,8 @@ use std::alloc::AllocError;
 
 // Adds a version that was found.
 fn add_found(text: &mut String, start: Ts, commit: Ts, content: &Content) -> Result<(), AllocError>
-    ensures { OnOk result (string_bytes text.new ≡ string_bytes text.old ++ found_text start commit content.now) }
+    ensures { OnOk result (string_bytes text.new
+        ≡ string_bytes text.old ++ found_text start commit content.now) }
 {
     let start = start.0;
     let commit = commit.0;
@@ -25,7 +26,8 @@ pub fn add_answer(
     observers: &[Observer],
     answer: &Answer,
 ) -> Result<(), AllocError>
-    ensures { OnOk result (string_bytes text.new ≡ string_bytes text.old ++ answer_text observers.now answer.now) }
+    ensures { OnOk result (string_bytes text.new
+        ≡ string_bytes text.old ++ answer_text observers.now answer.now) }
 {
     match answer {
         Answer::At(at) => add_of_start(text, "at", *at),

@@ -13,7 +13,8 @@ pub fn add_name(
     observers: &[Observer],
     number: ObserverNo,
 ) -> Result<(), AllocError>
-    ensures { OnOk result (string_bytes text.new ≡ string_bytes text.old ++ observer_name observers.now number) }
+    ensures { OnOk result (string_bytes text.new
+        ≡ string_bytes text.old ++ observer_name observers.now number) }
 {
     match observers.get(number.number() as usize) {
         Some(observer) => text.push_str(observer.name.as_str()),
@@ -23,7 +24,8 @@ pub fn add_name(
 
 /// Adds a cell: its row and column, and before those of an acknowledgment its observer.
 pub fn add_cell(text: &mut String, observers: &[Observer], cell: &Cell) -> Result<(), AllocError>
-    ensures { OnOk result (string_bytes text.new ≡ string_bytes text.old ++ cell_text observers.now cell.now) }
+    ensures { OnOk result (string_bytes text.new
+        ≡ string_bytes text.old ++ cell_text observers.now cell.now) }
 {
     let row = cell.row().0;
     let column = cell.column().number();
@@ -39,7 +41,8 @@ pub fn add_cell(text: &mut String, observers: &[Observer], cell: &Cell) -> Resul
 
 /// Adds what a cell holds.
 pub fn add_content(text: &mut String, content: &Content) -> Result<(), AllocError>
-    ensures { OnOk result (string_bytes text.new ≡ string_bytes text.old ++ content_text content.now) }
+    ensures { OnOk result (string_bytes text.new
+        ≡ string_bytes text.old ++ content_text content.now) }
 {
     match content {
         Content::Value(value) => {
@@ -63,7 +66,8 @@ fn add_write(
     content: &Content,
 ) -> Result<(), AllocError>
     ensures { OnOk result
-        (string_bytes text.new ≡ string_bytes text.old ++ write_text observers.now (cell.now, content.now)) }
+        (string_bytes text.new ≡ string_bytes text.old ++ write_text observers.now
+        (cell.now, content.now)) }
 {
     text.push_str("; ")?;
     add_cell(text, observers, cell)?;
@@ -73,7 +77,8 @@ fn add_write(
 
 /// Adds the writes of a batch, each behind a semicolon.
 pub fn add_batch(text: &mut String, observers: &[Observer], batch: &Batch) -> Result<(), AllocError>
-    ensures { OnOk result (string_bytes text.new ≡ string_bytes text.old ++ writes_text observers.now batch.now) }
+    ensures { OnOk result (string_bytes text.new
+        ≡ string_bytes text.old ++ writes_text observers.now batch.now) }
 {
     for place in 0..batch.len() {
         let (cell, content) = batch.at(place);
@@ -88,7 +93,8 @@ pub fn add_writes(
     observers: &[Observer],
     writes: &[(Cell, Content)],
 ) -> Result<(), AllocError>
-    ensures { OnOk result (string_bytes text.new ≡ string_bytes text.old ++ writes_text observers.now writes.now) }
+    ensures { OnOk result (string_bytes text.new
+        ≡ string_bytes text.old ++ writes_text observers.now writes.now) }
 {
     for write in writes {
         add_write(text, observers, &write.0, &write.1)?;

@@ -12,7 +12,8 @@ use std::alloc::{AllocError, Global};
 
 // Adds a distance, always with its sign.
 fn add_distance(text: &mut String, distance: i64) -> Result<(), AllocError>
-    ensures { OnOk result (string_bytes text.new ≡ string_bytes text.old ++ distance_text distance) }
+    ensures { OnOk result (string_bytes text.new
+        ≡ string_bytes text.old ++ distance_text distance) }
 {
     if distance < 0 {
         write!(text, "{distance}")
@@ -23,7 +24,8 @@ fn add_distance(text: &mut String, distance: i64) -> Result<(), AllocError>
 
 // Adds what is known of a register, if anything is.
 fn add_register(text: &mut String, number: usize, kind: Kind) -> Result<(), AllocError>
-    ensures { OnOk result (string_bytes text.new ≡ string_bytes text.old ++ register_text number kind) }
+    ensures { OnOk result (string_bytes text.new
+        ≡ string_bytes text.old ++ register_text number kind) }
 {
     match kind {
         Kind::Unset => text.push_str(""),
@@ -41,7 +43,8 @@ fn add_register(text: &mut String, number: usize, kind: Kind) -> Result<(), Allo
 
 // Adds what is known of the registers, by their numbers.
 fn add_registers(text: &mut String, kinds: &[Kind]) -> Result<(), AllocError>
-    ensures { OnOk result (string_bytes text.new ≡ string_bytes text.old ++ registers_text kinds.now) }
+    ensures { OnOk result (string_bytes text.new
+        ≡ string_bytes text.old ++ registers_text kinds.now) }
 {
     for (number, kind) in kinds.iter().enumerate() {
         add_register(text, number, *kind)?;
@@ -84,7 +87,8 @@ fn add_run(text: &mut String, place: usize, count: usize) -> Result<(), AllocErr
 fn add_run_at(text: &mut String, written: &[bool], place: usize) -> Result<(), AllocError>
     requires inside { place < length written.now }
     requires few { length written.now ≤ STACK_BYTES }
-    ensures { OnOk result (string_bytes text.new ≡ string_bytes text.old ++ run_at written.now place) }
+    ensures { OnOk result (string_bytes text.new
+        ≡ string_bytes text.old ++ run_at written.now place) }
 {
     if begins_run(written, place) {
         add_run(text, place, run_length(&written[place..]))
@@ -120,7 +124,8 @@ fn add_line(
     insn: Option<Insn>,
     frame: &Option<Frame>,
 ) -> Result<(), AllocError>
-    ensures { OnOk result (string_bytes text.new ≡ string_bytes text.old ++ line_at slot insn frame.now) }
+    ensures { OnOk result (string_bytes text.new
+        ≡ string_bytes text.old ++ line_at slot insn frame.now) }
 {
     if insn.is_none() {
         return text.push_str("");

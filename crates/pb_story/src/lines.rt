@@ -26,7 +26,8 @@ fn seat_of(event: &Event) -> u32
 
 // Adds what an actor is launched for.
 fn add_job(text: &mut String, observers: &[Observer], job: &Job) -> Result<(), AllocError>
-    ensures { OnOk result (string_bytes text.new ≡ string_bytes text.old ++ job_text observers.now job.now) }
+    ensures { OnOk result (string_bytes text.new
+        ≡ string_bytes text.old ++ job_text observers.now job.now) }
 {
     match job {
         Job::Change(number) => {
@@ -45,7 +46,8 @@ fn add_job(text: &mut String, observers: &[Observer], job: &Job) -> Result<(), A
 // Adds what an actor with this job does next.
 fn add_turn(text: &mut String, observers: &[Observer], job: &ActorJob) -> Result<(), AllocError>
     ensures { OnOk result
-        (GrowsBy (IsTurn observers.now (Some job.now)) (string_bytes text.old) (string_bytes text.new)) }
+        (GrowsBy (IsTurn observers.now (Some job.now)) (string_bytes text.old)
+        (string_bytes text.new)) }
 {
     // Asked first, since a job whose machine is on its way has no step of the table next.
     if let Some(slot) = job.slot() {
@@ -59,7 +61,8 @@ fn add_turn(text: &mut String, observers: &[Observer], job: &ActorJob) -> Result
 
 // Adds what an event does.
 fn add_deed<T: Tablet>(text: &mut String, world: &World<T>, event: &Event) -> Result<(), AllocError>
-    ensures { OnOk result (GrowsBy (IsDeed world.now event.now) (string_bytes text.old) (string_bytes text.new)) }
+    ensures { OnOk result (GrowsBy (IsDeed world.now event.now) (string_bytes text.old)
+        (string_bytes text.new)) }
 {
     let observers = world.shared().observers();
     match event {
@@ -96,7 +99,8 @@ pub fn open_line<T: Tablet>(
 
 // Adds what an event came to.
 fn add_note(text: &mut String, observers: &[Observer], note: &Note) -> Result<(), AllocError>
-    ensures { OnOk result (string_bytes text.new ≡ string_bytes text.old ++ note_text observers.now note.now) }
+    ensures { OnOk result (string_bytes text.new
+        ≡ string_bytes text.old ++ note_text observers.now note.now) }
 {
     match note {
         Note::Launched => text.push_str(" -> launched"),
@@ -117,7 +121,8 @@ fn add_note(text: &mut String, observers: &[Observer], note: &Note) -> Result<()
 /// Ends the line of an event by its note.
 pub fn end_line(text: &mut String, observers: &[Observer], note: &Note) -> Result<(), AllocError>
     ensures { OnOk result
-        (string_bytes text.new ≡ string_bytes text.old ++ (note_text observers.now note.now ++ codes "\n")) }
+        (string_bytes text.new ≡ string_bytes text.old ++
+        (note_text observers.now note.now ++ codes "\n")) }
 {
     add_note(text, observers, note)?;
     text.push_str("\n")

@@ -10,7 +10,8 @@ use std::alloc::AllocError;
 
 // Adds what a transaction is for.
 fn add_work(text: &mut String, observers: &[Observer], work: &Work) -> Result<(), AllocError>
-    ensures { OnOk result (string_bytes text.new ≡ string_bytes text.old ++ work_text observers.now work.now) }
+    ensures { OnOk result (string_bytes text.new
+        ≡ string_bytes text.old ++ work_text observers.now work.now) }
 {
     match work {
         Work::Script => text.push_str("script"),
@@ -29,7 +30,8 @@ fn add_declared(
     observers: &[Observer],
     declared: &Declared,
 ) -> Result<(), AllocError>
-    ensures { OnOk result (string_bytes text.new ≡ string_bytes text.old ++ declared_text observers.now declared.now) }
+    ensures { OnOk result (string_bytes text.new
+        ≡ string_bytes text.old ++ declared_text observers.now declared.now) }
 {
     match declared {
         Declared::Script(batch) => {
@@ -49,7 +51,8 @@ fn add_declared(
 
 /// Adds a word and the start of a transaction.
 pub fn add_of_start(text: &mut String, word: &str, start: Ts) -> Result<(), AllocError>
-    ensures { OnOk result (string_bytes text.new ≡ string_bytes text.old ++ start_text word.now start) }
+    ensures { OnOk result (string_bytes text.new
+        ≡ string_bytes text.old ++ start_text word.now start) }
 {
     let start = start.0;
     write!(text, "{word} {start}")
@@ -63,7 +66,8 @@ pub fn add_on_cell(
     cell: &Cell,
 ) -> Result<(), AllocError>
     ensures { OnOk result
-        (string_bytes text.new ≡ string_bytes text.old ++ on_cell_text observers.now word.now cell.now) }
+        (string_bytes text.new
+        ≡ string_bytes text.old ++ on_cell_text observers.now word.now cell.now) }
 {
     write!(text, "{word} ")?;
     add_cell(text, observers, cell)
@@ -78,7 +82,8 @@ pub fn add_at_cell(
     cell: &Cell,
 ) -> Result<(), AllocError>
     ensures { OnOk result
-        (string_bytes text.new ≡ string_bytes text.old ++ at_cell_text observers.now word.now start cell.now) }
+        (string_bytes text.new
+        ≡ string_bytes text.old ++ at_cell_text observers.now word.now start cell.now) }
 {
     let start = start.0;
     write!(text, "{word} {start} ")?;
@@ -91,7 +96,8 @@ fn add_next_mark(
     observers: &[Observer],
     after: &Option<Cell>,
 ) -> Result<(), AllocError>
-    ensures { OnOk result (string_bytes text.new ≡ string_bytes text.old ++ next_mark_text observers.now after.now) }
+    ensures { OnOk result (string_bytes text.new
+        ≡ string_bytes text.old ++ next_mark_text observers.now after.now) }
 {
     match after {
         None => text.push_str("next mark"),
@@ -101,7 +107,8 @@ fn add_next_mark(
 
 /// Adds a step.
 pub fn add_step(text: &mut String, observers: &[Observer], step: &Step) -> Result<(), AllocError>
-    ensures { OnOk result (string_bytes text.new ≡ string_bytes text.old ++ step_text observers.now step.now) }
+    ensures { OnOk result (string_bytes text.new
+        ≡ string_bytes text.old ++ step_text observers.now step.now) }
 {
     match step {
         Step::Begin(work) => {

@@ -48,7 +48,8 @@ fn tell_event<T: Tablet, S: Sink>(
     sink: &mut S,
 ) -> Result<(), StoryFault>
     requires unfailed { S.failed sink.old ≡ false }
-    ensures { EventEnds world.old number event.now world.new (S.taken sink.old) (S.taken sink.new) (S.failed sink.new)
+    ensures { EventEnds world.old number event.now world.new (S.taken sink.old) (S.taken sink.new)
+        (S.failed sink.new)
         result }
 {
     // Before the event, since what it does is told of the world before it.
@@ -69,7 +70,8 @@ fn tell_events<T: Tablet, S: Sink>(
     sink: &mut S,
 ) -> Result<(), StoryFault>
     requires unfailed { S.failed sink.old ≡ false }
-    ensures { LinesEnd world.old events.now world.new (S.taken sink.old) (S.taken sink.new) (S.failed sink.new) result }
+    ensures { LinesEnd world.old events.now world.new (S.taken sink.old) (S.taken sink.new)
+        (S.failed sink.new) result }
 {
     for number in 0..events.len() {
         tell_event(alloc, world, number, &events[number], sink)?;
@@ -89,7 +91,8 @@ pub fn tell_story<T: Tablet, S: Sink>(
     sink: &mut S,
 ) -> Result<(), StoryFault>
     requires unfailed { S.failed sink.old ≡ false }
-    ensures { StoryEnds world.old events.now world.new (S.taken sink.old) (S.taken sink.new) (S.failed sink.new)
+    ensures { StoryEnds world.old events.now world.new (S.taken sink.old) (S.taken sink.new)
+        (S.failed sink.new)
         result }
 {
     tell_events(alloc, world, events, sink)?;

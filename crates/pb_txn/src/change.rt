@@ -54,7 +54,8 @@ impl ChangeJob {
 
     /// The next step, if it isn't over.
     pub fn next(&self) -> Option<&Step>
-        ensures { MatchOption result (next_of self.now ≡ None) (λ s. next_of self.now ≡ Some s.now) }
+        ensures { MatchOption result (next_of self.now ≡ None)
+            (λ s. next_of self.now ≡ Some s.now) }
     {
         match &self.plan {
             None => Some(&self.begin),

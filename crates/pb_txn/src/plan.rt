@@ -115,7 +115,8 @@ impl Plan {
 
     /// The next step, if it isn't over.
     pub fn next(&self) -> Option<&Step>
-        ensures { MatchOption result (next_of self.now ≡ None) (λ s. next_of self.now ≡ Some s.now) }
+        ensures { MatchOption result (next_of self.now ≡ None)
+            (λ s. next_of self.now ≡ Some s.now) }
     {
         match self.place {
             PlanPlace::Declaring => Some(&self.declare),

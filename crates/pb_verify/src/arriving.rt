@@ -19,9 +19,11 @@ use std::boxed::Box;
 pub fn arrive(jumps: &mut [Option<Box<Frame>>], slot: usize, frame: &mut Frame, falls: bool) -> bool
     requires { slot < length jumps.old }
     ensures known { (if result then Some frame.new else None) ≡ merge
-        (option_map box_value (slice_index_or jumps.old slot None)) (if falls then Some frame.old else None) }
+        (option_map box_value (slice_index_or jumps.old slot None))
+        (if falls then Some frame.old else None) }
     ensures len { length jumps.new ≡ length jumps.old }
-    ensures rest { (k : ℕ) → slot < k → slice_index_or jumps.new k None ≡ slice_index_or jumps.old k None }
+    ensures rest { (k : ℕ) → slot < k → slice_index_or jumps.new k None
+        ≡ slice_index_or jumps.old k None }
 {
     match jumps[slot].take() {
         None => falls,
@@ -44,7 +46,8 @@ fn send(
     ensures len { length jumps.new ≡ length jumps.old }
     ensures each { OnOk result ((k : ℕ) → k < length jumps.old
         → option_map box_value (slice_index_or jumps.new k None) ≡ merge
-        (option_map box_value (slice_index_or jumps.old k None)) (if nat_eq k to then Some frame.now else None)) }
+        (option_map box_value (slice_index_or jumps.old k None))
+        (if nat_eq k to then Some frame.now else None)) }
 {
     if to < jumps.len() {
         let known = match jumps[to].take() {
@@ -94,7 +97,8 @@ pub fn spread(
     ensures each { IfOk result (λ next. (k : ℕ) → slot < k → k < length jumps.old
         → merge (option_map box_value (slice_index_or jumps.new k None))
         (if nat_eq k next then Some frame.now else None) ≡ merge
-        (option_map box_value (slice_index_or jumps.old k None)) (if_leads (Some insn) slot k (Some frame.now))) }
+        (option_map box_value (slice_index_or jumps.old k None))
+        (if_leads (Some insn) slot k (Some frame.now))) }
     ensures most { IfOk result (λ next. next ≤ slot + 2) }
     ensures pair { IfOk result (λ next. slot + 1 < next → places_of insn ≡ Some insn ∷ None ∷ []) }
 {

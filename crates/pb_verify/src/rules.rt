@@ -283,7 +283,8 @@ pub fn lowest_broken(
 ) -> Option<RuleCode>
     requires inside { slot < slots program.now.insns }
     requires near { IsWithin (2 ^ 62) frame.now }
-    ensures { result ≡ lowest_code (insn_rules (judged_by version program.now helpers) slot frame.now insn) }
+    ensures { result ≡ lowest_code (insn_rules
+        (judged_by version program.now helpers) slot frame.now insn) }
 {
     // For the proof: a program has at most `MAX_SLOTS` slots, so that the next slot is a number.
     let _slots = program.slots();

@@ -63,7 +63,8 @@ fn code_at(
 ) -> Option<RuleCode>
     requires inside { slot < slots program.now.insns }
     requires near { IsWithinIf (2 ^ 62) (if is_reached then Some frame.now else None) }
-    ensures value { result ≡ lowest_code (codes_at (judged_by version program.now helpers) slot (Some insn)
+    ensures value { result ≡ lowest_code (codes_at (judged_by version program.now helpers) slot
+        (Some insn)
         (if is_reached then Some frame.now else None)) }
     ensures reached { IfNone result (is_reached ≡ true) }
 {

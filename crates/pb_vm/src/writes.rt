@@ -40,7 +40,8 @@ pub fn kept(end: u64, writes: Vec<(Cell, Content)>) -> Vec<(Cell, Content)>
 /// taken.
 pub fn write(writes: &mut Vec<(Cell, Content)>, cell: Cell, content: Content) -> u64
     requires few { length writes.old.items ≤ MAX_CELLS }
-    requires room { length writes.old.items < MAX_CELLS → length writes.old.items < vec_capacity writes.old }
+    requires room { length writes.old.items < MAX_CELLS
+        → length writes.old.items < vec_capacity writes.old }
     ensures writes { writes.new.items ≡ add_write cell content writes.old.items }
     ensures result { result ≡ write_result cell writes.old.items }
     ensures few { length writes.new.items ≤ MAX_CELLS }

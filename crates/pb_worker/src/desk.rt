@@ -26,7 +26,8 @@ pub trait Callee {
             → result ≡ Err (refusal_by r) }
         ensures allowed { call_reason (table self.old) seat.old.number step.now ≡ None
             → IfErr result (λ r. r ≡ refusal_by reasons.NoMemory) }
-        ensures taken { IfOk result (λ a. Calls (table self.old) seat.old step.now a (table self.new) seat.new) }
+        ensures taken { IfOk result (λ a. Calls (table self.old) seat.old step.now a
+            (table self.new) seat.new) }
         ensures can { IfOk result (λ a. CanAnswer step.now a) }
         ensures table { OnErr result (table self.new ≡ table self.old) }
         ensures seat { OnErr result (seat.new ≡ seat.old) };

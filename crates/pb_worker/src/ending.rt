@@ -97,7 +97,8 @@ fn place_of(number: u32, seats: &[Seat], places: &[usize; SEATS]) -> Option<usiz
 
 // Behind this item of the list, if there is one and it is what the entry tells.
 fn behind(e: &Entry, list: &[Received], next: usize) -> Option<usize>
-    ensures some { IfSome result (λ n. (slice_get list.now next ≡ Some (told_by e.now)) × (n ≡ next + 1)) }
+    ensures some { IfSome result (λ n. (slice_get list.now next ≡ Some (told_by e.now))
+        × (n ≡ next + 1)) }
     ensures none { result ≡ None → slice_get list.now next ≢ Some (told_by e.now) }
 {
     if next < list.len() && is_same(e, &list[next]) {

@@ -60,7 +60,8 @@ pub(crate) fn run_one<R: Wait, C: Callee, G: Gate>(
 ) -> Result<(), Refusal>
     requires known { HasColumn observers.now number cell }
     ensures ok { OnOk result (Gains (IsRun observers.now number cell) seat.old seat.new) }
-    ensures err { IfErr result (λ r. Gains (RunStops seat.old.number observers.now number cell r) seat.old seat.new) }
+    ensures err { IfErr result
+        (λ r. Gains (RunStops seat.old.number observers.now number cell r) seat.old seat.new) }
 {
     // For the proof: what a job has asked is a beginning of a run's conversation, and at its end a whole one.
     jobs_talk();

@@ -160,7 +160,8 @@ fn note_unfinished(workers: &[Worker], changes: usize, unfinished: &mut Vec<usiz
     requires some { 1 < length workers.now }
     requires none { unfinished.old.items ≡ [] }
     requires room { changes ≤ vec_capacity unfinished.old }
-    ensures { unfinished.new.items ≡ undone_below (is_done (flags_in workers.now) (length workers.now - 1)) changes }
+    ensures { unfinished.new.items ≡ undone_below
+        (is_done (flags_in workers.now) (length workers.now - 1)) changes }
 {
     for number in 0..changes {
         if !is_done(workers, number) {
@@ -193,7 +194,8 @@ pub(crate) fn in_threads<R: Threads + Wait + Sync, C: Callee + Send, G: Gate>(
         count,
         &|place: usize, worker: &mut Worker|
             requires { (0 < count) × (count ≤ MAX_SEATS) × (length observers.now ≤ MAX_OBSERVERS) }
-            ensures { Works observers.entry.now batches.entry.now count place worker.entry.now worker.exit.now }
+            ensures { Works observers.entry.now batches.entry.now
+                count place worker.entry.now worker.exit.now }
         {
             work(
                 rt, alloc, shared, worker, observers, batches, count, place, gate,
@@ -236,7 +238,8 @@ fn run_all<R: Threads + Wait + Sync, T: Tablet + Send, J: Opening + Send + Sync,
     requires some { 1 < length workers.items }
     requires few { length workers.items ≤ MAX_SEATS }
     requires numbered { length observers.now ≤ MAX_OBSERVERS }
-    ensures { AllWork observers.now batches.now (spares_of T.contents spares.items) workers.items result.items }
+    ensures { AllWork observers.now batches.now
+        (spares_of T.contents spares.items) workers.items result.items }
 {
     let (mut workers, swapped) = work_beside_swaps(
         rt, alloc, shared, workers, observers, batches, spares, gate,
@@ -261,7 +264,8 @@ fn run_held<R: Threads + Wait + Sync, T: Tablet + Send, J: Opening + Send + Sync
     requires count { shared.state.seats ≡ J.seats }
     requires opened { shared.opened ≡ J.opened }
     requires limit { shared.limit ≡ J.limit }
-    ensures worked { IfOk result (λ w. WorkedOn shared.state.observers batches.items (spares_of T.contents spares.items)
+    ensures worked { IfOk result (λ w. WorkedOn shared.state.observers batches.items
+        (spares_of T.contents spares.items)
         seats.items w.seats.items w.refusals.items w.unfinished.items) }
     ensures table { IfOk result (λ w. KeepsOpening shared w.shared) }
     ensures handed_back { IfErr result (λ n. n.shared ≡ shared) }
@@ -329,7 +333,8 @@ pub fn run_workers<R: Threads + Wait + Sync, T: Tablet + Send, G: Gate>(
 ) -> Result<Worked<T>, NotRun<T>>
     requires seated { AreSeats shared seats.items }
     requires some { 1 < vec_len seats }
-    ensures worked { IfOk result (λ w. WorkedOn shared.state.observers batches.items (spares_of T.contents spares.items)
+    ensures worked { IfOk result (λ w. WorkedOn shared.state.observers batches.items
+        (spares_of T.contents spares.items)
         seats.items w.seats.items w.refusals.items w.unfinished.items) }
     ensures table { IfOk result (λ w. KeepsOpening shared w.shared) }
     ensures handed_back { IfErr result (λ n. n.shared ≡ shared) }

@@ -82,7 +82,8 @@ fn try_once<R: Wait, C: Callee, G: Gate>(
 ) -> Result<bool, Cut>
     ensures ok { IfOk result (λ committed. Gains (IsTry batch.now committed) seat.old seat.new) }
     ensures err { IfErr result
-        (λ cut. Gains (TryStops seat.old.number batch.now cut.committed cut.refusal) seat.old seat.new) }
+        (λ cut. Gains
+        (TryStops seat.old.number batch.now cut.committed cut.refusal) seat.old seat.new) }
 {
     // For the proof: a batch has some cells; and what a change has asked is a beginning of its conversation, and at
     // its end a whole one.
@@ -131,7 +132,8 @@ fn try_all<R: Wait, C: Callee, G: Gate>(
 ) -> Result<bool, Cut>
     ensures ok { IfOk result (λ committed. Gains (AreTries batch.now committed) seat.old seat.new) }
     ensures err { IfErr result
-        (λ cut. Gains (TriesStop seat.old.number batch.now cut.committed cut.refusal) seat.old seat.new) }
+        (λ cut. Gains
+        (TriesStop seat.old.number batch.now cut.committed cut.refusal) seat.old seat.new) }
 {
     for count in 0..MAX_TRIES {
         let committed = try_once(rt, alloc, shared, seat, batch, gate)?;
@@ -179,9 +181,11 @@ pub(crate) fn change_all<R: Wait, C: Callee, G: Gate>(
     requires some { 0 < count }
     requires few { count ≤ MAX_SEATS }
     requires none { done.old.items ≡ [] }
-    ensures ok { OnOk result (Gains (AreAllTried batches.now count first done.new.items) seat.old seat.new) }
+    ensures ok { OnOk result
+        (Gains (AreAllTried batches.now count first done.new.items) seat.old seat.new) }
     ensures err { IfErr result
-        (λ r. Gains (ChangesStop seat.old.number batches.now count first done.new.items r) seat.old seat.new) }
+        (λ r. Gains
+        (ChangesStop seat.old.number batches.now count first done.new.items r) seat.old seat.new) }
 {
     // For the proof: what a change has asked is a beginning of its conversation.
     changes_talk();

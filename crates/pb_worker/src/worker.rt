@@ -40,9 +40,11 @@ fn work_on<R: Wait, C: Callee, G: Gate>(
     requires few { count ≤ MAX_SEATS }
     requires numbered { length observers.now ≤ MAX_OBSERVERS }
     requires none { done.old.items ≡ [] }
-    ensures ok { OnOk result (Gains (IsWhole observers.now batches.now count first done.new.items) seat.old seat.new) }
+    ensures ok { OnOk result
+        (Gains (IsWhole observers.now batches.now count first done.new.items) seat.old seat.new) }
     ensures err { IfErr result (λ r. Gains
-        (IsPart seat.old.number observers.now batches.now count first done.new.items r) seat.old seat.new) }
+        (IsPart seat.old.number observers.now batches.now count first done.new.items r)
+        seat.old seat.new) }
 {
     change_all(rt, alloc, shared, seat, batches, count, first, done, gate)?;
     drain(rt, alloc, shared, seat, observers, gate)?;
@@ -93,7 +95,8 @@ pub(crate) fn drain_last<R: Wait, C: Callee, G: Gate>(
     gate: &G,
 )
     requires numbered { length observers.now ≤ MAX_OBSERVERS }
-    ensures { (spares : List Spare) → AreSwapped spares swapped → Drains spares observers.now main.old main.new }
+    ensures { (spares : List Spare) → AreSwapped spares swapped
+        → Drains spares observers.now main.old main.new }
 {
     let ended = drain(rt, alloc, shared, &mut main.seat, observers, gate);
     // The swaps come first, since they were made before these passes.

@@ -61,7 +61,8 @@ fn ask<T: Tablet>(
     seat: &mut Seat,
     job: &ActorJob,
 ) -> Option<Result<Answer, NotCalled>>
-    ensures { MatchOption result (AsksNothing shared.old seat.old job.now shared.new seat.new) (λ r. MatchResult r
+    ensures { MatchOption result (AsksNothing shared.old seat.old job.now shared.new seat.new)
+        (λ r. MatchResult r
         (Answers shared.old seat.old job.now shared.new seat.new)
         (IsNotAnswered shared.old seat.old job.now shared.new seat.new)) }
 {
@@ -101,9 +102,11 @@ fn step_job<T: Tablet>(
     seat: &mut Seat,
     mut job: ActorJob,
 ) -> AfterStep
-    ensures { OnNote result.note (λ n. JobSteps shared.old seat.old job n shared.new seat.new result.job)
+    ensures { OnNote result.note
+        (λ n. JobSteps shared.old seat.old job n shared.new seat.new result.job)
         ((shared.new ≡ shared.old)
-        × (seat.new ≡ seat.old) × (result.job ≡ Some job) × MayWant shared.old seat.old.number job) }
+        × (seat.new ≡ seat.old) × (result.job ≡ Some job)
+        × MayWant shared.old seat.old.number job) }
 {
     if job.is_local() {
         return match job.local(alloc) {
@@ -131,9 +134,11 @@ pub fn step_actor<T: Tablet>(
     seat: &mut Seat,
     actor: &mut Actor,
 ) -> Result<Note, NoMemory>
-    ensures { OnNote result (λ n. ActorSteps shared.old seat.old actor.old n shared.new seat.new actor.new)
+    ensures { OnNote result
+        (λ n. ActorSteps shared.old seat.old actor.old n shared.new seat.new actor.new)
         ((shared.new ≡ shared.old)
-        × (seat.new ≡ seat.old) × (actor.new ≡ actor.old) × ActorMayWant shared.old seat.old.number actor.old) }
+        × (seat.new ≡ seat.old) × (actor.new ≡ actor.old)
+        × ActorMayWant shared.old seat.old.number actor.old) }
 {
     // The job is taken out, since the step may end it.
     match actor.job.take() {

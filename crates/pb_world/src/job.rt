@@ -19,7 +19,8 @@ impl ActorJob {
 
     /// The next step, if it asks one.
     pub fn next(&self) -> Option<&Step>
-        ensures { MatchOption result (next_of self.now ≡ None) (λ s. next_of self.now ≡ Some s.now) }
+        ensures { MatchOption result (next_of self.now ≡ None)
+            (λ s. next_of self.now ≡ Some s.now) }
     {
         match self {
             ActorJob::Change(job) => job.next(),

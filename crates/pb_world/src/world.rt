@@ -143,7 +143,8 @@ impl<T: Tablet> World<T> {
 
     // The actor of this number, from 1, since seat 0 takes no actor's steps.
     fn actor(&self, number: u32) -> Option<&Actor>
-        ensures { MatchOption result (actor_of self.now number ≡ None) (λ a. actor_of self.now number ≡ Some a.now) }
+        ensures { MatchOption result (actor_of self.now number ≡ None)
+            (λ a. actor_of self.now number ≡ Some a.now) }
     {
         if number == 0 {
             None
@@ -154,7 +155,8 @@ impl<T: Tablet> World<T> {
 
     /// The job of the actor of this number, where there is such an actor and it has one.
     pub fn job(&self, number: u32) -> Option<&ActorJob>
-        ensures { MatchOption result (held_job self.now number ≡ None) (λ j. held_job self.now number ≡ Some j.now) }
+        ensures { MatchOption result (held_job self.now number ≡ None)
+            (λ j. held_job self.now number ≡ Some j.now) }
     {
         self.actor(number)?.job.as_ref()
     }
@@ -252,7 +254,8 @@ impl<T: Tablet> World<T> {
     // An actor gets a job. It is made first, so that a refused growth leaves the actor as it was.
     fn launch(&mut self, alloc: Global, number: u32, job: &Job) -> Result<Note, NoMemory>
         requires { no_launch (actor_of self.old number) (job_for self.old job.now) ≡ None }
-        ensures { OnNote result (λ n. Launches self.old number job.now n self.new) (self.new ≡ self.old) }
+        ensures { OnNote result (λ n. Launches self.old number job.now n self.new)
+            (self.new ≡ self.old) }
     {
         let made = self.make(alloc, job)?;
         let said = self.seats[number as usize].received().len();
@@ -312,8 +315,10 @@ impl<T: Tablet> World<T> {
 
     // One event. At fault, it did nothing, since faults are looked for before it does anything.
     fn event(&mut self, alloc: Global, event: &Event) -> Result<Note, EventFault>
-        ensures { MatchResult result (λ n. Happens self.old event.now n self.new) (λ f. (self.new ≡ self.old)
-            × (((f ≡ faults.NoMemory) × Wants self.old event.now) ⊎ (fault_of self.old event.now ≡ Some f))) }
+        ensures { MatchResult result (λ n. Happens self.old event.now n self.new)
+            (λ f. (self.new ≡ self.old)
+            × (((f ≡ faults.NoMemory) × Wants self.old event.now)
+            ⊎ (fault_of self.old event.now ≡ Some f))) }
     {
         if let Some(fault) = self.fault(event) {
             return Err(fault);

@@ -25,7 +25,8 @@ fn tell_files<'a, T: Tablet, P: Paths, O: Sink>(
 ) -> Result<Verdict, Fault<'a>>
     requires empty { table.contents ≡ nothing }
     requires unfailed { O.failed out.old ≡ false }
-    ensures told { TellLeaves (P.held paths.old) manifest.now script.now schedule.now clock.0 (O.taken out.old)
+    ensures told { TellLeaves (P.held paths.old) manifest.now script.now schedule.now clock.0
+        (O.taken out.old)
         (O.taken out.new) (O.failed out.new) result }
     ensures same { P.held paths.new ≡ P.held paths.old }
     ensures quiet { P.failed paths.new ≡ P.failed paths.old }
@@ -69,8 +70,10 @@ pub fn story_command<T: Tablet, P: Paths, O: Sink, E: Sink>(
     requires empty { table.contents ≡ nothing }
     requires out_unfailed { O.failed out.old ≡ false }
     requires err_unfailed { E.failed err.old ≡ false }
-    ensures { StoryCommands options.now (P.held paths.old) (P.held paths.new) (P.failed paths.old) (P.failed paths.new)
-        (O.taken out.old) (O.taken out.new) (O.failed out.new) (E.taken err.old) (E.taken err.new) (E.failed err.new)
+    ensures { StoryCommands options.now (P.held paths.old) (P.held paths.new) (P.failed paths.old)
+        (P.failed paths.new)
+        (O.taken out.old) (O.taken out.new) (O.failed out.new) (E.taken err.old) (E.taken err.new)
+        (E.failed err.new)
         result }
 {
     let outcome = match options {

@@ -12,7 +12,8 @@ use std::alloc::Global;
 
 // What is known before each slot of the program of these bytes, read in this profile, or where they are refused.
 fn frames_of<'a>(alloc: Global, profile: Profile, bytes: &[u8]) -> Result<VerdictText, Fault<'a>>
-    ensures told { IfOk result (λ a. KnowsFrames profile bytes.now a.verdict (string_bytes a.text)) }
+    ensures told { IfOk result (λ a. KnowsFrames profile bytes.now a.verdict
+        (string_bytes a.text)) }
     ensures fault { IfErr result IsMemoryFault }
 {
     match decode_in(alloc, profile, bytes) {
@@ -37,7 +38,8 @@ pub fn frames_file<'a, P: Paths, O: Sink>(
     out: &mut O,
 ) -> Result<Verdict, Fault<'a>>
     requires unfailed { O.failed out.old ≡ false }
-    ensures told { AnswerLeaves (KnowsFrames profile) (P.held paths.old file.now) file.now (O.taken out.old)
+    ensures told { AnswerLeaves (KnowsFrames profile) (P.held paths.old file.now) file.now
+        (O.taken out.old)
         (O.taken out.new) (O.failed out.new) result }
     ensures same { P.held paths.new ≡ P.held paths.old }
     ensures quiet { P.failed paths.new ≡ P.failed paths.old }

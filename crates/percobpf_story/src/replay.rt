@@ -37,7 +37,8 @@ fn tell_on<T: Tablet, S: Sink>(
 ) -> Result<(), StoryFault>
     requires seated { AreSeats shared seats.items }
     requires unfailed { S.failed sink.old ≡ false }
-    ensures { StoryEndsFrom (opened_world shared seats.items batches.items) events.now (S.taken sink.old)
+    ensures { StoryEndsFrom (opened_world shared seats.items batches.items) events.now
+        (S.taken sink.old)
         (S.taken sink.new) (S.failed sink.new) result }
 {
     match World::open(alloc, shared, seats, batches) {
@@ -72,7 +73,8 @@ pub fn tell_texts<T: Tablet, S: Sink>(
 ) -> Result<(), RunFault>
     requires empty { table.contents ≡ nothing }
     requires unfailed { S.failed sink.old ≡ false }
-    ensures { TellsTexts manifest.now script.now schedule.now last.0 (S.taken sink.old) (S.taken sink.new)
+    ensures { TellsTexts manifest.now script.now schedule.now last.0 (S.taken sink.old)
+        (S.taken sink.new)
         (S.failed sink.new) result }
 {
     let (observers, batches, events) = match read_replay(alloc, manifest, script, schedule) {

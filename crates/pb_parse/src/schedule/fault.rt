@@ -58,7 +58,8 @@ impl ScheduleFault {
     pub fn at(index: usize, code: ScheduleCode) -> ScheduleFault
         requires { index < usize.MAX }
         ensures memory { code ≡ Memory → result ≡ record { line = 0; code = 1 } }
-        ensures other { code ≢ Memory → result ≡ record { line = index + 1; code = schedule_code code } }
+        ensures other { code ≢ Memory → result
+            ≡ record { line = index + 1; code = schedule_code code } }
     {
         // Want of memory is told at no line, since none is at fault.
         let line = match code {

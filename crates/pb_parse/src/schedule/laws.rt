@@ -17,7 +17,8 @@ ghost use Rattle.pb_parse.specs.ScheduleFaults.{ScheduleStopsAt, StopsAtField, G
 /// 63, changes from 1 to 10,000, 1 to 1,000,000 times, rows of 64 bits, columns below 16, and observers by the name that
 /// they have first.
 pub fn event_lines_are_read_as_written()
-    ensures { (observers : List ObserverOf) (line : List ℕ) (order : Order) → (order_of observers line ≡ Ok order)
+    ensures { (observers : List ObserverOf) (line : List ℕ) (order : Order)
+        → (order_of observers line ≡ Ok order)
         ↔ IsLineOf observers order line }
 {}
 
@@ -39,9 +40,11 @@ pub fn schedule_fault_is_first()
 /// has that fault, whatever stands behind. Too many events are told exactly where a line is read, and goes past.
 pub fn schedule_faults_are_told_where_they_are()
     ensures field { (observers : List ObserverOf) (line : List ℕ) (cause : ScheduleCode)
-        → order_of observers line ≡ Err cause → (cause ≡ code.Form) ⊎ StopsAtField observers (words_of line) cause }
+        → order_of observers line ≡ Err cause
+        → (cause ≡ code.Form) ⊎ StopsAtField observers (words_of line) cause }
     ensures told { (observers : List ObserverOf) (line : List ℕ) (cause : ScheduleCode)
         → StopsAtField observers (words_of line) cause → order_of observers line ≡ Err cause }
     ensures too_many { (observers : List ObserverOf) (before : List Event) (line : List ℕ)
-        → (with_event_line observers before line ≡ Err code.TooMany) ↔ GoesPast observers before line }
+        → (with_event_line observers before line ≡ Err code.TooMany)
+        ↔ GoesPast observers before line }
 {}

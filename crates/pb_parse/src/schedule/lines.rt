@@ -16,7 +16,8 @@ use std::alloc::Global;
 // Adds what an order asks for, by one growth however often it asks.
 fn append(events: &mut Vec<Event>, order: Order) -> Result<(), ScheduleCode>
     requires { vec_len events.old ≤ MAX_EVENTS }
-    ensures read { Gives is_memory (λ _. events.new.items) result (with_order events.old.items order) }
+    ensures read { Gives is_memory (λ _. events.new.items) result
+        (with_order events.old.items order) }
     ensures most { vec_len events.new ≤ MAX_EVENTS }
 {
     // What is left is compared, since a sum with any `times` may go beyond its type.

@@ -51,9 +51,11 @@ struct Named {
 // The first observer of this name. A manifest has none of one name; other code may hand in several.
 fn observer_named(observers: &[Observer], name: &str) -> Option<Named>
     requires { length observers.now ≤ MAX_OBSERVERS }
-    ensures number { MatchOption result (observer_named observers.now name.now ≡ Err code.NoObserver)
+    ensures number { MatchOption result
+        (observer_named observers.now name.now ≡ Err code.NoObserver)
         (λ o. observer_named observers.now name.now ≡ Ok o.number) }
-    ensures column { MatchOption result (Unit {0}) (λ o. o.column ≡ observed_column observers.now o.number) }
+    ensures column { MatchOption result (Unit {0})
+        (λ o. o.column ≡ observed_column observers.now o.number) }
 {
     for (place, observer) in observers.iter().enumerate() {
         if observer.name.as_str() == name {
@@ -117,7 +119,8 @@ impl<'a> LineWords<'a> {
 
     // Seat 0 is the main one, which asks what is no actor's, so that a text names actors from 1 on.
     fn actor(&mut self) -> Result<u32, ScheduleCode>
-        ensures { Gives is_memory (λ x. (x, words_left self.new.rest)) result (next_actor (words_left self.old.rest)) }
+        ensures { Gives is_memory (λ x. (x, words_left self.new.rest)) result
+            (next_actor (words_left self.old.rest)) }
     {
         let number = self.number(1, u64::from(MAX_SEATS - 1))?;
         Ok(number as u32)
@@ -125,7 +128,8 @@ impl<'a> LineWords<'a> {
 
     #[tactic(auto, unfolding(crate::specs::ScheduleWords::next_row))]
     fn row(&mut self) -> Result<Row, ScheduleCode>
-        ensures { Gives is_memory (λ x. (x, words_left self.new.rest)) result (next_row (words_left self.old.rest)) }
+        ensures { Gives is_memory (λ x. (x, words_left self.new.rest)) result
+            (next_row (words_left self.old.rest)) }
     {
         let number = self.number(0, u64::MAX)?;
         Ok(Row(number))
@@ -148,7 +152,8 @@ impl<'a> LineWords<'a> {
 
     #[tactic(auto, unfolding(crate::specs::ScheduleWords::next_change))]
     fn change(&mut self) -> Result<Job, ScheduleCode>
-        ensures { Gives is_memory (λ x. (x, words_left self.new.rest)) result (next_change (words_left self.old.rest)) }
+        ensures { Gives is_memory (λ x. (x, words_left self.new.rest)) result
+            (next_change (words_left self.old.rest)) }
     {
         let number = self.number(1, MAX_CHANGES as u64)?;
         Ok(Job::Change(number as u32))
@@ -182,7 +187,8 @@ impl<'a> LineWords<'a> {
     #[tactic(auto, unfolding(crate::specs::ScheduleWords::once, crate::specs::ScheduleWords::launch_of))]
     fn launch(&mut self, observers: &[Observer]) -> Result<Order, ScheduleCode>
         requires { length observers.now ≤ MAX_OBSERVERS }
-        ensures { Gives is_memory (λ o. o) result (launch_of observers.now (words_left self.old.rest)) }
+        ensures { Gives is_memory (λ o. o) result
+            (launch_of observers.now (words_left self.old.rest)) }
     {
         let actor = self.actor()?;
         let job = self.job(observers)?;
@@ -306,7 +312,8 @@ impl<'a> LineWords<'a> {
 
     #[tactic(auto, unfolding(crate::specs::ScheduleWords::once, crate::specs::ScheduleWords::once_on))]
     fn sweep(&mut self) -> Result<Order, ScheduleCode>
-        ensures { Gives is_memory (λ o. o) result (once_on event.Sweep (next_data_cell (words_left self.old.rest))) }
+        ensures { Gives is_memory (λ o. o) result
+            (once_on event.Sweep (next_data_cell (words_left self.old.rest))) }
     {
         let cell = self.data_cell()?;
         self.no_word()?;
@@ -320,7 +327,8 @@ impl<'a> LineWords<'a> {
     #[tactic(auto, unfolding(crate::specs::ScheduleWords::order_of_words))]
     fn order(&mut self, observers: &[Observer]) -> Result<Order, ScheduleCode>
         requires { length observers.now ≤ MAX_OBSERVERS }
-        ensures { Gives is_memory (λ o. o) result (order_of_words observers.now (words_left self.old.rest)) }
+        ensures { Gives is_memory (λ o. o) result
+            (order_of_words observers.now (words_left self.old.rest)) }
     {
         let verb = self.next_word()?;
         match verb {

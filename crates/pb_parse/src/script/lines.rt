@@ -75,7 +75,8 @@ fn batch_of(alloc: Global, line: &str) -> Result<Batch, ScriptCode>
 // Adds what one line says.
 #[tactic(auto, unfolding(crate::specs::ScriptLines::with_line))]
 fn add_line(alloc: Global, batches: &mut Vec<Batch>, line: &str) -> Result<(), ScriptCode>
-    ensures { Gives is_memory (λ _. batches.new.items) result (with_line batches.old.items line.now) }
+    ensures { Gives is_memory (λ _. batches.new.items) result
+        (with_line batches.old.items line.now) }
 {
     if is_skipped(line) {
         return Ok(());
@@ -104,7 +105,8 @@ impl ScriptFault {
     fn at(index: usize, code: ScriptCode) -> ScriptFault
         requires { index < usize.MAX }
         ensures memory { code ≡ Memory → result ≡ record { line = 0; code = 1 } }
-        ensures other { code ≢ Memory → result ≡ record { line = index + 1; code = script_code code } }
+        ensures other { code ≢ Memory → result
+            ≡ record { line = index + 1; code = script_code code } }
     {
         // Want of memory is told at no line, since none is at fault.
         let line = match code {
@@ -139,12 +141,14 @@ pub fn parse_script(alloc: Global, text: &str) -> Result<Vec<Batch>, ScriptFault
 
 /// The fault that is told is that of the first line at fault: the lines before it are a script of their own.
 pub fn fault_is_first()
-    ensures { (text : List ℕ) (line code : ℕ) → script_of text ≡ Err (line, code) → StopsAt text line code }
+    ensures { (text : List ℕ) (line code : ℕ) → script_of text ≡ Err (line, code)
+        → StopsAt text line code }
 {}
 
 /// What a script is read as is at most 10,000 transactions, each of them a batch: 1 to 16 distinct cells.
 pub fn reads_batches()
-    ensures { (text : List ℕ) (batches : Batches) → script_of text ≡ Ok batches → AreBatches batches }
+    ensures { (text : List ℕ) (batches : Batches) → script_of text ≡ Ok batches
+        → AreBatches batches }
 {}
 
 /// A line is read as a transaction exactly where each of its operations is read, and what they write is a batch; the
@@ -157,5 +161,6 @@ pub fn reads_operations()
 /// The fault of a line is that of its first operation at fault: those before it are read, of distinct cells. It is the
 /// operation's own (70, 71 or 72), or else 73 where one before it names its cell, or else 74 where there are 16 before it.
 pub fn operation_fault_is_first()
-    ensures { (line : List ℕ) (cause : ScriptCode) → batch_of line ≡ Err cause → StopsWith line cause }
+    ensures { (line : List ℕ) (cause : ScriptCode) → batch_of line ≡ Err cause
+        → StopsWith line cause }
 {}

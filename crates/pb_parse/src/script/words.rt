@@ -82,7 +82,8 @@ fn content_of(word: &str) -> Result<Value, ScriptCode>
 
 // The next word, and what is left after it, if anything: words end at blanks.
 fn next_word(words: Option<&str>) -> Result<(&str, Option<&str>), ScriptCode>
-    ensures { Gives is_memory (λ x. (x.0.now, words_left x.1)) result (next_word code.Form (words_left words.entry)) }
+    ensures { Gives is_memory (λ x. (x.0.now, words_left x.1)) result
+        (next_word code.Form (words_left words.entry)) }
 {
     match words {
         Some(text) => Ok(first_word(text)),
@@ -93,7 +94,8 @@ fn next_word(words: Option<&str>) -> Result<(&str, Option<&str>), ScriptCode>
 // A row and a column, and the words after them.
 #[tactic(auto, unfolding(crate::specs::ScriptWords::cell_at))]
 fn cell_at(words: Option<&str>) -> Result<(CellNumbers, Option<&str>), ScriptCode>
-    ensures value { Gives is_memory (λ x. (Data (record { 0 = x.0.row }) x.0.column, words_left x.1)) result
+    ensures value { Gives is_memory
+        (λ x. (Data (record { 0 = x.0.row }) x.0.column, words_left x.1)) result
         (cell_at (words_left words.entry)) }
     ensures bound { IfOk result (λ x. x.0.column < 16) }
 {

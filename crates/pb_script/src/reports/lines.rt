@@ -50,7 +50,8 @@ pub fn digits_of<'a>(value: &Value, room: &'a mut [u8; 64]) -> &'a str
 
 /// Adds the line of a cell.
 pub fn add_cell_line(text: &mut String, cell: &Cell, newest: &Newest) -> Result<(), AllocError>
-    ensures { OnOk result (string_bytes text.new ≡ string_bytes text.old ++ cell_line cell.now newest.now) }
+    ensures { OnOk result (string_bytes text.new
+        ≡ string_bytes text.old ++ cell_line cell.now newest.now) }
 {
     let row = cell.row().0;
     let column = cell.column().number();

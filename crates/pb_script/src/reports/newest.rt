@@ -30,11 +30,14 @@ fn is_data(cell: &Cell) -> bool
 
 // Puts a write at its cell, unless the table has a newer one there.
 fn put_newest(table: &mut BTreeMap<Cell, Newest>, put: &Put) -> Result<(), AllocError>
-    ensures newer { OnOk result (is_later (tree.get cell_cmp table.old put.now.cell) put.now.commit ≡ true
+    ensures newer { OnOk result (is_later (tree.get cell_cmp table.old put.now.cell) put.now.commit
+        ≡ true
         → (x : Cell)
-        → tree.get cell_cmp table.new x ≡ cond (tree.is_at (cell_cmp put.now.cell) x) (Some (newest_in put.now))
+        → tree.get cell_cmp table.new x ≡ cond (tree.is_at (cell_cmp put.now.cell) x)
+        (Some (newest_in put.now))
         (tree.get cell_cmp table.old x)) }
-    ensures older { OnOk result (is_later (tree.get cell_cmp table.old put.now.cell) put.now.commit ≡ false
+    ensures older { OnOk result (is_later (tree.get cell_cmp table.old put.now.cell) put.now.commit
+        ≡ false
         → (x : Cell) → tree.get cell_cmp table.new x ≡ tree.get cell_cmp table.old x) }
     ensures rising { tree.IsOrdered cell_cmp table.new }
 {
@@ -54,7 +57,8 @@ fn put_newest(table: &mut BTreeMap<Cell, Newest>, put: &Put) -> Result<(), Alloc
 
 /// Notes one more committed write. One of an acknowledgment is passed over, since a report tells data cells alone.
 pub fn note(table: &mut BTreeMap<Cell, Newest>, put: &Put) -> Result<(), AllocError>
-    ensures { OnOk result ((puts : List Put) → AreNewest puts table.old → AreNewest (puts ++ put.now ∷ []) table.new) }
+    ensures { OnOk result ((puts : List Put) → AreNewest puts table.old
+        → AreNewest (puts ++ put.now ∷ []) table.new) }
 {
     if is_data(&put.cell) {
         put_newest(table, put)?;

@@ -201,7 +201,8 @@ fn program<'a>(alloc: Global) -> Result<Command<'a>, AllocError>
 
 fn matches_of<'a>(alloc: Global, words: &'a [&'a str]) -> Result<ArgMatches<'a>, Error>
     ensures kinds { FailsBy (fault_of program_app (texts_of words.now)) result }
-    ensures subcommand { IfOk result (λ m. subcommand_rows_of m ≡ subcommand_of program_app (texts_of words.now)) }
+    ensures subcommand { IfOk result (λ m. subcommand_rows_of m
+        ≡ subcommand_of program_app (texts_of words.now)) }
 {
     let command = program(alloc)?;
     command.try_get_matches_from(words)
@@ -263,7 +264,8 @@ fn run_in<'a>(run: &ArgMatches<'a>) -> Option<Options<'a>>
 
 // The clock that the matches of `replay` name.
 pub fn clock_in(replay: &ArgMatches) -> Option<Ts>
-    ensures { option_map (λ t. t.0) result ≡ clock_of (one_of (codes "clock") (rows_of (found_of replay.now))) }
+    ensures { option_map (λ t. t.0) result ≡ clock_of
+        (one_of (codes "clock") (rows_of (found_of replay.now))) }
 {
     match replay.try_get_one::<u64>("clock") {
         Ok(clock) => Some(Ts(clock.unwrap_or(0))),
@@ -426,33 +428,43 @@ pub fn options<'a>(alloc: Global, words: &'a [&'a str]) -> Result<Options<'a>, E
 /// with another such word there each is refused. Without `--profile` the profile is the first. So is `check` with
 /// `--record` and 1 or 2.
 pub fn plain_words_are_taken()
-    ensures run { (program manifest script : List ℕ) → is_plain_word manifest ≡ true → is_plain_word script ≡ true
+    ensures run { (program manifest script : List ℕ) → is_plain_word manifest ≡ true
+        → is_plain_word script ≡ true
         → AskFor (run_words program manifest script) (Run manifest script 1 0) }
     ensures workers { (program manifest script workers : List ℕ) → is_plain_word manifest ≡ true
         → is_plain_word script ≡ true → is_workers workers ≡ true
-        → AskFor (workers_words program manifest script workers) (Run manifest script (count_number workers) 0) }
-    ensures other_workers { (program manifest script workers : List ℕ) → is_plain_word manifest ≡ true
+        → AskFor (workers_words program manifest script workers)
+        (Run manifest script (count_number workers) 0) }
+    ensures other_workers { (program manifest script workers : List ℕ)
+        → is_plain_word manifest ≡ true
         → is_plain_word script ≡ true → is_plain_word workers ≡ true → is_workers workers ≡ false
         → HaveBadValue (workers_words program manifest script workers) }
     ensures swaps { (program manifest script swaps : List ℕ) → is_plain_word manifest ≡ true
         → is_plain_word script ≡ true → is_swaps swaps ≡ true
-        → AskFor (swaps_words program manifest script swaps) (Run manifest script 1 (count_number swaps)) }
+        → AskFor (swaps_words program manifest script swaps)
+        (Run manifest script 1 (count_number swaps)) }
     ensures other_swaps { (program manifest script swaps : List ℕ) → is_plain_word manifest ≡ true
         → is_plain_word script ≡ true → is_plain_word swaps ≡ true → is_swaps swaps ≡ false
         → HaveBadValue (swaps_words program manifest script swaps) }
     ensures replay { (program manifest script schedule : List ℕ) → is_plain_word manifest ≡ true
         → is_plain_word script ≡ true → is_plain_word schedule ≡ true
-        → AskFor (replay_words program manifest script schedule) (Replay manifest script schedule 0) }
-    ensures clock { (program manifest script schedule clock : List ℕ) → is_plain_word manifest ≡ true
+        → AskFor (replay_words program manifest script schedule)
+        (Replay manifest script schedule 0) }
+    ensures clock { (program manifest script schedule clock : List ℕ)
+        → is_plain_word manifest ≡ true
         → is_plain_word script ≡ true → is_plain_word schedule ≡ true → is_clock clock ≡ true
         → AskFor (clock_words program manifest script schedule clock)
         (Replay manifest script schedule (clock_number clock)) }
-    ensures other_clock { (program manifest script schedule clock : List ℕ) → is_plain_word manifest ≡ true
+    ensures other_clock { (program manifest script schedule clock : List ℕ)
+        → is_plain_word manifest ≡ true
         → is_plain_word script ≡ true → is_plain_word schedule ≡ true → is_plain_word clock ≡ true
-        → is_clock clock ≡ false → HaveBadValue (clock_words program manifest script schedule clock) }
-    ensures asm { (program input output : List ℕ) → is_plain_word input ≡ true → is_plain_word output ≡ true
+        → is_clock clock ≡ false → HaveBadValue
+        (clock_words program manifest script schedule clock) }
+    ensures asm { (program input output : List ℕ) → is_plain_word input ≡ true
+        → is_plain_word output ≡ true
         → AskFor (asm_words program input output) (Asm input output One) }
-    ensures asm_profile { (program input output : List ℕ) → is_plain_word input ≡ true → is_plain_word output ≡ true
+    ensures asm_profile { (program input output : List ℕ) → is_plain_word input ≡ true
+        → is_plain_word output ≡ true
         → TakeProfiles (asm_words program input output) (Asm input output) }
     ensures other_asm_profile { (program input output : List ℕ) → is_plain_word input ≡ true
         → is_plain_word output ≡ true → RefuseOtherProfiles (asm_words program input output) }

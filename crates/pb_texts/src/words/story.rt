@@ -49,7 +49,8 @@ fn story_program<'a>(alloc: Global) -> Result<Command<'a>, AllocError>
 
 fn story_matches<'a>(alloc: Global, words: &'a [&'a str]) -> Result<ArgMatches<'a>, Error>
     ensures kinds { FailsBy (fault_of story_app (texts_of words.now)) result }
-    ensures subcommand { IfOk result (λ m. subcommand_rows_of m ≡ subcommand_of story_app (texts_of words.now)) }
+    ensures subcommand { IfOk result (λ m. subcommand_rows_of m
+        ≡ subcommand_of story_app (texts_of words.now)) }
 {
     let command = story_program(alloc)?;
     command.try_get_matches_from(words)
