@@ -34,7 +34,8 @@ use Rattle.law_programs.specs.Touches.{Touch, touch, size_bytes, Touches, Loadin
 use Rattle.law_programs.specs.Targets.{jump_offset, next_slot}
 use Rattle.law_programs.specs.Breaks.{IsWrong, Breaks}
 use Rattle.law_programs.proofs.Told.{each_one, each_when}
-use Rattle.law_programs.proofs.Tests.{Decides-unset, Decides-number, Decides-place, Decides-pointer, Decides-stack, Decides-record, Decides-none, bytes_are, unwritten, le_from, lt_from}
+use Rattle.law_programs.proofs.Tests.{Decides-unset, Decides-number, Decides-place, Decides-pointer, Decides-stack, Decides-record, Decides-none, bytes_are, unwritten, lt_from}
+use Rattle.pb_base.proofs.Logic.{le_true as le_from}
 
 some_and : {A : Type 0} (o : Option A) (x : A) (Q : A → Type 0) → o ≡ Some x → Q x → IsSomeAnd o Q
 some_and o x Q e q = subst (λ p. IsSomeAnd p Q) (sym e) q

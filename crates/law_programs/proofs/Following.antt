@@ -17,7 +17,6 @@ use Rattle.pb_isa.specs.declared.insn.Operand.{Operand}
 use Rattle.pb_isa.specs.declared.insn.Operand.TheVariants as operands
 use Rattle.pb_isa.specs.declared.insn.Size.{Size}
 use Rattle.pb_isa.specs.declared.insn.Reg.{Reg}
-use Rattle.pb_isa.specs.declared.insn.Reg.TheVariants.{R0, R1, R2, R3, R4, R5, R6, R7, R8, R9, R10}
 use Rattle.pb_isa.specs.Registers.{number}
 use Rattle.pb_isa.specs.Helpers.{HelperSet, Helper, Read, Write, Delete, Start, helper_of, has_helper, if_declared, declared_helper}
 use Rattle.pb_isa.specs.Programs.{JudgedOf}
@@ -35,21 +34,9 @@ use Rattle.law_programs.specs.Touches.{Touch, touch, size_bytes, Loading, Storin
 use Rattle.law_programs.specs.Breaks.{Breaks, RulesAreByCode}
 use Rattle.law_programs.specs.Following.{IsMoved, IsSetTo, IsCall, IsWriting, WritesByte, TellsAfter, FramesAfterAreTold}
 use Rattle.law_programs.proofs.Tests.{Decides-stack, bytes_are}
+use Rattle.pb_isa.proofs.Instructions.{number_below as below_eleven}
 
 -- ---- registers
-
-below_eleven : (r : Reg) → number r < 11
-below_eleven R0 = omega arith
-below_eleven R1 = omega arith
-below_eleven R2 = omega arith
-below_eleven R3 = omega arith
-below_eleven R4 = omega arith
-below_eleven R5 = omega arith
-below_eleven R6 = omega arith
-below_eleven R7 = omega arith
-below_eleven R8 = omega arith
-below_eleven R9 = omega arith
-below_eleven R10 = omega arith
 
 -- a register that is set has its new kind
 kind_set : (f : Frame) (d : Reg) (k : Kind) (r : ℕ) → length f.kinds ≡ 11 → r ≡ number d → kind_of (with_kind f d k) r ≡ k

@@ -100,9 +100,6 @@ not_written f z n s = ap not (not_from f (from_low z) n s.0 s.1 s.2)
 
 -- ---- numbers
 
-pub le_from : (n m : ℕ) → nat_le n m ≡ true → n ≤ m
-le_from n m h = grind (arith, nat_tests)
-
 pub le_to : (n m : ℕ) → n ≤ m → nat_le n m ≡ true
 le_to n m h = grind (arith, nat_tests)
 

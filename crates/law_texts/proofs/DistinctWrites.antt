@@ -1,30 +1,22 @@
 -- No cell is named twice exactly where no two writes are to one cell.
-use Rattle.std.proofs.Common.{◌≡◌, ◌≢◌, ◌↔◌, suc, Bool, true, false, cond, [], ◌∷◌, Option, Some, refl, sym, ap, ◌∙◌, arith}
+use Rattle.std.proofs.Common.{◌≡◌, ◌≢◌, ◌↔◌, suc, true, false, [], ◌∷◌, refl, arith}
 use Rattle.std.specs.Prelude.{is_none}
 use Rattle.std.specs.List.{AllByRecursion, AllPairs}
-use Rattle.std.specs.Ordering.{eq_by_cmp, is_eq}
-use Rattle.std.specs.Cmp.{tied_itself}
+use Rattle.std.specs.Ordering.{eq_by_cmp}
 use Rattle.std.proofs.lemmas.Bool.{and_parts, false_from_ne_true}
 use Rattle.std.proofs.lemmas.List.Elements.{All-from_recursion, recursion_from_All}
 use Rattle.std.proofs.lemmas.List.Kept.{AllPairs-cons}
 use Rattle.std.proofs.lemmas.Map.Views.{tells_apart}
 use Rattle.pb_base.specs.declared.cell.Cell.{Cell}
 use Rattle.pb_base.specs.declared.content.Content.{Content}
-use Rattle.pb_base.specs.Cell.{cell_cmp, cell_cmp_total, cell_cmp-IsAntisymmetric}
+use Rattle.pb_base.specs.Cell.{cell_cmp, cell_cmp-IsAntisymmetric}
 use Rattle.pb_base.specs.Batch.{Writes, content_in, are_distinct}
+use Rattle.pb_sound.proofs.RunWrites.{lacks_first as none_in}
+use Rattle.pb_base.proofs.SameCells.{same_cells as ties}
 
 -- two writes to different cells
 abbrev AreApart : Cell × Content → Cell × Content → Type 0
 AreApart v w = v.0 ≢ w.0
-
--- a cell compares as equal to itself
-ties : (x y : Cell) → x ≡ y → eq_by_cmp cell_cmp x y ≡ true
-ties x y e = ap (eq_by_cmp cell_cmp x) (sym e) ∙ ap is_eq (tied_itself cell_cmp_total x)
-
--- where a list has nothing for a cell, its first write is to another and its rest has nothing
-none_in : (b : Bool) (content : Content) (o : Option Content) → is_none (cond b (Some content) o) ≡ true → (b ≡ false) × (is_none o ≡ true)
-none_in true content o h = absurd cc
-none_in false content o h = (refl, h)
 
 -- so all its writes are to others
 others : (ws : Writes) (w : Cell × Content) → is_none (content_in ws w.0) ≡ true → AllByRecursion (AreApart w) ws

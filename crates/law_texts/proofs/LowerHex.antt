@@ -1,9 +1,9 @@
 -- What decodes without an upper-case letter is what lower-case encoding writes.
 use Rattle.std.proofs.Common.{◌≡◌, ℕ, zero, suc, ◌+◌, ◌*◌, ◌/◌, ◌%◌, ◌<◌, Bool, true, false, cond, ◌&&◌, List, [], ◌∷◌, slice_index, Option, Some, None, Result, Ok, Err, refl, sym, ap, subst, ◌∙◌, arith, inl, inr}
-use Rattle.std.specs.Prelude.{◌==◌, ◌||◌, nat_lt}
+use Rattle.std.specs.Prelude.{◌==◌, nat_lt}
 use Rattle.std.specs.Char.{is_ascii_uppercase}
 use Rattle.std.specs.List.{AllByRecursion, list_any}
-use Rattle.std.proofs.lemmas.Bool.{and_parts, cases_lt, eqb-true}
+use Rattle.std.proofs.lemmas.Bool.{and_parts, cases_lt, eqb-true, or_parts as none_before}
 use Rattle.std.proofs.lemmas.List.Elements.{All-from_recursion}
 use Rattle.std.proofs.lemmas.List.Folds.{list_any_none}
 use Rattle.hex.specs.Hex.{◌>>=◌, IsBytes, decode_of, decode_pairs, digit_or_error, encode_lower, encode_with, hex_digit_value, lower_digits, pair_value, value_at}
@@ -61,10 +61,6 @@ digit_back c i v h lower =
     let s = some_of c i (hex_digit_value c) v h in
     let lt = small c v s in
     (lt, table_is v lt ∙ is_digit c v s lower)
-
-none_before : (a b : Bool) → (a || b) ≡ false → (a ≡ false) × (b ≡ false)
-none_before true b h = absurd cc
-none_before false b h = (refl, h)
 
 two_digits : (a b high low byte : ℕ) → slice_index lower_digits high ≡ a → slice_index lower_digits low ≡ b → low < 16 → high * 16 + low ≡ byte → (slice_index lower_digits (byte / 16) ≡ a) × (slice_index lower_digits (byte % 16) ≡ b)
 two_digits a b high low byte is_a is_b lt whole =

@@ -18,10 +18,11 @@ use Rattle.pb_base.specs.Reading.{words_of}
 use Rattle.pb_parse.specs.declared.script.code.ScriptCode.{ScriptCode}
 use Rattle.pb_parse.specs.declared.script.code.ScriptCode.TheVariants.{Hex}
 use Rattle.pb_parse.specs.ScriptWords.{number_upto, padded, content_of, cell_at, put_of, del_of, write_of, operation}
-use Rattle.pb_parse.proofs.Numerals.{numeral_of, value_of}
+use Rattle.pb_parse.proofs.Numerals.{value_of}
 use Rattle.law_texts.specs.OperationTexts.{AreDigitsOf, AreInRange, IsOperationOf}
 use Rattle.law_texts.proofs.LowerHex.{digit_of, digits_hold, none_upper}
 use Rattle.law_texts.proofs.Parts.{Lacks, AreParts, IsNoDigit, decimal_lacks, joined_parts, lacks_joined}
+use Rattle.pb_base.proofs.Numerals.{numeral_of}
 
 -- a number in decimal is read as itself, where it isn't over the greatest
 number_back : (greatest n : ℕ) → greatest < 2 ^ 64 → n ≤ greatest → number_upto greatest (decimal n) ≡ Ok n

@@ -21,11 +21,12 @@ use Rattle.pb_base.specs.Reading.{is_numeral, next_word, no_word, words_of}
 use Rattle.pb_parse.specs.declared.script.code.ScriptCode.{ScriptCode}
 use Rattle.pb_parse.specs.declared.script.code.ScriptCode.TheVariants.{Form, Range, Hex}
 use Rattle.pb_parse.specs.ScriptWords.{number_upto, padded, content_of, cell_at, put_of, del_of, write_of, operation}
-use Rattle.pb_parse.proofs.Batches.{bind_ok, ok_same, chosen}
+use Rattle.pb_parse.proofs.Batches.{bind_ok, ok_same}
 use Rattle.pb_parse.proofs.Numerals.{decimal_of}
 use Rattle.pb_parse.proofs.Steps.{same_text}
 use Rattle.law_texts.specs.OperationTexts.{AreDigitsOf, AreInRange, IsOperationOf}
 use Rattle.law_texts.proofs.LowerHex.{lower_written}
+use Rattle.pb_base.proofs.Logic.{chosen}
 
 -- what passes a test and isn't refused is the result
 passed : {A : Type 0} (b : Bool) (r : Result A ScriptCode) (fault : ScriptCode) (x : A) → cond b r (Err fault) ≡ Ok x → (b ≡ true) × (r ≡ Ok x)

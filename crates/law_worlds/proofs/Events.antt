@@ -22,10 +22,7 @@ use Rattle.pb_world.specs.Events.{WorldOf, job_for, with_actor, Launches, StepsA
 use Rattle.pb_world.specs.Sound.{Came, IsSound}
 use Rattle.law_worlds.specs.Outcomes.{AreOneEvent, EventsHaveOneOutcome}
 use Rattle.law_worlds.proofs.Jobs.{AreOneStep, calls_once, actor_steps_once}
-
--- an option has one value
-pub one_value : {A : Type 0} (o : Option A) (x y : A) → o ≡ Some x → o ≡ Some y → x ≡ y
-one_value o x y p q = cc
+use Rattle.pb_base.proofs.Logic.{one_value}
 
 module _ (w : WorldOf) (n : Note) (v : WorldOf) (m : Note) (u : WorldOf) where
   -- ---- launches and crashes

@@ -10,7 +10,7 @@ use Rattle.pb_world.specs.Faults.{fault_code}
 use Rattle.pb_world.specs.Events.{WorldOf, fault_of, RunsTo, StopsAtEvent}
 use Rattle.pb_world.specs.Sound.{IsSound, EventsKeepSound}
 use Rattle.law_worlds.specs.Outcomes.{AreOneFault, EventsHaveOneOutcome, RunsHaveOneOutcome, FaultsHaveOnePlace, WholeRunsHaveNoFault}
-use Rattle.law_worlds.proofs.Events.{one_value}
+use Rattle.pb_base.proofs.Logic.{one_value}
 
 -- after the events before it, the event of this place is at fault, with this number
 record IsAtFault (w : WorldOf) (es : List Event) (at code : ℕ) (v : WorldOf) : Type 0 where

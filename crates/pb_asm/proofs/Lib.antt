@@ -2,7 +2,7 @@ mod Numerals
 pub mod SlotCounts
 mod TextCuts
 mod NamesAndDigits
-mod ListingsReadBack
+pub mod ListingsReadBack
 mod FirstFault
 mod OneSpelling
 mod OnlyListings

@@ -1,13 +1,12 @@
 -- A listing is read as its program.
-use Rattle.std.proofs.Common.{◌≡◌, ℕ, zero, suc, ◌+◌, ◌-◌, ◌^◌, ◌<◌, ◌≤◌, ℤ, pos, negsuc, Bool, true, false, cond, List, [], ◌∷◌, ◌++◌, length, map, Option, Some, None, Result, Ok, refl, sym, ap, subst, ◌∙◌, append_assoc, arith}
-use Rattle.std.specs.Prelude.{◌==◌, ◌&&◌, nat_le, nat_lt, codes, slice_index, FitsSigned}
-use Rattle.std.specs.Char.{is_ascii_digit}
+use Rattle.std.proofs.Common.{◌≡◌, ℕ, suc, ◌+◌, ◌-◌, ◌^◌, ◌<◌, ◌≤◌, ℤ, pos, negsuc, Bool, true, false, cond, List, [], ◌∷◌, ◌++◌, length, map, Option, Some, None, Result, Ok, refl, sym, ap, subst, ◌∙◌, append_assoc, arith}
+use Rattle.std.specs.Prelude.{◌==◌, nat_le, codes, slice_index, FitsSigned}
 use Rattle.std.specs.Int.{w16, w32}
-use Rattle.std.specs.List.{slice_split, list_all, AllByRecursion}
+use Rattle.std.specs.List.{slice_split, AllByRecursion}
 use Rattle.std.specs.Fmt.{decimal, signed_decimal}
 use Rattle.std.specs.Str.Parse.{digits_value}
 use Rattle.std.proofs.lemmas.Bool.{le-leb, le-ltb, leb-true}
-use Rattle.std.proofs.lemmas.Fmt.{digits_decimal, digits_value-decimal, decimal_nonempty, first_decimal, decimal_digit}
+use Rattle.std.proofs.lemmas.Fmt.{digits_value-decimal}
 use Rattle.std.proofs.lemmas.List.{length-append, append-nil}
 use Rattle.pb_isa.specs.declared.insn.Insn.{Insn}
 use Rattle.pb_isa.specs.declared.insn.Insn.TheVariants as insn
@@ -35,36 +34,17 @@ use Rattle.pb_asm.specs.Names.{name, words, IsWordOf, sizes, size_bits, reg_name
 use Rattle.pb_base.specs.Reading.{◌>>=◌}
 use Rattle.std.specs.Prelude.{ok_or}
 use Rattle.pb_asm.specs.Cuts.{strip_prefix, strip_suffix, split_once}
-use Rattle.pb_base.specs.Reading.{is_numeral, numeral_upto}
+use Rattle.pb_base.specs.Reading.{numeral_upto}
 use Rattle.pb_asm.specs.Operands.{minus, plus, imm_of_text, offset_of_text, reg_of_text, operand_of_text, size_in, bits_of_text, base_and_offset, at_minus, at_plus, place_of_text, comma, last, alu_operands, mov_sx_operands, load_imm_operands, load_operands, store_imm_operands, store_operands, jump_if_operands, operands, insn_of_words, line_of}
 use Rattle.pb_asm.specs.Listing.{operand_text, offset_text, place_text, insn_text, listing}
 use Rattle.pb_base.specs.Reading.{is_skipped, ◌>>=◌, numbered}
 use Rattle.pb_asm.specs.Codes.{asm_code}
 use Rattle.pb_asm.specs.Texts.{with_insn_line, insns_of_lines, some_of, program_of_text}
-use Rattle.pb_asm.proofs.Numerals.{own}
 use Rattle.pb_asm.proofs.TextCuts.{before_there}
 use Rattle.pb_asm.proofs.NamesAndDigits.{above, above_append, above_less, cut_there, cut_none, around_there, around_none, reg_above, name_above, word_back, reg_back, decimal_above, first_is_digit, word_there}
+use Rattle.pb_base.proofs.Numerals.{numeral_of as number_is, own}
 
 -- ---- numbers
-
-not_empty : (n : ℕ) → 0 < n → (n == 0) ≡ false
-not_empty n h = grind arith
-
--- a numeral's three tests, of a text that has digits, no zero in front and nothing else
-tests : (a b c d : Bool) → a ≡ false → (b && c) ≡ false → d ≡ true → cond a false (cond (b && c) false d) ≡ true
-tests a b c d p q r = rw (p, q, r) refl
-
--- a zero stands alone
-no_zero : (n : ℕ) → n < 2 ^ 64 → ((slice_index (decimal n) 0 == 48) && nat_lt 1 (length (decimal n))) ≡ false
-no_zero zero lt = ap (λ (ds : List ℕ). (slice_index ds 0 == 48) && nat_lt 1 (length ds)) (decimal_digit 0 (omega arith))
-no_zero (suc n) lt =
-    let f = first_decimal (suc n) (omega arith) lt in
-    let e : (slice_index (decimal (suc n)) 0 == 48) ≡ false = grind (arith, f) in
-    rw e refl
-
--- a decimal is a numeral
-number_is : (n : ℕ) → n < 2 ^ 64 → is_numeral (decimal n) ≡ true
-number_is n lt = tests (length (decimal n) == 0) (slice_index (decimal n) 0 == 48) (nat_lt 1 (length (decimal n))) (list_all is_ascii_digit (decimal n)) (not_empty _ (decimal_nonempty n lt)) (no_zero n lt) (digits_decimal own n lt)
 
 -- a number is read from its decimal
 pub number_back : (greatest n : ℕ) → n ≤ greatest → n < 2 ^ 64 → numeral_upto code.Form code.Range greatest (decimal n) ≡ Ok n
@@ -140,7 +120,7 @@ pub reg_read : (r : Reg) → reg_of_text (reg_name r) ≡ Ok r
 reg_read r = rw (reg_back r) refl
 
 -- a register's name begins with an r
-first_letter : (r : Reg) → (slice_index (reg_name r) 0 == 114) ≡ true
+pub first_letter : (r : Reg) → (slice_index (reg_name r) 0 == 114) ≡ true
 first_letter R0 = refl
 first_letter R1 = refl
 first_letter R2 = refl
@@ -152,9 +132,6 @@ first_letter R7 = refl
 first_letter R8 = refl
 first_letter R9 = refl
 first_letter R10 = refl
-
-is_r : (r : Reg) → (slice_index (reg_name r) 0 == 114) ≡ true
-is_r r = first_letter r
 
 -- an immediate's text doesn't
 not_r : (k : ℤ) → FitsSigned w32 k → (slice_index (signed_decimal k) 0 == 114) ≡ false
@@ -169,7 +146,7 @@ not_r (negsuc n) fits = refl
 pub operand_back : (a : Operand) → OperandFits a → operand_of_text (operand_text a) ≡ Ok a
 unfolding operand_of_text
 operand_back (operand.Imm k) fits = rw (not_r k fits, imm_back k fits) refl
-operand_back (operand.Reg r) fits = rw (is_r r, reg_read r) refl
+operand_back (operand.Reg r) fits = rw (first_letter r, reg_read r) refl
 
 based_back : (b : Reg) (o : ℤ) (read : Result ℤ AsmCode) → read ≡ Ok o → base_and_offset (reg_name b) read ≡ Ok (b, o)
 unfolding base_and_offset

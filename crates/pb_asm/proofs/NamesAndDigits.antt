@@ -23,6 +23,7 @@ use Rattle.pb_asm.specs.declared.names.Word.{Word}
 use Rattle.pb_asm.specs.declared.names.Word.TheVariants.{Alu, MovSx, Neg, LoadImm, Load, StoreImm, Store, Jump, JumpIf, Call, Exit}
 use Rattle.pb_asm.specs.Names.{op_name, cmp_name, size_name, width_name, extension_name, name, words, IsWordOf, word_in, word_named, reg_name, registers, reg_named}
 use Rattle.pb_asm.specs.Cuts.{split_once}
+use Rattle.pb_base.proofs.Logic.{same_number}
 
 -- each byte is at least n
 abbrev pub above : ℕ → List ℕ → Bool
@@ -50,9 +51,6 @@ above_less m n (x ∷ xs) le h =
 
 not_this : (c n x : ℕ) → c < n → nat_le n x ≡ true → (x == c) ≡ false
 not_this c n x lt h = let q = leb-true n x h in grind (arith, q, lt)
-
-same_number : (c : ℕ) → (c == c) ≡ true
-same_number c = grind arith
 
 -- ---- cuts
 

@@ -24,10 +24,10 @@ use Rattle.pb_asm.specs.Cuts.{strip_suffix, split_once}
 use Rattle.pb_asm.specs.Listing.{operand_text, place_text}
 use Rattle.pb_asm.specs.Operands.{minus, plus, imm_of_text, offset_of_text, operand_of_text, size_in, bits_of_text, base_and_offset, at_minus, at_plus, place_of_text, last, alu_operands, mov_sx_operands, load_imm_operands, load_operands, store_imm_operands, store_operands, jump_if_operands, operands, insn_of_words, line_of}
 use Rattle.pb_asm.specs.OutOfRange.{IsAbove, IsImmBeyond, IsOffsetBeyond, IsUnlisted, NumberPlace, AluImm, MovSxBits, LoadImmImm, LoadOffset, StoreImmOffset, StoreImmImm, StoreOffset, JumpOffset, JumpIfImm, JumpIfOffset, CallImm, place_with, place_word, operands_with, line_with, FitsBefore, IsBeyond, EndsWord}
-use Rattle.pb_asm.proofs.Numerals.{digits_in}
 use Rattle.pb_asm.proofs.TextCuts.{before_there}
 use Rattle.pb_asm.proofs.NamesAndDigits.{above, above_append, above_less, cut_there, around_there, around_none, reg_above}
 use Rattle.pb_asm.proofs.ListingsReadBack.{no_front, reg_read, reg_line, operand_line, operand_back, place_line, place_back, blanks, comma_cut, name_cut, last_cut, first_read, comma_read, name_shown}
+use Rattle.pb_base.proofs.Numerals.{digits_in}
 
 -- ---- numbers
 

@@ -1,12 +1,12 @@
 -- What is read as an operand, a line or a text is written as the listing writes it.
-use Rattle.std.proofs.Common.{◌≡◌, ℕ, zero, suc, ◌-◌, ◌^◌, ◌<◌, ◌≤◌, ◌↔◌, ℤ, pos, negsuc, neg_ℤ, Bool, true, false, cond, List, [], ◌∷◌, ◌++◌, length, Option, Some, None, Result, Ok, Err, refl, sym, ap, subst, ◌∙◌, append_assoc, arith, inl, inr}
+use Rattle.std.proofs.Common.{◌≡◌, ℕ, zero, suc, ◌-◌, ◌^◌, ◌<◌, ◌≤◌, ◌↔◌, ℤ, pos, negsuc, neg_ℤ, Bool, true, false, cond, List, [], ◌∷◌, ◌++◌, length, Option, Some, None, Result, Ok, Err, refl, sym, ap, subst, ◌∙◌, append_assoc, arith}
 use Rattle.std.specs.Prelude.{◌==◌, ◌&&◌, nat_le, nat_lt, codes, slice_index, FitsSigned, IfOk}
 use Rattle.std.specs.Int.{w16, w32}
 use Rattle.std.specs.List.{slice_split, join_with_byte, position_or_len, before_first, after_first}
 use Rattle.std.specs.Fmt.{decimal, signed_decimal}
 use Rattle.std.specs.Str.{bytes_eq}
 use Rattle.std.specs.Str.Parse.{digits_value}
-use Rattle.std.proofs.lemmas.Bool.{eqb-true, and_parts, leb-true, ltb-true, cases_lt}
+use Rattle.std.proofs.lemmas.Bool.{eqb-true, and_parts, leb-true, ltb-true}
 use Rattle.std.proofs.lemmas.Fmt.{decimal-digits_value}
 use Rattle.std.proofs.lemmas.List.Sums.{split_at_first, passes_at_first}
 use Rattle.std.proofs.lemmas.List.Splits.{join_with_byte-slice_split}
@@ -37,9 +37,9 @@ use Rattle.pb_asm.specs.Cuts.{strip_prefix, strip_suffix, split_once}
 use Rattle.pb_base.specs.Reading.{Gives, is_numeral, numeral_upto, no_word}
 use Rattle.pb_asm.specs.Operands.{minus, plus, signed_or, imm_of_text, plus_or_fault, offset_of_text, reg_of_text, operand_of_text, size_in, bits_of_text, base_and_offset, at_minus, at_plus, place_of_text, comma, last, alu_operands, mov_sx_operands, load_imm_operands, load_operands, store_imm_operands, store_operands, jump_if_operands, map_insn, operands, insn_of_words, line_of}
 use Rattle.pb_asm.specs.Listing.{operand_text, offset_text, place_text, insn_text}
-use Rattle.pb_asm.proofs.Numerals.{own, digits_in}
 use Rattle.pb_asm.proofs.TextCuts.{split_end}
 use Rattle.pb_asm.proofs.ListingsReadBack.{line_back}
+use Rattle.pb_base.proofs.Numerals.{zero_alone, own, digits_in}
 
 -- ---- what a reading that ended well has read
 
@@ -98,14 +98,6 @@ around_whole c text sides h =
     ∙ ap (λ (s : List ℕ × List ℕ). s.0 ++ c ∷ s.1) p.1
 
 -- ---- numbers
-
--- a numeral that begins with a zero is that zero
-zero_alone : (x m : ℕ) → ((x == 48) && nat_lt 1 m) ≡ false → 0 < m → x ≡ 48 → m ≡ 1
-zero_alone x m h some e =
-    elim (cases_lt 1 m) [
-      | inl many ↦ let no : ⊥ = grind (arith, h, many, e) in absurd no
-      | inr few ↦ omega (arith, few, some)
-    ]
 
 -- what is read as a number is its decimal
 number_is : (greatest n : ℕ) (text : List ℕ) → greatest < 2 ^ 64 → numeral_upto code.Form code.Range greatest text ≡ Ok n → (text ≡ decimal n) × (n ≤ greatest)

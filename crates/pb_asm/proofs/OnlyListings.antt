@@ -18,19 +18,10 @@ use Rattle.pb_asm.specs.Listing.{insn_text}
 use Rattle.pb_base.specs.Reading.{is_skipped, numbered}
 use Rattle.pb_asm.specs.Codes.{asm_code}
 use Rattle.pb_asm.specs.Texts.{instruction_lines, with_insn_line, insns_of_lines, some_of, program_of_text}
-use Rattle.pb_asm.proofs.SlotCounts.{some_place}
 use Rattle.pb_asm.proofs.OneSpelling.{then_ok, ok_is, else_ok, line_spelled}
 use Rattle.pb_asm.proofs.ListingsReadBack.{added, slots_append, some_there}
-
--- the lines that aren't skipped
-abbrev kept : List (List ℕ) → List (List ℕ)
-kept ls = filter (λ l. not (is_skipped l)) ls
-
-kept_not : (l : List ℕ) (ls : List (List ℕ)) → is_skipped l ≡ true → kept (l ∷ ls) ≡ kept ls
-kept_not l ls is = ap (λ (b : Bool). cond (not b) (l ∷ kept ls) (kept ls)) is
-
-kept_one : (l : List ℕ) (ls : List (List ℕ)) → is_skipped l ≡ false → kept (l ∷ ls) ≡ l ∷ kept ls
-kept_one l ls is = ap (λ (b : Bool). cond (not b) (l ∷ kept ls) (kept ls)) is
+use Rattle.pb_isa.proofs.Instructions.{some_place}
+use Rattle.pb_base.proofs.SkippedLines.{kept, kept_not, kept_one}
 
 -- ---- what has been read
 

@@ -3,11 +3,11 @@ use Rattle.std.proofs.Common.{◌≡◌, ◌+◌, ◌<◌, ◌≤◌, ◌⊎◌,
 use Rattle.std.specs.List.{AllByRecursion}
 use Rattle.std.proofs.lemmas.List.{length-append}
 use Rattle.pb_isa.specs.declared.insn.Insn.{Insn}
-use Rattle.pb_isa.specs.declared.insn.Insn.TheVariants.{Alu, MovSx, Neg, LoadImm, Load, StoreImm, Store, Jump, JumpIf, Call, Exit}
 use Rattle.pb_isa.specs.Bounds.{Fits}
 use Rattle.pb_isa.specs.Slots.{places_of, layout, slots}
 use Rattle.pb_isa.specs.declared.profile.Profile.{Profile}
 use Rattle.pb_isa.specs.Profiles.{max_slots, IsOf}
+use Rattle.pb_isa.proofs.Instructions.{some_place}
 
 -- one more instruction takes its own slots besides
 pub slots_push : (p : List Insn) (i : Insn) → slots (p ++ i ∷ []) ≡ slots p + slots (i ∷ [])
@@ -15,20 +15,6 @@ slots_push [] i = omega arith
 slots_push (j ∷ p) i =
     let a = length-append (places_of j) (layout (p ++ i ∷ [])) in let b = length-append (places_of j) (layout p) in let h = slots_push p i in
     omega (arith, a, b, h)
-
--- each takes one at least
-pub some_place : (i : Insn) → 0 < length (places_of i)
-some_place (Alu op w d a) = omega arith
-some_place (MovSx w z d s) = omega arith
-some_place (Neg w d) = omega arith
-some_place (LoadImm d v) = omega arith
-some_place (Load z x d b o) = omega arith
-some_place (StoreImm z b o k) = omega arith
-some_place (Store z b o s) = omega arith
-some_place (Jump o) = omega arith
-some_place (JumpIf c w d a o) = omega arith
-some_place (Call k) = omega arith
-some_place Exit = omega arith
 
 -- one more instruction of which the same holds
 all_push : (P : Insn → Type 0) (p : List Insn) (i : Insn) → AllByRecursion P p → P i → AllByRecursion P (p ++ i ∷ [])

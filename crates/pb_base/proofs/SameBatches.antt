@@ -1,13 +1,7 @@
 -- Batches compared write by write: what stands from a place on is the write there and what stands from the next on.
-use Rattle.std.proofs.Common.{◌≡◌, ℕ, zero, suc, ◌+◌, List, [], ◌∷◌, drop, Some, sym, ap, ◌∙◌, add-one}
+use Rattle.std.proofs.Common.{◌≡◌, ℕ, ◌+◌, List, ◌∷◌, drop, Some, sym, ap, ◌∙◌, add-one}
 use Rattle.std.specs.Prelude.{slice_get}
-
--- a list from a place on begins with what stands there
-drop_step : {A : Type 0} (xs : List A) (i : ℕ) (x : A) → slice_get xs i ≡ Some x → drop i xs ≡ x ∷ drop (suc i) xs
-drop_step [] zero x e = cc
-drop_step [] (suc i) x e = cc
-drop_step (y ∷ ys) zero x e = cc
-drop_step (y ∷ ys) (suc i) x e = drop_step ys i x e
+use Rattle.pb_base.proofs.Logic.{drop_step}
 
 -- and with the next place as i + 1, as the code counts
 step : {A : Type 0} (xs : List A) (i : ℕ) (x : A) → slice_get xs i ≡ Some x → drop i xs ≡ x ∷ drop (i + 1) xs

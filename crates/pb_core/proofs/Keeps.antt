@@ -14,11 +14,7 @@ use Rattle.pb_core.specs.Calls.{or_full}
 use Rattle.pb_history.specs.Journals.{JournalLeads}
 use Rattle.pb_core.specs.Keeping.{SharedKeeps}
 use Rattle.pb_core.proofs.StepsKeep.{case_kept}
-
--- a run goes on
-pub run_more : (s : StateOf) (es : List Entry) (t : StateOf) (e : Entry) (u : StateOf) → JournalLeads s es t → TableStep t e.seat e.step e.answer u → JournalLeads s (es ++ e ∷ []) u
-run_more s [] t e u r m = (u, subst (λ x. TableStep x e.seat e.step e.answer u) r m, refl)
-run_more s (d ∷ es) t e u r m = (r.0, r.1, run_more r.0 es t e u r.2 m)
+use Rattle.pb_history.proofs.JournalParts.{one_more as run_more}
 
 -- no step changes the number of seats
 pub machine_seats : (s : StateOf) (seat : ℕ) (step : Step) (a : Answer) (t : StateOf) → TableStep s seat step a t → t.seats ≡ s.seats

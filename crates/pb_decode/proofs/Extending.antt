@@ -61,12 +61,6 @@ load_form Two z Zeros d s o h = refl
 load_form One z Sign d s o h = h
 load_form Two z Sign d s o h = h
 
--- what a profile has, the next has too
-pub of_next : (i : Insn) → IsOf One i → IsOf Two i
-of_next (MovSx w z d s) h = absurd cc
-of_next (Load z Sign d s o) h = absurd cc
-of_next i h = refl
-
 -- ---- offsets of arithmetic with a register
 
 -- an offset with which a move extends the sign

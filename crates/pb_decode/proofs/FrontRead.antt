@@ -33,8 +33,9 @@ use Rattle.pb_base.specs.Reading.{◌>>=◌}
 use Rattle.pb_decode.specs.Reading.{is_alu_offset, is_clean, is_second, pair_of, size_of_bits, insn_of_form, clean_or_code, first_with, first_of}
 use Rattle.pb_decode.specs.Faults.{AreBytes}
 use Rattle.pb_decode.proofs.SlotBytes.{IsSlot, front_slot, is_slot, rest_bytes, same_slot, slot_back}
-use Rattle.pb_decode.proofs.OpcodeTable.{form_front, form_back, reg_back, reg_front, number_below}
+use Rattle.pb_decode.proofs.OpcodeTable.{form_front, form_back, reg_back, reg_front}
 use Rattle.pb_decode.proofs.Extending.{IsExtending, alu_offset, zero_offset, extending_offset, size_back, some_bits, is_plain, plain_form, load_form, load_insn}
+use Rattle.pb_isa.proofs.Instructions.{number_below}
 
 -- an instruction, and the bytes behind it
 abbrev Read : Type 0

@@ -21,7 +21,9 @@ use Rattle.pb_decode.specs.Faults.{decode_code, Applies, IsLowest}
 use Rattle.pb_decode.specs.Encoding.{insn_bytes}
 use Rattle.pb_isa.specs.Bounds.{Fits}
 use Rattle.pb_decode.proofs.FrontRead.{first_again}
-use Rattle.pb_decode.proofs.OpcodeTable.{form_front, form_back, reg_front, reg_none, number_below}
+use Rattle.pb_decode.proofs.OpcodeTable.{form_front, form_back, reg_front, reg_none}
+use Rattle.pb_base.proofs.Logic.{one_value as some_same, not_both as not_false, not_none as no_none}
+use Rattle.pb_isa.proofs.Instructions.{number_below}
 
 abbrev Read : Type 0
 Read = Insn × List ℕ
@@ -30,15 +32,6 @@ Read = Insn × List ℕ
 abbrev Told : Profile → List ℕ → Result Read DecodeCode → Type 0
 Told profile bytes (Ok x) = (code : DecodeCode) → Applies profile bytes code → ⊥
 Told profile bytes (Err code) = IsLowest profile bytes code
-
-no_none : {A : Type 0} (o : Option A) (x : A) → o ≡ Some x → o ≡ None → ⊥
-no_none o x p q = absurd cc
-
-some_same : {A : Type 0} (o : Option A) (x y : A) → o ≡ Some x → o ≡ Some y → x ≡ y
-some_same o x y p q = cc
-
-not_false : (b : Bool) → b ≡ true → b ≡ false → ⊥
-not_false b p q = absurd cc
 
 -- the form of an opcode is the one that is found
 same_form : (profile : Profile) (f g : Form) (n : ℕ) → form_of profile n ≡ Some f → IsFormOf profile g → opcode g ≡ n → g ≡ f

@@ -22,9 +22,10 @@ use Rattle.pb_decode.specs.Encoding.{insn_bytes, encoding, in_profile, Encodes}
 use Rattle.pb_decode.specs.Reading.{first_of}
 use Rattle.pb_decode.specs.Faults.{decode_code, whole_fault, IsFaultAt, IsDecodeFault, AreRefusedAs, AreBytes, HasProgram, HasFault, AreSpelt, IsRefusal, IsNoMemory, IsNoMemoryOr}
 use Rattle.pb_decode.proofs.SlotBytes.{rest_bytes}
-use Rattle.pb_decode.proofs.Extending.{of_next}
 use Rattle.pb_decode.proofs.FrontRead.{first_takes, first_again, one_insn}
 use Rattle.pb_decode.proofs.LowestCode.{lowest, lowest_read}
+use Rattle.pb_isa.proofs.Instructions.{some_place, all_next}
+use Rattle.pb_base.proofs.Logic.{positive as not_zero, one_value as some_same}
 
 -- ---- lengths
 
@@ -43,19 +44,6 @@ insn_len (JumpIf c w d (operand.Imm k) o) = refl
 insn_len (JumpIf c w d (operand.Reg s) o) = refl
 insn_len (Call k) = refl
 insn_len Exit = refl
-
-some_place : (i : Insn) → 0 < length (places_of i)
-some_place (Alu op w d a) = omega arith
-some_place (MovSx w z d s) = omega arith
-some_place (Neg w d) = omega arith
-some_place (LoadImm d v) = omega arith
-some_place (Load z x d b o) = omega arith
-some_place (StoreImm z b o k) = omega arith
-some_place (Store z b s o) = omega arith
-some_place (Jump o) = omega arith
-some_place (JumpIf c w d a o) = omega arith
-some_place (Call k) = omega arith
-some_place Exit = omega arith
 
 -- and so have several
 pub bytes_len : (p : List Insn) → length (encoding p) ≡ 8 * slots p
@@ -162,9 +150,6 @@ pub record IsWhole (profile : Profile) (n : ℕ) : Type 0 where
   pub even : n % 8 ≡ 0
   pub most : n ≤ 8 * max_slots profile
 
-not_zero : (n : ℕ) → (n == 0) ≡ false → 0 < n
-not_zero n h = grind arith
-
 tests : (profile : Profile) (n : ℕ) (a b c : Bool) → (n == 0) ≡ a → (n % 8 == 0) ≡ b → nat_lt (8 * max_slots profile) n ≡ c → cond (a || not b) (Some Length) (cond c (Some TooLong) None) ≡ None → IsWhole profile n
 tests profile n true b c p q r e = absurd cc
 tests profile n false false c p q r e = absurd cc
@@ -193,9 +178,6 @@ program_whole bytes p h =
 
 no_some : {A : Type 0} (o : Option A) (x : A) → o ≡ None → o ≡ Some x → ⊥
 no_some o x p q = absurd cc
-
-some_same : {A : Type 0} (o : Option A) (x y : A) → o ≡ Some x → o ≡ Some y → x ≡ y
-some_same o x y p q = cc
 
 fault_all : (profile : Profile) (bytes : List ℕ) (slot : ℕ) (code : DecodeCode) (a : IsFaultAt profile bytes slot code) → All profile a.front
 fault_all profile bytes slot code a = (a.fits, a.of_profile)
@@ -320,11 +302,6 @@ fault_at profile bytes rest p code slot parts all some is at =
     record { front = p; rest = rest; some = some; fits = all.0; of_profile = all.1; parts = parts; place = omega (arith, l, k, at); fault = lowest profile rest code is }
 
 -- ---- profile 1 in profile 2
-
--- instructions of profile 1 are of profile 2
-all_next : (p : List Insn) → AllByRecursion (IsOf profiles.One) p → AllByRecursion (IsOf profiles.Two) p
-all_next [] all = tt
-all_next (i ∷ p) all = (of_next i all.0, all_next p all.1)
 
 next : (p : ProgramOf) → IsProgram (in_profile profiles.One p) → IsProgram (in_profile profiles.Two p)
 next p is = let most = is.most in record { some = is.some; most = omega (arith, most); of_profile = all_next p.insns is.of_profile }

@@ -18,9 +18,7 @@ use Rattle.pb_decode.specs.declared.forms.Form.TheVariants.{Alu, Neg, LoadImm, L
 use Rattle.pb_decode.specs.declared.forms.Source.{Source}
 use Rattle.pb_decode.specs.declared.forms.Source.TheVariants.{K, X}
 use Rattle.pb_decode.specs.Opcodes.{opcode, forms, with_opcode, is_form_of, IsFormOf, only_of, form_of}
-
-some_is : {A : Type 0} (x y : A) → Some x ≡ Some y → x ≡ y
-some_is x y e = cc
+use Rattle.pb_base.proofs.Logic.{same_some as some_is}
 
 found : (n : ℕ) (f g : Form) (fs : List Form) → ((with_opcode n fs ≡ Some g) → opcode g ≡ n) → (b : Bool) → (opcode f == n) ≡ b → cond b (Some f) (with_opcode n fs) ≡ Some g → opcode g ≡ n
 found n f g fs others true is h = subst (λ (k : Form). opcode k ≡ n) (some_is f g h) (eqb-true (opcode f) n is)
@@ -136,19 +134,6 @@ reg_front (suc (suc (suc (suc (suc (suc (suc (suc zero)))))))) r h = ap number (
 reg_front (suc (suc (suc (suc (suc (suc (suc (suc (suc zero))))))))) r h = ap number (some_is r R9 (sym h))
 reg_front (suc (suc (suc (suc (suc (suc (suc (suc (suc (suc zero)))))))))) r h = ap number (some_is r R10 (sym h))
 reg_front (suc (suc (suc (suc (suc (suc (suc (suc (suc (suc (suc n))))))))))) r h = absurd cc
-
-pub number_below : (r : Reg) → number r < 11
-number_below R0 = omega arith
-number_below R1 = omega arith
-number_below R2 = omega arith
-number_below R3 = omega arith
-number_below R4 = omega arith
-number_below R5 = omega arith
-number_below R6 = omega arith
-number_below R7 = omega arith
-number_below R8 = omega arith
-number_below R9 = omega arith
-number_below R10 = omega arith
 
 -- a number that is no register's is over 10
 pub reg_none : (n : ℕ) → reg_of n ≡ None → 10 < n

@@ -13,12 +13,12 @@ use Rattle.pb_helpers.specs.Codes.{code_number, when, CodesRiseWithin}
 use Rattle.pb_helpers.specs.Arguments.{unset, stack_writes, filled_bytes, taken_bytes, is_cell, call_rules}
 
 -- codes that rise from b on rise from any a below it on
-from_lower : (a b c : ℕ) (cs : List RuleCode) → a ≤ b → CodesRiseWithin b c cs → CodesRiseWithin a c cs
+pub from_lower : (a b c : ℕ) (cs : List RuleCode) → a ≤ b → CodesRiseWithin b c cs → CodesRiseWithin a c cs
 from_lower a b c [] l h = omega arith
 from_lower a b c (x ∷ xs) l h = (omega (arith, h.0), h.1)
 
 -- two rising lists one after the other rise, where the second begins no lower than the first ends
-joined : (a b c : ℕ) (xs ys : List RuleCode) → CodesRiseWithin a b xs → CodesRiseWithin b c ys → CodesRiseWithin a c (xs ++ ys)
+pub joined : (a b c : ℕ) (xs ys : List RuleCode) → CodesRiseWithin a b xs → CodesRiseWithin b c ys → CodesRiseWithin a c (xs ++ ys)
 joined a b c [] ys h k = from_lower a b c ys h k
 joined a b c (x ∷ xs) ys h k = (h.0, joined (code_number x) b c xs ys h.1 k)
 
@@ -33,7 +33,7 @@ read_or_outside true u = one 21 u UnwrittenByte (omega arith)
 read_or_outside false u = (omega arith, omega arith)
 
 -- codes that rise up to b rise up to any c above it
-to_higher : (a b c : ℕ) (cs : List RuleCode) → b ≤ c → CodesRiseWithin a b cs → CodesRiseWithin a c cs
+pub to_higher : (a b c : ℕ) (cs : List RuleCode) → b ≤ c → CodesRiseWithin a b cs → CodesRiseWithin a c cs
 to_higher a b c [] l h = omega arith
 to_higher a b c (x ∷ xs) l h = (h.0, to_higher (code_number x) b c xs l h.1)
 
@@ -51,7 +51,7 @@ taken f Number = omega arith
 taken f (Stack k) = read_or_outside (in_stack k 32) (not (are_written f k 32))
 taken f (Record k) = omega arith
 
-reads : (f : Frame) (r : ℕ) → CodesRiseWithin 21 21 (unset f r)
+pub reads : (f : Frame) (r : ℕ) → CodesRiseWithin 21 21 (unset f r)
 reads f r = one 21 (is_unset (kind_of f r)) ReadsUnset (omega arith)
 
 wrong : (t : Bool) → CodesRiseWithin 26 31 (when t WrongArgument)

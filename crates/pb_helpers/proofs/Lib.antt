@@ -1,2 +1,3 @@
 pub mod LowestCode
 pub mod ArgumentCodesRise
+pub mod Versions

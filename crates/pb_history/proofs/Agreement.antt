@@ -2,7 +2,7 @@
 use Rattle.std.proofs.Common.{◌≡◌, ◌≢◌, ℕ, ◌≤◌, ◌⊎◌, inl, inr, false, cond, List, [], ◌∷◌, ◌++◌, Option, Some, None, refl, sym, ap, subst, ◌∙◌, arith}
 use Rattle.std.specs.Cmp.{unsigned_tied, nat_cmp_total}
 use Rattle.std.specs.FinMap as map
-use Rattle.std.proofs.lemmas.Bool.{eqb-true, eq-eqb}
+use Rattle.std.proofs.lemmas.Bool.{eqb-true, eq-eqb, false_from_ne_true as not_true}
 use Rattle.pb_base.specs.declared.cell.Cell.{Cell}
 use Rattle.pb_base.specs.declared.names.Ts.{Ts}
 use Rattle.pb_steps.specs.declared.step.Declared.{Declared}
@@ -20,7 +20,7 @@ use Rattle.pb_steps.specs.Phases.{is_reading}
 use Rattle.pb_history.specs.declared.entry.Entry.{Entry}
 use Rattle.pb_history.specs.History.{Has, IsEntry, IsForWork}
 use Rattle.pb_history.proofs.OnlyEntries.{OnlyEntries}
-use Rattle.pb_history.proofs.Updates.{same_number, not_true, has_front, has_more}
+use Rattle.pb_history.proofs.Updates.{same_number, has_front, has_more}
 
 -- a number as a timestamp
 abbrev pub ts : ℕ → Ts

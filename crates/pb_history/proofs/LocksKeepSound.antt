@@ -1,5 +1,5 @@
 -- The table stays sound where a cell is prewritten, a lock becomes a write record, and a lock is rolled back.
-use Rattle.std.proofs.Common.{◌≡◌, ◌≢◌, ℕ, ◌<◌, ◌≤◌, Bool, true, false, ◌⊎◌, Some, None, refl, sym, ap, ◌∙◌, subst, inl, inr, arith}
+use Rattle.std.proofs.Common.{◌≡◌, ◌≢◌, ℕ, ◌<◌, ◌≤◌, Bool, true, ◌⊎◌, Some, None, refl, sym, ap, ◌∙◌, subst, inl, inr, arith}
 use Rattle.std.specs.Prelude.{◌||◌}
 use Rattle.pb_base.specs.declared.cell.Cell.{Cell}
 use Rattle.pb_base.specs.declared.content.Content.{Content}
@@ -13,22 +13,12 @@ use Rattle.pb_history.specs.TableView.{TableView}
 use Rattle.pb_history.specs.Sound.{HasStamp, LacksPrimary, ReadTells, IsSoundView}
 use Rattle.pb_history.proofs.Updates.{set1, set2, Apart, same_cell, same_cell_is, same_cell_itself, changed, set1_there, set1_here, set2_here, set2_there, set2_none, placed, cleared, decide, same_number}
 use Rattle.pb_history.proofs.PhasesKeepSound.{stamped_at, committed_at, same_commit}
+use Rattle.std.proofs.lemmas.Bool.{or_left, or_right}
+use Rattle.pb_base.proofs.Logic.{or_cases}
 
 -- data and lock on one cell more
 abbrev pub with_prewrite : TableView → ℕ → Cell → Cell → Content → TableView
 with_prewrite v s x p k = record v { prewritten = set1 v.prewritten s (λ y. v.prewritten s y || same_cell x y); lock = set2 v.lock x s (Some p); stored = set2 v.stored x s (Some k) }
-
-or_cases : (a b : Bool) → (a || b) ≡ true → (a ≡ true) ⊎ (b ≡ true)
-or_cases true b e = inl refl
-or_cases false b e = inr e
-
-or_left : (a b : Bool) → a ≡ true → (a || b) ≡ true
-or_left true b e = refl
-or_left false b e = cc
-
-or_right : (a b : Bool) → b ≡ true → (a || b) ≡ true
-or_right true b e = refl
-or_right false b e = e
 
 -- what a read tells does not turn on phases: it stands where its write record and data do
 pub tells_on : (v w : TableView) (s : ℕ) (x : Cell) (answer : Answer) → ((start c : ℕ) → v.write x c ≡ Some start → w.write x c ≡ Some start) → ((start c : ℕ) → v.write x c ≡ Some start → w.stored x start ≡ v.stored x start) → ((c u : ℕ) → c ≤ s → w.write x c ≡ Some u → v.write x c ≡ Some u) → ReadTells v s x answer → ReadTells w s x answer

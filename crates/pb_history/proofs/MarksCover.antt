@@ -4,7 +4,7 @@ use Rattle.std.specs.Prelude.{◌||◌, ◌==◌, is_some, slice_get}
 use Rattle.std.specs.List.{list_any}
 use Rattle.std.specs.Ordering.{eq_by_cmp}
 use Rattle.std.specs.FinMap as map
-use Rattle.std.proofs.lemmas.Bool.{eq-eqb}
+use Rattle.std.proofs.lemmas.Bool.{eq-eqb, or_right as or_true}
 use Rattle.pb_base.specs.declared.cell.Cell.{Cell}
 use Rattle.pb_base.specs.declared.cell.Cell.TheVariants.{Data, Ack}
 use Rattle.pb_base.specs.declared.names.Row.{Row}
@@ -54,10 +54,6 @@ pub record IsCovered (state : StateOf) : Type 0 where
   pub covers : Covers state.observers (is_marked state.marks) (write_at state.entries)
 
 -- ---- marks
-
-or_true : (a b : Bool) → b ≡ true → (a || b) ≡ true
-or_true true b h = refl
-or_true false b h = h
 
 -- a column that one of the observers has is observed
 observed_one : (observers : List ObserverOf) (o : ℕ) (observer : ObserverOf) → slice_get observers o ≡ Some observer → list_any (λ z. z.column == observer.column) observers ≡ true

@@ -1,6 +1,6 @@
 -- A step of a sound table has one outcome.
 use Rattle.std.proofs.Common.{◌≡◌, ℕ, ◌<◌, ◌⊎◌, true, false, inl, inr, List, [], ◌∷◌, ◌++◌, Option, Some, None, refl, sym, ap, ◌∙◌, arith}
-use Rattle.std.specs.Prelude.{is_some, unwrap_or}
+use Rattle.std.specs.Prelude.{is_some}
 use Rattle.std.specs.Ordering.{eq_by_cmp}
 use Rattle.std.specs.FinMap as map
 use Rattle.pb_base.specs.declared.cell.Cell.{Cell}
@@ -41,14 +41,9 @@ use Rattle.pb_history.specs.Outcomes.{AreSame}
 use Rattle.pb_history.specs.Sound.{IsSoundTable}
 use Rattle.pb_history.proofs.Progress.{first_of_two}
 use Rattle.pb_history.proofs.Updates.{same_cell, same_cell_itself}
+use Rattle.pb_base.proofs.Logic.{one_value, not_none as some_none}
 
 -- ---- of two things that a definition names, one
-
-value_of_some : {A : Type 0} (x y : A) → Some x ≡ Some y → x ≡ y
-value_of_some x y e = ap (λ o. unwrap_or o x) e
-
-one_value : {A : Type 0} (o : Option A) (x y : A) → o ≡ Some x → o ≡ Some y → x ≡ y
-one_value o x y p q = value_of_some x y (sym p ∙ q)
 
 -- a start names one transaction
 one_transaction : (state : StateOf) (seat s : ℕ) (t u : TransactionOf) → IsOwn state seat s t → IsOwn state seat s u → t ≡ u
@@ -57,9 +52,6 @@ one_transaction state seat s t u p q = one_value (map.get state.transactions s) 
 -- two that are each the greatest
 ordered : (a b : ℕ) → (a < b → ⊥) → (b < a → ⊥) → a ≡ b
 ordered a b p q = omega (arith, p, q)
-
-some_none : {A : Type 0} (o : Option A) (x : A) → o ≡ Some x → o ≡ None → ⊥
-some_none o x p q = cc
 
 some_none_test : {A : Type 0} (o : Option A) → is_some o ≡ true → o ≡ None → ⊥
 some_none_test o p q = let no = ap is_some q in cc

@@ -13,6 +13,7 @@ use Rattle.pb_history.specs.TableView.{TableView}
 use Rattle.pb_history.specs.Sound.{HasStamp, LacksPrimary, ReadTells, IsSoundView}
 use Rattle.pb_history.proofs.Agreement.{read_of}
 use Rattle.pb_history.proofs.Updates.{set1, changed, set1_there, none_if, has_more}
+use Rattle.pb_base.proofs.Logic.{same_some as same_phase}
 
 abbrev pub stamped_at : ℕ → Phase
 stamped_at c = Stamped (record { 0 = c })
@@ -40,9 +41,6 @@ IsPlain h = (c : ℕ) → (h ≢ stamped_at c) × (h ≢ committed_at c)
 -- one transaction in another phase, and the clock perhaps later
 abbrev pub with_phase : TableView → ℕ → Phase → ℕ → TableView
 with_phase v s h k = record v { clock = k; phase = set1 v.phase s (Some h) }
-
-same_phase : (g h : Phase) → Some g ≡ Some h → g ≡ h
-same_phase g h e = cc
 
 module _ (v : TableView) (i : IsSoundView v) (s : ℕ) (h : Phase) (plain : IsPlain h) (open_still : (c : ℕ) → v.phase s ≢ Some (committed_at c)) (k : ℕ) (low : v.clock ≤ k) (mine : s ≤ k) (small : k < 2 ^ 64) (ready : (x : Cell) → v.prewritten s x ≡ true → h ≢ Reading) where
   stamp_back : (u c : ℕ) → HasStamp (with_phase v s h k) u c → HasStamp v u c

@@ -1,5 +1,5 @@
 -- The committed runs of an observer are counted by the entries that begin them.
-use Rattle.std.proofs.Common.{◌≡◌, ℕ, ◌+◌, ◌≤◌, ◌==◌, ◌&&◌, inl, inr, Bool, true, false, cond, List, [], ◌∷◌, length, Option, Some, None, refl, sym, ap, subst, ◌∙◌, arith}
+use Rattle.std.proofs.Common.{◌≡◌, ℕ, ◌+◌, ◌≤◌, ◌==◌, ◌&&◌, inl, inr, true, false, cond, List, [], ◌∷◌, length, Option, Some, None, refl, sym, ap, subst, ◌∙◌, arith}
 use Rattle.std.specs.Prelude.{option_map}
 use Rattle.std.proofs.lemmas.Bool.{eqb-true, eq-eqb}
 use Rattle.std.proofs.lemmas.List.Sums.{sum_by-cons}
@@ -22,10 +22,7 @@ use Rattle.pb_history.proofs.Agreement.{ts, got, Agrees}
 use Rattle.pb_history.proofs.StepsAgree.{legal_agrees}
 use Rattle.pb_history.proofs.HistoryTold.{tells}
 use Rattle.pb_history.proofs.TimestampsRise.{behind, tells_timestamps}
-
-both : (a b : Bool) → (a && b) ≡ true → (a ≡ true) × (b ≡ true)
-both true b e = (refl, e)
-both false b e = cc
+use Rattle.pb_base.proofs.Logic.{one_value as one, and_true as both}
 
 -- a phase that tests as committed has its commit
 committed_at : (h : Option Phase) → phase_is_committed h ≡ true → (c : Ts) × (h ≡ Some (phases.Committed c))
@@ -38,9 +35,6 @@ committed_at (Some phases.Failed) e = cc
 
 phase_there : (o : Option TransactionOf) (t : TransactionOf) (c : Ts) → o ≡ Some t → option_map (λ (u : TransactionOf). u.phase) o ≡ Some (phases.Committed c) → t.phase ≡ phases.Committed c
 phase_there o t c there p = let q : Some t.phase ≡ Some (phases.Committed c) = ap (option_map (λ (u : TransactionOf). u.phase)) (sym there) ∙ p in cc
-
-one : (o : Option TransactionOf) (t u : TransactionOf) → o ≡ Some t → o ≡ Some u → t ≡ u
-one o t u p q = cc
 
 same_time : (c d : ℕ) (h : Phase) → h ≡ phases.Committed (ts c) → h ≡ phases.Committed (ts d) → c ≡ d
 same_time c d h p q = let k : ts c ≡ ts d = cc in ap (λ (t : Ts). t.0) k

@@ -34,12 +34,14 @@ use Rattle.pb_steps.specs.Clear.{ClearsCommitted, ClearsBack}
 use Rattle.pb_steps.specs.Steps.{StepCase, TableStep}
 use Rattle.pb_history.specs.TableView.{TableView, declared_by, prewritten_by, reads_by, view_of}
 use Rattle.pb_history.specs.Sound.{HasStamp, ReadTells, IsSoundView, IsSoundTable}
-use Rattle.pb_history.proofs.Updates.{set1, set1_here, set1_same, none_if, some_if, same_cell, same_cell_is}
+use Rattle.pb_history.proofs.Updates.{set1, set1_here, set1_same, none_if, some_if, same_cell}
 use Rattle.pb_history.proofs.Agreement.{read_of}
 use Rattle.pb_history.proofs.PhaseTests.{reading_is, declared_is}
 use Rattle.pb_history.proofs.PhasesKeepSound.{IsPlain, with_phase, phase_kept, has_read, read_kept, with_declared, declared_kept, with_stamp, stamp_kept, stamped_at, committed_at}
 use Rattle.pb_history.proofs.LocksKeepSound.{with_prewrite, prewrite_kept, without_lock, rolled_back_kept, with_record, record_kept}
 use Rattle.pb_history.proofs.ViewsAfter.{field_after, field_same, lock_after_commit, data_after_commit, write_after_commit, lock_after_back, data_after_back, write_after_back, lock_after_put, data_after_put, write_after_put}
+use Rattle.pb_base.proofs.Logic.{and_true as both_true, none_is, or_false}
+use Rattle.pb_base.proofs.SameCells.{cell_is}
 
 -- ---- what the view has of a transaction
 
@@ -72,22 +74,10 @@ pub some_is : {A : Type 0} (o : Option A) → is_some o ≡ true → (w : A) × 
 some_is None h = cc
 some_is (Some w) h = (w, refl)
 
-none_is : {A : Type 0} (o : Option A) → is_some o ≡ false → o ≡ None
-none_is None h = refl
-none_is (Some w) h = cc
-
-both_true : (a b : Bool) → (a && b) ≡ true → (a ≡ true) × (b ≡ true)
-both_true true b e = (refl, e)
-both_true false b e = cc
-
 neither : (a b : Bool) → (not a && not b) ≡ false → (a ≡ true) ⊎ (b ≡ true)
 neither true b e = inl refl
 neither false true e = inr refl
 neither false false e = cc
-
-or_false : (b : Bool) → (b || false) ≡ b
-or_false true = refl
-or_false false = refl
 
 -- the prewritten cells with one more
 one_more : (xs : List Cell) (x y : Cell) → is_in (xs ++ x ∷ []) y ≡ (is_in xs y || same_cell x y)
@@ -96,11 +86,6 @@ one_more xs x y = list_any-append (λ z. eq_by_cmp cell_cmp z y) xs (x ∷ []) �
 
 one_more_here : (xs : List Cell) (x : Cell) → ◌≡◌ {A = Cell → Bool} (is_in (xs ++ x ∷ [])) (λ y. is_in xs y || same_cell x y)
 one_more_here xs x i y = one_more xs x y i
-
--- cells that compare alike are one
-cell_is : (x y : Cell) → eq_by_cmp cell_cmp x y ≡ true → x ≡ y
-unfolding same_cell
-cell_is x y e = same_cell_is x y e
 
 content_first : (w : Cell × Content) (ws : Writes) (x : Cell) (k : Content) (P : Type 0) → content_in (w ∷ ws) x ≡ Some k → (x ≡ w.0 → P) → (content_in ws x ≡ Some k → P) → P
 content_first w ws x k P e here there =

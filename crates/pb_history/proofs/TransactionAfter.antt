@@ -1,5 +1,5 @@
 -- What a step leaves of each transaction.
-use Rattle.std.proofs.Common.{◌≡◌, ℕ, Bool, true, false, cond, List, [], ◌∷◌, ◌++◌, Option, Some, None, refl, sym, ap, ◌∙◌}
+use Rattle.std.proofs.Common.{◌≡◌, ℕ, true, false, cond, List, [], ◌∷◌, ◌++◌, Option, Some, None, refl, sym, ap, ◌∙◌}
 use Rattle.std.specs.Prelude.{◌==◌, option_map}
 use Rattle.std.specs.Cmp.{unsigned_tied, nat_cmp_total}
 use Rattle.std.specs.FinMap as map
@@ -16,14 +16,11 @@ use Rattle.pb_steps.specs.Steps.{StepCase}
 use Rattle.pb_history.specs.TransactionsTold.{names_start, committed_phase, transaction_after}
 use Rattle.pb_history.proofs.OnlyEntries.{secondary_keeps}
 use Rattle.pb_history.proofs.Agreement.{got}
+use Rattle.pb_base.proofs.Logic.{same_both}
 
 -- the transaction of s after an entry, whether it names s or not
 abbrev pub told_after : List ObserverOf → ℕ → ℕ → Step → Answer → Option TransactionOf → Option TransactionOf
 told_after observers s seat step answer t = cond (names_start s step answer) (transaction_after observers seat step answer t) t
-
-same_both : {A : Type 0} (b : Bool) (x : A) → x ≡ cond b x x
-same_both true x = refl
-same_both false x = refl
 
 module _ (old : StateOf) (seat : ℕ) (new : StateOf) (s : ℕ) where
   -- a step that changes one transaction

@@ -3,10 +3,11 @@ use Rattle.std.proofs.Common.{◌≡◌, ◌≢◌, ℕ, Bool, true, false, cond
 use Rattle.std.specs.Prelude.{nat_eq}
 use Rattle.std.specs.Ordering.{is_eq, eq_by_cmp}
 use Rattle.std.specs.Cmp.{Equal-is, tied_itself}
-use Rattle.std.proofs.lemmas.Bool.{eqb-true, eq-eqb}
+use Rattle.std.proofs.lemmas.Bool.{eqb-true, eq-eqb, false_from_ne_true as not_true}
 use Rattle.pb_base.specs.declared.cell.Cell.{Cell}
 use Rattle.pb_base.specs.Cell.{cell_cmp, cell_cmp_total, cell_cmp-IsAntisymmetric}
 use Rattle.pb_history.specs.History.{Has}
+use Rattle.pb_base.proofs.Logic.{and_true}
 
 -- whether two cells are one, kept folded, since proofs need only what it tells
 unfoldable pub same_cell : Cell → Cell → Bool
@@ -28,10 +29,6 @@ at_place y u x s = same_cell y x && nat_eq u s
 abbrev pub Apart : Cell → ℕ → Cell → ℕ → Type 0
 Apart y u x s = y ≡ x → u ≡ s → ⊥
 
-and_true : (a b : Bool) → (a && b) ≡ true → (a ≡ true) × (b ≡ true)
-and_true true b e = (refl, e)
-and_true false b e = cc
-
 at_place_is : (y : Cell) (u : ℕ) (x : Cell) (s : ℕ) → at_place y u x s ≡ true → (y ≡ x) × (u ≡ s)
 at_place_is y u x s e = let p = and_true _ _ e in (same_cell_is y x p.0, eqb-true u s p.1)
 
@@ -45,10 +42,6 @@ decide y u x s =
       | true ↦ λ e. inl (at_place_is y u x s e)
       | false ↦ λ e. inr (λ p q. let h : at_place y u x s ≡ true = (λ i. at_place (p i) (q i) x s) ∙ at_place_itself x s in cc)
     ] refl
-
-pub not_true : (b : Bool) → (b ≡ true → ⊥) → b ≡ false
-not_true true h = absurd (h refl)
-not_true false h = refl
 
 pub apart_test : (y : Cell) (u : ℕ) (x : Cell) (s : ℕ) → Apart y u x s → at_place y u x s ≡ false
 apart_test y u x s h = not_true _ (λ e. let p = at_place_is y u x s e in h p.0 p.1)
@@ -142,3 +135,14 @@ has_more [] y z (inl e) = inl e
 has_more [] y z (inr h) = absurd h
 has_more (x ∷ xs) y z (inl e) = inr (inl e)
 has_more (x ∷ xs) y z (inr h) = elim (has_more xs y z h) [ inl e ↦ inl e | inr g ↦ inr (inr g) ]
+
+-- a member of the second of two joined lists
+pub has_right : {A : Type 0} (xs ys : List A) (x : A) → Has ys x → Has (xs ++ ys) x
+has_right [] ys x h = h
+has_right (y ∷ xs) ys x h = inr (has_right xs ys x h)
+
+-- a member of two joined lists is one of either
+pub has_which : {A : Type 0} (xs ys : List A) (z : A) → Has (xs ++ ys) z → Has xs z ⊎ Has ys z
+has_which [] ys z h = inr h
+has_which (x ∷ xs) ys z (inl e) = inl (inl e)
+has_which (x ∷ xs) ys z (inr h) = elim (has_which xs ys z h) [ inl k ↦ inl (inr k) | inr k ↦ inr k ]

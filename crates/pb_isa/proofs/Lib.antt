@@ -1,2 +1,3 @@
 mod Shift
 mod NextSlots
+pub mod Instructions

@@ -8,6 +8,7 @@ use Rattle.pb_kinds.specs.declared.frame.Kind.TheVariants.{Unset, Number, Stack,
 use Rattle.pb_kinds.specs.declared.frame.Frame.{Frame}
 use Rattle.pb_kinds.specs.Frames.{has_byte, same_kind, meet, meet_kinds, meet_bytes, join}
 use Rattle.pb_kinds.specs.Meet.{IsMeet}
+use Rattle.pb_base.proofs.Logic.{and_true as both_true}
 
 -- kinds that are found to be the same are one
 same_means_equal : (a b : Kind) → same_kind a b ≡ true → a ≡ b
@@ -85,11 +86,6 @@ known_both ks ms r k set e = meet_known (get_or ks r Unset) (get_or ms r Unset) 
 -- and what both know, it knows
 known_joined : (ks ms : List Kind) (r : ℕ) (k : Kind) → get_or ks r Unset ≡ k → get_or ms r Unset ≡ k → get_or (meet_kinds ks ms) r Unset ≡ k
 known_joined ks ms r k e f = kind_at ks ms r ∙ rw (e, f) (meet_self k)
-
-both_true : (x y : Bool) → (x && y) ≡ true → (x ≡ true) × (y ≡ true)
-both_true true true h = (refl, refl)
-both_true true false h = grind arith
-both_true false y h = grind arith
 
 -- the join of two frames is their meet, register by register and byte by byte
 pub join_is_meet : (a b : Frame) → IsMeet a b (join a b)

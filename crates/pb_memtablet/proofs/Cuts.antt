@@ -1,5 +1,5 @@
 -- What stands beside the cut of a sorted list at a key.
-use Rattle.std.proofs.Common.{◌≡◌, ℕ, ◌<◌, ◌≤◌, List, [], ◌∷◌, None, Some, refl, sym, ap, ◌∙◌, subst, arith, zero, suc, length, take, drop, get_or, slice_get, T}
+use Rattle.std.proofs.Common.{◌≡◌, ℕ, ◌<◌, ◌≤◌, List, [], ◌∷◌, None, Some, refl, sym, ap, ◌∙◌, subst, arith, zero, suc, length, take, get_or, slice_get, T}
 use Rattle.std.specs.declared.cmp.Ordering.{Ordering}
 use Rattle.std.specs.declared.cmp.Ordering.TheVariants.{Less, Equal, Greater}
 use Rattle.std.specs.Cmp.{IsTotalOrder}
@@ -10,6 +10,7 @@ use Rattle.pb_memtablet.specs.Places.{IsCut}
 use Rattle.pb_memtablet.specs.Chunks.{entries_up_to, entries_above}
 use Rattle.pb_memtablet.proofs.Spots.{not_less, equal_not_less}
 use Rattle.pb_memtablet.proofs.Homes.{entries_up_to-cut, entries_above-cut, last_of_take}
+use Rattle.pb_base.proofs.Logic.{first_of_drop as first_of_dropped, none_past}
 
 -- e stands right before the cut
 pub record IsLastUpTo {K X : Type 0} (R : K → K → Ordering) (es : List (K × X)) (k : K) (e : K × X) : Type 0 where
@@ -24,18 +25,6 @@ pub record IsFirstAbove {K X : Type 0} (R : K → K → Ordering) (es : List (K 
   pub is : e ≡ get_or es place e
   pub within : place < length es
   pub cut : IsCut R es k place
-
-first_of_dropped : {E : Type 0} (es : List E) (i : ℕ) → slice_get (drop i es) 0 ≡ slice_get es i
-first_of_dropped [] zero = refl
-first_of_dropped [] (suc i) = refl
-first_of_dropped (e ∷ es) zero = refl
-first_of_dropped (e ∷ es) (suc i) = first_of_dropped es i
-
--- where nothing stands, the list has ended
-pub none_past : {E : Type 0} (es : List E) (i : ℕ) → None ≡ slice_get es i → length es ≤ i
-none_past [] i p = omega arith
-none_past (e ∷ es) zero p = cc
-none_past (e ∷ es) (suc i) p = let rest = none_past es i p in omega (arith, rest)
 
 module _ {K X : Type 0} (R : K → K → Ordering) where
   cut_of : (es : List (K × X)) (k : K) → (i : ℕ) × IsCut R es k i

@@ -1,5 +1,5 @@
 -- What edits make of sorted lists.
-use Rattle.std.proofs.Common.{◌≡◌, Bool, true, false, cond, not, List, [], ◌∷◌, refl, sym, ap, ◌∙◌, subst, T, length, drop, get_or, ◌≤◌, arith}
+use Rattle.std.proofs.Common.{◌≡◌, Bool, true, false, cond, not, List, [], ◌∷◌, refl, sym, ap, ◌∙◌, subst, length, drop, get_or, ◌≤◌, arith}
 use Rattle.std.specs.declared.cmp.Ordering.{Ordering}
 use Rattle.std.specs.declared.cmp.Ordering.TheVariants.{Less, Equal, Greater}
 use Rattle.std.specs.Ordering.{eq_by_cmp}
@@ -16,6 +16,7 @@ use Rattle.pb_store.specs.declared.slot.Edit.TheVariants.{Put, Erase, Mark, Unma
 use Rattle.pb_store.specs.Contents.{Contents, IsOfSort, nothing, after_edit, after_edits}
 use Rattle.pb_memtablet.specs.Listed.{EntryList, MarkList, contents_of, AllOfSort, AreLists}
 use Rattle.pb_memtablet.proofs.Spots.{holds, inserted, removed}
+use Rattle.pb_base.proofs.Logic.{truth}
 
 both_same : (m n : map.FinMap slot_cmp Item) (p q : map.FinMap cell_cmp (Unit {0})) → m ≡ n → p ≡ q → ◌≡◌ {A = Contents} (record { entries = m; marks = p }) (record { entries = n; marks = q })
 both_same m n p q e f = λ i. record { entries = e i; marks = f i }
@@ -43,10 +44,6 @@ of_sort-where_key (e ∷ es) p all =
       | true ↦ (all.0, of_sort-where_key es p all.1)
       | false ↦ of_sort-where_key es p all.1
     ]
-
-truth : (b : Bool) → T b → b ≡ true
-truth true t = refl
-truth false t = absurd t
 
 -- ---- one edit
 -- fs and ns are what one edit makes of es and ms, and again lists that a tablet may have

@@ -1,5 +1,5 @@
 -- Where a key belongs among the parts of a sorted list, and what an edit there does to the whole.
-use Rattle.std.proofs.Common.{◌≡◌, ◌≢◌, ℕ, ◌<◌, ◌≤◌, ◌+◌, Bool, true, false, cond, not, List, [], ◌∷◌, ◌++◌, Option, None, Some, refl, sym, ap, ◌∙◌, arith, zero, suc, length, take, drop, get_or, slice_get, T, ◌&&◌}
+use Rattle.std.proofs.Common.{◌≡◌, ◌≢◌, ℕ, ◌<◌, ◌≤◌, ◌+◌, Bool, true, false, cond, not, List, [], ◌∷◌, ◌++◌, Option, None, Some, refl, sym, ap, ◌∙◌, arith, zero, suc, length, take, drop, get_or, slice_get, T}
 use Rattle.std.specs.declared.cmp.Ordering.{Ordering}
 use Rattle.std.specs.declared.cmp.Ordering.TheVariants.{Less, Equal, Greater}
 use Rattle.std.specs.Ordering.{is_eq, is_lt, is_le, eq_by_cmp}
@@ -12,11 +12,7 @@ use Rattle.std.specs.FinMap.{find, put}
 use Rattle.std.specs.FinMap.Entries.{by_order, below_all, is_sorted, where_key}
 use Rattle.pb_memtablet.specs.Places.{IsCut}
 use Rattle.pb_memtablet.specs.Chunks.{AreBelow, AreAbove, entries_up_to, entries_above}
-use Rattle.pb_memtablet.proofs.Spots.{first, second, less, turned}
-
-both : (a b : Bool) → T a → T b → T (a && b)
-both true b p q = q
-both false b p q = p
+use Rattle.pb_base.proofs.Logic.{both_hold as both, first_holds as first, second_holds as second, less_if as less, turned}
 
 not_lt : (r : Ordering) → r ≢ Less → is_lt r ≡ false
 not_lt Less n = absurd (n refl)

@@ -16,7 +16,7 @@ use Rattle.pb_store.specs.Slot.{slot_cmp, slot_cmp_total}
 use Rattle.pb_store.specs.Contents.{entries_after}
 use Rattle.pb_memtablet.specs.Stored.{Items, KeyList, found_at, HasItem, item_at, seen, AllKeys, AreApart, AreStored}
 use Rattle.pb_memtablet.specs.Listed.{EntryList}
-use Rattle.pb_memtablet.proofs.Spots.{truth}
+use Rattle.pb_base.proofs.Logic.{truth}
 
 -- the keys without that of the slot
 abbrev without : Name → KeyList → KeyList
@@ -305,11 +305,6 @@ module _ (s t u : Items) (ks ls : KeyList) (gone slot : Name) (n m : ℕ) (item 
 
   pub stored_renewed : AreStored u ls
   stored_renewed = stored_put t u (without gone ks) ls slot m item between vacant changed others e (is_sorted-where_key slot_cmp _ ks sorted) (free_without gone slot ks free) more
-
--- where none is there, none was found
-pub no_key : {X : Type 0} (o : Option X) → is_some o ≡ false → o ≡ None
-no_key None e = refl
-no_key (Some x) e = cc
 
 -- ---- two entries under fresh keys
 module _ (s t u : Items) (ks ls : KeyList) (slot next : Name) (n m : ℕ) (item other : Item) (kept : AreStored s ks) (sorted : T (is_sorted slot_cmp ks))

@@ -19,9 +19,10 @@ use Rattle.std.specs.Option.{option_map}
 use Rattle.std.proofs.lemmas.Option.{slice_get_within, get_or_from_slice_get}
 use Rattle.pb_memtablet.specs.Places.{IsGap, IsCut}
 use Rattle.pb_memtablet.specs.Chunks.{entries_above}
-use Rattle.pb_memtablet.proofs.Cuts.{first_above_is, none_above, none_past}
+use Rattle.pb_memtablet.proofs.Cuts.{first_above_is, none_above}
 use Rattle.pb_memtablet.specs.Listed.{EntryList, MarkList, AllOfSort}
 use Rattle.pb_memtablet.proofs.Spots.{find-found, find-gap, found_self, cut_above, cut_below, gap_first, gap_after, past}
+use Rattle.pb_base.proofs.Logic.{none_past}
 
 -- slots of one cell and sort go by timestamp
 by_ts : (cell : Cell) (sort : Sort) (t u : ℕ) → slot_cmp (slot_at cell sort t) (slot_at cell sort u) ≡ nat_cmp t u

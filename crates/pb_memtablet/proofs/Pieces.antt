@@ -15,11 +15,7 @@ use Rattle.std.specs.FinMap.Entries.{is_sorted}
 use Rattle.pb_memtablet.specs.declared.chunks.TheConstants.{CHUNK}
 use Rattle.pb_memtablet.specs.Chunks.{chunk_entries, IsChunk, IsHome, AreBelow, AreAbove, starts_by, entries_up_to, entries_above}
 use Rattle.pb_memtablet.proofs.Homes.{sorted_left, sorted_right, above_head, below_head, at_most, is_above, above_parts, find-home, put-home, without, without-home, entries_up_to-home, entries_above-home, entries_up_to-cut, entries_above-cut, last_of_take, last_or-append, first_of_drop, drop_past}
-
--- a list without length has nothing
-pub empty_by_length : {X : Type 0} (xs : List X) → length xs ≡ 0 → xs ≡ []
-empty_by_length [] n = refl
-empty_by_length (x ∷ xs) n = absurd (omega (arith, n))
+use Rattle.pb_base.proofs.Logic.{empty_by_length}
 
 pub All-insert : {X : Type 0} (P : X → Type 0) (xs : List X) (i : ℕ) (x : X) → P x → All P xs → All P (insert xs i x)
 All-insert P xs i x p h = All-append P (take i xs) (x ∷ drop i xs) (All-take P i xs h) (All-cons P x (drop i xs) p (All-drop P i xs h))

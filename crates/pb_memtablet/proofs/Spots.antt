@@ -1,8 +1,8 @@
 -- Where keys stand in sorted lists, and what a change there does.
-use Rattle.std.proofs.Common.{◌≡◌, ◌≢◌, ℕ, ◌<◌, ◌≤◌, ◌-◌, Bool, true, false, cond, not, List, [], ◌∷◌, None, Some, refl, sym, ap, ◌∙◌, subst, arith, zero, suc, length, get_or, set, T, ◌&&◌}
+use Rattle.std.proofs.Common.{◌≡◌, ◌≢◌, ℕ, ◌<◌, ◌≤◌, ◌-◌, Bool, true, false, cond, not, List, [], ◌∷◌, None, Some, refl, sym, ap, ◌∙◌, subst, arith, zero, suc, length, get_or, set, T}
 use Rattle.std.specs.declared.cmp.Ordering.{Ordering}
 use Rattle.std.specs.declared.cmp.Ordering.TheVariants.{Less, Equal, Greater}
-use Rattle.std.specs.Ordering.{is_eq, is_lt, is_gt, ordering_reverse, eq_by_cmp}
+use Rattle.std.specs.Ordering.{is_eq, is_lt, is_gt, eq_by_cmp}
 use Rattle.std.proofs.lemmas.List.{get_or_read}
 use Rattle.std.specs.Cmp.{IsTotalOrder, tied_itself, alike_right, eq_by_cmp_equiv}
 use Rattle.std.specs.List.{insert, remove, HoldsAt}
@@ -10,26 +10,11 @@ use Rattle.std.specs.FinMap as map
 use Rattle.std.specs.FinMap.{find, put}
 use Rattle.std.specs.FinMap.Entries.{by_order, below_all, is_sorted, where_key, find-put, find-where_key, is_sorted-put, is_sorted-where_key}
 use Rattle.pb_memtablet.specs.Places.{IsFound, IsGap, IsCut}
+use Rattle.pb_base.proofs.Logic.{less_if as less, first_holds as first, second_holds as second, turned}
+use Rattle.pb_store.proofs.Copied.{below_at}
 
 pub holds : (b : Bool) → b ≡ true → T b
 holds b e = subst T (sym e) tt
-
-pub truth : (b : Bool) → T b → b ≡ true
-truth true t = refl
-truth false t = absurd t
-
-pub first : (a b : Bool) → T (a && b) → T a
-first true b p = tt
-first false b p = p
-
-pub second : (a b : Bool) → T (a && b) → T b
-second true b p = p
-second false b p = absurd p
-
-pub less : (o : Ordering) → T (is_lt o) → o ≡ Less
-less Less p = refl
-less Equal p = absurd p
-less Greater p = absurd p
 
 pub is_less : (o : Ordering) (b : Bool) → b ≡ is_lt o → b ≡ true → o ≡ Less
 is_less Less b e t = refl
@@ -51,10 +36,6 @@ not_less o g l = cc
 pub equal_not_less : (o : Ordering) → o ≡ Equal → o ≢ Less
 equal_not_less o g l = cc
 
--- two keys compared the other way round come out reversed
-pub turned : {K : Type 0} {R : K → K → Ordering} → IsTotalOrder R → (x y : K) (r : Ordering) → R x y ≡ r → R y x ≡ ordering_reverse r
-turned o x y r e = o.antisymm y x ∙ ap ordering_reverse e
-
 -- what is not above one key is below all that are above that key
 pub past : {K : Type 0} {R : K → K → Ordering} → IsTotalOrder R → (k x q : K) → R k x ≢ Less → R k q ≡ Less → R q x ≡ Greater
 past {R = R} o k x q above below =
@@ -65,17 +46,12 @@ past {R = R} o k x q above below =
     ] refl above
 
 module _ {K X : Type 0} {R : K → K → Ordering} (o : IsTotalOrder R) where
-  below_at : (x : K) (es : List (K × X)) (i : ℕ) (d : K × X) → T (below_all R x es) → i < length es → R x (get_or es i d).0 ≡ Less
-  below_at x [] i d h lt = absurd (omega (arith, lt))
-  below_at x (e ∷ es) zero d h lt = less _ (first _ _ h)
-  below_at x (e ∷ es) (suc i) d h lt = below_at x es i d (second _ _ h) (omega arith)
-
   pub found_at : (es : List (K × X)) (k : K) (i : ℕ) → T (is_sorted R es) → i < length es → HoldsAt (λ e. R e.0 k ≡ Equal) es i → IsFound R es k i
   found_at [] k i s lt h = absurd (omega (arith, lt))
   found_at (e ∷ es) k zero s lt h = turned o _ _ Equal (h e)
   found_at (e ∷ es) k (suc i) s lt h =
       let x = (get_or es i e).0 in
-      (sym (o.congr x k e.0 (h e)) ∙ turned o e.0 x Less (below_at e.0 es i e (first _ _ s) (omega arith)), found_at es k i (second _ _ s) (omega arith) h)
+      (sym (o.congr x k e.0 (h e)) ∙ turned o e.0 x Less (below_at o e.0 es i e (first _ _ s) (omega arith)), found_at es k i (second _ _ s) (omega arith) h)
 
   -- ---- what is found
   pub find-found : (es : List (K × X)) (k : K) (i : ℕ) (d : K × X) → IsFound R es k i → find R k es ≡ Some (get_or es i d).1
@@ -139,7 +115,7 @@ module _ {K X : Type 0} {R : K → K → Ordering} (o : IsTotalOrder R) where
   pub cut_by_found : (es : List (K × X)) (k : K) (i : ℕ) → T (is_sorted R es) → IsFound R es k i → IsCut R es k (suc i)
   cut_by_found [] k i s f = absurd f
   cut_by_found (e ∷ []) k zero s f = (equal_not_less _ f, tt)
-  cut_by_found (e ∷ next ∷ es) k zero s f = (equal_not_less _ f, o.congr k e.0 next.0 f ∙ below_at e.0 (next ∷ es) 0 e (first _ _ s) (omega arith))
+  cut_by_found (e ∷ next ∷ es) k zero s f = (equal_not_less _ f, o.congr k e.0 next.0 f ∙ below_at o e.0 (next ∷ es) 0 e (first _ _ s) (omega arith))
   cut_by_found (e ∷ es) k (suc i) s f = (not_less _ f.0, cut_by_found es k i (second _ _ s) f.1)
 
   pub cut_by_gap : (es : List (K × X)) (k : K) (i : ℕ) → IsGap R es k i → IsCut R es k i
@@ -168,7 +144,7 @@ module _ {K X : Type 0} {R : K → K → Ordering} (o : IsTotalOrder R) where
   gap_after (e ∷ es) q zero d s lt g above = (g, gap_first es q (λ x more. above x (omega arith)))
   gap_after (e ∷ es) q (suc i) d s lt g above =
       let x = (get_or es i d).0 in (
-        turned o e.0 q Less (o.trans e.0 x q (below_at e.0 es i d (first _ _ s) (omega arith)) (turned o q x Greater g)),
+        turned o e.0 q Less (o.trans e.0 x q (below_at o e.0 es i d (first _ _ s) (omega arith)) (turned o q x Greater g)),
         gap_after es q i d (second _ _ s) (omega arith) g (λ y more. above y (omega arith)),
       )
 
@@ -194,7 +170,7 @@ module _ {K X : Type 0} {R : K → K → Ordering} (o : IsTotalOrder R) where
       let above : HoldsAt (λ x. R q x.0 ≡ Greater) es i = λ d. subst (λ n. R q (get_or (e ∷ es) n d).0 ≡ Greater) previous (low (omega arith) d) in
       let same : suc i - 1 ≡ i = omega arith in
       let x = (get_or es i e).0 in (
-        turned o e.0 q Less (o.trans e.0 x q (below_at e.0 es i e (first _ _ s) (omega arith)) (turned o q x Greater (above e))),
+        turned o e.0 q Less (o.trans e.0 x q (below_at o e.0 es i e (first _ _ s) (omega arith)) (turned o q x Greater (above e))),
         gap_in_place es q (suc i) (second _ _ s) (omega arith) (λ some. subst (HoldsAt (λ x. R q x.0 ≡ Greater) es) (sym same) above) (λ d more. high d (omega arith)),
       )
 
@@ -229,7 +205,7 @@ module _ {K X : Type 0} {R : K → K → Ordering} (o : IsTotalOrder R) where
   found_self [] i d s lt = absurd (omega (arith, lt))
   found_self (e ∷ es) zero d s lt = tied_itself o e.0
   found_self (e ∷ es) (suc i) d s lt =
-      (turned o e.0 _ Less (below_at e.0 es i d (first _ _ s) (omega arith)), found_self es i d (second _ _ s) (omega arith))
+      (turned o e.0 _ Less (below_at o e.0 es i d (first _ _ s) (omega arith)), found_self es i d (second _ _ s) (omega arith))
 
   module _ (exact : map.IsAntisymmetric R) where
     pub inserted : (es : List (K × X)) (k : K) (v : X) → T (is_sorted R es) → map.from_sorted {R = R} (put R k v es) ≡ map.insert (map.from_sorted es) k v

@@ -46,20 +46,13 @@ use Rattle.pb_notify.specs.Looks.{look_step}
 use Rattle.pb_notify.specs.Places.{step_at}
 use Rattle.pb_notify.specs.Allowed.{entries_by, HasRun, JobsAreAllowed}
 use Rattle.pb_notify.proofs.RunTalk as talk
-use Rattle.pb_notify.proofs.RecordedReads.{after, after_is, after_append, has_append, with_reads, IsRecorded, HasRead, in_look, cell_begins, observed, acknowledged, has_read, is_newer, itself}
+use Rattle.pb_notify.proofs.RecordedReads.{after, after_is, after_append, has_append, with_reads, IsRecorded, HasRead, in_look, cell_begins, observed, acknowledged, has_read, is_newer}
 use Rattle.pb_notify.proofs.ItsRun.{its_run}
 use Rattle.pb_notify.proofs.PlanEntries.{has_said}
-use Rattle.pb_notify.proofs.PlanSteps.{keeps, declaring_said_nothing, plan_step, plan_keeps}
+use Rattle.pb_notify.proofs.PlanSteps.{declaring_said_nothing, plan_step, plan_keeps}
 use Rattle.pb_notify.proofs.OwnSteps.{begins_in_time, no_transaction, looks_in_time, declares_in_time, goes_in_time}
-
-same_step : (t u : Step) → Some t ≡ Some u → t ≡ u
-same_step t u e = cc
-
-none_some : (t : Step) → None ≡ Some t → ⊥
-none_some t e = cc
-
-same_transaction : (o : Option TransactionOf) (t v : TransactionOf) → o ≡ Some t → o ≡ Some v → t ≡ v
-same_transaction o t v p q = cc
+use Rattle.pb_base.proofs.Logic.{one_value as same_transaction, same_some as same_step, none_some, same_number as itself}
+use Rattle.pb_txn.proofs.PlanTransactions.{keeps}
 
 has_last : (xs : List Received) (x : Received) → Has (xs ++ x ∷ []) x
 has_last [] x = inl refl

@@ -1,7 +1,5 @@
 -- A run of its observer's program on what it read is one that its transaction may declare.
 use Rattle.std.proofs.Common.{◌≡◌, ℕ, Bool, true, cond, ◌&&◌, List, [], ◌∷◌, Option, Some, None, refl, sym, ap, ◌∙◌}
-use Rattle.std.specs.Ordering.{eq_by_cmp, is_eq}
-use Rattle.std.specs.Cmp.{tied_itself}
 use Rattle.std.specs.Coded.{coded_ℕ, coded_list}
 use Rattle.std.proofs.lemmas.Bool.{eq-eqb, lt-ltb}
 use Rattle.pb_base.specs.declared.cell.Cell.{Cell}
@@ -9,7 +7,6 @@ use Rattle.pb_base.specs.declared.names.Row.{Row}
 use Rattle.pb_base.specs.declared.names.Ts.{Ts}
 use Rattle.pb_isa.specs.Machine.{Reply}
 use Rattle.pb_helpers.specs.OldRecord.{tells_old}
-use Rattle.pb_base.specs.Cell.{cell_cmp, cell_cmp_total}
 use Rattle.pb_base.specs.Same.{is_same}
 use Rattle.pb_isa.specs.Programs.{judged_code}
 use Rattle.pb_isa.specs.Meaning.{Talk}
@@ -21,9 +18,7 @@ use Rattle.pb_steps.specs.declared.step.Declared.TheVariants as declared
 use Rattle.pb_steps.specs.Reads.{version_in, acknowledged_in, value_in, value_code, asked_cell}
 use Rattle.pb_verify.specs.Observers.{ObserverOf, observed_cell, acknowledgment}
 use Rattle.pb_steps.specs.Declarations.{IsReadOf, old_at, WasOld, WasSeen, AreReplies, IsItsRun, is_at, is_read_of, with_old, seen_by, seen_in, asked_in, are_replies, is_run, is_run_by, is_its}
-
-same_cells : (x y : Cell) → x ≡ y → eq_by_cmp cell_cmp x y ≡ true
-same_cells x y e = ap (eq_by_cmp cell_cmp x) (sym e) ∙ ap is_eq (tied_itself cell_cmp_total x)
+use Rattle.pb_base.proofs.SameCells.{same_cells}
 
 at_itself : (at : Option Ts) → is_at at at ≡ true
 at_itself None = refl

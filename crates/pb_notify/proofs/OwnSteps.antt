@@ -32,9 +32,7 @@ use Rattle.pb_notify.specs.declared.look.Look.{Look}
 use Rattle.pb_notify.specs.declared.look.Look.TheVariants.{Reading, Clearing, Settling, ClearingAgain}
 use Rattle.pb_notify.specs.Looks.{look_step}
 use Rattle.pb_notify.proofs.PlanSteps.{IsPlanStep}
-
-none_why : (why : Reason) → ◌≡◌ {A = Option Reason} None (Some why) → ⊥
-none_why why e = cc
+use Rattle.pb_base.proofs.Logic.{none_some as none_why}
 
 same_reason : (r why : Reason) → Some r ≡ Some why → why ≡ r
 same_reason r why e = cc

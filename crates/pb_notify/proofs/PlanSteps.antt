@@ -19,14 +19,7 @@ use Rattle.pb_txn.specs.Places.{declared_cells, place_after, after_prewrite, aft
 use Rattle.pb_txn.specs.Plans.{PlanOf, answered}
 use Rattle.pb_txn.specs.Talks.{Talks}
 use Rattle.pb_notify.proofs.RecordedReads.{after}
-
-same_step : (t u : Step) → Some t ≡ Some u → t ≡ u
-same_step t u e = cc
-
--- a plan keeps its start and its declaration
-pub keeps : (p q : PlanOf) (said : List Received) → Talks p said q → (q.start ≡ p.start) × (q.what ≡ p.what)
-keeps p q [] talk = (ap (λ (z : PlanOf). z.start) talk, ap (λ (z : PlanOf). z.what) talk)
-keeps p q (r ∷ rs) talk = keeps (answered p r.answer) q rs talk.2
+use Rattle.pb_base.proofs.Logic.{same_some as same_step}
 
 -- ---- after an answer it declares no more
 

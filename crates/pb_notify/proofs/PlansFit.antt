@@ -13,9 +13,7 @@ use Rattle.pb_txn.specs.declared.place.PlanPlace.{PlanPlace}
 use Rattle.pb_txn.specs.declared.place.PlanPlace.TheVariants.{Declaring, Prewriting, Stamping, CommittingPrimary, CommittingSecondary, Settling, Clearing, Over}
 use Rattle.pb_txn.specs.Places.{declared_cells, place_after, prewrite_from, commit_from, clear_from, after_prewrite, after_stamp, after_primary, LiesWithin}
 use Rattle.pb_txn.specs.Plans.{PlanOf, next_of, outcome_of}
-
-below : (a b : ℕ) → nat_lt a b ≡ true → a < b
-below a b e = grind (arith, e)
+use Rattle.pb_base.proofs.Logic.{below_true as below}
 
 -- the place that a test chooses
 by_test : (count : ℕ) (b : Bool) (p q : PlanPlace) → (b ≡ true → LiesWithin count p) → LiesWithin count q → LiesWithin count (cond b p q)

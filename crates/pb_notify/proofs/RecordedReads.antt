@@ -1,6 +1,5 @@
 -- What the table keeps of a run's transaction as its looks go on: one read more for each that told what its cell holds.
 use Rattle.std.proofs.Common.{◌≡◌, ℕ, ◌<◌, inl, inr, Bool, true, false, cond, List, [], ◌∷◌, ◌++◌, Option, Some, None, refl, sym, ap, subst, ◌∙◌}
-use Rattle.std.proofs.lemmas.Bool.{eq-eqb}
 use Rattle.std.proofs.lemmas.List.Elements.{filter-append}
 use Rattle.std.specs.Prelude.{◌==◌}
 use Rattle.std.specs.List.{filter}
@@ -33,11 +32,9 @@ use Rattle.pb_notify.specs.declared.look.Look.TheVariants.{Reading, Clearing, Se
 use Rattle.pb_notify.specs.Forms.{IsRound, cleared, settled, AreRounds, at_first, one_more, IsHeld, IsLooked, its_begin, IsObserved, IsAcknowledged, IsRecalled, AreAsked, dirty, asked as asked_more}
 use Rattle.pb_notify.specs.Allowed.{entries_by}
 use Rattle.pb_notify.proofs.LookTalk.{IsIn, InLook}
+use Rattle.pb_base.proofs.Logic.{same_number as itself}
 
-pub itself : (n : ℕ) → (n == n) ≡ true
-itself n = eq-eqb n n refl
-
-same_either : {A : Type 0} (b : Bool) (x : A) → cond b x x ≡ x
+pub same_either : {A : Type 0} (b : Bool) (x : A) → cond b x x ≡ x
 same_either true x = refl
 same_either false x = refl
 

@@ -54,12 +54,7 @@ use Rattle.pb_notify.specs.Led.{IsBeforeSweep}
 use Rattle.pb_notify.proofs.Kept.{at_after, at_computed}
 use Rattle.pb_notify.proofs.LookTalk.{IsIn, InLook, AfterLook, IsBlocked, look_more}
 use Rattle.pb_notify.proofs.LookTalk as looks
-
-same_step : (t u : Step) → Some t ≡ Some u → t ≡ u
-same_step t u e = cc
-
-none_some : (t : Step) → None ≡ Some t → ⊥
-none_some t e = cc
+use Rattle.pb_base.proofs.Logic.{same_some as same_step, none_some}
 
 -- a plan's talk goes on by one step
 plan_more : (p : PlanOf) (said : List Received) (q : PlanOf) (r : Received) → talks.Talks p said q → plans.next_of q ≡ Some r.step → CanAnswer r.step r.answer

@@ -1,6 +1,6 @@
 -- Where a seat's entries end with a conversation, these are all that name its start.
-use Rattle.std.proofs.Common.{◌≡◌, ℕ, inl, inr, Bool, true, false, cond, ◌||◌, List, [], ◌∷◌, ◌++◌, refl, sym, ap, subst, ◌∙◌}
-use Rattle.std.proofs.lemmas.Bool.{eq-eqb, eqb-true}
+use Rattle.std.proofs.Common.{◌≡◌, ℕ, inl, inr, Bool, true, false, cond, List, [], ◌∷◌, ◌++◌, refl, sym, ap, subst, ◌∙◌}
+use Rattle.std.proofs.lemmas.Bool.{eq-eqb, eqb-true, or_left as one_of, or_right as or_other}
 use Rattle.std.proofs.lemmas.List.Elements.{filter-append}
 use Rattle.std.specs.Prelude.{◌==◌}
 use Rattle.std.specs.List.{list_any}
@@ -15,15 +15,13 @@ use Rattle.pb_history.specs.Laws.{TransactionsAreTold}
 use Rattle.pb_history.specs.TransactionsTold.{names_start, entries_naming, is_begin, BeginsOnce}
 use Rattle.pb_txn.specs.Talks.{told}
 use Rattle.pb_notify.specs.Allowed.{entries_by, RunsAreKept}
+use Rattle.pb_history.proofs.Updates.{has_right as at_end}
+use Rattle.pb_notify.proofs.RecordedReads.{same_either}
 
 abbrev entry_of : ℕ → Received → Entry
 entry_of seat r = record { seat = seat; step = r.step; answer = r.answer }
 
 -- ---- what stands in lists
-
-at_end : {A : Type 0} (xs ys : List A) (x : A) → Has ys x → Has (xs ++ ys) x
-at_end [] ys x h = h
-at_end (y ∷ xs) ys x h = inr (at_end xs ys x h)
 
 -- an entry of a seat's is in the journal
 in_journal : (seat : ℕ) (journal : List Entry) (r : Received) → Has (entries_of seat journal) r → Has journal (entry_of seat r)
@@ -56,10 +54,6 @@ if_first : (s seat : ℕ) (r : Received) (rs : List Received) (c : Bool)
 if_first s seat r rs true = refl
 if_first s seat r rs false = refl
 
-same_either : {A : Type 0} (b : Bool) (x : A) → cond b x x ≡ x
-same_either true x = refl
-same_either false x = refl
-
 -- where all of them are one seat's, they are among its entries
 of_seat : (s seat : ℕ) (journal : List Entry) → ((e : Entry) → Has (entries_naming s journal) e → e.seat ≡ seat) → entries_naming s journal ≡ entries_naming s (entries_by seat (entries_of seat journal))
 of_seat s seat [] are = refl
@@ -79,14 +73,6 @@ of_seat s seat (e ∷ es) are =
     ∙ sym (if_first s seat r rest (e.seat == seat))
 
 -- ---- the begin is the first
-
-one_of : (a c : Bool) → a ≡ true → (a || c) ≡ true
-one_of true c is = refl
-one_of false c is = absurd cc
-
-or_other : (a c : Bool) → c ≡ true → (a || c) ≡ true
-or_other true c is = refl
-or_other false c is = is
 
 begin_in : (xs ys : List Entry) (e : Entry) → Has ys e → is_begin e.step ≡ true → list_any (λ d. is_begin d.step) (xs ++ ys) ≡ true
 begin_in [] [] e h b = absurd h

@@ -6,6 +6,7 @@ use Rattle.std.specs.Fmt.{decimal}
 use Rattle.std.proofs.lemmas.Bool.{and_parts}
 use Rattle.std.proofs.lemmas.Fmt.{decimal_by_steps}
 use Rattle.pb_base.specs.Reading.{words_of}
+use Rattle.pb_base.proofs.Logic.{false_if_not as not_false}
 
 -- no blank
 abbrev pub IsWord : List ℕ → Type 0
@@ -14,10 +15,6 @@ IsWord word = list_all (λ b. not (b == 32)) word ≡ true
 -- none of these has a blank, so joined by blanks they are cut apart again
 abbrev pub AreWords : List (List ℕ) → Type 0
 AreWords words = AllByRecursion IsWord words
-
-not_false : (b : Bool) → not b ≡ true → b ≡ false
-not_false true h = absurd cc
-not_false false h = refl
 
 one_more : (x : ℕ) (xs : List ℕ) → (x == 32) ≡ false → IsWord xs → IsWord (x ∷ xs)
 one_more x xs is h = rw (is, h) refl

@@ -21,8 +21,9 @@ use Rattle.pb_parse.specs.ScheduleWords.{number_between, next_number, next_actor
 use Rattle.pb_parse.specs.EventLines.{name_of, IsActor, IsRow, IsNamed}
 use Rattle.pb_parse.specs.ScheduleFaults.{LaunchActor, ChangeNumber, RunName, RunRow, StepActor, StepTimes, CrashActor, SettleRow, SettleColumn, SettleName, SettleAckRow, ClearRow, ClearColumn, ClearName, ClearAckRow, SweepRow, SweepColumn, IsOutside, IsNoRow, IsNoColumn, IsNobody, StopsAtField}
 use Rattle.pb_parse.proofs.Blanks.{AreWords, words_are}
-use Rattle.pb_parse.proofs.Steps.{chosen, same_text, next_is, next_row_is, next_observer_is, some_named}
+use Rattle.pb_parse.proofs.Steps.{same_text, next_is, next_row_is, next_observer_is, some_named}
 use Rattle.pb_parse.proofs.OrdersWritten.{actor_is}
+use Rattle.pb_base.proofs.Logic.{chosen}
 
 -- a fault of one reading after another is the first's, or the second's after what the first read
 pub bind_err : {A B : Type 0} (r : Result A ScheduleCode) (f : A → Result B ScheduleCode) (e : ScheduleCode) → (r >>= f) ≡ Err e → (r ≡ Err e) ⊎ ((x : A) × (r ≡ Ok x) × (f x ≡ Err e))

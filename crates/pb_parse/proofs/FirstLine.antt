@@ -10,10 +10,10 @@ use Rattle.pb_base.specs.Reading.{is_skipped, numbered}
 use Rattle.pb_parse.specs.ScriptLines.{Batches, batch_of, with_line, script_of}
 use Rattle.pb_parse.specs.Scripts.{StopsAt}
 use Rattle.pb_parse.specs.Operations.{IsFaultAfter}
-use Rattle.pb_parse.proofs.Batches.{chosen}
 use Rattle.pb_parse.proofs.FirstFault.{first_fault}
 use Rattle.pb_parse.proofs.FirstOperation.{bind_err, stops_with}
 use Rattle.pb_parse.proofs.OwnFaults.{err_same}
+use Rattle.pb_base.proofs.Logic.{chosen}
 
 -- a line is read by its text alone: its fault isn't want of memory
 line_by_text : (line : List ℕ) (cause : ScriptCode) → batch_of line ≡ Err cause → cause ≢ Memory

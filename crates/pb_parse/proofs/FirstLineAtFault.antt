@@ -13,10 +13,10 @@ use Rattle.pb_parse.specs.ScheduleCodes.{schedule_code}
 use Rattle.pb_parse.specs.ScheduleWords.{order_of}
 use Rattle.pb_parse.specs.Schedules.{with_order, with_event_line, schedule_of}
 use Rattle.pb_parse.specs.ScheduleFaults.{ScheduleStopsAt, Field, LaunchActor, ChangeNumber, RunName, RunRow, StepActor, StepTimes, CrashActor, SettleRow, SettleColumn, SettleName, SettleAckRow, ClearRow, ClearColumn, ClearName, ClearAckRow, SweepRow, SweepColumn, IsRefusedAt, GoesPast}
-use Rattle.pb_parse.proofs.Steps.{chosen}
 use Rattle.pb_parse.proofs.FirstFault.{first_fault}
 use Rattle.pb_parse.proofs.FieldsRefused.{bind_err, blamed}
 use Rattle.pb_parse.proofs.WholeSchedules.{skip_line, shown_line}
+use Rattle.pb_base.proofs.Logic.{chosen}
 
 err_is : {A : Type 0} (d e : ScheduleCode) → ◌≡◌ {A = Result A ScheduleCode} (Err d) (Err e) → d ≡ e
 err_is d e h = cc

@@ -12,7 +12,8 @@ use Rattle.pb_parse.specs.ScriptLines.{cut, with_operation, batch_of}
 use Rattle.pb_parse.specs.Operations.{IsFaultAfter, StopsWith}
 use Rattle.pb_parse.proofs.FirstFault.{first_fault}
 use Rattle.pb_parse.proofs.OwnFaults.{IsOwn, err_same, own_fault}
-use Rattle.pb_parse.proofs.Batches.{chosen, nothing_open, all_open}
+use Rattle.pb_parse.proofs.Batches.{nothing_open, all_open}
+use Rattle.pb_base.proofs.Logic.{chosen}
 
 -- a fault of one reading after another is the first's, or the second's after what the first read
 pub bind_err : {A B : Type 0} (r : Result A ScriptCode) (f : A → Result B ScriptCode) (e : ScriptCode) → (r >>= f) ≡ Err e → (r ≡ Err e) ⊎ ((x : A) × (r ≡ Ok x) × (f x ≡ Err e))

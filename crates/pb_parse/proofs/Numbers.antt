@@ -1,24 +1,16 @@
 -- What parsing a numeral answers, as a script's fields read it.
-use Rattle.std.proofs.Common.{◌≡◌, ℕ, ◌<◌, ◌^◌, Bool, true, false, cond, ◌&&◌, List, length, Ok, Err, refl, sym, arith, rules, inl, inr}
+use Rattle.std.proofs.Common.{◌≡◌, ℕ, ◌<◌, ◌^◌, Bool, true, false, cond, ◌&&◌, List, length, Err, refl, arith, inl, inr}
 use Rattle.std.specs.Prelude.{nat_lt, ◌==◌, slice_index}
 use Rattle.std.specs.Char.{is_ascii_digit}
 use Rattle.std.specs.List.{list_all}
 use Rattle.std.specs.Str.Parse.{digits_value, ParsesUnsigned}
-use Rattle.std.proofs.lemmas.Bool.{eqb-false, lt-leb, cases_lt}
-use Rattle.std.proofs.lemmas.Str.Parse.{IsNumeralModel, IsDigitsTest, numerals_by_value, parse_digits}
+use Rattle.std.proofs.lemmas.Bool.{lt-leb, cases_lt}
+use Rattle.std.proofs.lemmas.Str.Parse.{parse_digits}
 use Rattle.pb_parse.specs.declared.script.code.ScriptCode.TheVariants.{Range}
 use Rattle.pb_parse.specs.ScriptWords.{number_upto}
 use Rattle.pb_base.specs.Reading.{is_numeral}
-
--- the digits of `is_numeral` are those that the standard library's lemmas on parsing ask for
-tells : IsDigitsTest (λ ds. list_all is_ascii_digit ds ≡ true)
-tells = search rules
-
-own : IsNumeralModel (λ ds. list_all is_ascii_digit ds ≡ true) (digits_value 10)
-own = numerals_by_value _ tells
-
-not_zero : (n : ℕ) → (n == 0) ≡ false → 0 < n
-not_zero n h = let k = eqb-false n 0 h in grind arith
+use Rattle.pb_base.proofs.Logic.{positive as not_zero}
+use Rattle.pb_base.proofs.Numerals.{own}
 
 -- two tests that both have to fail
 both_fail : (a b x : Bool) → cond a false (cond b false x) ≡ true → (a ≡ false) × (x ≡ true)
@@ -31,10 +23,6 @@ digits_in : (w : List ℕ) → is_numeral w ≡ true → (list_all is_ascii_digi
 digits_in w h =
     let a = both_fail (length w == 0) ((slice_index w 0 == 48) && nat_lt 1 (length w)) (list_all is_ascii_digit w) h in
     (a.1, not_zero (length w) a.0)
-
--- where parsing answers a number, it is the value of the digits
-pub value_is : (E : Type 0) (w : List ℕ) (x : ℕ) → is_numeral w ≡ true → ParsesUnsigned {E = E} 64 10 w (Ok x) → digits_value 10 w ≡ x
-value_is E w x h p = sym (parse_digits own {E = E} 64 w (Ok x) p (digits_in w h).0).1
 
 -- where parsing fails, the digits are beyond 64 bits, and so beyond any range of a field
 pub none_fits : (E : Type 0) (greatest : ℕ) (w : List ℕ) (e : E) → greatest < 2 ^ 64 → is_numeral w ≡ true → ParsesUnsigned {E = E} 64 10 w (Err e) → number_upto greatest w ≡ Err Range

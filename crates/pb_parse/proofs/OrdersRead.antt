@@ -19,8 +19,8 @@ use Rattle.pb_parse.specs.declared.schedule.fault.ScheduleCode.{ScheduleCode}
 use Rattle.pb_parse.specs.ScheduleWords.{next_actor, next_change, next_run, next_job, once, launch_of, times_of, step_of, crash_of, next_data_cell, next_acknowledgment, next_cell, once_on, order_of_words, order_of}
 use Rattle.pb_parse.specs.EventLines.{name_of, cell_words, job_words, event_words, IsActor, IsRow, IsNamed, FitsJob, FitsCell, IsRowCell, FitsEvent, IsStep, IsLineOf}
 use Rattle.pb_parse.proofs.Blanks.{IsWord, AreWords, joined_words, decimal_word}
-use Rattle.pb_parse.proofs.Numerals.{numeral_of}
 use Rattle.pb_parse.proofs.Steps.{same_text, number_back, next_number_back, next_row_back, next_observer_back}
+use Rattle.pb_base.proofs.Numerals.{numeral_of}
 
 -- each actor is read from the spelling of its number
 pub actor_back : (actor : ℕ) (rest : List (List ℕ)) → IsActor actor → next_actor (decimal actor ∷ rest) ≡ Ok (actor, rest)

@@ -20,7 +20,8 @@ use Rattle.pb_parse.specs.declared.schedule.fault.ScheduleCode.TheVariants.{Form
 use Rattle.pb_parse.specs.ScheduleWords.{number_between, next_number, next_actor, next_row, next_observer, next_change, next_run, next_job, once, launch_of, times_of, step_of, crash_of, next_data_cell, next_acknowledgment, next_cell, once_on, order_by, order_of_words, order_of}
 use Rattle.pb_parse.specs.EventLines.{name_of, cell_words, job_words, event_words, IsActor, FitsJob, FitsCell, IsRowCell, FitsEvent, AreWordsOf, IsLineOf}
 use Rattle.pb_parse.proofs.Blanks.{AreWords, words_are}
-use Rattle.pb_parse.proofs.Steps.{then_ok, ok_is, chosen, same_text, next_is, none_left, once_is, number_is, next_number_is, next_row_is, next_observer_is}
+use Rattle.pb_parse.proofs.Steps.{then_ok, ok_is, same_text, next_is, none_left, once_is, number_is, next_number_is, next_row_is, next_observer_is}
+use Rattle.pb_base.proofs.Logic.{chosen}
 
 -- the first word is the spelling of an actor's number
 pub record TakesActor (actor : ℕ) (words rest : List (List ℕ)) : Type 0 where

@@ -11,7 +11,8 @@ use Rattle.pb_parse.specs.Codes.{script_code}
 use Rattle.pb_parse.specs.declared.script.code.ScriptCode.{ScriptCode}
 use Rattle.pb_parse.specs.ScriptLines.{Batches, batch_of, with_line, script_of}
 use Rattle.pb_parse.specs.Scripts.{AreBatches}
-use Rattle.pb_parse.proofs.Batches.{bind_ok, ok_same, chosen, line_is_batch}
+use Rattle.pb_parse.proofs.Batches.{bind_ok, ok_same, line_is_batch}
+use Rattle.pb_base.proofs.Logic.{chosen}
 
 -- a line leaves batches, no more than a script may have, where there were such before
 next_line : (before after : Batches) (line : List ℕ) → AreBatches before → with_line before line ≡ Ok after → AreBatches after

@@ -15,7 +15,8 @@ use Rattle.pb_base.specs.Reading.{in_turn}
 use Rattle.pb_parse.specs.ScriptWords.{operation}
 use Rattle.pb_parse.specs.ScriptLines.{cut, with_operation, batch_of}
 use Rattle.pb_parse.specs.Operations.{Say}
-use Rattle.pb_parse.proofs.Batches.{chosen, none_of, line_is_open, line_is_batch}
+use Rattle.pb_parse.proofs.Batches.{none_of, line_is_open, line_is_batch}
+use Rattle.pb_base.proofs.Logic.{chosen}
 
 -- where no cell is named twice, one isn't named before
 

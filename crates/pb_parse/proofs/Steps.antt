@@ -1,6 +1,6 @@
 -- What the steps of a reading say of their words.
-use Rattle.std.proofs.Common.{◌≡◌, ◌≢◌, ℕ, zero, suc, ◌+◌, ◌-◌, ◌^◌, ◌<◌, ◌≤◌, Bool, true, false, cond, List, [], ◌∷◌, length, Result, Ok, Err, refl, sym, ap, subst, ◌∙◌, arith, inl, inr}
-use Rattle.std.specs.Prelude.{◌==◌, ◌⊎◌, not, nat_le, nat_lt}
+use Rattle.std.proofs.Common.{◌≡◌, ◌≢◌, ℕ, zero, suc, ◌+◌, ◌-◌, ◌^◌, ◌<◌, ◌≤◌, Bool, true, false, cond, List, [], ◌∷◌, length, Result, Ok, Err, refl, sym, ap, subst, ◌∙◌, arith}
+use Rattle.std.specs.Prelude.{◌==◌, not, nat_le, nat_lt}
 use Rattle.std.specs.Fmt.{decimal}
 use Rattle.std.specs.List.{list_all}
 use Rattle.std.specs.Str.{bytes_eq}
@@ -17,7 +17,8 @@ use Rattle.pb_parse.specs.declared.schedule.fault.ScheduleCode.TheVariants.{Form
 use Rattle.pb_parse.specs.ScheduleWords.{number_between, next_number, next_row, first_named, observer_named, next_observer, once}
 use Rattle.pb_parse.specs.EventLines.{name_of, IsRow, IsNamed}
 use Rattle.pb_parse.proofs.Blanks.{IsWord, AreWords}
-use Rattle.pb_parse.proofs.Numerals.{decimal_of, numeral_of, value_of}
+use Rattle.pb_parse.proofs.Numerals.{decimal_of, value_of}
+use Rattle.pb_base.proofs.Numerals.{numeral_of}
 
 -- where two readings in turn succeed, the first does, and the second with what it read
 pub then_ok : {A B : Type 0} (r : Result A ScheduleCode) (f : A → Result B ScheduleCode) (y : B) → (r >>= f) ≡ Ok y → (x : A) × (r ≡ Ok x) × (f x ≡ Ok y)
@@ -35,11 +36,6 @@ if_ok false r e x h = absurd cc
 pub else_ok : {A : Type 0} (b : Bool) (r : Result A ScheduleCode) (e : ScheduleCode) (x : A) → cond b (Err e) r ≡ Ok x → (b ≡ false) × (r ≡ Ok x)
 else_ok true r e x h = absurd cc
 else_ok false r e x h = (refl, h)
-
--- a choice that came to something came by the one way or the other
-pub chosen : {A : Type 0} (b : Bool) (x y z : A) → cond b x y ≡ z → ((b ≡ true) × (x ≡ z)) ⊎ ((b ≡ false) × (y ≡ z))
-chosen true x y z h = inl (refl, h)
-chosen false x y z h = inr (refl, h)
 
 -- words that compare alike are the same word
 pub same_text : (a b : List ℕ) → bytes_eq a b ≡ true → a ≡ b

@@ -16,16 +16,7 @@ use Rattle.pb_parse.specs.ScheduleWords.{order_of}
 use Rattle.pb_parse.specs.Schedules.{with_order, with_event_line, events_of_lines, schedule_of}
 use Rattle.pb_parse.specs.EventLines.{AreOrders, events_of, IsSchedule}
 use Rattle.pb_parse.proofs.Steps.{then_ok, ok_is, else_ok}
-
--- the lines that say something
-abbrev kept : List (List ℕ) → List (List ℕ)
-kept ls = filter (λ l. not (is_skipped l)) ls
-
-kept_not : (l : List ℕ) (ls : List (List ℕ)) → is_skipped l ≡ true → kept (l ∷ ls) ≡ kept ls
-kept_not l ls is = ap (λ (b : Bool). cond (not b) (l ∷ kept ls) (kept ls)) is
-
-kept_one : (l : List ℕ) (ls : List (List ℕ)) → is_skipped l ≡ false → kept (l ∷ ls) ≡ l ∷ kept ls
-kept_one l ls is = ap (λ (b : Bool). cond (not b) (l ∷ kept ls) (kept ls)) is
+use Rattle.pb_base.proofs.SkippedLines.{kept, kept_not, kept_one}
 
 abbrev asked : Order → List Event
 asked order = replicate order.times order.event

@@ -10,6 +10,7 @@ use Rattle.pb_helpers.specs.Table.{with_helper}
 use Rattle.pb_registry.specs.Helpers.{is_helper, is_named, are_helpers, helper_set, helpers_of}
 use Rattle.pb_registry.specs.Manifests.{number_in, numbers_of}
 use Rattle.pb_registry.proofs.HelperNumbers.{one_more, one_fault, declared_is, added, not_added, not_second}
+use Rattle.pb_base.proofs.Logic.{right_true as second}
 
 -- the number of a value, 0 where it is none
 abbrev pub number_of : Value → ℕ
@@ -33,11 +34,6 @@ parted (v ∷ vs) (suc i) d lt =
 
 if_second : (a b : Bool) → a ≡ true → (a && b) ≡ false → b ≡ false
 if_second a b p h = sym (ap (λ c. c && b) p) ∙ h
-
-second : (a b : Bool) → (a && b) ≡ true → b ≡ true
-second true b h = h
-second false true h = refl
-second false false h = h
 
 -- the element at i has the number n, and those before it name this set
 module _ (vs : List Value) (i : ℕ) (v : Value) (lt : i < length vs) (at : get_or vs i v ≡ v) (n : ℕ) (is : n ≡ number_of v) (h : HelperSet) (set : h ≡ helper_set (numbers (take i vs))) where

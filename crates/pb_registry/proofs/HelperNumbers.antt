@@ -1,24 +1,17 @@
 -- The helpers of numbers, one after the other.
 use Rattle.std.proofs.Common.{◌≡◌, ◌≤◌, ℕ, zero, suc, pos, Bool, true, false, cond, Some, None, List, [], ◌∷◌, ◌++◌, refl, sym, ap, ◌∙◌, arith, is_some, true≢false}
 use Rattle.std.specs.Prelude.{not, ◌&&◌, ◌||◌, ◌==◌, option_map, unwrap_or}
-use Rattle.std.proofs.lemmas.Bool.{and_parts}
+use Rattle.std.proofs.lemmas.Bool.{and_parts, or_parts as neither}
 use Rattle.std.proofs.lemmas.Bool.Decides.{nat_tests}
 use Rattle.std.proofs.lemmas.List.Folds.{list_any-append}
 use Rattle.pb_isa.specs.Helpers.{HelperSet, helper_of, declared_helper, Read, Write, Delete, Start}
 use Rattle.pb_helpers.specs.Table.{with_helper}
 use Rattle.pb_registry.specs.Helpers.{is_helper, is_named, are_helpers, helper_set}
+use Rattle.pb_base.proofs.Logic.{or_false, false_if_not as was_false}
 
 or_true : (b : Bool) → (b || true) ≡ true
 or_true true = refl
 or_true false = refl
-
-or_false : (b : Bool) → (b || false) ≡ b
-or_false true = refl
-or_false false = refl
-
-neither : (a b : Bool) → (a || b) ≡ false → (a ≡ false) × (b ≡ false)
-neither true b h = absurd (true≢false h)
-neither false b h = (refl, h)
 
 and_false : (a b : Bool) → (a && (b && false)) ≡ false
 and_false true true = refl
@@ -32,10 +25,6 @@ not_second false = refl
 not_first : (a : Bool) → (a && true) ≡ false → a ≡ false
 not_first true h = h
 not_first false h = refl
-
-was_false : (a : Bool) → not a ≡ true → a ≡ false
-was_false true h = sym h
-was_false false h = refl
 
 turned : (m n : ℕ) (b : Bool) → (m == n) ≡ b → (n == m) ≡ b
 turned m n true h = grind (arith, nat_tests, h)

@@ -5,7 +5,6 @@ use Rattle.std.specs.List.{IsDistinct, AllByRecursion, list_any}
 use Rattle.std.specs.Map.{lookup, keys_of}
 use Rattle.std.specs.Str.{bytes_eq}
 use Rattle.serde_json.specs.Data.{Data}
-use Rattle.pb_base.specs.Reading.{◌>>=◌}
 use Rattle.pb_isa.specs.Helpers.{HelperSet}
 use Rattle.pb_isa.specs.declared.profile.Profile.{Profile}
 use Rattle.pb_helpers.specs.declared.change.Version.{Version}
@@ -16,6 +15,7 @@ use Rattle.pb_registry.specs.declared.observer.RegisteredObserver.{RegisteredObs
 use Rattle.pb_registry.specs.Manifests.{WrittenOf, is_name, name_in, text_at, column_in, number_at, helpers_in, elements_at, version_in, bytes_in, members_of}
 use Rattle.pb_registry.specs.Observers.{observers_of}
 use Rattle.pb_registry.specs.Judging.{IsObserver, is_among, is_used, names_of}
+use Rattle.pb_base.proofs.Logic.{none_is as nothing_found}
 
 -- a name is a key of the map exactly where an observer has it
 pub found_name : (s : List ℕ) (es : List (String Global × RegisteredObserver)) → is_some (lookup (λ k. bytes_eq s (string_bytes k)) es) ≡ list_any (bytes_eq s) (names_of (observers_of es))
@@ -57,10 +57,6 @@ name_of (Some s) a h v b w e = name_kept s (is_name s) a h v b w e
 named : (d : Data) (w : WrittenOf) → members_of d ≡ Ok w → text_at (codes "name") d ≡ Some w.name
 unfolding members_of
 named d w e = name_of (text_at (codes "name") d) (column_in (number_at (codes "column") d)) (helpers_in (elements_at (codes "helpers") d)) (version_in (number_at (codes "record") d)) (bytes_in (text_at (codes "code") d)) w e
-
-nothing_found : {A : Type 0} (r : Option A) → is_some r ≡ false → r ≡ None
-nothing_found None h = refl
-nothing_found (Some x) h = absurd (true≢false h)
 
 -- a key that is a new name isn't in the map
 pub new_name : (p : Profile) (es : List (String Global × RegisteredObserver)) (d : Data) (o : ObserverOf) (k : String Global) → IsObserver p d o → o.name ≡ string_bytes k → is_used (names_of (observers_of es)) d ≡ false → lookup (λ y. bytes_eq (string_bytes k) (string_bytes y)) es ≡ None

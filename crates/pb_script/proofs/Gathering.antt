@@ -1,15 +1,15 @@
 -- Committed writes, gathered along the journal.
-use Rattle.std.proofs.Common.{◌≡◌, ℕ, ◌+◌, ◌<◌, ◌⊎◌, inl, inr, Bool, true, false, cond, ◌&&◌, zero, suc, List, [], ◌∷◌, ◌++◌, length, get_or, take, map, Option, Some, None, slice_get, refl, sym, ap, subst, ◌∙◌, append_assoc, arith, add-one}
+use Rattle.std.proofs.Common.{◌≡◌, ℕ, ◌+◌, ◌<◌, ◌⊎◌, inl, inr, Bool, true, false, cond, zero, suc, List, [], ◌∷◌, ◌++◌, length, get_or, take, map, Option, Some, None, slice_get, refl, sym, ap, subst, ◌∙◌, append_assoc, arith, add-one}
 use Rattle.std.specs.Prelude.{Contains, is_none, option_map}
 use Rattle.std.specs.List.{flat_map}
 use Rattle.std.specs.Ordering.{eq_by_cmp, is_eq}
-use Rattle.std.specs.Cmp.{Equal-is, tied_itself}
+use Rattle.std.specs.Cmp.{tied_itself}
 use Rattle.std.specs.FinMap as finmap
 use Rattle.std.proofs.lemmas.List.{append-nil, map-append, take_more}
 use Rattle.pb_base.specs.declared.names.Ts.{Ts}
 use Rattle.pb_base.specs.declared.cell.Cell.{Cell}
 use Rattle.pb_base.specs.declared.content.Content.{Content}
-use Rattle.pb_base.specs.Cell.{cell_cmp, cell_cmp_total, cell_cmp-IsAntisymmetric}
+use Rattle.pb_base.specs.Cell.{cell_cmp, cell_cmp_total}
 use Rattle.pb_base.specs.Batch.{Writes, content_in, are_distinct}
 use Rattle.pb_steps.specs.declared.step.Declared.{Declared}
 use Rattle.pb_steps.specs.declared.step.Step.{Step}
@@ -30,6 +30,9 @@ use Rattle.pb_history.specs.History.{Has, Member, TellsHistory}
 use Rattle.pb_script.specs.declared.reports.newest.Put.{Put}
 use Rattle.pb_script.specs.Committed.{IsWrite, Gathers}
 use Rattle.pb_script.specs.Puts.{put_by, if_committed, written_in, writes_by, puts_by}
+use Rattle.pb_base.proofs.Logic.{and_true as both}
+use Rattle.pb_base.proofs.SameCells.{cell_is}
+use Rattle.pb_history.proofs.Updates.{has_before as has_left, has_right, has_which}
 
 -- the writes that these entries declared, if they are committed
 abbrev pub all_puts : StateOf → List Entry → List Put
@@ -67,20 +70,6 @@ gathers_on f xs y now new h e = e ∙ ap (λ l. l ++ f y) h ∙ sym (all_one_mor
 
 -- ---- membership
 
-has_left : {A : Type 0} (xs ys : List A) (z : A) → Has xs z → Has (xs ++ ys) z
-has_left [] ys z h = absurd h
-has_left (x ∷ xs) ys z (inl e) = inl e
-has_left (x ∷ xs) ys z (inr h) = inr (has_left xs ys z h)
-
-has_right : {A : Type 0} (xs ys : List A) (z : A) → Has ys z → Has (xs ++ ys) z
-has_right [] ys z h = h
-has_right (x ∷ xs) ys z h = inr (has_right xs ys z h)
-
-has_which : {A : Type 0} (xs ys : List A) (z : A) → Has (xs ++ ys) z → Has xs z ⊎ Has ys z
-has_which [] ys z h = inr h
-has_which (x ∷ xs) ys z (inl e) = inl (inl e)
-has_which (x ∷ xs) ys z (inr h) = elim (has_which xs ys z h) [ inl k ↦ inl (inr k) | inr k ↦ inr k ]
-
 -- what one entry adds is among what all add
 in_block : {A B : Type 0} (f : A → List B) (xs : List A) (x : A) (y : B) → Has xs x → Has (f x) y → Has (flat_map f xs) y
 in_block f [] x y h k = absurd h
@@ -111,14 +100,6 @@ map_has f (x ∷ xs) y (inl e) = (x, inl refl, e)
 map_has f (x ∷ xs) y (inr h) = let p = map_has f xs y h in (p.0, inr p.1, p.2)
 
 -- ---- what a list of writes has
-
-both : (a b : Bool) → (a && b) ≡ true → (a ≡ true) × (b ≡ true)
-both true b e = (refl, e)
-both false b e = cc
-
--- cells that compare alike are one cell
-cell_is : (x y : Cell) → eq_by_cmp cell_cmp x y ≡ true → x ≡ y
-cell_is x y e = cell_cmp-IsAntisymmetric x y ((Equal-is (cell_cmp x y)).0 e)
 
 found_or : (b : Bool) (k : Content) (rest : Option Content) (c : Content) → cond b (Some k) rest ≡ Some c → ((b ≡ true) × (k ≡ c)) ⊎ (rest ≡ Some c)
 found_or true k rest c e = inl (refl, cc)

@@ -1,11 +1,11 @@
 -- What is newest at each cell, as writes come one by one.
 use Rattle.std.specs.BTreeMap as tree
-use Rattle.std.proofs.Common.{◌≡◌, ◌≢◌, ℕ, ◌≤◌, ◌<◌, ◌⊎◌, inl, inr, Bool, true, false, cond, List, [], ◌∷◌, ◌++◌, Option, Some, None, refl, sym, ap, subst, ◌∙◌, arith}
-use Rattle.std.specs.Prelude.{◌&&◌, Contains}
+use Rattle.std.proofs.Common.{◌≡◌, ◌≢◌, ℕ, ◌≤◌, ◌<◌, inl, inr, true, false, cond, List, [], ◌∷◌, ◌++◌, Option, Some, None, refl, sym, ap, subst, ◌∙◌, arith}
+use Rattle.std.specs.Prelude.{◌&&◌}
 use Rattle.std.specs.Cmp.{eq_by_cmp_equiv}
 use Rattle.std.specs.declared.cmp.Ordering.{Ordering}
 use Rattle.std.specs.declared.cmp.Ordering.TheVariants.{Less, Equal, Greater}
-use Rattle.std.proofs.lemmas.Bool.{cases_Bool, ltb-true, ltb-false}
+use Rattle.std.proofs.lemmas.Bool.{cases_Bool, ltb-true, ltb-false, and_cases as one_false}
 use Rattle.std.proofs.lemmas.List.Elements.{Contains-append_left, Contains-push, Contains-push_cases}
 use Rattle.pb_base.specs.declared.cell.Cell.{Cell}
 use Rattle.pb_base.specs.declared.cell.Cell.TheVariants.{Data, Ack}
@@ -13,6 +13,7 @@ use Rattle.pb_base.specs.Cell.{cell_cmp, cell_cmp_total, cell_cmp-IsAntisymmetri
 use Rattle.pb_script.specs.declared.reports.lines.Newest.{Newest}
 use Rattle.pb_script.specs.declared.reports.newest.Put.{Put}
 use Rattle.pb_script.specs.Reports.{IsNewestPut, IsTold, is_later, newest_in}
+use Rattle.pb_base.proofs.Logic.{and_true as both_true}
 
 is_equal : (o : Ordering) → tree.is_at {K = ℕ} (λ _. o) 0 ≡ true → o ≡ Equal
 is_equal Less h = absurd cc
@@ -61,14 +62,6 @@ told_data M N (Ack observer row column) r s d f h = absurd cc
 told_none : (M N : Cell → Option Newest → Type 0) (x : Cell) (r : Option Newest) → is_data x ≡ false → IsTold M x r → IsTold N x r
 told_none M N (Data row column) r d h = absurd cc
 told_none M N (Ack observer row column) r d h = h
-
-both_true : (a b : Bool) → (a && b) ≡ true → (a ≡ true) × (b ≡ true)
-both_true true b h = (refl, h)
-both_true false b h = absurd cc
-
-one_false : (a b : Bool) → (a && b) ≡ false → (a ≡ false) ⊎ (b ≡ false)
-one_false true b h = inr h
-one_false false b h = inl refl
 
 -- of each cell is told what is newest of these writes
 abbrev AreTold : List Put → (Cell → Option Newest) → Type 0

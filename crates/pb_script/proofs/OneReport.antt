@@ -1,13 +1,10 @@
 -- One report: where one thing is newest at each cell, the text is settled.
 use Rattle.std.specs.BTreeMap as tree
-use Rattle.std.proofs.Common.{◌≡◌, ℕ, ◌≤◌, Bool, true, false, cond, T, List, [], ◌∷◌, ◌++◌, map, Option, Some, None, refl, sym, ap, subst, ◌∙◌, arith}
-use Rattle.std.specs.Prelude.{◌&&◌}
+use Rattle.std.proofs.Common.{◌≡◌, ℕ, ◌≤◌, cond, T, List, [], ◌∷◌, ◌++◌, map, Option, Some, None, refl, sym, ap, ◌∙◌, arith}
 use Rattle.std.specs.List.{AllByRecursion}
 use Rattle.std.specs.List.Sorted.{IsStrictlySortedBy}
 use Rattle.std.specs.Map.{lookup}
-use Rattle.std.specs.declared.cmp.Ordering.{Ordering}
 use Rattle.std.specs.declared.cmp.Ordering.TheVariants.{Less}
-use Rattle.std.specs.Ordering.{is_lt}
 use Rattle.std.specs.FinMap.Entries.{find, is_sorted, below_all, same_entries}
 use Rattle.pb_base.specs.declared.cell.Cell.{Cell}
 use Rattle.pb_base.specs.declared.cell.Cell.TheVariants.{Data, Ack}
@@ -17,16 +14,10 @@ use Rattle.pb_script.specs.declared.reports.newest.Put.{Put}
 use Rattle.pb_script.specs.ReportLines.{Tallies, cell_lines, run_lines, last_line}
 use Rattle.pb_script.proofs.Newests.{told_by}
 use Rattle.pb_script.specs.Reports.{IsNewestPut, IsTold, IsReportOf, IsReport, AreApart}
+use Rattle.pb_base.proofs.Logic.{both_hold as both, less_holds as less}
 
 abbrev Entries : Type 0
 Entries = List (Cell × Newest)
-
-both : (a b : Bool) → T a → T b → T (a && b)
-both true b p q = q
-both false b p q = p
-
-less : (o : Ordering) → o ≡ Less → T (is_lt o)
-less o e = subst (λ r. T (is_lt r)) (sym e) tt
 
 below : (x : Cell) (es : Entries) → AllByRecursion (λ y. cell_cmp x y ≡ Less) (map (λ e. e.0) es) → T (below_all cell_cmp x es)
 below x [] h = tt

@@ -1,6 +1,6 @@
 -- Two runs of an instruction load, store and jump alike.
 use Rattle.std.proofs.Common.{◌≡◌, ℕ, zero, suc, ◌+◌, ◌-◌, ◌<◌, inl, inr, ℤ, ◌+ℤ◌, Bool, true, false, cond, List, [], ◌++◌, length, get_or, Some, IsTrue, is_some, nat_abs, refl, sym, ◌∙◌, arith}
-use Rattle.std.proofs.lemmas.Bool.{cases_lt}
+use Rattle.std.proofs.lemmas.Bool.{cases_lt, or_parts as or_not}
 use Rattle.std.specs.Int.{from_le_bytes, to_le_bytes}
 use Rattle.pb_isa.specs.declared.limits.TheConstants.{STACK_BYTES}
 use Rattle.pb_isa.specs.declared.insn.Insn.{Insn}
@@ -15,7 +15,7 @@ use Rattle.pb_isa.specs.Registers.{number}
 use Rattle.pb_isa.specs.Alu.{holds, word}
 use Rattle.pb_isa.specs.Slots.{insn_at}
 use Rattle.pb_isa.specs.Machine as m
-use Rattle.pb_isa.specs.Machine.{IsPlaced, Map, Placement, Environment, State, Outcome, Goes, Asks, Reply, does, act, address, width, extended, fetch, entries, push_front, with_entry, with_list, called_regs}
+use Rattle.pb_isa.specs.Machine.{Map, Placement, State, address, width, extended, fetch, entries, with_list}
 use Rattle.pb_kinds.specs.declared.frame.Kind.{Kind}
 use Rattle.pb_kinds.specs.declared.frame.Kind.TheVariants.{Unset, Number, Stack, Record}
 use Rattle.pb_kinds.specs.declared.frame.Frame.{Frame}
@@ -25,11 +25,11 @@ use Rattle.pb_helpers.specs.Codes.{when}
 use Rattle.pb_helpers.specs.declared.code.RuleCode.TheVariants.{PointerStored, PointerCompared, ExitsWithPointer}
 use Rattle.pb_helpers.specs.Arguments.{unset, stack_reads}
 use Rattle.pb_verify.specs.Rules as rules
-use Rattle.pb_verify.specs.Rules.{at, reads, reads_operand, sets, numeric_rules, on_pointer, points, loads, bytes_of, falls, jump_rules, insn_rules}
+use Rattle.pb_verify.specs.Rules.{at, reads, reads_operand, sets, on_pointer, points, loads, bytes_of, falls, jump_rules}
 use Rattle.pb_verify.specs.Following.{after, with_store}
 use Rattle.pb_sound.specs.Fits.{Holds}
 use Rattle.pb_sound.proofs.Alike.{Alike, Agree}
-use Rattle.pb_sound.proofs.Lists.{empty_parts, when_not, not_false, or_not, cond_when, true_at, flag_from, with_list_below, with_list_above, with_list_in}
+use Rattle.pb_sound.proofs.Lists.{when_not, cond_when, true_at, flag_from, with_list_below, with_list_above, with_list_in}
 use Rattle.pb_sound.proofs.Offsets.{moved_word}
 use Rattle.pb_sound.proofs.Registers.{value_of, read_value, follows}
 use Rattle.pb_sound.proofs.Loads.{stretch, stack_part, part, record_byte, found, some_bytes}
@@ -37,6 +37,8 @@ use Rattle.pb_sound.proofs.Stores.{Room, spot, store_room, length-bytes}
 use Rattle.pb_sound.proofs.Arithmetic.{operand_is}
 use Rattle.pb_sound.proofs.Jumps.{lands}
 use Rattle.pb_sound.proofs.AgreeingValues.{Setting, run, Two, number_same, operand_same, agree_set, Agrees}
+use Rattle.pb_verify.proofs.JumpsForward.{empty_parts}
+use Rattle.pb_base.proofs.Logic.{true_if_not as not_false}
 
 -- ---- loads
 

@@ -9,7 +9,7 @@ use Rattle.pb_isa.specs.declared.insn.Insn.TheVariants.{Alu, MovSx, Neg, LoadImm
 use Rattle.pb_isa.specs.Helpers.{Helper, Read, Write, Delete, Start, helper_of, declared_helper}
 use Rattle.pb_isa.specs.Slots.{insn_at}
 use Rattle.pb_isa.specs.Machine as m
-use Rattle.pb_isa.specs.Machine.{IsPlaced, Map, Placement, Environment, State, Outcome, Goes, Asks, Reply, does, act, address, width, fetch, entries, push_front, with_entry, with_list, called_regs}
+use Rattle.pb_isa.specs.Machine.{Map, Placement, State, Outcome, Goes, Asks, act, address, entries, with_list, called_regs}
 use Rattle.pb_kinds.specs.declared.frame.Kind.{Kind}
 use Rattle.pb_kinds.specs.declared.frame.Kind.TheVariants.{Unset, Number, Stack, Record}
 use Rattle.pb_kinds.specs.declared.frame.Frame.{Frame}
@@ -22,7 +22,7 @@ use Rattle.pb_verify.specs.Rules.{falls, insn_rules}
 use Rattle.pb_verify.specs.Following.{after, after_call, clobber}
 use Rattle.pb_sound.specs.Fits.{Holds}
 use Rattle.pb_sound.proofs.Alike.{SameNumber, Alike, Agree}
-use Rattle.pb_sound.proofs.Lists.{empty_parts, when_not, not_false, and_true}
+use Rattle.pb_sound.proofs.Lists.{when_not}
 use Rattle.pb_sound.proofs.Offsets.{moved_word, plus_zero}
 use Rattle.pb_sound.proofs.Registers.{follows, IsFollowed}
 use Rattle.pb_sound.proofs.Loads.{stretch}
@@ -30,6 +30,8 @@ use Rattle.pb_sound.proofs.Stores.{stack_room}
 use Rattle.pb_sound.proofs.Calls.{cell_is, called_is, reply_long}
 use Rattle.pb_sound.proofs.AgreeingValues.{Setting, run, Two, is_number_same, Agrees, alu_agrees, mov_sx_agrees, neg_agrees, load_imm_agrees}
 use Rattle.pb_sound.proofs.AgreeingMemory.{stack_same, load_agrees, alike_put, store_imm_agrees, store_agrees, jump_agrees, jump_if_agrees, exit_agrees}
+use Rattle.pb_verify.proofs.JumpsForward.{empty_parts}
+use Rattle.pb_base.proofs.Logic.{true_if_not as not_false, and_true}
 
 -- ---- calls
 

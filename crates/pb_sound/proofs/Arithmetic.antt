@@ -24,9 +24,9 @@ use Rattle.pb_verify.specs.Rules.{at, reads, reads_operand, sets, numeric_rules,
 use Rattle.pb_verify.specs.Following.{kind_after, move_pointer}
 use Rattle.pb_sound.specs.Fits.{HasValue, Holds, FitsFrame}
 use Rattle.pb_sound.specs.Outcomes.{GoesOn}
-use Rattle.pb_sound.proofs.Lists.{empty_parts}
 use Rattle.pb_sound.proofs.Offsets.{moved_word, sub_is}
 use Rattle.pb_sound.proofs.Registers.{read_value, sets_on, IsFollowed}
+use Rattle.pb_verify.proofs.JumpsForward.{empty_parts}
 
 -- the operands have values, and what comes of them is of the kind after
 pub record Operands (e : Environment) (f : Frame) (s : State) (op : AluOp) (w : Width) (d : registers.Reg) (x : Operand) : Type 0 where

@@ -1,5 +1,5 @@
 -- Calls of the four helpers.
-use Rattle.std.proofs.Common.{◌≡◌, ℕ, zero, suc, ◌+◌, ◌<◌, ℤ, pos, ◌+ℤ◌, Bool, true, false, cond, not, ◌&&◌, nat_lt, List, [], ◌++◌, length, replicate, Option, Some, None, refl, sym, ap, ◌∙◌, arith, is_some}
+use Rattle.std.proofs.Common.{◌≡◌, ℕ, zero, suc, ◌+◌, ℤ, pos, ◌+ℤ◌, Bool, true, false, cond, not, ◌&&◌, nat_lt, List, [], ◌++◌, length, replicate, Option, Some, None, refl, sym, ap, ◌∙◌, arith, is_some}
 use Rattle.std.proofs.lemmas.Bool.Decides.{nat_tests}
 use Rattle.pb_base.specs.Batch.{Writes}
 use Rattle.pb_base.specs.declared.content.Content.{Content}
@@ -9,7 +9,7 @@ use Rattle.pb_isa.specs.declared.insn.Insn.TheVariants.{Call}
 use Rattle.pb_isa.specs.Helpers.{Helper, HelperSet, Read, Write, Delete, Start, helper_of, declared_helper, if_declared, has_helper}
 use Rattle.pb_isa.specs.Slots.{insn_at}
 use Rattle.pb_isa.specs.Machine as m
-use Rattle.pb_isa.specs.Machine.{IsReply, IsPlaced, Map, Environment, State, Outcome, Reply, address, does, helps, reads_cell, writes_cell, with_list, called_regs}
+use Rattle.pb_isa.specs.Machine.{IsReply, IsPlaced, Map, Environment, State, Reply, address, does, helps, writes_cell, with_list, called_regs}
 use Rattle.pb_kinds.specs.declared.frame.Kind.{Kind}
 use Rattle.pb_kinds.specs.declared.frame.Kind.TheVariants.{Unset, Number, Stack, Record}
 use Rattle.pb_kinds.specs.declared.frame.Frame.{Frame}
@@ -22,11 +22,13 @@ use Rattle.pb_verify.specs.Rules.{falls, insn_rules}
 use Rattle.pb_verify.specs.Following.{after_call, clobber}
 use Rattle.pb_sound.specs.Fits.{HasValue, Holds, FitsFrame}
 use Rattle.pb_sound.specs.Outcomes.{Arrives, GoesOn}
-use Rattle.pb_sound.proofs.Lists.{empty_parts, when_not, not_false, and_true}
+use Rattle.pb_sound.proofs.Lists.{when_not}
 use Rattle.pb_sound.proofs.Offsets.{plus_zero, moved_word}
 use Rattle.pb_sound.proofs.Registers.{follows, among_one, IsFollowed}
 use Rattle.pb_sound.proofs.Loads.{stretch}
 use Rattle.pb_sound.proofs.Stores.{spot, stack_room, fits_put}
+use Rattle.pb_base.proofs.Logic.{below_true as below, true_if_not as not_false, and_true}
+use Rattle.pb_verify.proofs.JumpsForward.{empty_parts}
 
 -- ---- after a call
 
@@ -144,9 +146,6 @@ arrives e f s t k x hx lands at h = record { leads = rw at (among_one (s.slot + 
 pub reply_long : (r : Reply) → IsReply r → length (m.reply_bytes r) ≡ 32
 reply_long None h = refl
 reply_long (Some v) h = grind (arith, nat_tests)
-
-below : (n m : ℕ) → nat_lt n m ≡ true → n < m
-below n m h = grind (arith, nat_tests)
 
 -- a read goes on with each reply, or asks nothing where there is no such column
 read_on : (e : Environment) (f : Frame) (s : State) (k : ℤ) → IsPlaced e → helper_of k ≡ Some Read → is_some (insn_at e.judged.program.insns (s.slot + 1)) ≡ true → read_rules f ≡ [] → FitsFrame e f s → GoesOn e f s.slot (Call k) (helps e s Read)

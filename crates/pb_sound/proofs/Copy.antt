@@ -26,13 +26,15 @@ use Rattle.pb_isa.specs.Alu.{alu, holds, word}
 use Rattle.pb_isa.specs.Helpers.{Helper, Read, Write, Delete, Start, helper_of, declared_helper}
 use Rattle.pb_isa.specs.Slots.{insn_at}
 use Rattle.pb_isa.specs.Machine as m
-use Rattle.pb_isa.specs.Machine.{Placement, Map, Environment, State, Outcome, Goes, Asks, Ends, Stuck, Reply, address, width, extended, mov_sx, fetch, does, entries, push_front, with_entry, with_list, lies_in}
+use Rattle.pb_isa.specs.Machine.{Placement, Map, Environment, State, Outcome, Goes, Asks, Stuck, address, width, extended, mov_sx, fetch, does, entries, push_front, with_entry, with_list, lies_in}
 use Rattle.pb_sound.specs.Cells as cell
-use Rattle.pb_sound.specs.Cells.{Cells, IsLong, CellsOutcome, CellsGo, IsSafe, cells_act}
+use Rattle.pb_sound.specs.Cells.{Cells, CellsOutcome, CellsGo, IsSafe, cells_act}
 use Rattle.pb_sound.specs.Mirrors.{Mirrors, IsHere}
 use Rattle.pb_sound.proofs.Copies.{Copies, CellsCopy}
-use Rattle.pb_sound.proofs.Lists.{and_true, with_at, with_other, with_list_below, with_list_above, with_list_in}
+use Rattle.pb_sound.proofs.Lists.{with_at, with_other, with_list_below, with_list_above, with_list_in}
 use Rattle.pb_sound.proofs.Calls.{called_is, reply_long}
+use Rattle.pb_base.proofs.Logic.{same_some as some_same, le_true, and_true}
+use Rattle.pb_isa.proofs.Instructions.{number_below as number_lt}
 
 -- ---- where the definitions may be stuck
 
@@ -55,19 +57,6 @@ unless_copy e p false o x h = h
 
 -- ---- registers
 
-pub number_lt : (r : Reg) → number r < 11
-number_lt registers.R0 = omega arith
-number_lt registers.R1 = omega arith
-number_lt registers.R2 = omega arith
-number_lt registers.R3 = omega arith
-number_lt registers.R4 = omega arith
-number_lt registers.R5 = omega arith
-number_lt registers.R6 = omega arith
-number_lt registers.R7 = omega arith
-number_lt registers.R8 = omega arith
-number_lt registers.R9 = omega arith
-number_lt registers.R10 = omega arith
-
 -- a register that is set in the definitions is the same in the cells
 mirrored : (e : Environment) (c : Cells) (s : State) (r : Reg) (v : ℕ) → Mirrors e c s → m.value s r ≡ Some v → cell.cell_reg c r ≡ v
 mirrored e c s r v t h = t.reg (number r) v (number_lt r) h
@@ -75,9 +64,6 @@ mirrored e c s r v t h = t.reg (number r) v (number_lt r) h
 second_is : (e : Environment) (c : Cells) (s : State) (x : Operand) (v : ℕ) → Mirrors e c s → m.operand s x ≡ Some v → cell.second_of c x ≡ v
 second_is e c s (operands.Imm k) v t h = let q : word k ≡ v = cc in q
 second_is e c s (operands.Reg r) v t h = mirrored e c s r v t h
-
-some_same : (a b : ℕ) → Some a ≡ Some b → a ≡ b
-some_same a b h = cc
 
 reg_set : (rs : List ℕ) (g : Map) (d v : ℕ) → length rs ≡ 11 → ((r x : ℕ) → r < 11 → g r ≡ Some x → get_or rs r 0 ≡ x) → (r x : ℕ) → r < 11 → with_entry g d v r ≡ Some x → get_or (set rs d v) r 0 ≡ x
 reg_set rs g d v l h r x k q = elim (cases_eq r d) [
@@ -138,9 +124,6 @@ entries_copy g x (suc n) mem bs h l q =
       ]
     ] in
     rw (drop-cons mem x 0) (go (g x) (entries g (x + 1) n) refl refl q)
-
-le_true : (a b : ℕ) → nat_le a b ≡ true → a ≤ b
-le_true a b h = grind (arith, nat_tests)
 
 pub record Inside (base len x n : ℕ) : Type 0 where
   pub low : base ≤ x

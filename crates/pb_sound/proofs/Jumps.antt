@@ -23,9 +23,10 @@ use Rattle.pb_verify.specs.Following.{after, leads, ahead}
 use Rattle.pb_verify.specs.Arriving.{has_slot}
 use Rattle.pb_sound.specs.Fits.{FitsFrame}
 use Rattle.pb_sound.specs.Outcomes.{GoesOn}
-use Rattle.pb_sound.proofs.Lists.{empty_parts, when_not}
+use Rattle.pb_sound.proofs.Lists.{when_not}
 use Rattle.pb_sound.proofs.Registers.{value_of, read_value, follows, IsFollowed}
 use Rattle.pb_sound.proofs.Arithmetic.{operand_is}
+use Rattle.pb_verify.proofs.JumpsForward.{empty_parts}
 
 -- a jump that is let through leads to the first slot of an instruction
 pub record Lands (p : List Insn) (n : ℕ) (o : ℤ) : Type 0 where

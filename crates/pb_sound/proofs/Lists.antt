@@ -1,5 +1,5 @@
 -- Maps with entries, and codes that are not listed.
-use Rattle.std.proofs.Common.{◌≡◌, ◌≢◌, ℕ, zero, suc, ◌+◌, ◌<◌, ◌≤◌, Bool, true, false, not, ◌&&◌, ◌||◌, if◌then◌else◌, List, [], ◌∷◌, ◌++◌, length, get_or, drop, replicate, Option, Some, refl, sym, ap, ◌∙◌, arith, add-zero, get_or-drop, ◌-◌, ◌⊎◌, inl, inr}
+use Rattle.std.proofs.Common.{◌≡◌, ◌≢◌, ℕ, zero, suc, ◌+◌, ◌<◌, ◌≤◌, Bool, true, false, not, if◌then◌else◌, List, [], ◌∷◌, length, get_or, drop, replicate, Option, Some, refl, sym, ap, ◌∙◌, arith, add-zero, get_or-drop, ◌-◌, ◌⊎◌, inl, inr}
 use Rattle.std.proofs.lemmas.Bool.Decides.{nat_tests}
 use Rattle.std.proofs.lemmas.List.{length-replicate, get_or-append_right}
 use Rattle.pb_kinds.specs.declared.frame.Frame.{Frame}
@@ -9,28 +9,12 @@ use Rattle.pb_helpers.specs.declared.code.RuleCode.{RuleCode}
 use Rattle.pb_helpers.specs.Codes.{when}
 use Rattle.pb_isa.specs.Machine.{Map, with_entry, with_list, entries, push_front}
 use Rattle.pb_sound.specs.Fits.{HasValue}
-
--- where no rule is broken none of a part is
-pub empty_parts : (xs ys : List RuleCode) → xs ++ ys ≡ [] → (xs ≡ []) × (ys ≡ [])
-empty_parts [] ys e = (refl, e)
-empty_parts (x ∷ xs) ys e = cc
+use Rattle.pb_base.proofs.Logic.{and_true}
 
 -- a code that isn't listed has its rule kept
 pub when_not : (b : Bool) (c : RuleCode) → when b c ≡ [] → b ≡ false
 when_not true c e = cc
 when_not false c e = refl
-
-pub not_false : (b : Bool) → not b ≡ false → b ≡ true
-not_false true e = refl
-not_false false e = cc
-
-pub and_true : (a b : Bool) → (a && b) ≡ true → (a ≡ true) × (b ≡ true)
-and_true true b e = (refl, e)
-and_true false b e = cc
-
-pub or_not : (a b : Bool) → (a || b) ≡ false → (a ≡ false) × (b ≡ false)
-or_not true b e = cc
-or_not false b e = (refl, e)
 
 pub cond_when : (a b : Bool) (c d : RuleCode) → (if a then when (not b) c else d ∷ []) ≡ [] → (a ≡ true) × (b ≡ true)
 cond_when true true c d e = (refl, refl)

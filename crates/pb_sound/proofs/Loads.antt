@@ -9,7 +9,7 @@ use Rattle.pb_isa.specs.declared.insn.Size.{Size}
 use Rattle.pb_isa.specs.declared.insn.Extension.{Extension}
 use Rattle.pb_isa.specs.declared.insn.Size.TheVariants.{B, H, W, Dw}
 use Rattle.pb_isa.specs.Machine as m
-use Rattle.pb_isa.specs.Machine.{IsPlaced, Environment, State, address, width, extended, fetch, entries, does, with_value, with_values, lies_in}
+use Rattle.pb_isa.specs.Machine.{IsPlaced, Environment, State, address, width, extended, fetch, entries, does}
 use Rattle.pb_kinds.specs.declared.frame.Kind.{Kind}
 use Rattle.pb_kinds.specs.declared.frame.Kind.TheVariants.{Unset, Number, Stack, Record}
 use Rattle.pb_kinds.specs.declared.frame.Frame.{Frame}
@@ -19,9 +19,11 @@ use Rattle.pb_helpers.specs.Arguments.{stack_reads}
 use Rattle.pb_verify.specs.Rules.{at, reads, sets, loads, bytes_of, insn_rules}
 use Rattle.pb_sound.specs.Fits.{HasValue, Holds, FitsFrame}
 use Rattle.pb_sound.specs.Outcomes.{GoesOn}
-use Rattle.pb_sound.proofs.Lists.{Bytes, empty_parts, when_not, not_false, and_true, cond_when, entries_are, true_at}
+use Rattle.pb_sound.proofs.Lists.{Bytes, when_not, cond_when, entries_are, true_at}
 use Rattle.pb_sound.proofs.Offsets.{moved_word, le_from, stack_at, record_at, lies, lies_not}
 use Rattle.pb_sound.proofs.Registers.{read_value, sets_on, IsFollowed}
+use Rattle.pb_verify.proofs.JumpsForward.{empty_parts}
+use Rattle.pb_base.proofs.Logic.{true_if_not as not_false, and_true}
 
 -- n bytes are fetched
 pub record Found (e : Environment) (s : State) (x n : ℕ) : Type 0 where

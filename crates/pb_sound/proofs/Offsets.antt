@@ -1,5 +1,5 @@
 -- Addresses at a distance from a place.
-use Rattle.std.proofs.Common.{◌≡◌, ℕ, zero, suc, ◌-◌, ◌%◌, ◌<◌, ◌≤◌, ltb, cond, Bool, true, false, ℤ, pos, negsuc, ◌+ℤ◌, neg_ℤ, ◌≤ℤ◌, ◌+◌, int_le, nat_abs, ◌&&◌, T, ◌⊎◌, arith, refl}
+use Rattle.std.proofs.Common.{◌≡◌, ℕ, zero, suc, ◌-◌, ◌%◌, ◌<◌, ◌≤◌, ltb, cond, Bool, true, false, ℤ, pos, negsuc, ◌+ℤ◌, neg_ℤ, ◌≤ℤ◌, ◌+◌, int_le, nat_abs, ◌&&◌, ◌⊎◌, arith, refl}
 use Rattle.std.proofs.Math.IntN.{sub_ℕ}
 use borrow.Author.Tests.{ltb-true, ltb-false}
 use Rattle.std.proofs.lemmas.Float.{T_from_true}
@@ -11,6 +11,7 @@ use Rattle.pb_isa.specs.declared.insn.AluOp.TheVariants.{Sub}
 use Rattle.pb_isa.specs.declared.insn.Width.TheVariants.{Bits64}
 use Rattle.pb_isa.specs.Machine.{address, lies_in}
 use Rattle.pb_kinds.specs.Ranges.{in_record, from_low}
+use Rattle.pb_base.proofs.Logic.{truth as t_true}
 
 -- the word of a difference
 word_sub : (a b : ℕ) → (word (sub_ℕ a b) + b) % 18446744073709551616 ≡ a % 18446744073709551616
@@ -36,10 +37,6 @@ plus_zero z = omega (arith, ints)
 
 pub le_from : (a b : ℤ) → int_le a b ≡ true → a ≤ℤ b
 le_from a b h = record { le = T_from_true _ h }
-
-t_true : (b : Bool) → T b → b ≡ true
-t_true true t = refl
-t_true false t = absurd t
 
 pub le_to : (a b : ℤ) → a ≤ℤ b → int_le a b ≡ true
 le_to a b h = t_true _ h.le

@@ -1,13 +1,10 @@
 -- The profile decides which programs there are, and nothing else.
-use Rattle.std.proofs.Common.{◌≡◌, ℕ, zero, suc, ◌+◌, List, [], ◌∷◌, Option, Some, None, is_some, cond, refl, sym, ap, ◌∙◌, arith}
-use Rattle.std.specs.List.{AllByRecursion}
+use Rattle.std.proofs.Common.{◌≡◌, ℕ, zero, suc, ◌+◌, List, Option, Some, None, is_some, cond, refl, sym, ap, ◌∙◌, arith}
 use Rattle.pb_base.specs.Batch.{Writes}
 use Rattle.pb_isa.specs.declared.insn.Insn.{Insn}
 use Rattle.pb_isa.specs.declared.insn.Insn.TheVariants.{Alu, MovSx, Neg, LoadImm, Load, StoreImm, Store, Jump, JumpIf, Call, Exit}
-use Rattle.pb_isa.specs.declared.insn.Extension.TheVariants.{Zeros, Sign}
 use Rattle.pb_isa.specs.declared.profile.Profile.{Profile}
 use Rattle.pb_isa.specs.declared.profile.Profile.TheVariants.{One, Two}
-use Rattle.pb_isa.specs.Profiles.{IsOf}
 use Rattle.pb_isa.specs.Slots.{insn_at}
 use Rattle.pb_isa.specs.Helpers.{Helper, Read, Write, Delete, Start, HelperSet, declared_helper}
 use Rattle.pb_isa.specs.Machine.{Placement, Environment, State, Stuck, fetch, helps, calls, does, does_at, act, start}
@@ -18,27 +15,9 @@ use Rattle.pb_helpers.specs.Codes.{lowest_code}
 use Rattle.pb_verify.specs.Rules.{insn_rules}
 use Rattle.pb_verify.specs.Arriving.{in_at, codes_at, faults, Accepts, Refuses}
 use Rattle.pb_sound.specs.ProfilesAgree.{judged_in, ProgramsOfOneAreOfTwo, SameAreAccepted, SameAreRefused, SameIsMeant}
+use Rattle.pb_isa.proofs.Instructions.{all_next as all_of_two}
 
 -- ---- programs
-
--- an instruction of profile 1 is one of profile 2
-of_two : (i : Insn) → IsOf One i → IsOf Two i
-of_two (Alu op w d x) h = refl
-of_two (MovSx w z d r) h = cc
-of_two (Neg w d) h = refl
-of_two (LoadImm d v) h = refl
-of_two (Load z Zeros d r o) h = refl
-of_two (Load z Sign d r o) h = cc
-of_two (StoreImm z d o k) h = refl
-of_two (Store z d r o) h = refl
-of_two (Jump o) h = refl
-of_two (JumpIf c w d x o) h = refl
-of_two (Call k) h = refl
-of_two Exit h = refl
-
-all_of_two : (is : List Insn) → AllByRecursion (IsOf One) is → AllByRecursion (IsOf Two) is
-all_of_two [] h = tt
-all_of_two (i ∷ is) h = (of_two i h.0, all_of_two is h.1)
 
 -- and 512 slots are fewer than 4,096
 pub programs : ProgramsOfOneAreOfTwo

@@ -1,11 +1,11 @@
 -- The writes of a run are distinct data cells without stamps, 16 at most, at each point of it.
 use Rattle.std.proofs.Common.{◌≡◌, ℕ, ◌+◌, ◌≤◌, zero, suc, Bool, true, false, cond, nat_eq, nat_lt, List, [], ◌∷◌, ◌++◌, length, Option, Some, None, refl, sym, ap, subst, ◌∙◌, inl, inr, arith, length-append}
 use Rattle.std.specs.Prelude.{◌&&◌, replicate, is_some, is_none, slice_get}
-use Rattle.std.specs.Cmp.{eq_by_cmp_equiv, Equal-is}
+use Rattle.std.specs.Cmp.{eq_by_cmp_equiv}
 use Rattle.std.specs.List.{list_all}
 use Rattle.std.specs.Ordering.{eq_by_cmp}
 use Rattle.std.proofs.lemmas.Bool.{and_parts, ltb-true, le-leb, lt-ltb}
-use Rattle.pb_base.specs.Cell.{cell_cmp, cell_cmp_total, cell_cmp-IsAntisymmetric}
+use Rattle.pb_base.specs.Cell.{cell_cmp, cell_cmp_total}
 use Rattle.pb_base.specs.declared.cell.Cell.{Cell}
 use Rattle.pb_base.specs.declared.content.Content.{Content}
 use Rattle.pb_base.specs.declared.content.Content.TheVariants.{Value, Deleted}
@@ -19,6 +19,7 @@ use Rattle.pb_isa.specs.Machine.{Environment, State, Ask, Reply, is_reply, Outco
 use Rattle.pb_isa.specs.Meaning.{Talk, Point, point, is_same_ask, on_reply, on, onward, point_after}
 use Rattle.pb_sound.specs.RunWrites.{AreRunWrites, RunsWriteBatches}
 use Rattle.pb_sound.proofs.Silent.{IsSilentStep, plain_is_silent}
+use Rattle.pb_base.proofs.SameCells.{cell_is}
 
 -- what a run may have written so far
 record AreMade (ws : Writes) : Type 0 where
@@ -28,10 +29,7 @@ record AreMade (ws : Writes) : Type 0 where
 
 -- ---- a cell is written once more
 
-cell_is : (x y : Cell) → eq_by_cmp cell_cmp x y ≡ true → x ≡ y
-cell_is x y e = cell_cmp-IsAntisymmetric x y ((Equal-is (cell_cmp x y)).0 e)
-
-length_replaced : (x : Cell) (c : Content) (ws : Writes) → length (replace_write x c ws) ≡ length ws
+pub length_replaced : (x : Cell) (c : Content) (ws : Writes) → length (replace_write x c ws) ≡ length ws
 length_replaced x c [] = refl
 length_replaced x c (w ∷ ws) = by (eq_by_cmp cell_cmp x w.0) (length_replaced x c ws)
   where
@@ -77,7 +75,7 @@ distinct_replaced x c (w ∷ ws) h = let q = and_parts (is_none (content_in ws w
 -- ---- one more cell is written
 
 -- a cell that the list lacks is none of its own, either way round
-lacks_first : (t : Bool) (a : Content) (o : Option Content) → is_none (cond t (Some a) o) ≡ true → (t ≡ false) × (is_none o ≡ true)
+pub lacks_first : (t : Bool) (a : Content) (o : Option Content) → is_none (cond t (Some a) o) ≡ true → (t ≡ false) × (is_none o ≡ true)
 lacks_first true a o h = cc
 lacks_first false a o h = (refl, h)
 

@@ -24,10 +24,12 @@ use Rattle.pb_verify.specs.Rules.{at, reads, stores, bytes_of, insn_rules}
 use Rattle.pb_verify.specs.Following.{after, leads, with_store}
 use Rattle.pb_sound.specs.Fits.{HasValue, Holds, FitsFrame}
 use Rattle.pb_sound.specs.Outcomes.{GoesOn}
-use Rattle.pb_sound.proofs.Lists.{empty_parts, when_not, not_false, and_true, flag_from, with_list_below, with_list_above, with_list_in}
+use Rattle.pb_sound.proofs.Lists.{when_not, flag_from, with_list_below, with_list_above, with_list_in}
 use Rattle.pb_sound.proofs.Offsets.{moved_word, le_from, stack_at, lies}
 use Rattle.pb_sound.proofs.Registers.{read_value, follows, among_one, IsFollowed}
 use Rattle.pb_sound.proofs.Loads.{some_bytes}
+use Rattle.pb_verify.proofs.JumpsForward.{empty_parts}
+use Rattle.pb_base.proofs.Logic.{true_if_not as not_false, and_true}
 
 -- a byte that is written after n bytes are put from lo on
 byte_after : (w : List Bool) (vs : List ℕ) (m : Map) (b lo n : ℕ) → length vs ≡ n →

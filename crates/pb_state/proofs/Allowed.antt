@@ -2,44 +2,34 @@
 use Rattle.std.proofs.Common.{◌≡◌, ℕ, Bool, true, false, cond, not, ◌||◌, [], ◌∷◌, Option, Some, None, refl, sym, ap, ◌∙◌, nat_lt, ◌≤◌, arith}
 use Rattle.std.specs.Prelude.{is_none, is_some, ◌==◌}
 use Rattle.std.specs.FinMap as map
-use Rattle.std.proofs.lemmas.Bool.{eqb-true}
+use Rattle.std.proofs.lemmas.Bool.{eqb-true, or_parts as neither}
 use Rattle.pb_base.specs.declared.cell.Cell.{Cell}
 use Rattle.pb_base.specs.declared.content.Content.{Content}
 use Rattle.pb_base.specs.declared.refusal.Reason.{Reason}
-use Rattle.pb_base.specs.declared.refusal.Reason.TheVariants.{LaterThanStart, OutOfTimestamps, NotOfSeat, NoSuchObserver, WrongPhase, NotItsDeclaration, NotDeclared, AlreadyPrewritten}
+use Rattle.pb_base.specs.declared.refusal.Reason.TheVariants.{LaterThanStart, WrongPhase, NotItsDeclaration, NotDeclared, AlreadyPrewritten}
 use Rattle.pb_base.specs.declared.names.Ts.{Ts}
-use Rattle.pb_base.specs.Batch.{Writes, content_in, primary_in}
-use Rattle.pb_steps.specs.declared.step.Work.{Work}
+use Rattle.pb_base.specs.Batch.{content_in}
 use Rattle.pb_steps.specs.declared.step.Declared.{Declared}
-use Rattle.pb_steps.specs.declared.step.Step.TheVariants.{Begin, Declare, Prewrite, Stamp, CommitPrimary, CommitSecondary}
+use Rattle.pb_steps.specs.declared.step.Step.TheVariants.{Declare, Prewrite, CommitPrimary, CommitSecondary}
 use Rattle.pb_steps.specs.declared.phase.Phase.{Phase}
 use Rattle.pb_steps.specs.declared.phase.Phase.TheVariants as phases
 use Rattle.pb_steps.specs.Phases.{is_reading, is_declared, is_stamped, is_committed}
 use Rattle.pb_steps.specs.State.{StateOf, TransactionOf, is_in}
 use Rattle.pb_steps.specs.Declarations.{is_its}
-use Rattle.pb_steps.specs.Reasons.{Reasons, IsOwn, if_of_seat, own_transaction, own_reasons, no_seat, is_out, reasons_of, first_reason}
-use Rattle.pb_steps.specs.Begin.{is_unknown}
+use Rattle.pb_steps.specs.Reasons.{Reasons, IsOwn, if_of_seat, own_transaction, own_reasons, no_seat, reasons_of, first_reason}
 use Rattle.pb_steps.specs.Read.{read_step, read_reasons, read_at_reasons}
 use Rattle.pb_steps.specs.Reads.{read_up_to}
 use Rattle.pb_steps.specs.Declare.{declare_reasons}
 use Rattle.pb_steps.specs.Prewrite.{prewrite_reasons, is_early}
-use Rattle.pb_steps.specs.Stamp.{is_whole, unstamped_reasons}
 use Rattle.pb_steps.specs.CommitPrimary.{commit_reasons}
 use Rattle.pb_steps.specs.CommitSecondary.{secondary_reasons}
 use Rattle.pb_steps.specs.Steps.{step_reason}
+use Rattle.pb_base.proofs.Logic.{true_if_not as not_false}
 
 -- where no reason applies, neither the first nor one of the rest does
 none_first : (r : Reason) (b : Bool) (rs : Reasons) → first_reason ((r, b) ∷ rs) ≡ None → (b ≡ false) × (first_reason rs ≡ None)
 none_first r true rs e = cc
 none_first r false rs e = (refl, e)
-
-neither : (a b : Bool) → (a || b) ≡ false → (a ≡ false) × (b ≡ false)
-neither true b e = cc
-neither false b e = (refl, e)
-
-not_false : (b : Bool) → not b ≡ false → b ≡ true
-not_false true e = refl
-not_false false e = cc
 
 some_there : {A : Type 0} (o : Option A) → is_none o ≡ false → (x : A) × (o ≡ Some x)
 some_there None e = cc

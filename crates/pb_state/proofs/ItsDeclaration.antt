@@ -9,7 +9,6 @@ use Rattle.pb_base.specs.declared.names.Ts.{Ts}
 use Rattle.pb_base.specs.declared.content.Revision.{Revision}
 use Rattle.pb_base.specs.declared.content.Content.TheVariants as contents
 use Rattle.pb_base.specs.Cell.{cell_cmp}
-use Rattle.pb_state.proofs.SameCells.{same_cell}
 use Rattle.pb_base.specs.Same.{same, same_is}
 use Rattle.std.specs.Coded.{coded_ℕ, coded_list}
 use Rattle.pb_isa.specs.Programs.{judged_code}
@@ -27,10 +26,8 @@ use Rattle.pb_steps.specs.State.{cells_of}
 use Rattle.pb_verify.specs.Observers.{ObserverOf, observed_cell, acknowledgment}
 use Rattle.pb_state.specs.Cells.{acknowledgment_by}
 use Rattle.pb_steps.specs.Declarations.{IsReadOf, old_at, WasOld, WasSeen, AreReplies, IsItsRun, MayDeclare, is_at, is_read_of, with_old, seen_by, seen_in, asked_in, is_replied, are_replies, is_made_of, is_run, is_run_by, is_run_of, is_its}
-
-both : (a b : Bool) → (a && b) ≡ true → (a ≡ true) × (b ≡ true)
-both true b e = (refl, e)
-both false b e = cc
+use Rattle.pb_base.proofs.Logic.{and_true as both}
+use Rattle.pb_base.proofs.SameCells.{cell_is as same_cell}
 
 -- the test of two named timestamps tells that they are one
 at_is : (p q : Option Ts) → is_at p q ≡ true → p ≡ q

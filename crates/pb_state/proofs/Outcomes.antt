@@ -1,10 +1,6 @@
 -- What a result brings, whichever it is.
 use Rattle.std.proofs.Common.{Result, Ok, Err, OnOk}
 
-pub ok_then : {A E : Type 0} (r : Result A E) (P Q : Type 0) → (P → Q) → OnOk r P → OnOk r Q
-ok_then (Ok x) P Q f p = f p
-ok_then (Err e) P Q f p = p
-
 -- what holds anyway holds of a call that was done
 pub ok_always : {A E : Type 0} (r : Result A E) (Q : Type 0) → Q → OnOk r Q
 ok_always (Ok x) Q q = q

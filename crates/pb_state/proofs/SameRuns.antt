@@ -1,16 +1,12 @@
 -- Whether a run is one of a program, a record and a start, by its tests in turn.
-use Rattle.std.proofs.Common.{◌≡◌, ◌↔◌, ℕ, ◌<◌, nat_lt, not, ◌==◌, Bool, true, false, ◌&&◌, List, refl, sym, ap, ◌∙◌}
+use Rattle.std.proofs.Common.{◌≡◌, ◌↔◌, ℕ, not, ◌==◌, Bool, true, false, ◌&&◌, List, refl, sym, ap, ◌∙◌}
 use Rattle.std.specs.Prelude.{IsTrue}
 use Rattle.std.specs.Coded.{Coded, coded_ℕ, coded_list}
-use Rattle.std.proofs.lemmas.Bool.{lt-ltb}
+use Rattle.std.proofs.lemmas.Bool.{false_from_ne_true as not_true}
 use Rattle.pb_base.specs.Same.{same, same_is, is_same}
 use Rattle.pb_isa.specs.Programs.{JudgedOf, judged_code}
 use Rattle.pb_vm.specs.Finished.{Meant}
 use Rattle.pb_steps.specs.Declarations.{is_made_of}
-
-not_true : (b : Bool) → (b ≡ true → ⊥) → b ≡ false
-not_true true h = absurd (h refl)
-not_true false h = refl
 
 pub differ : {A : Type 0} (k : Coded A) (x y : A) → (x ≡ y → ⊥) → same k x y ≡ false
 differ k x y h = not_true (same k x y) (λ e. h (same_is k x y e))

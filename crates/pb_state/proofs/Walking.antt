@@ -1,7 +1,6 @@
 -- A walk from mark to mark meets each marked cell once.
 use Rattle.std.proofs.Common.{◌≡◌, ℕ, ◌+◌, ◌<◌, Bool, true, false, List, [], ◌∷◌, Option, None, Some, refl, sym, ap, ◌∙◌, subst, arith, is_some, length, zero, suc, inl, inr}
-use Rattle.std.specs.Prelude.{T, cond, ◌&&◌, ◌⊎◌}
-use Rattle.std.specs.declared.cmp.Ordering.{Ordering}
+use Rattle.std.specs.Prelude.{T, cond, ◌⊎◌}
 use Rattle.std.specs.declared.cmp.Ordering.TheVariants.{Less, Equal, Greater}
 use Rattle.std.specs.Ordering.{eq_by_cmp, is_eq, is_lt, ordering_reverse}
 use Rattle.std.specs.Cmp.{tied_itself}
@@ -11,6 +10,8 @@ use Rattle.pb_base.specs.declared.cell.Cell.{Cell}
 use Rattle.pb_base.specs.Cell.{cell_cmp, cell_cmp_total, cell_cmp-IsAntisymmetric}
 use Rattle.pb_store.specs.Contents.{ComesAfter, IsNextMark, Marks}
 use Rattle.pb_state.proofs.Walks.{IsWalked}
+use Rattle.pb_base.proofs.Logic.{less_if as is_less, first_holds as fst, second_holds as snd}
+use Rattle.pb_store.proofs.Marked.{not_both_ways as not_both}
 
 -- marked cells in order
 abbrev List1 : Type 0
@@ -23,19 +24,6 @@ has q es = is_some (find cell_cmp q es)
 -- no entry lies between the cell and the next
 abbrev NoneBetween : Option Cell → List1 → Cell → Type 0
 NoneBetween last es next = (q : Cell) → ComesAfter last q → cell_cmp q next ≡ Less → has q es ≡ false
-
-fst : (a b : Bool) → T (a && b) → T a
-fst true b p = tt
-fst false b p = p
-
-snd : (a b : Bool) → T (a && b) → T b
-snd true b p = p
-snd false b p = absurd p
-
-is_less : (o : Ordering) → T (is_lt o) → o ≡ Less
-is_less Less p = refl
-is_less Equal p = absurd p
-is_less Greater p = absurd p
 
 has_head : (e : Cell × Unit {0}) (es : List1) → has e.0 (e ∷ es) ≡ true
 has_head e es = ap (λ r. is_some (cond (is_eq r) (Some e.1) (find cell_cmp e.0 es))) (tied_itself cell_cmp_total e.0)
@@ -74,9 +62,6 @@ comes_later (Some a) x y c l = cell_cmp_total.trans a x y c l
 
 less_back : (x y : Cell) → cell_cmp x y ≡ Greater → cell_cmp y x ≡ Less
 less_back x y g = cell_cmp_total.antisymm y x ∙ ap ordering_reverse g
-
-not_both : (x y : Cell) → cell_cmp x y ≡ Less → cell_cmp y x ≡ Less → ⊥
-not_both x y a b = let turned = cell_cmp_total.antisymm x y in cc
 
 -- a mark that is told, with none between, is one more that was passed
 pub step : (es : List1) → T (is_sorted cell_cmp es) → (last : Option Cell) (n : ℕ) (next : Cell) → IsWalked last es n → has next es ≡ true → ComesAfter last next → NoneBetween last es next → IsWalked (Some next) es (suc n) × (n < length es)

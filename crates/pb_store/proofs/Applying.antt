@@ -18,11 +18,6 @@ pub result_cases : {U E : Type 0} (r : Result U E) (P Q G : Type 0) → OnOk r P
 result_cases (Ok u) P Q G p q f g = f p
 result_cases (Err e) P Q G p q f g = g q
 
--- what a done call promises, said of something else that follows
-pub ok_then : {U E : Type 0} (r : Result U E) (P Q : Type 0) → (P → Q) → OnOk r P → OnOk r Q
-ok_then (Ok u) P Q f p = f p
-ok_then (Err e) P Q f p = p
-
 pub err_then : {U E : Type 0} (r : Result U E) (P Q : Type 0) → (P → Q) → OnErr r P → OnErr r Q
 err_then (Ok u) P Q f p = p
 err_then (Err e) P Q f p = f p

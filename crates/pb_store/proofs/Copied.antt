@@ -1,10 +1,10 @@
 -- What a tablet contains, copied entry by entry and mark by mark into another.
-use Rattle.std.proofs.Common.{◌≡◌, ◌&&◌, ℕ, ◌+◌, ◌-◌, ◌<◌, ◌≤◌, Bool, true, false, cond, not, T, List, [], ◌∷◌, ◌++◌, Option, None, Some, refl, sym, ap, ◌∙◌, arith, zero, suc, is_some, length, get_or, slice_get, take, drop, subst}
+use Rattle.std.proofs.Common.{◌≡◌, ℕ, ◌+◌, ◌-◌, ◌<◌, ◌≤◌, Bool, true, false, cond, not, T, List, [], ◌∷◌, ◌++◌, Option, None, Some, refl, sym, ap, ◌∙◌, arith, zero, suc, is_some, length, get_or, slice_get, take, drop, subst}
 use Rattle.std.proofs.lemmas.List.{take_more, take_all}
 use Rattle.std.proofs.lemmas.Option.{slice_get_within, get_or_from_slice_get}
 use Rattle.std.specs.declared.cmp.Ordering.{Ordering}
 use Rattle.std.specs.declared.cmp.Ordering.TheVariants.{Less, Equal, Greater}
-use Rattle.std.specs.Ordering.{is_lt, is_eq, eq_by_cmp, ordering_reverse}
+use Rattle.std.specs.Ordering.{is_lt, is_eq, eq_by_cmp}
 use Rattle.std.specs.Cmp.{IsTotalOrder}
 use Rattle.std.specs.FinMap as map
 use Rattle.std.specs.FinMap.{find, is_sorted}
@@ -16,27 +16,12 @@ use Rattle.pb_store.specs.declared.slot.Item.{Item}
 use Rattle.pb_store.specs.Slot.{slot_cmp_total, slot_cmp-IsAntisymmetric}
 use Rattle.pb_store.specs.Contents.{Contents, Entries, Marks, ComesAfter, IsNextMark, entries_after}
 use Rattle.pb_store.proofs.Following.{behind}
-
-first : (a b : Bool) → T (a && b) → T a
-first true b p = tt
-first false b p = p
-
-second : (a b : Bool) → T (a && b) → T b
-second true b p = p
-second false b p = absurd p
-
-less : (o : Ordering) → T (is_lt o) → o ≡ Less
-less Less p = refl
-less Equal p = absurd p
-less Greater p = absurd p
-
--- compared the other way round, two keys come out reversed
-turned : {K : Type 0} {R : K → K → Ordering} → IsTotalOrder R → (x y : K) (r : Ordering) → R x y ≡ r → R y x ≡ ordering_reverse r
-turned o x y r e = o.antisymm y x ∙ ap ordering_reverse e
+use Rattle.pb_base.proofs.Logic.{none_is as no_item, less_if as less, first_holds as first, second_holds as second, first_of_drop, none_past, turned}
 
 -- ---- entries
 module _ {K X : Type 0} {R : K → K → Ordering} (o : IsTotalOrder R) where
-  below_at : (x : K) (es : List (K × X)) (i : ℕ) (d : K × X) → T (below_all R x es) → i < length es → R x (get_or es i d).0 ≡ Less
+  -- entries above a key are above it at each place
+  pub below_at : (x : K) (es : List (K × X)) (i : ℕ) (d : K × X) → T (below_all R x es) → i < length es → R x (get_or es i d).0 ≡ Less
   below_at x [] i d h lt = absurd (omega (arith, lt))
   below_at x (e ∷ es) zero d h lt = less _ (first _ _ h)
   below_at x (e ∷ es) (suc i) d h lt = below_at x es i d (second _ _ h) (omega arith)
@@ -111,10 +96,6 @@ len-up_to after m =
     let all = map.len-entries m in
     omega (arith, part, all, no_longer (up_to after) (map.entries m))
 
-no_item : {X : Type 0} (x : Option X) → is_some x ≡ false → x ≡ None
-no_item None e = refl
-no_item (Some x) e = cc
-
 unit_there : (x : Option (Unit {0})) → is_some x ≡ true → x ≡ Some tt
 unit_there None e = cc
 unit_there (Some tt) e = refl
@@ -188,24 +169,11 @@ module _ (m : Marks) (after : Option Cell) where
         let same = ap map.len one_more_mark in
         omega (arith, more, most, same)
 
--- ---- what is left of entries
-first_of_drop : {E : Type 0} (xs : List E) (i : ℕ) → slice_get (drop i xs) 0 ≡ slice_get xs i
-first_of_drop [] zero = refl
-first_of_drop [] (suc i) = refl
-first_of_drop (x ∷ xs) zero = refl
-first_of_drop (x ∷ xs) (suc i) = first_of_drop xs i
-
 drop_next : {E : Type 0} (xs : List E) (i : ℕ) → drop 1 (drop i xs) ≡ drop (suc i) xs
 drop_next [] zero = refl
 drop_next [] (suc i) = refl
 drop_next (x ∷ xs) zero = refl
 drop_next (x ∷ xs) (suc i) = drop_next xs i
-
--- where no element stands, the list has ended
-none_past : {E : Type 0} (xs : List E) (i : ℕ) → None ≡ slice_get xs i → length xs ≤ i
-none_past [] i p = omega arith
-none_past (x ∷ xs) zero p = cc
-none_past (x ∷ xs) (suc i) p = let rest = none_past xs i p in omega (arith, rest)
 
 -- each turn of the walk leaves one less
 shorter : {E : Type 0} (xs : List E) (x : E) → Some x ≡ slice_get xs 0 → length (drop 1 xs) < length xs

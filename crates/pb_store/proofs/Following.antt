@@ -1,5 +1,5 @@
 -- What follows an entry in sorted entries, and over tablets side by side.
-use Rattle.std.proofs.Common.{◌≡◌, ◌&&◌, ℕ, ◌+◌, ◌<◌, ◌≤◌, Bool, true, false, cond, T, List, [], ◌∷◌, ◌++◌, Option, None, Some, IfSome, refl, sym, ap, ◌∙◌, arith, zero, suc, is_some, length, drop, get_or, slice_get}
+use Rattle.std.proofs.Common.{◌≡◌, ℕ, ◌+◌, ◌<◌, ◌≤◌, true, false, cond, T, List, [], ◌∷◌, ◌++◌, Option, None, Some, IfSome, refl, sym, ap, ◌∙◌, arith, zero, suc, is_some, length, drop, get_or, slice_get}
 use Rattle.std.proofs.lemmas.List.{at_drop_more, drop_all}
 use Rattle.std.proofs.lemmas.List.Elements.{filter-append}
 use Rattle.std.specs.List.{filter}
@@ -18,28 +18,7 @@ use Rattle.pb_store.specs.Slot.{slot_cmp, slot_cmp_total}
 use Rattle.pb_store.specs.Contents.{Contents, entries_after}
 use Rattle.pb_store.specs.Tiles.{Tile, AreTiled, IsPlace, IsStart, tiles_of, all_entries}
 use Rattle.pb_store.proofs.Joined.{slots_by_row}
-
-both : (a b : Bool) → T a → T b → T (a && b)
-both true b p q = q
-both false b p q = p
-
-first : (a b : Bool) → T (a && b) → T a
-first true b p = tt
-first false b p = p
-
-second : (a b : Bool) → T (a && b) → T b
-second true b p = p
-second false b p = absurd p
-
-less : (o : Ordering) → T (is_lt o) → o ≡ Less
-less Less p = refl
-less Equal p = absurd p
-less Greater p = absurd p
-
-is_less : (o : Ordering) → o ≡ Less → T (is_lt o)
-is_less Less e = tt
-is_less Equal e = cc
-is_less Greater e = cc
+use Rattle.pb_base.proofs.Logic.{less_if as less, first_holds as first, second_holds as second, both_hold as both, less_holds as is_less}
 
 -- ---- sorted entries
 module _ {K X : Type 0} {R : K → K → Ordering} (o : IsTotalOrder R) where

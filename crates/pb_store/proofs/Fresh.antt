@@ -1,5 +1,5 @@
 -- Tablets that hold nothing, side by side.
-use Rattle.std.proofs.Common.{◌≡◌, ℕ, ◌<◌, Bool, true, false, cond, ◌&&◌, ◌==◌, nat_lt, List, [], ◌∷◌, ◌++◌, None, Some, refl, sym, ap, ◌∙◌, subst, arith, is_some, length}
+use Rattle.std.proofs.Common.{◌≡◌, ℕ, ◌<◌, Bool, true, false, cond, ◌&&◌, ◌==◌, List, [], ◌∷◌, ◌++◌, None, Some, refl, sym, ap, ◌∙◌, subst, arith, is_some, length}
 use Rattle.std.proofs.lemmas.Bool.Decides.{nat_tests}
 use Rattle.std.specs.declared.cmp.Ordering.{Ordering}
 use Rattle.std.specs.FinMap as map
@@ -9,20 +9,14 @@ use Rattle.pb_store.specs.Contents.{Contents, nothing, is_nothing}
 use Rattle.pb_base.specs.declared.refusal.Reason.TheVariants.{NotEmpty, RowsDontRise}
 use Rattle.pb_store.specs.Tiles.{Tile, IsTile, AreTiled, IsTiling, IsBelow, all_entries, all_marks, joined, rise, rise_from_zero, all_nothing, table_reason}
 use Rattle.pb_store.proofs.Joined.{joined-entries, joined-marks}
+use Rattle.pb_base.proofs.Logic.{empty_by_length as no_length, right_true, below_true}
 
 left_true : (a b : Bool) → (a && b) ≡ true → a ≡ true
 left_true true b e = refl
 left_true false b e = e
 
-right_true : (a b : Bool) → (a && b) ≡ true → b ≡ true
-right_true true b e = e
-right_true false b e = absurd (subst (λ x. cond x ⊥ (Unit {0})) e tt)
-
 same_true : (a b : ℕ) → (a == b) ≡ true → a ≡ b
 same_true a b e = grind (arith, nat_tests)
-
-below_true : (a b : ℕ) → nat_lt a b ≡ true → a < b
-below_true a b e = grind (arith, nat_tests)
 
 -- what passes the test for nothing is the one value without entry and mark
 pub nothing_from_test : (c : Contents) → is_nothing c ≡ true → c ≡ nothing
@@ -30,10 +24,6 @@ nothing_from_test c e =
     let m = map.empty_of_len c.entries (same_true _ _ (left_true _ _ e)) in
     let n = map.empty_of_len c.marks (same_true _ _ (right_true _ _ e)) in
     λ i. record { entries = m i; marks = n i }
-
-no_length : {A : Type 0} (es : List A) → length es ≡ 0 → es ≡ []
-no_length [] e = refl
-no_length (x ∷ es) e = absurd (omega arith)
 
 entries-empty : {K X : Type 0} (R : K → K → Ordering) → map.entries (map.empty {X = X} {R = R}) ≡ []
 entries-empty {K} {X} R = no_length _ (sym (map.len-entries (map.empty {X = X} {R = R})) ∙ map.len-empty R X)
@@ -97,6 +87,3 @@ tiling_of_nothing (tile ∷ tiles) r e = record {
 pub refused_unrisen : (tiles : List Tile) → 0 < length tiles → rise_from_zero tiles ≡ false → table_reason tiles ≡ Some RowsDontRise
 refused_unrisen [] lt e = absurd (omega arith)
 refused_unrisen (tile ∷ tiles) lt e = ap (λ b. cond b (cond (all_nothing (tile ∷ tiles)) None (Some NotEmpty)) (Some RowsDontRise)) e
-
-pub positive : (n : ℕ) → (n == 0) ≡ false → 0 < n
-positive n e = grind (arith, nat_tests)

@@ -1,14 +1,15 @@
 -- One half of what tablets contain, entries or marks: tablets side by side as one map.
-use Rattle.std.proofs.Common.{◌≡◌, ℕ, ◌<◌, ◌≤◌, Bool, true, false, cond, ◌&&◌, T, List, [], ◌∷◌, ◌++◌, Option, None, Some, refl, sym, ap, ◌∙◌, subst, arith, zero, suc, is_some, length}
+use Rattle.std.proofs.Common.{◌≡◌, ℕ, ◌<◌, ◌≤◌, Bool, true, false, cond, T, List, [], ◌∷◌, ◌++◌, Option, None, Some, refl, sym, ap, ◌∙◌, subst, arith, zero, suc, is_some, length}
 use Rattle.std.specs.declared.cmp.Ordering.{Ordering}
 use Rattle.std.specs.declared.cmp.Ordering.TheVariants.{Less, Equal, Greater}
-use Rattle.std.specs.Ordering.{eq_by_cmp, is_eq, is_lt}
+use Rattle.std.specs.Ordering.{eq_by_cmp, is_eq}
 use Rattle.std.specs.Cmp.{IsTotalOrder, tied_itself}
 use Rattle.std.specs.FinMap as map
 use Rattle.std.specs.FinMap.Entries as list
 use Rattle.pb_store.specs.Contents.{Contents}
 use Rattle.pb_store.specs.Tiles.{Tile, IsBelow, IsPlace}
 use Rattle.pb_store.proofs.Routing.{tile_at, replace}
+use Rattle.pb_base.proofs.Logic.{first_holds as first, second_holds as second, both_hold as both, less_holds as is_less}
 
 -- keys in an order that goes by row first, and the half of contents that they name
 pub record Half {K : Type 0} (R : K → K → Ordering) (X : Type 0) : Type 0 where
@@ -18,26 +19,11 @@ pub record Half {K : Type 0} (R : K → K → Ordering) (X : Type 0) : Type 0 wh
   pub by_row : (x y : K) → row x < row y → R x y ≡ Less
   pub part : Contents → map.FinMap R X
 
-both : (a b : Bool) → T a → T b → T (a && b)
-both true b p q = q
-both false b p q = p
-
-first : (a b : Bool) → T (a && b) → T a
-first true b p = tt
-first false b p = p
-
-second : (a b : Bool) → T (a && b) → T b
-second true b p = p
-second false b p = absurd p
-
 -- what tests as equal is `Equal`
 equal_of : (r : Ordering) → is_eq r ≡ true → r ≡ Equal
 equal_of Less e = cc
 equal_of Equal e = refl
 equal_of Greater e = cc
-
-is_less : (r : Ordering) → r ≡ Less → T (is_lt r)
-is_less r e = subst (λ s. T (is_lt s)) (sym e) tt
 
 -- the first value, or the second where there is none
 abbrev or_else : {X : Type 0} → Option X → Option X → Option X

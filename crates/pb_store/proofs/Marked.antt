@@ -1,7 +1,7 @@
 -- The next mark of all tablets is the first that any of them tells, from the row's on.
-use Rattle.std.proofs.Common.{◌≡◌, ℕ, ◌+◌, ◌<◌, Bool, true, false, List, Option, None, Some, refl, ap, ◌∙◌, arith, is_some, length, below_more, inl, inr}
+use Rattle.std.proofs.Common.{◌≡◌, ℕ, ◌+◌, ◌<◌, Bool, true, false, List, Option, None, Some, ap, ◌∙◌, arith, is_some, length, below_more, inl, inr}
 use Rattle.std.specs.declared.cmp.Ordering.TheVariants.{Less}
-use Rattle.std.proofs.lemmas.Bool.{cases_order}
+use Rattle.std.proofs.lemmas.Bool.{cases_order, false_from_ne_true as not_marked}
 use Rattle.std.specs.FinMap as map
 use Rattle.pb_base.specs.declared.cell.Cell.{Cell}
 use Rattle.pb_base.specs.Cell.{row_of, cell_cmp, cell_cmp_total}
@@ -10,6 +10,7 @@ use Rattle.pb_store.specs.Tiles.{Tile, AreTiled, IsPlace, IsStart, joined}
 use Rattle.pb_store.proofs.Routing.{tile_at}
 use Rattle.pb_store.proofs.Halves.{place_of_key, places_rise, find-nowhere}
 use Rattle.pb_store.proofs.Joined.{mark_half, marks_kept, marks_joined, mark-joined, cells_by_row}
+use Rattle.pb_base.proofs.Logic.{none_is as no_item}
 
 -- tile i has the cell marked
 abbrev pub marked : List Tile → ℕ → Cell → Bool
@@ -19,16 +20,8 @@ marked tiles i cell = map.contains_key (tile_at tiles i).marks cell
 abbrev pub NonePassed : List Tile → Option Cell → ℕ → Type 0
 NonePassed tiles after upto = (i : ℕ) → i < upto → (cell : Cell) → ComesAfter after cell → marked tiles i cell ≡ false
 
-not_marked : (b : Bool) → (b ≡ true → ⊥) → b ≡ false
-not_marked true never = absurd (never refl)
-not_marked false never = refl
-
-no_item : {X : Type 0} (x : Option X) → is_some x ≡ false → x ≡ None
-no_item None e = refl
-no_item (Some x) e = cc
-
 -- two cells can't each come before the other
-not_both_ways : (x y : Cell) → cell_cmp x y ≡ Less → cell_cmp y x ≡ Less → ⊥
+pub not_both_ways : (x y : Cell) → cell_cmp x y ≡ Less → cell_cmp y x ≡ Less → ⊥
 not_both_ways x y a b = let turned = cell_cmp_total.antisymm x y in cc
 
 module _ (tiles : List Tile) (tiled : AreTiled tiles) where

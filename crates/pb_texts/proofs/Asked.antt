@@ -15,7 +15,8 @@ use Rattle.pb_texts.specs.CommandLines.{most_workers, most_swaps, run_app, last_
 use Rattle.pb_texts.proofs.Kept.{Each, HasNoDefault, or_else_none, level_none, unless_stopped, rows_kept}
 use Rattle.pb_texts.proofs.Filled.{HasValue, ReadsNumber, help_keeps, operand_has_value, operand_keeps_number, number_has_value, number_keeps_number, number_reads, given_first, first_number, one_number}
 use Rattle.pb_texts.proofs.Clocks.{has_clock}
-use Rattle.pb_texts.proofs.Counts.{or_false, has_count}
+use Rattle.pb_texts.proofs.Counts.{has_count}
+use Rattle.std.proofs.lemmas.Bool.{or_parts as or_false}
 
 -- ---- the top level
 

@@ -24,11 +24,11 @@ pub has_clock : (o : Option Text) → IsNumberIn 0 last_clock o → (n : ℕ) ×
 has_clock None e = (0, refl)
 has_clock (Some t) e = (clock_number t, rw e refl)
 
-some_if : (b : Bool) (x n : ℕ) → b ≡ true → x ≡ n → Some x ≡ cond b (Some n) None
+pub some_if : (b : Bool) (x n : ℕ) → b ≡ true → x ≡ n → Some x ≡ cond b (Some n) None
 some_if true x n e f = ap (λ y. Some y) f
 some_if false x n e f = absurd cc
 
-none_unless : (b : Bool) (n : ℕ) → (b ≡ true → ⊥) → None ≡ cond b (Some n) None
+pub none_unless : (b : Bool) (n : ℕ) → (b ≡ true → ⊥) → None ≡ cond b (Some n) None
 none_unless true n f = absurd (f refl)
 none_unless false n f = refl
 

@@ -1,8 +1,8 @@
 -- The numbers of workers, of swaps and of a profile are read as `parse` reads a number of `u32`, but for a plus, which `clap` takes too.
-use Rattle.std.proofs.Common.{◌≡◌, ℕ, ◌<◌, ◌≤◌, ◌^◌, Bool, true, false, cond, [], ◌∷◌, Option, Some, None, Ok, Err, refl, sym, ap, ◌∙◌, subst, arith}
-use Rattle.std.specs.Prelude.{◌&&◌, ◌||◌, ◌==◌, nat_le, nat_lt, slice_index}
+use Rattle.std.proofs.Common.{◌≡◌, ℕ, ◌<◌, ◌≤◌, ◌^◌, Bool, true, false, [], ◌∷◌, Option, Some, None, Ok, Err, refl, sym, ap, ◌∙◌, subst, arith}
+use Rattle.std.specs.Prelude.{◌&&◌, ◌==◌, nat_le, nat_lt, slice_index}
 use Rattle.std.specs.Option.{option_map_or}
-use Rattle.std.proofs.lemmas.Bool.{eqb-true, leb-true, lt-ltb}
+use Rattle.std.proofs.lemmas.Bool.{eqb-true, leb-true, lt-ltb, and_right as and_false, and_left as false_and}
 use Rattle.std.specs.Str.Parse.{IsNumeral, ParsesUnsigned, digits_value, without_leading_plus}
 use Rattle.std.specs.declared.num.ParseIntError.{ParseIntError}
 use Rattle.clap.specs.Walk.{Text}
@@ -11,19 +11,10 @@ use Rattle.clap.specs.declared.builder.value_parser.ValueParser.TheVariants.{Uns
 use Rattle.clap.proofs.ValueTestLemmas.{accepts-Accepts, Accepts-accepts}
 use Rattle.pb_texts.specs.CommandLines.{is_within, is_count, count_number, count_of, begins_with_plus}
 use Rattle.pb_texts.proofs.Filled.{IsNumberIn}
+use Rattle.pb_base.proofs.Logic.{and_true as both_true}
+use Rattle.pb_texts.proofs.Clocks.{some_if, none_unless}
 
 -- ---- a plus before the digits
-
-pub both_true : (a b : Bool) → (a && b) ≡ true → (a ≡ true) × (b ≡ true)
-both_true true b h = (refl, h)
-both_true false b h = absurd cc
-
-pub true_not_false : (b : Bool) → b ≡ true → b ≡ false → ⊥
-true_not_false b t f = cc
-
-pub false_unless : (b : Bool) → (b ≡ true → ⊥) → b ≡ false
-false_unless true f = absurd (f refl)
-false_unless false f = refl
 
 begins_by : (t : Text) → begins_with_plus t ≡ (slice_index t 0 == 43)
 begins_by [] = refl
@@ -31,18 +22,6 @@ begins_by (x ∷ xs) = refl
 
 pub begins_as_told : (t : Text) (b told : Bool) → told ≡ (slice_index t 0 == 43) → told ≡ b → begins_with_plus t ≡ b
 begins_as_told t b told e is = begins_by t ∙ sym e ∙ is
-
-pub and_false : (a b : Bool) → b ≡ false → (a && b) ≡ false
-and_false true b h = h
-and_false false b h = refl
-
-pub false_and : (a b : Bool) → a ≡ false → (a && b) ≡ false
-false_and true b h = absurd cc
-false_and false b h = refl
-
-pub or_false : (a b : Bool) → (a || b) ≡ false → (a ≡ false) × (b ≡ false)
-or_false true b h = absurd cc
-or_false false b h = (refl, h)
 
 without_plus : (t : Text) → begins_with_plus t ≡ false → without_leading_plus t ≡ t
 without_plus [] h = refl
@@ -55,14 +34,6 @@ spare true true a b f = refl
 spare true false a true f = let e : false ≡ true = f refl in absurd cc
 spare true false true false f = refl
 spare true false false false f = refl
-
-some_if : (b : Bool) (x n : ℕ) → b ≡ true → x ≡ n → Some x ≡ cond b (Some n) None
-some_if true x n e f = ap (λ y. Some y) f
-some_if false x n e f = absurd cc
-
-none_unless : (b : Bool) (n : ℕ) → (b ≡ true → ⊥) → None ≡ cond b (Some n) None
-none_unless true n f = absurd (f refl)
-none_unless false n f = refl
 
 module _ (low high : ℕ) where
   plus_no_number : (xs : Text) → is_count low high (43 ∷ xs) ≡ false

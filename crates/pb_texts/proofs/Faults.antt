@@ -16,8 +16,10 @@ use Rattle.pb_texts.specs.declared.words.choice.Options.TheVariants as options
 use Rattle.pb_isa.specs.declared.profile.Profile.{Profile}
 use Rattle.pb_helpers.specs.declared.change.Version.{Version}
 use Rattle.pb_texts.specs.CommandLines.{most_workers, most_swaps, last_profile, program_app, Request, Run, Replay, Asm, Dis, Check, both, all_three, is_count, count_number, count_of, workers_of, clock_of, profile_numbered, profile_of, with_profile, last_version, version_numbered, version_of, with_version, asm_in, dis_in, check_in, command_in, command_of, begins_with_plus, has_plus, has_plus_at, request_of, IsInRange}
-use Rattle.pb_texts.proofs.Counts.{false_unless, plus_unread, count_within}
+use Rattle.pb_texts.proofs.Counts.{plus_unread, count_within}
 use Rattle.pb_texts.proofs.Asked.{run_with, run_by, replay_from, asks}
+use Rattle.std.proofs.lemmas.Bool.{true_from_ne_false as true_unless, false_from_ne_true as false_unless}
+use Rattle.pb_base.proofs.Logic.{or_cases as either}
 
 -- ---- the fault of a plus
 
@@ -27,10 +29,6 @@ none_at low high (Some t) h = sym (plus_unread low high t h)
 
 plus_names_none : (low high : ℕ) (name : Text) (rows : List Row) → has_plus_at name rows ≡ true → count_of low high (first_of name rows) ≡ None
 plus_names_none low high name rows h = none_at low high (first_of name rows) h
-
-either : (a b : Bool) → (a || b) ≡ true → (a ≡ true) ⊎ (b ≡ true)
-either true b h = inl refl
-either false b h = inr h
 
 none_then : {A B : Type 0} (o : Option A) (f : A → Option B) → ((x : A) → f x ≡ None) → option_and_then f o ≡ None
 none_then None f h = refl
@@ -68,10 +66,6 @@ plus_asks_none (Some p) h =
     (none_by (bytes_eq p.0 (codes "asm")) (has_plus_at (codes "profile") p.1) _ (asm_in p.1) _ (profile_names_none p.1 _)
     (none_by (bytes_eq p.0 (codes "dis")) (has_plus_at (codes "profile") p.1) (has_plus_at (codes "profile") p.1 || has_plus_at (codes "record") p.1) (dis_in p.1) _ (profile_names_none p.1 _)
     (λ plus. none_if (bytes_eq p.0 (codes "check")) (check_in p.1) None (check_names_none p.1 (either (has_plus_at (codes "profile") p.1) (has_plus_at (codes "record") p.1) plus)) refl)))) h
-
-true_unless : (b : Bool) → (b ≡ false → ⊥) → b ≡ true
-true_unless true f = refl
-true_unless false f = absurd (f refl)
 
 none_is_some : (o : Option Request) (r : Request) → o ≡ None → o ≡ Some r → ⊥
 none_is_some o r e f = let both : None ≡ Some r = sym e ∙ f in cc

@@ -17,6 +17,7 @@ use Rattle.clap.specs.declared.builder.value_parser.Reading.TheVariants.{AsWritt
 use Rattle.clap.specs.ValueTests.{is_unsigned_in}
 use Rattle.pb_texts.specs.CommandLines.{required_rule, number_rule}
 use Rattle.pb_texts.proofs.Kept.{Each, Keeps, or_else_none}
+use Rattle.pb_base.proofs.Logic.{same_some as some_same}
 
 -- ---- rows that change
 
@@ -116,9 +117,6 @@ number_reads name low high again (v ∷ vs) rows e g =
     each_set (ReadsNumber name low high) name AsWritten (v ∷ vs) (λ _. (refl, is)) (λ r same p. ((λ own. ((p own).0, first_still low high r.values v vs is (p own).1)), tt)) rows g
 
 -- ---- what is read of a row
-
-some_same : {A : Type 0} (x y : A) → Some x ≡ Some y → x ≡ y
-some_same x y h = cc
 
 found_if : (P : Row → Type 0) (p : Row → Bool) (b : Bool) (x : Row) (later : Option Row) (r : Row) → P x → (later ≡ Some r → P r × (p r ≡ true)) → p x ≡ b → cond b (Some x) later ≡ Some r → P r × (p r ≡ true)
 found_if P p true x later r f g is h = subst (λ (y : Row). P y × (p y ≡ true)) (some_same x r h) (f, is)

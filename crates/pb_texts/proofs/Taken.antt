@@ -1,7 +1,7 @@
 -- The plain forms of the subcommands are taken.
 use Rattle.std.proofs.Common.{◌≡◌, ℕ, ◌<◌, ◌^◌, Bool, true, false, cond, [], ◌∷◌, Some, None, refl, sym, ◌∙◌, subst, arith}
 use Rattle.std.specs.Prelude.{◌==◌, ◌||◌, not, option_map, option_and_then}
-use Rattle.std.proofs.lemmas.Bool.{eqb-true}
+use Rattle.std.proofs.lemmas.Bool.{eqb-true, and_right as and_false, and_left as false_and, false_from_ne_true as false_unless}
 use Rattle.std.specs.Str.{bytes_eq}
 use Rattle.clap.specs.Lexer.{strip_byte}
 use Rattle.clap.specs.Walk.{Text}
@@ -9,15 +9,11 @@ use Rattle.clap.specs.Kinds.{Kinds, or_else}
 use Rattle.clap.specs.ValueTests.{is_unsigned_in}
 use Rattle.clap.specs.declared.error.kind.ErrorKind.TheVariants.{ValueValidation}
 use Rattle.clap.proofs.OnLiterals.{clap_on_literals}
-use Rattle.pb_isa.specs.declared.profile.Profile.{Profile}
 use Rattle.pb_isa.specs.declared.profile.Profile.TheVariants.{One}
 use Rattle.pb_helpers.specs.declared.change.Version.TheVariants.{First}
 use Rattle.pb_texts.specs.CommandLines.{most_workers, most_swaps, last_profile, is_plain_word, is_count, is_workers, is_swaps, is_profile, profile_numbered, count_number, begins_with_plus, is_clock, clock_number, run_words, workers_words, swaps_words, replay_words, clock_words, asm_words, dis_words, check_words, profile_words, Run, Replay, Asm, Dis, Check, Request, AskFor, HaveBadValue, TakeProfiles, RefuseOtherProfiles, last_version, is_version, version_numbered, record_words, TakeVersions, RefuseOtherVersions}
-use Rattle.pb_texts.proofs.Counts.{true_not_false, and_false, false_and, false_unless, plus_no_count, plain_count}
-
-not_true : (b : Bool) → not b ≡ true → b ≡ false
-not_true true h = absurd cc
-not_true false h = refl
+use Rattle.pb_texts.proofs.Counts.{plus_no_count, plain_count}
+use Rattle.pb_base.proofs.Logic.{false_if_not as not_true, not_both as true_not_false}
 
 no_hyphen : (w : Text) → is_plain_word w ≡ true → strip_byte 45 w ≡ None
 no_hyphen [] h = refl

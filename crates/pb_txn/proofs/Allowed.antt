@@ -30,6 +30,7 @@ use Rattle.pb_txn.proofs.DistinctCells.{cells_in, has_content, not_before, in_or
 use Rattle.pb_txn.proofs.WithoutReads.{bare}
 use Rattle.pb_txn.proofs.PlanPlaces.{IsAt, cell_of}
 use Rattle.pb_txn.proofs.PlanTransactions.{HasCells, HasCellsAt, keeps, cells_by_now, stands}
+use Rattle.pb_base.proofs.Logic.{same_some as same_step, none_some as no_reason}
 
 -- ---- reasons
 
@@ -46,9 +47,6 @@ not_its = record { phase = λ e. cc; declared = λ e. cc; once = λ e. cc }
 
 out : IsTimely OutOfTimestamps
 out = record { phase = λ e. cc; declared = λ e. cc; once = λ e. cc }
-
-no_reason : (why : Reason) → ◌≡◌ {A = Option Reason} None (Some why) → ⊥
-no_reason why e = cc
 
 -- the first applies, and is timely, or it is one of the others
 either : (b : Bool) (r why : Reason) (rest : Option Reason) → IsTimely r → (rest ≡ Some why → IsTimely why) → cond b (Some r) rest ≡ Some why → IsTimely why
@@ -135,9 +133,6 @@ module _ (t : TransactionOf) (what : Declared) (why : Reason) where
       none_of_two WrongPhase NotDeclared why (not (is_committed t.phase)) (is_none (content_in t.declared x)) (ap not at) (has_content t.declared k x here-in) e
 
 -- ---- the step at a place
-
-same_step : (t u : Step) → Some t ≡ Some u → t ≡ u
-same_step t u e = cc
 
 module _ (state : StateOf) (seat s : ℕ) (what : Declared) (why : Reason) where
   -- what its transaction has come to, if there is one

@@ -3,7 +3,6 @@ use Rattle.std.proofs.Common.{◌≡◌, ◌≢◌, ℕ, List, [], ◌∷◌, �
 use Rattle.pb_base.specs.Batch.{Writes}
 use Rattle.pb_steps.specs.declared.step.Work.TheVariants as works
 use Rattle.pb_steps.specs.declared.step.Declared.TheVariants as declared
-use Rattle.pb_steps.specs.declared.step.Step.{Step}
 use Rattle.pb_steps.specs.declared.step.Step.TheVariants.{Begin}
 use Rattle.pb_steps.specs.declared.step.Answer.{Answer}
 use Rattle.pb_steps.specs.declared.step.Answer.TheVariants.{At}
@@ -18,13 +17,11 @@ use Rattle.pb_txn.specs.Talks.{told}
 use Rattle.pb_txn.specs.Forms.{IsWhole}
 use Rattle.pb_txn.specs.Changes.{ChangeOf, new_change, answered, Talks, IsWholeChange, ChangesTalk, ChangesEnd}
 use Rattle.pb_txn.proofs.Talk.{plans_talk, plans_end}
+use Rattle.pb_base.proofs.Logic.{same_some as same_step, same_some as same_plan}
 
 -- a change that follows its plan
 abbrev following : Writes → PlanOf → ChangeOf
 following batch p = record { batch = batch; plan = Some p }
-
-same_step : (s t : Step) → Some s ≡ Some t → s ≡ t
-same_step s t e = cc
 
 -- a plan keeps its start
 start_stays : (p : PlanOf) (said : List Received) (q : PlanOf) → talks.Talks p said q → q.start ≡ p.start
@@ -85,9 +82,6 @@ changes_talk batch (r ∷ rest) q some t =
 
 none_is : (batch : Writes) (z : ChangeOf) (p : PlanOf) → z ≡ new_change batch → z.plan ≡ Some p → ⊥
 none_is batch z p is h = let k : z.plan ≡ None = ap (λ (j : ChangeOf). j.plan) is in cc
-
-same_plan : (p q : PlanOf) → Some p ≡ Some q → p ≡ q
-same_plan p q e = cc
 
 pub changes_end : ChangesEnd
 changes_end batch [] q p o some t e done = absurd (none_is batch q p t e)

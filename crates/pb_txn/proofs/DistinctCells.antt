@@ -1,15 +1,18 @@
 -- Of distinct cells, prewritten one after another, the next comes at its time, and in the end there are all.
-use Rattle.std.proofs.Common.{◌≡◌, ℕ, zero, suc, ◌≤◌, Bool, true, false, cond, not, ◌&&◌, ◌||◌, List, [], ◌∷◌, ◌++◌, length, map, take, Option, Some, refl, sym, ap, ◌∙◌, arith}
+use Rattle.std.proofs.Common.{◌≡◌, ℕ, zero, suc, ◌≤◌, Bool, true, false, cond, not, ◌&&◌, ◌||◌, List, [], ◌∷◌, ◌++◌, length, map, take, Option, Some, refl, sym, ap, arith}
 use Rattle.std.specs.Prelude.{slice_get, is_none}
 use Rattle.std.specs.List.{list_all}
 use Rattle.std.specs.Ordering.{eq_by_cmp, is_eq}
-use Rattle.std.specs.Cmp.{Equal-is, tied_itself}
+use Rattle.std.specs.Cmp.{tied_itself}
 use Rattle.pb_base.specs.declared.cell.Cell.{Cell}
 use Rattle.pb_base.specs.declared.content.Content.{Content}
-use Rattle.pb_base.specs.Cell.{cell_cmp, cell_cmp_total, cell_cmp-IsAntisymmetric}
+use Rattle.pb_base.specs.Cell.{cell_cmp, cell_cmp_total}
 use Rattle.pb_base.specs.Batch.{Writes, content_in, primary_in, are_distinct}
 use Rattle.pb_steps.specs.State.{is_in}
 use Rattle.pb_steps.specs.Prewrite.{is_before_primary}
+use Rattle.std.proofs.lemmas.Bool.{or_from as neither, or_right as or_true}
+use Rattle.pb_base.proofs.Logic.{same_some as some_is, and_true as both}
+use Rattle.pb_base.proofs.SameCells.{cell_is, same_cells}
 
 -- ---- the first items of a list
 
@@ -30,15 +33,6 @@ take_all (y ∷ ys) (suc k) le = ap (λ zs. y ∷ zs) (take_all ys k (omega (ari
 
 cell_itself : (x : Cell) → eq_by_cmp cell_cmp x x ≡ true
 cell_itself x = ap is_eq (tied_itself cell_cmp_total x)
-
-same_cells : (x y : Cell) → x ≡ y → eq_by_cmp cell_cmp x y ≡ true
-same_cells x y e = ap (eq_by_cmp cell_cmp x) (sym e) ∙ cell_itself x
-
-cell_is : (x y : Cell) → eq_by_cmp cell_cmp x y ≡ true → x ≡ y
-cell_is x y e = cell_cmp-IsAntisymmetric x y ((Equal-is (cell_cmp x y)).0 e)
-
-some_is : (x y : Cell) → Some x ≡ Some y → x ≡ y
-some_is x y e = cc
 
 -- ---- the cells of writes
 
@@ -67,14 +61,6 @@ apart ws k x y n e = elim (eq_by_cmp cell_cmp y x) as (λ b. eq_by_cmp cell_cmp 
   | false ↦ λ t. refl
 ] refl
 
-both : (a b : Bool) → (a && b) ≡ true → (a ≡ true) × (b ≡ true)
-both true b e = (refl, e)
-both false b e = absurd cc
-
-neither : (a b : Bool) → a ≡ false → b ≡ false → (a || b) ≡ false
-neither true b e f = absurd cc
-neither false b e f = f
-
 -- none of the cells before it
 pub not_before : (ws : Writes) (k : ℕ) (x : Cell) → are_distinct ws ≡ true → slice_get (cells_in ws) k ≡ Some x → is_in (take k (cells_in ws)) x ≡ false
 not_before [] k x d e = absurd cc
@@ -97,10 +83,6 @@ pub in_order : (ws : Writes) (k : ℕ) (x : Cell) → slice_get (cells_in ws) k 
 in_order [] k x e = absurd cc
 in_order (w ∷ ws) zero x e = known_first (eq_by_cmp cell_cmp x w.0) _ (same_cells x w.0 (sym (some_is w.0 x e)))
 in_order (w ∷ ws) (suc k) x e = known_then (not (eq_by_cmp cell_cmp x w.0)) (eq_by_cmp cell_cmp w.0 w.0) (is_in (take k (cells_in ws)) w.0) (cell_itself w.0)
-
-or_true : (a b : Bool) → b ≡ true → (a || b) ≡ true
-or_true true b e = refl
-or_true false b e = e
 
 -- one more cell, and those that were in the list still are
 more : (y : Cell) (xs : List Cell) (ws : Writes) → list_all (λ w. is_in xs w.0) ws ≡ true → list_all (λ w. is_in (y ∷ xs) w.0) ws ≡ true

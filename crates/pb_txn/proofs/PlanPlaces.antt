@@ -1,6 +1,5 @@
 -- What a transaction has come to at each place of its plan.
 use Rattle.std.proofs.Common.{◌≡◌, ℕ, ◌+◌, ◌≤◌, Bool, true, false, cond, List, [], ◌∷◌, ◌++◌, length, map, take, Option, Some, None, refl, sym, ap, subst, ◌∙◌, arith, add-one}
-use Rattle.std.proofs.lemmas.Bool.{eq-eqb}
 use Rattle.std.specs.Prelude.{slice_get, option_map, ◌==◌, nat_lt}
 use Rattle.std.specs.List.{filter}
 use Rattle.pb_base.specs.declared.cell.Cell.{Cell}
@@ -27,20 +26,12 @@ use Rattle.pb_txn.specs.Plans.{PlanOf, answered}
 use Rattle.pb_txn.specs.Talks.{Talks}
 use Rattle.pb_txn.specs.Allowed.{names}
 use Rattle.pb_txn.proofs.DistinctCells.{take_one, take_all}
-
-same_step : (t u : Step) → Some t ≡ Some u → t ≡ u
-same_step t u e = cc
-
-same_transaction : (t u : TransactionOf) → Some t ≡ Some u → t ≡ u
-same_transaction t u e = cc
+use Rattle.pb_base.proofs.Logic.{same_some as same_step, same_some as same_transaction, same_number as itself}
 
 -- the cell that a step is about
 pub cell_of : (f : Cell → Step) (o : Option Cell) (t : Step) → option_map f o ≡ Some t → (x : Cell) × (o ≡ Some x) × (f x ≡ t)
 cell_of f None t e = absurd cc
 cell_of f (Some x) t e = (x, refl, same_step (f x) t e)
-
-itself : (n : ℕ) → (n == n) ≡ true
-itself n = eq-eqb n n refl
 
 -- the cells have this phase, and these are prewritten
 abbrev pub IsAt : List Cell → PlanPlace → TransactionOf → Type 0

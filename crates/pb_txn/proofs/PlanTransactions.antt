@@ -1,12 +1,11 @@
 -- The transaction of a plan, whose entries are the plan's conversation, has come to where the plan stands.
-use Rattle.std.proofs.Common.{◌≡◌, ℕ, inl, inr, true, false, cond, List, [], ◌∷◌, map, Option, Some, refl, sym, ap, subst, ◌∙◌}
+use Rattle.std.proofs.Common.{◌≡◌, ℕ, inl, inr, true, false, cond, List, [], ◌∷◌, map, Some, refl, sym, ap, subst, ◌∙◌}
 use Rattle.std.proofs.lemmas.Bool.{eq-eqb}
 use Rattle.std.specs.Prelude.{◌==◌}
 use Rattle.std.specs.List.{filter}
 use Rattle.std.specs.FinMap as finite
 use Rattle.pb_base.specs.Batch.{Writes, are_distinct}
 use Rattle.pb_steps.specs.declared.step.Declared.{Declared}
-use Rattle.pb_steps.specs.declared.step.Step.{Step}
 use Rattle.pb_steps.specs.declared.step.Step.TheVariants.{Declare}
 use Rattle.pb_steps.specs.declared.step.Answer.{Answer}
 use Rattle.pb_steps.specs.declared.step.Answer.TheVariants.{Done}
@@ -25,12 +24,7 @@ use Rattle.pb_txn.specs.Allowed.{names, HasSaid, IsInRange}
 use Rattle.pb_txn.proofs.DeclaredCells.{cells_are}
 use Rattle.pb_txn.proofs.WithoutReads.{bare, named_in, follows}
 use Rattle.pb_txn.proofs.PlanPlaces.{IsAt, entry_of, stays}
-
-same_step : (t u : Step) → Some t ≡ Some u → t ≡ u
-same_step t u e = cc
-
-same_transaction : (o : Option TransactionOf) (t u : TransactionOf) → o ≡ Some t → o ≡ Some u → t ≡ u
-same_transaction o t u p q = cc
+use Rattle.pb_base.proofs.Logic.{one_value as same_transaction, same_some as same_step}
 
 -- a plan keeps its start and its declaration
 pub keeps : (p q : PlanOf) (said : List Received) → Talks p said q → (q.start ≡ p.start) × (q.what ≡ p.what)

@@ -19,6 +19,7 @@ use Rattle.pb_txn.specs.Places.{declared_cells, place_after, after_prewrite, aft
 use Rattle.pb_txn.specs.Plans.{PlanOf, fresh, answered, outcome_at}
 use Rattle.pb_txn.specs.Talks.{told, Talks}
 use Rattle.pb_txn.specs.Forms.{prewrites, secondaries, AreCleared, IsWhole, committed, conflicted_first, conflicted_later, lost, PlansTalk, PlansEnd, PlansStop}
+use Rattle.pb_base.proofs.Logic.{same_some as some_some, none_some, some_none}
 
 prewrites_append : (s : Ts) (xs ys : List Cell) → prewrites s (xs ++ ys) ≡ prewrites s xs ++ prewrites s ys
 prewrites_append s [] ys = refl
@@ -35,11 +36,12 @@ cleared_more (x ∷ xs) [] y a c can = absurd c
 cleared_more (x ∷ xs) (r ∷ rs) y a c can = (c.0, c.1, cleared_more xs rs y a c.2 can)
 
 -- some way to clear them
-clears : List Cell → List Received
+pub clears : List Cell → List Received
 clears [] = []
 clears (x ∷ xs) = told (Clear x) Absent ∷ clears xs
 
-are_cleared : (xs ys : List Cell) (rs : List Received) → AreCleared xs rs → AreCleared (xs ++ ys) (rs ++ clears ys)
+-- and what was cleared, with them
+pub are_cleared : (xs ys : List Cell) (rs : List Received) → AreCleared xs rs → AreCleared (xs ++ ys) (rs ++ clears ys)
 unfolding clears
 are_cleared [] [] rs c = rw c refl
 are_cleared [] (y ∷ ys) rs c = rw c (refl, tt, are_cleared [] ys [] refl)
@@ -50,15 +52,6 @@ are_cleared (x ∷ xs) ys (r ∷ rs) c = (c.0, c.1, are_cleared xs ys rs c.2)
 seam : {A : Type 0} (xs : List A) (y : A) (ys : List A) → slice_get (xs ++ y ∷ ys) (length xs) ≡ Some y
 seam [] y ys = refl
 seam (x ∷ xs) y ys = seam xs y ys
-
-none_some : {A : Type 0} (s : A) → None ≡ Some s → ⊥
-none_some s e = cc
-
-some_none : {A : Type 0} (x : A) → Some x ≡ None → ⊥
-some_none x e = cc
-
-some_some : {A : Type 0} (s t : A) → Some s ≡ Some t → s ≡ t
-some_some s t e = cc
 
 module _ (s : Ts) (what : Declared) (x : Cell) (others : List Cell) where
   abbrev cells : List Cell

@@ -15,6 +15,7 @@ use Rattle.pb_steps.specs.Read.{with_read}
 use Rattle.pb_history.specs.declared.entry.Entry.{Entry}
 use Rattle.pb_history.specs.TransactionsTold.{names_start, entries_naming, transaction_after, transaction_from, transaction_by, is_begin, BeginsOnce}
 use Rattle.pb_txn.specs.Allowed.{names}
+use Rattle.pb_base.proofs.Logic.{same_both}
 
 -- all but the reads
 abbrev pub bare : TransactionOf → TransactionOf
@@ -36,10 +37,6 @@ apart_from_reads f h (Some u) = ap Some (h u)
 named : {A : Type 0} (b : Bool) (x y z : A) → b ≡ true → x ≡ y → x ≡ cond b y z
 named true x y z is e = e
 named false x y z is e = absurd cc
-
-same_both : {A : Type 0} (b : Bool) (x : A) → x ≡ cond b x x
-same_both true x = refl
-same_both false x = refl
 
 -- the entries that name a start, reads aside
 abbrev pub named_in : ℕ → List Entry → List Entry

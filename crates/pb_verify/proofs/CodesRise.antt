@@ -18,28 +18,15 @@ use Rattle.pb_isa.specs.Helpers.{declared_helper}
 use Rattle.pb_kinds.specs.declared.frame.Kind.{Kind}
 use Rattle.pb_kinds.specs.declared.frame.Kind.TheVariants.{Unset, Number, Stack, Record}
 use Rattle.pb_kinds.specs.declared.frame.Frame.{Frame}
-use Rattle.pb_kinds.specs.Frames.{kind_of, is_unset, is_pointer}
+use Rattle.pb_kinds.specs.Frames.{kind_of, is_pointer}
 use Rattle.pb_helpers.specs.declared.code.RuleCode.{RuleCode}
-use Rattle.pb_helpers.specs.declared.code.RuleCode.TheVariants.{ReadsUnset, WritesR10, PointerArithmetic, PointerStored, OutsideStack, UnwrittenByte, OutsideRecord, JumpOutside, JumpIntoPair, FallsOff, ExitsWithPointer, PointerCompared}
+use Rattle.pb_helpers.specs.declared.code.RuleCode.TheVariants.{WritesR10, PointerArithmetic, PointerStored, OutsideStack, UnwrittenByte, OutsideRecord, JumpOutside, JumpIntoPair, FallsOff, ExitsWithPointer, PointerCompared}
 use Rattle.pb_helpers.specs.Codes.{code_number, when, CodesRiseWithin}
 use Rattle.pb_helpers.specs.Arguments.{unset, call_rules, ArgumentCodesRise}
 use Rattle.pb_verify.specs.Rules.{at, reads, sets, reads_operand, on_pointer, bytes_of, falls, numeric_rules, part_mov_rules, mov_rules, add_rules, alu_rules, loads, stores, load_rules, store_imm_rules, store_rules, jump_rules, jump_if_rules, insn_rules}
+use Rattle.pb_helpers.proofs.ArgumentCodesRise.{from_lower, joined, to_higher, reads as set}
 
 -- ---- lists of codes that rise
-
--- a list that rises from b rises from what is lower
-from_lower : (a b c : ℕ) (cs : List RuleCode) → a ≤ b → CodesRiseWithin b c cs → CodesRiseWithin a c cs
-from_lower a b c [] l h = omega arith
-from_lower a b c (x ∷ xs) l h = (omega (arith, h.0), h.1)
-
-to_higher : (a b c : ℕ) (cs : List RuleCode) → b ≤ c → CodesRiseWithin a b cs → CodesRiseWithin a c cs
-to_higher a b c [] l h = omega arith
-to_higher a b c (x ∷ xs) l h = (h.0, to_higher (code_number x) b c xs l h.1)
-
--- lists of which one ends where the next begins rise as one
-joined : (a b c : ℕ) (xs ys : List RuleCode) → CodesRiseWithin a b xs → CodesRiseWithin b c ys → CodesRiseWithin a c (xs ++ ys)
-joined a b c [] ys h k = from_lower a b c ys h k
-joined a b c (x ∷ xs) ys h k = (h.0, joined (code_number x) b c xs ys h.1 k)
 
 -- a code that is listed where its rule is broken, within two numbers
 one : (a b : ℕ) (t : Bool) (c : RuleCode) → a ≤ code_number c → code_number c ≤ b → CodesRiseWithin a b (when t c)
@@ -52,9 +39,6 @@ one_of_two a b true u c d l m k n = one a b u c l m
 one_of_two a b false u c d l m k n = (k, n)
 
 -- ---- parts of rules
-
-set : (f : Frame) (r : ℕ) → CodesRiseWithin 21 21 (unset f r)
-set f r = one 21 21 (is_unset (kind_of f r)) ReadsUnset (omega arith) (omega arith)
 
 reads_rise : (f : Frame) (r : Reg) → CodesRiseWithin 21 21 (reads f r)
 reads_rise f r = set f (number r)

@@ -54,7 +54,7 @@ leads_later m n Exit h = cc
 -- ---- jumps
 
 -- where a list of rules is unbroken, so are its parts
-empty_parts : (xs ys : List RuleCode) → xs ++ ys ≡ [] → (xs ≡ []) × (ys ≡ [])
+pub empty_parts : (xs ys : List RuleCode) → xs ++ ys ≡ [] → (xs ≡ []) × (ys ≡ [])
 empty_parts [] ys e = (refl, e)
 empty_parts (x ∷ xs) ys e = cc
 
@@ -77,7 +77,7 @@ forward_at : (j : JudgedOf) (n : ℕ) (i : Insn) (x : Option Frame) → codes_at
 forward_at j n i None b = cc
 forward_at j n i (Some f) b = forward_by j n f i b
 
-inside : (p : List Insn) (n : ℕ) (i : Insn) → insn_at p n ≡ Some i → n < slots p
+pub inside : (p : List Insn) (n : ℕ) (i : Insn) → insn_at p n ≡ Some i → n < slots p
 inside p n i h = elim (cases_lt n (slots p)) [
   | inl l ↦ l
   | inr l ↦ (let past : insn_at p n ≡ None = get_or_past (layout p) n None l in cc)

@@ -1,14 +1,10 @@
 -- The lowest code of a rule is found part by part: by `or`, in the order in which the definition lists the codes.
-use Rattle.std.proofs.Common.{◌≡◌, List, [], ◌∷◌, ◌++◌, refl}
+use Rattle.std.proofs.Common.{◌≡◌, List, ◌++◌}
 use Rattle.std.specs.Prelude.{Option}
 use Rattle.std.specs.Option.{option_or}
 use Rattle.pb_helpers.specs.declared.code.RuleCode.{RuleCode}
 use Rattle.pb_helpers.specs.Codes.{lowest_code}
-
--- the lowest of two lists is the first one's, or else the second's
-pub lowest_append : (xs ys : List RuleCode) → lowest_code (xs ++ ys) ≡ option_or (lowest_code xs) (lowest_code ys)
-lowest_append [] ys = refl
-lowest_append (x ∷ xs) ys = refl
+use Rattle.pb_helpers.proofs.LowestCode.{lowest_append}
 
 -- the lowest of two lists of codes, and of more
 pub or_two : (a b : List RuleCode) {ra rb r : Option RuleCode} → ra ≡ lowest_code a → rb ≡ lowest_code b → r ≡ option_or ra rb → r ≡ lowest_code (a ++ b)

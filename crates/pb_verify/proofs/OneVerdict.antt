@@ -9,6 +9,7 @@ use Rattle.pb_helpers.specs.declared.code.RuleCode.{RuleCode}
 use Rattle.pb_helpers.specs.Codes.{lowest_code}
 use Rattle.pb_verify.specs.Arriving.{faults, Refuses}
 use Rattle.pb_verify.specs.Verdict.{HasOneVerdict}
+use Rattle.pb_base.proofs.Logic.{same_some}
 
 some_is_not_none : {A : Type 0} (x : A) → ¬ (Some x ≡ None)
 some_is_not_none x e = grind (arith, e)
@@ -16,9 +17,6 @@ some_is_not_none x e = grind (arith, e)
 -- a slot that has a code has fault
 not_kept : (j : JudgedOf) (n : ℕ) (c : RuleCode) → lowest_code (faults j n) ≡ Some c → ¬ (faults j n ≡ [])
 not_kept j n c e k = some_is_not_none c (sym e ∙ ap lowest_code k)
-
-same_some : {A : Type 0} (x y : A) → Some x ≡ Some y → x ≡ y
-same_some x y e = grind (arith, e)
 
 -- of two refusals none is at an earlier slot, since all slots before the one that is told keep the rules
 not_before : (j : JudgedOf) (n m : ℕ) (c d : RuleCode) → Refuses j n c → Refuses j m d → ¬ (n < m)

@@ -35,12 +35,3 @@ replaced x c (w ∷ ws) lt = by_cell (eq_by_cmp cell_cmp x w.0) (replaced x c ws
     by_cell : (b : Bool) → (place_in x ws < length ws → slice_set ws (place_in x ws) (x, c) ≡ replace_write x c ws) → cond b 0 (suc (place_in x ws)) < suc (length ws) → slice_set (w ∷ ws) (cond b 0 (suc (place_in x ws))) (x, c) ≡ cond b ((x, c) ∷ ws) (w ∷ replace_write x c ws)
     by_cell true rest l = refl
     by_cell false rest l = ap (λ vs. w ∷ vs) (rest (omega (arith, l)))
-
--- a replaced write makes the list no longer, and needs no room
-pub as_long : (x : Cell) (c : Content) (ws : Writes) → length (replace_write x c ws) ≡ length ws
-as_long x c [] = refl
-as_long x c (w ∷ ws) = by_cell (eq_by_cmp cell_cmp x w.0) (as_long x c ws)
-  where
-    by_cell : (b : Bool) → length (replace_write x c ws) ≡ length ws → length (cond b ((x, c) ∷ ws) (w ∷ replace_write x c ws)) ≡ suc (length ws)
-    by_cell true rest = refl
-    by_cell false rest = ap suc rest

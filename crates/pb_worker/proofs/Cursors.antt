@@ -12,11 +12,9 @@ use Rattle.pb_core.specs.Calls.{SeatOf}
 use Rattle.pb_worker.specs.Agrees.{EachTold, no_twice}
 use Rattle.pb_worker.specs.Cursors.{told_by, AreBelow, ArePlaces, IsAt, HasNone, AreAtEnd}
 use Rattle.pb_worker.proofs.Walks.{unlike, skipped, matched, ended}
+use Rattle.pb_base.proofs.Logic.{same_some as same_place}
 
 -- ---- places
-
-same_place : (a b : ℕ) → Some a ≡ Some b → a ≡ b
-same_place a b e = cc
 
 -- no other seat has the number of one before it
 apart : (seats : List SeatOf) → IsTrue (no_twice seats) → (i j : ℕ) (d : SeatOf) → i < j → j < length seats → (slice_index_or seats i d).number ≢ (slice_index_or seats j d).number

@@ -21,9 +21,12 @@ use Rattle.pb_txn.specs.Talks.{told}
 use Rattle.pb_txn.specs.Forms.{IsWhole, AreCleared, committed, conflicted_first, conflicted_later, lost, prewrites, secondaries}
 use Rattle.pb_txn.specs.Changes.{ChangeOf, new_change, Talks}
 use Rattle.pb_txn.proofs.ChangeTalk.{HasBegun, begins as has_begun}
-use Rattle.pb_txn.proofs.Talk.{SoFar, declaring, prewriting, stamping, committing, finishing, settling, clearing, over, said_all}
+use Rattle.pb_txn.proofs.Talk.{SoFar, declaring, prewriting, stamping, committing, finishing, settling, clearing, over, said_all, clears, are_cleared}
 use Rattle.pb_worker.specs.Tries.{is_committed, is_commit, has_commit}
-use Rattle.pb_worker.proofs.Committing.{HasCommitted, has_right}
+use Rattle.pb_worker.proofs.Committing.{HasCommitted}
+use Rattle.std.proofs.lemmas.Bool.{or_from as both_false, or_right as true_right}
+use Rattle.pb_base.proofs.Logic.{not_both}
+use Rattle.pb_history.proofs.Updates.{has_right}
 
 -- ---- truths
 
@@ -31,16 +34,9 @@ pub left_false : (a b : Bool) → (a || b) ≡ false → a ≡ false
 left_false true b e = e
 left_false false b e = refl
 
-pub both_false : (a b : Bool) → a ≡ false → b ≡ false → (a || b) ≡ false
-both_false a b p q = rw p q
-
-or_assoc : (a b c : Bool) → (a || (b || c)) ≡ ((a || b) || c)
+pub or_assoc : (a b c : Bool) → (a || (b || c)) ≡ ((a || b) || c)
 or_assoc true b c = refl
 or_assoc false b c = refl
-
-pub not_both : (b : Bool) → b ≡ true → b ≡ false → ⊥
-not_both true p q = cc
-not_both false p q = cc
 
 -- ---- answers and steps in a list
 
@@ -100,18 +96,6 @@ cleared [] rs c = rw c refl
 cleared (x ∷ xs) [] c = absurd c
 cleared (x ∷ xs) (r ∷ rs) c = both_false (is_commit r.answer) (has_commit rs) (clear_answer x r.answer (subst (λ s. CanAnswer s r.answer) c.0 c.1)) (cleared xs rs c.2)
 
--- some way to clear the rest
-clears : List Cell → List Received
-clears [] = []
-clears (x ∷ xs) = told (Clear x) Absent ∷ clears xs
-
-are_cleared : (xs ys : List Cell) (rs : List Received) → AreCleared xs rs → AreCleared (xs ++ ys) (rs ++ clears ys)
-unfolding clears
-are_cleared [] [] rs c = rw c refl
-are_cleared [] (y ∷ ys) rs c = rw c (refl, tt, are_cleared [] ys [] refl)
-are_cleared (x ∷ xs) ys [] c = absurd c
-are_cleared (x ∷ xs) ys (r ∷ rs) c = (c.0, c.1, are_cleared xs ys rs c.2)
-
 -- a whole conversation that ended otherwise has no commit
 pub uncommitted : (s : Ts) (what : Declared) (cells : List Cell) (said : List Received) (o : Outcome) → is_committed o ≡ false → IsWhole s what cells said o → has_commit said ≡ false
 uncommitted s what cells said o otherwise (committed x others c) = cc
@@ -149,10 +133,6 @@ whole_commits s what cells said o (lost x others c cs k) e = absurd (not_both _ 
 clears_some : (y : Cell) (left : List Cell) → has_clear (clears (y ∷ left)) ≡ true
 unfolding clears
 clears_some y left = refl
-
-pub true_right : (a b : Bool) → b ≡ true → (a || b) ≡ true
-true_right true b e = refl
-true_right false b e = e
 
 module _ (s : Ts) (what : Declared) (x : Cell) (others : List Cell) where
   -- where it clears, nothing was committed

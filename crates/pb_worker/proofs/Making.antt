@@ -1,5 +1,5 @@
 -- The committed script transactions of the journal are the changes of which a try committed, each once.
-use Rattle.std.proofs.Common.{◌≡◌, ◌≢◌, ℕ, zero, suc, ◌+◌, ◌-◌, ◌*◌, ◌/◌, ◌%◌, ◌<◌, ◌⊎◌, Bool, true, false, cond, eqb, List, [], ◌∷◌, ◌++◌, length, Option, Some, None, inl, inr, refl, sym, ap, subst, ◌∙◌, add_comm, arith}
+use Rattle.std.proofs.Common.{◌≡◌, ◌≢◌, ℕ, zero, suc, ◌+◌, ◌-◌, ◌*◌, ◌/◌, ◌%◌, ◌<◌, ◌⊎◌, Bool, true, false, cond, eqb, List, [], ◌∷◌, ◌++◌, length, Option, None, inl, inr, refl, sym, ap, subst, ◌∙◌, add_comm, arith}
 use Rattle.std.specs.Prelude.{slice_get, slice_index_or}
 use Rattle.std.proofs.lemmas.Bool.{eqb-true, eqb-false, cases_lt, cases_order}
 use Rattle.std.proofs.lemmas.Nat.{div-mul-add, mod-mul-add}
@@ -30,10 +30,12 @@ use Rattle.pb_worker.specs.Work.{IsWork, IsLastDrain, WorkedOn, is_done, undone_
 use Rattle.pb_worker.specs.Agrees.{Agree}
 use Rattle.pb_worker.specs.Laws.{IsMade, IsFinished, ChangesAreMade}
 use Rattle.pb_worker.proofs.Joined.{numbered}
-use Rattle.pb_worker.proofs.Committing.{has_left, has_right, has_which, commit_of}
+use Rattle.pb_worker.proofs.Committing.{commit_of}
 use Rattle.pb_worker.proofs.RunCommits.{HasBegunRun, of_last_drain}
 use Rattle.pb_worker.proofs.Starts.{AreStarts, IsStart, of_work}
 use Rattle.pb_worker.proofs.SeatEntries.{in_journal, in_list, same_begin, begun_once, begun_by_seat}
+use Rattle.pb_base.proofs.Logic.{same_some, not_both as neither}
+use Rattle.pb_history.proofs.Updates.{has_before as has_left, has_right, has_which}
 
 -- ---- unfinished changes
 
@@ -68,9 +70,6 @@ not_done : (done : ℕ → Bool) (n i : ℕ) → Has (undone_below done n) i →
 not_done done zero i h = absurd h
 not_done done (suc k) i h = undone_in done k i (not_done done k i) (done k) refl h
 
-neither : (b : Bool) → b ≡ true → b ≡ false → ⊥
-neither b p q = cc
-
 -- ---- seats
 
 -- the lists with which seats come
@@ -85,9 +84,6 @@ listed from j (s ∷ ss) a (suc k) d lt =
 main_or_worker : (k : ℕ) → (k ≡ 0) ⊎ ((w : ℕ) × (k ≡ w + 1))
 main_or_worker zero = inl refl
 main_or_worker (suc w) = inr (w, omega arith)
-
-same_some : (a b : Writes) → Some a ≡ Some b → a ≡ b
-same_some a b e = cc
 
 no_script : (o : ℕ) (row : Row) → works.Script ≡ works.Run o row → ⊥
 no_script o row e = cc

@@ -29,7 +29,7 @@ use Rattle.pb_txn.specs.Changes.{IsWholeChange}
 use Rattle.pb_notify.specs.declared.need.JobEnd.{JobEnd}
 use Rattle.pb_notify.specs.Forms.{IsRound, cleared, settled, AreRounds, at_first, one_more, IsLooked, its_begin, IsObserved, IsAcknowledged, IsRecalled, AreAsked, dirty, asked, LooksFrom, at_cell, at_acknowledgment, at_old, at_ask}
 use Rattle.pb_notify.specs.Forms.{IsRunTalk, absent, clean, ran, conflicted, lost as lost_run, blocked}
-use Rattle.pb_worker.proofs.Committing.{has_which}
+use Rattle.pb_history.proofs.Updates.{has_which}
 
 -- ---- lists
 

@@ -20,6 +20,7 @@ use Rattle.pb_worker.specs.Passes.{IsObserverOf, HasColumn, IsJobOn, IsRun, job_
 use Rattle.pb_worker.specs.Stops.{RunStops}
 use Rattle.pb_worker.proofs.Refusing.{stops_at}
 use Rattle.pb_worker.proofs.Gaining.{gains_none, gains_more, gains_as}
+use Rattle.pb_base.proofs.Logic.{same_some}
 
 -- ---- its machine
 
@@ -39,9 +40,6 @@ pub record IsAlong (observers : List ObserverOf) (n : ℕ) (x : Cell) (a b : Sea
 -- a run begins with a call, and not in its machine
 begins : (n : ℕ) (o : ObserverOf) (x : Cell) → need_of (job_on n o x) ≢ Local
 begins n o x e = cc
-
-same_some : (o p : ObserverOf) → Some o ≡ Some p → o ≡ p
-same_some o p e = cc
 
 job_is : (observers : List ObserverOf) (n : ℕ) (x : Cell) (job : RunOf) (known : HasColumn observers n x) → IsJobOn observers n x job → job ≡ job_on n known.0 x
 job_is observers n x job known is =

@@ -17,8 +17,9 @@ use Rattle.pb_worker.specs.Stops.{RunStops, RunsStop, PassStops, at_a_mark, in_r
 use Rattle.pb_worker.specs.Swaps.{Spare}
 use Rattle.pb_worker.specs.Work.{IsDrainTo, IsLastDrain}
 use Rattle.pb_worker.proofs.Gaining.{append_nil}
-use Rattle.pb_worker.proofs.Committing.{has_left, has_right, has_which, commit_of}
+use Rattle.pb_worker.proofs.Committing.{commit_of}
 use Rattle.pb_worker.proofs.OneTransaction.{IsOneTransaction, of_run}
+use Rattle.pb_history.proofs.Updates.{has_before as has_left, has_right, has_which}
 
 -- a run of an observer began with this start
 pub record HasBegunRun (said : List Received) (u : Ts) : Type 0 where
@@ -55,7 +56,7 @@ and_first r rs other more = record { each = by }
 
 -- ---- a run, whole or cut off
 
-heads : (x y : Received) (xs ys : List Received) → x ∷ xs ≡ y ∷ ys → x ≡ y
+pub heads : (x y : Received) (xs ys : List Received) → x ∷ xs ≡ y ∷ ys → x ≡ y
 heads x y xs ys e = cc
 
 -- the beginning of a run's conversation commits that run alone, which begins first

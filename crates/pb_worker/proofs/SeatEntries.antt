@@ -20,8 +20,9 @@ use Rattle.pb_history.specs.Journals.{JournalLeads}
 use Rattle.pb_history.specs.TransactionsTold.{names_start, entries_naming, is_begin, BeginsOnce, TellsTransactions}
 use Rattle.pb_core.proofs.Keeps.{machine_seats}
 use Rattle.pb_txn.specs.Talks.{told}
-use Rattle.pb_worker.proofs.CutTries.{not_both, left_false}
+use Rattle.pb_worker.proofs.CutTries.{left_false}
 use Rattle.pb_worker.proofs.Starts.{HasTwice}
+use Rattle.pb_base.proofs.Logic.{not_both}
 
 -- ---- lists of which some items are kept
 

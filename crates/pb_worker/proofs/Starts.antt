@@ -15,9 +15,10 @@ use Rattle.pb_txn.specs.Talks.{told}
 use Rattle.pb_worker.specs.Tries.{AreTried, before_all, tried}
 use Rattle.pb_worker.specs.Stops.{ChangesStop}
 use Rattle.pb_worker.specs.Work.{IsWork, IsPart, in_changes, in_passes, AreFilled}
-use Rattle.pb_worker.proofs.Committing.{has_left, has_right, has_which, commit_of, HasCommitted, within}
+use Rattle.pb_worker.proofs.Committing.{commit_of, HasCommitted, within}
 use Rattle.pb_worker.proofs.RunCommits.{HasBegunRun, CommitRuns, run_left, run_right, of_drain, of_drain_stop}
 use Rattle.pb_worker.proofs.TryCommits.{TellsCommit, of_tries, of_cut}
+use Rattle.pb_history.proofs.Updates.{has_before as has_left, has_right, has_which}
 
 -- ---- twice in a list
 

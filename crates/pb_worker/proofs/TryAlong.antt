@@ -1,5 +1,5 @@
 -- A try of a change on its way.
-use Rattle.std.proofs.Common.{◌≡◌, ◌≢◌, ℕ, ◌<◌, Bool, true, false, ◌||◌, List, [], ◌∷◌, ◌++◌, length, Option, Some, None, inl, refl, sym, ap, subst, ◌∙◌, arith}
+use Rattle.std.proofs.Common.{◌≡◌, ◌≢◌, ℕ, ◌<◌, Bool, false, ◌||◌, List, [], ◌∷◌, ◌++◌, length, Option, Some, None, inl, refl, sym, ap, subst, ◌∙◌, arith}
 use Rattle.pb_base.specs.declared.refusal.Refusal.{Refusal}
 use Rattle.pb_base.specs.Batch.{Writes}
 use Rattle.pb_steps.specs.declared.step.Step.{Step}
@@ -20,6 +20,8 @@ use Rattle.pb_worker.specs.Tries.{IsTry, committed_in, is_commit, has_commit}
 use Rattle.pb_worker.specs.Stops.{TryStops}
 use Rattle.pb_worker.proofs.Refusing.{stops_at}
 use Rattle.pb_worker.proofs.Gaining.{gains_none, gains_more, gains_as}
+use Rattle.pb_base.proofs.Logic.{or_false}
+use Rattle.pb_worker.proofs.CutTries.{or_assoc}
 
 -- what was said so far led here, and tells whether the transaction is committed
 pub record HasSaid (batch : Writes) (job : ChangeOf) (committed : Bool) (said : List Received) : Type 0 where
@@ -29,14 +31,6 @@ pub record HasSaid (batch : Writes) (job : ChangeOf) (committed : Bool) (said : 
 -- what the seat gained led the change to where it stands
 abbrev pub IsAlong : Writes → SeatOf → SeatOf → ChangeOf → Bool → Type 0
 IsAlong batch a b job committed = Gains (HasSaid batch job committed) a b
-
-or_assoc : (a b c : Bool) → (a || (b || c)) ≡ ((a || b) || c)
-or_assoc true b c = refl
-or_assoc false b c = refl
-
-or_false : (a : Bool) → (a || false) ≡ a
-or_false true = refl
-or_false false = refl
 
 -- one answer more tells a commit or doesn't
 commit_on : (said : List Received) (r : Received) → has_commit (said ++ r ∷ []) ≡ (has_commit said || is_commit r.answer)

@@ -16,9 +16,12 @@ use Rattle.pb_txn.specs.Forms.{IsWhole, committed, conflicted_first, conflicted_
 use Rattle.pb_txn.specs.Changes.{IsWholeChange}
 use Rattle.pb_worker.specs.Tries.{is_committed, is_commit, has_commit, IsTry, AreVain, at_first, one_more, IsDone, AreTries}
 use Rattle.pb_worker.specs.Stops.{TriesStop}
-use Rattle.pb_worker.proofs.Committing.{has_left, has_right, has_which, commit_of, HasCommitted, within}
-use Rattle.pb_worker.proofs.CutTries.{not_both, true_right, both_false, commit_in, uncommitted, cut_commits}
+use Rattle.pb_worker.proofs.Committing.{commit_of, HasCommitted, within}
+use Rattle.pb_worker.proofs.CutTries.{commit_in, uncommitted, cut_commits}
 use Rattle.pb_worker.proofs.OneTransaction.{of_change}
+use Rattle.pb_history.proofs.Updates.{has_before as has_left, has_right, has_which}
+use Rattle.pb_base.proofs.Logic.{not_both}
+use Rattle.std.proofs.lemmas.Bool.{or_right as true_right, or_from as both_false}
 
 -- ---- where nothing was committed
 

@@ -8,6 +8,7 @@ use Rattle.pb_history.specs.declared.entry.Entry.{Entry}
 use Rattle.pb_history.specs.declared.entry.Received.{Received}
 use Rattle.pb_history.specs.Places.{entries_of}
 use Rattle.pb_worker.specs.Cursors.{told_by}
+use Rattle.pb_worker.proofs.RunCommits.{heads}
 
 -- an entry of another seat is passed over
 pass_over : (seat : ℕ) (j : List Entry) (i : ℕ) (e : Entry) → i < length j → e ≡ get_or j i e → e.seat ≢ seat → entries_of seat (drop i j) ≡ entries_of seat (drop (i + 1) j)
@@ -16,9 +17,6 @@ pass_over seat j i e lt is other = rw (add-one, drop-cons j i e, ← is, ne_eqb 
 -- an entry of the seat comes first
 come_first : (seat : ℕ) (j : List Entry) (i : ℕ) (e : Entry) → i < length j → e ≡ get_or j i e → e.seat ≡ seat → entries_of seat (drop i j) ≡ told_by e ∷ entries_of seat (drop (i + 1) j)
 come_first seat j i e lt is own = rw (add-one, drop-cons j i e, ← is, eq-eqb e.seat seat own) refl
-
-heads : (x y : Received) (xs ys : List Received) → x ∷ xs ≡ y ∷ ys → x ≡ y
-heads x y xs ys e = cc
 
 tails : (x y : Received) (xs ys : List Received) → x ∷ xs ≡ y ∷ ys → xs ≡ ys
 tails x y xs ys e = cc

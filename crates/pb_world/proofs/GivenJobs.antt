@@ -1,5 +1,5 @@
 -- Each actor's job is what its last launch gave, and isn't at its end.
-use Rattle.std.proofs.Common.{◌≡◌, ◌≢◌, ℕ, zero, suc, Bool, true, false, List, [], ◌∷◌, ◌++◌, inl, inr, length, refl, sym, ◌∙◌, ap, subst, Option, Some, None, slice_get, slice_set, MatchBool, MatchOption}
+use Rattle.std.proofs.Common.{◌≡◌, ℕ, zero, suc, Bool, true, false, List, [], ◌∷◌, ◌++◌, inl, inr, length, refl, sym, ◌∙◌, ap, subst, Option, Some, None, slice_get, MatchBool, MatchOption}
 use Rattle.std.specs.Prelude.{if◌then◌else◌}
 use Rattle.std.specs.Option.{option_map}
 use Rattle.pb_base.specs.declared.refusal.Reason.{Reason}
@@ -37,19 +37,12 @@ use Rattle.pb_world.specs.declared.job.ActorJob.TheVariants.{Change, Run}
 use Rattle.pb_world.specs.declared.note.Note.{Note}
 use Rattle.pb_world.specs.declared.note.Note.TheVariants.{Called, Refused, Instruction}
 use Rattle.pb_world.specs.Jobs.{next_of, is_local, is_over, is_over_need, Takes, Computes}
-use Rattle.pb_world.specs.Actors.{AnswersJob, RefusesJob, Instructs, IsIdle, JobSteps, ActorSteps, launched, crashed}
-use Rattle.pb_world.specs.Events.{WorldOf, change_of, job_for, actor_of, no_launch, no_launch_by, fault_of, Launches, StepsActor, CrashesActor, OwnAnswers, OwnCalls, Does, Happens, RunsTo, StopsAtEvent}
-use Rattle.pb_world.specs.Sound.{HasObserver}
-use Rattle.pb_world.specs.Headline.{IsOpened}
+use Rattle.pb_world.specs.Actors.{AnswersJob, RefusesJob, Instructs, IsIdle, JobSteps, launched, crashed}
+use Rattle.pb_world.specs.Events.{WorldOf, change_of, job_for, actor_of, no_launch, no_launch_by, fault_of, Launches, StepsActor, CrashesActor, OwnAnswers, OwnCalls, Does, RunsTo}
 use Rattle.pb_world.specs.GivenJobs.{Renews, IsLastLaunch, IsOf, IsGivenJob, JobsAreGiven, BusyActorsAreLeft, BusyActorsAreTold, RefusedJobsEnd}
 use Rattle.pb_world.proofs.Soundness.{IsAfterSet, changed, unchanged, after_set}
 use Rattle.pb_world.proofs.Opening.{idle}
-
-some_same : {A : Type 0} (x y : A) → Some x ≡ Some y → x ≡ y
-some_same x y e = cc
-
-none_some : {A : Type 0} (x : A) → None ≡ Some x → ⊥
-none_some x e = cc
+use Rattle.pb_base.proofs.Logic.{same_some as some_same, none_some, some_none}
 
 append_assoc' : (xs ys zs : List Event) → (xs ++ ys) ++ zs ≡ xs ++ (ys ++ zs)
 append_assoc' [] ys zs = refl
@@ -285,9 +278,6 @@ pub jobs_are_given : JobsAreGiven
 jobs_are_given w es ns v o r = run_given [] w es ns v (λ k a j is holds. absurd (none_some j (sym (idle _ k a (subst (λ xs. slice_get xs k ≡ Some a) o.actors is)) ∙ holds))) r
 
 -- ---- busy actors
-
-some_none : {A : Type 0} (x : A) → Some x ≡ None → ⊥
-some_none x e = cc
 
 -- the launch of an actor with a job is at fault with 61
 busy_fault : (w : WorldOf) (k : ℕ) (a : Actor) (j : ActorJob) (job : Job) → actor_of w k ≡ Some a → a.job ≡ Some j → fault_of w (events.Launch k job) ≡ Some faults.Busy

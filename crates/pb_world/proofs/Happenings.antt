@@ -15,6 +15,7 @@ use Rattle.pb_world.specs.declared.note.Note.TheVariants.{Launched, Called, Refu
 use Rattle.pb_world.specs.Jobs.{IsReady}
 use Rattle.pb_world.specs.Actors.{ActorSteps, NoneApplies, ActorMayWant, launched, crashed, crash_note}
 use Rattle.pb_world.specs.Events.{WorldOf, IsWorld, with_actor, actor_of, job_for, no_launch, no_actor, Launches, StepsActor, CrashesActor, OwnAnswers, OwnCalls, StepMayWant, OwnMayWant}
+use Rattle.pb_base.proofs.Logic.{some_none}
 
 -- a place below the length has what is read there
 pub here : {A : Type 0} (xs : List A) (k : ℕ) (x : A) → k < length xs → x ≡ get_or xs k x → slice_get xs k ≡ Some x
@@ -22,9 +23,6 @@ here xs k x lt at = slice_get_read xs (length xs) k x refl lt at
 
 same_list : {A : Type 0} (xs : List A) (k : ℕ) (x y : A) → x ≡ get_or xs k x → y ≡ x → slice_set xs k y ≡ xs
 same_list xs k x y at is = ap (λ z. slice_set xs k z) (is ∙ at) ∙ set-get_or xs k x
-
-some_none : {A : Type 0} (x : A) → Some x ≡ None → ⊥
-some_none x e = cc
 
 -- ---- where an event isn't at fault, its actor is there
 

@@ -4,12 +4,7 @@ use Rattle.pb_world.specs.declared.actor.Actor.{Actor}
 use Rattle.pb_world.specs.Events.{WorldOf, idle_actors}
 use Rattle.pb_world.specs.Headline.{IsOpened}
 use Rattle.pb_world.specs.Sound.{IsSound}
-
-some_same : {A : Type 0} (x y : A) → Some x ≡ Some y → x ≡ y
-some_same x y e = cc
-
-none_some : {A : Type 0} (x : A) → None ≡ Some x → ⊥
-none_some x e = cc
+use Rattle.pb_base.proofs.Logic.{same_some as some_same, none_some}
 
 -- an actor of a world that was just opened has no job
 pub idle : (n k : ℕ) (a : Actor) → slice_get (idle_actors n) k ≡ Some a → a.job ≡ None

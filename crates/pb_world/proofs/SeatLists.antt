@@ -1,5 +1,5 @@
 -- All seats of a table are still all its seats after a call of one of them.
-use Rattle.std.proofs.Common.{◌≡◌, ◌≢◌, ℕ, zero, suc, ◌+◌, ◌<◌, Bool, true, false, cond, List, [], ◌∷◌, ◌++◌, slice_get, slice_set, Some, None, refl, sym, ap, subst, ◌∙◌, arith, eq-eqb, ne_eqb, length-set}
+use Rattle.std.proofs.Common.{◌≡◌, ◌≢◌, ℕ, zero, suc, ◌+◌, ◌<◌, Bool, true, false, cond, List, [], ◌∷◌, ◌++◌, slice_get, slice_set, Some, refl, sym, ap, subst, ◌∙◌, arith, eq-eqb, ne_eqb, length-set}
 use Rattle.std.specs.Prelude.{◌==◌}
 use Rattle.pb_steps.specs.declared.step.Step.{Step}
 use Rattle.pb_steps.specs.declared.step.Answer.{Answer}
@@ -7,6 +7,7 @@ use Rattle.pb_history.specs.declared.entry.Entry.{Entry}
 use Rattle.pb_history.specs.declared.entry.Received.{Received}
 use Rattle.pb_history.specs.Places.{entries_of}
 use Rattle.pb_core.specs.Calls.{SharedOf, SeatOf, Calls, AreSeatsFrom, AreSeats}
+use Rattle.pb_base.proofs.Logic.{same_some as some_same, none_some as some_none}
 
 abbrev received_of : Entry → Received
 received_of e = record { step = e.step; answer = e.answer }
@@ -26,7 +27,7 @@ own n j e is =
     let alone : entries_of n (e ∷ []) ≡ received_of e ∷ [] = rw (eq-eqb e.seat n is) refl in
     entries_join n j (e ∷ []) ∙ ap (λ l. entries_of n j ++ l) alone
 
-append-none : (xs : List Received) → xs ++ [] ≡ xs
+pub append-none : (xs : List Received) → xs ++ [] ≡ xs
 append-none [] = refl
 append-none (x ∷ xs) = ap (λ l. x ∷ l) (append-none xs)
 
@@ -43,12 +44,6 @@ less_apart a b lt e = omega (arith, lt, e)
 others : (from : ℕ) (j : List Entry) (e : Entry) (seats : List SeatOf) → e.seat < from → AreSeatsFrom from j seats → AreSeatsFrom from (j ++ e ∷ []) seats
 others from j e [] lt h = tt
 others from j e (q ∷ qs) lt h = (h.0, h.1 ∙ sym (other from j e (less_apart e.seat from lt)), others (from + 1) j e qs (omega (arith, lt)) h.2)
-
-some_same : {A : Type 0} (x y : A) → Some x ≡ Some y → x ≡ y
-some_same x y e = cc
-
-some_none : {A : Type 0} (x : A) → None ≡ Some x → ⊥
-some_none x e = cc
 
 -- a seat has its place's number
 number_at : (from : ℕ) (j : List Entry) (seats : List SeatOf) (k : ℕ) (seat : SeatOf) → AreSeatsFrom from j seats → slice_get seats k ≡ Some seat → seat.number ≡ from + k

@@ -13,8 +13,7 @@ use Rattle.pb_steps.specs.declared.step.Step.{Step}
 use Rattle.pb_steps.specs.declared.step.Step.TheVariants as step
 use Rattle.pb_steps.specs.declared.step.Answer.{Answer}
 use Rattle.pb_steps.specs.Answers.{CanAnswer}
-use Rattle.pb_steps.specs.State.{StateOf, opening}
-use Rattle.pb_steps.specs.Steps.{TableStep}
+use Rattle.pb_steps.specs.State.{opening}
 use Rattle.pb_verify.specs.Observers.{ObserverOf}
 use Rattle.pb_history.specs.declared.entry.Entry.{Entry}
 use Rattle.pb_history.specs.declared.entry.Received.{Received}
@@ -41,23 +40,15 @@ use Rattle.pb_world.specs.Jobs.{next_of, is_local, is_local_need, is_over, Takes
 use Rattle.pb_world.specs.Actors.{AnswersJob, RefusesJob, CallSteps, Instructs, IsIdle, JobSteps, ActorSteps, launched, crashed}
 use Rattle.pb_world.specs.Events.{WorldOf, change_of, job_for, with_actor, actor_of, no_actor, no_launch, fault_of, Launches, StepsActor, CrashesActor, OwnAnswers, OwnCalls, Does}
 use Rattle.pb_world.specs.Sound.{ChangeCame, RunCame, Came, IsTied, IsSound, EventsKeepSound}
-use Rattle.pb_world.proofs.SeatLists.{called}
+use Rattle.pb_world.proofs.SeatLists.{called, append-none}
+use Rattle.pb_base.proofs.Logic.{same_some as some_same, none_some as some_none, some_none as none_some}
+use Rattle.pb_history.proofs.JournalParts.{one_more as leads_more}
 
 -- ---- lists
-
-some_same : {A : Type 0} (x y : A) → Some x ≡ Some y → x ≡ y
-some_same x y e = cc
-
-some_none : {A : Type 0} (x : A) → None ≡ Some x → ⊥
-some_none x e = cc
 
 append_assoc' : (xs ys zs : List Received) → (xs ++ ys) ++ zs ≡ xs ++ (ys ++ zs)
 append_assoc' [] ys zs = refl
 append_assoc' (x ∷ xs) ys zs = ap (λ l. x ∷ l) (append_assoc' xs ys zs)
-
-append-none : (xs : List Received) → xs ++ [] ≡ xs
-append-none [] = refl
-append-none (x ∷ xs) = ap (λ l. x ∷ l) (append-none xs)
 
 -- what stands at a place of a list with one item changed
 pub data IsAfterSet {A : Type 0} (xs : List A) (k : ℕ) (y : A) (i : ℕ) (x : A) : Type 0 where
@@ -84,10 +75,6 @@ after_set xs k y i x is = by (eqb i k) refl
         unchanged apart (slice_get-get_or xs i x lt ∙ ap (λ z. Some z) at)
 
 -- ---- the table
-
-leads_more : (s : StateOf) (es : List Entry) (t : StateOf) (e : Entry) (u : StateOf) → JournalLeads s es t → TableStep t e.seat e.step e.answer u → JournalLeads s (es ++ e ∷ []) u
-leads_more s [] t e u r m = (u, subst (λ x. TableStep x e.seat e.step e.answer u) r m, refl)
-leads_more s (d ∷ es) t e u r m = (r.0, r.1, leads_more r.0 es t e u r.2 m)
 
 -- a call leads from a legal table to a legal one
 call_legal : (s : SharedOf) (seat told : SeatOf) (st : Step) (a : Answer) (t : SharedOf) → IsLegalTable s → Calls s seat st a t told → IsLegalTable t
@@ -373,9 +360,6 @@ own_sound w v st n s d = by (call_reason w.shared d.seat.number st) d.calls
     by : (r : Option Reason) → MatchOption r (OwnAnswers w d.seat st n v) (λ why. (n ≡ Refused (reason_code why)) × (v ≡ w)) → IsSound v
     by None c = own_moved w v d.seat c.told s d.its_seat (calls st c.answer c.calls) c.after
     by (Some y) c = subst (λ x. IsSound x) (sym c.1) s
-
-none_some : {A : Type 0} (x : A) → Some x ≡ None → ⊥
-none_some x e = cc
 
 read_some : (w : WorldOf) (k : ℕ) (a : Actor) (b : Bool) → (k == 0) ≡ b → (if b then None else slice_get w.actors k) ≡ Some a → 0 < k
 read_some w k a true same e = absurd (none_some a (sym e))

@@ -1,8 +1,9 @@
 use Rattle.std.proofs.Common.{◌<◌, ◌+◌, subst, arith, length}
 use Rattle.pb_memtablet.specs.Places.{IsCut}
-use Rattle.pb_memtablet.proofs.Spots.{holds, truth}
+use Rattle.pb_memtablet.proofs.Spots.{holds}
 use Rattle.pb_memtablet.proofs.Pieces.{home_sorted, first-in_home, first-in_next, first-none, filled}
 use Rattle.pb_memtablet.proofs.chunks.first_above.Goals as goal
+use Rattle.pb_base.proofs.Logic.{truth}
 
 pub place_above-place-requires : goal.place_above-place-requires
 place_above-place-requires g c =

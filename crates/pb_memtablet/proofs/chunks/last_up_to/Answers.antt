@@ -1,8 +1,9 @@
 use Rattle.std.proofs.Common.{◌≡◌, ◌-◌, suc, subst, ap, arith, length}
 use Rattle.pb_memtablet.specs.Places.{IsCut}
-use Rattle.pb_memtablet.proofs.Spots.{holds, truth}
+use Rattle.pb_memtablet.proofs.Spots.{holds}
 use Rattle.pb_memtablet.proofs.Pieces.{home_sorted, last-in_home, last-none}
 use Rattle.pb_memtablet.proofs.chunks.last_up_to.Goals as goal
+use Rattle.pb_base.proofs.Logic.{truth}
 
 pub place_above-above-requires : goal.place_above-above-requires
 place_above-above-requires g c =

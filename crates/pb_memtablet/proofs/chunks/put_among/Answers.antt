@@ -4,11 +4,12 @@ use Rattle.std.specs.FinMap.Entries.{is_sorted-put}
 use Rattle.std.proofs.lemmas.List.Elements.{All-set}
 use Rattle.pb_memtablet.specs.declared.chunks.TheConstants.{CHUNK}
 use Rattle.pb_memtablet.specs.Chunks.{chunk_entries, IsChunk}
-use Rattle.pb_memtablet.proofs.Spots.{holds, truth}
+use Rattle.pb_memtablet.proofs.Spots.{holds}
 use Rattle.pb_memtablet.proofs.Pieces.{home_sorted, put-in_home, length-set_in, at_most_one}
 use Rattle.pb_memtablet.proofs.Counted.{block_is_counted, count_is_small, counts_after, byte_of}
 use Rattle.pb_memtablet.proofs.chunks.put_among.Goals as goal
 use Rattle.pb_memtablet.proofs.chunks.put_among.Goals.{After-put_in-is_new}
+use Rattle.pb_base.proofs.Logic.{truth}
 
 pub put_in-is_new-requires-clause-sorted : goal.put_in-is_new-requires-clause-sorted
 put_in-is_new-requires-clause-sorted g c =

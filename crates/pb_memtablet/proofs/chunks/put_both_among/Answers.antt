@@ -4,11 +4,12 @@ use Rattle.std.specs.FinMap.Entries.{is_sorted-put}
 use Rattle.std.proofs.lemmas.List.Elements.{All-set}
 use Rattle.pb_memtablet.specs.declared.chunks.TheConstants.{CHUNK}
 use Rattle.pb_memtablet.specs.Chunks.{chunk_entries, IsChunk, IsHome}
-use Rattle.pb_memtablet.proofs.Spots.{holds, truth}
+use Rattle.pb_memtablet.proofs.Spots.{holds}
 use Rattle.pb_memtablet.proofs.Pieces.{home_sorted, both-in_home, sorted_if, length-set_in, read_again}
 use Rattle.pb_memtablet.proofs.Counted.{block_is_counted, count_is_small, counts_after, two_of, at_most_two}
 use Rattle.pb_memtablet.proofs.chunks.put_both_among.Goals as goal
 use Rattle.pb_memtablet.proofs.chunks.put_both_among.Goals.{After-index_mut, After-put_both_in-are_put}
+use Rattle.pb_base.proofs.Logic.{truth}
 
 -- the chunk that was found is the first key's, before anything changed
 home_is : (g : _) (c : After-index_mut g) → IsHome g.K.Ord.cmp c.args.chunks.now.items c.args.key c.noted_home-home.result

@@ -3,12 +3,13 @@ use Rattle.std.specs.FinMap.{put, is_sorted}
 use Rattle.std.specs.FinMap.Entries.{is_sorted-put, is_sorted-where_key}
 use Rattle.std.proofs.lemmas.List.Elements.{All-set}
 use Rattle.pb_memtablet.specs.Chunks.{chunk_entries, IsChunk, IsHome}
-use Rattle.pb_memtablet.proofs.Spots.{holds, truth}
+use Rattle.pb_memtablet.proofs.Spots.{holds}
 use Rattle.pb_memtablet.proofs.Homes.{without}
 use Rattle.pb_memtablet.proofs.Pieces.{home_sorted, replaced-in_home, sorted_if, length-set_in}
 use Rattle.pb_memtablet.proofs.Counted.{counts_same}
 use Rattle.pb_memtablet.proofs.chunks.replace_among.Goals as goal
 use Rattle.pb_memtablet.proofs.chunks.replace_among.Goals.{After-index_mut, After-replace_in}
+use Rattle.pb_base.proofs.Logic.{truth}
 
 home_is : (g : _) (c : After-index_mut g) → IsHome g.K.Ord.cmp c.args.chunks.now.items c.args.gone.now c.args.likely
 home_is g c = subst (λ l. IsHome g.K.Ord.cmp l c.args.gone.now c.args.likely) c.deref.ensures.value (c.is_home.ensures.home c.if-not-is_home.false)

@@ -4,12 +4,13 @@ use Rattle.std.specs.FinMap.{is_sorted}
 use Rattle.std.specs.FinMap.Entries.{is_sorted-where_key}
 use Rattle.std.proofs.lemmas.List.Elements.{All-set}
 use Rattle.pb_memtablet.specs.Chunks.{chunk_entries, IsChunk, IsHome}
-use Rattle.pb_memtablet.proofs.Spots.{holds, truth}
+use Rattle.pb_memtablet.proofs.Spots.{holds}
 use Rattle.pb_memtablet.proofs.Homes.{without}
 use Rattle.pb_memtablet.proofs.Pieces.{home_sorted, without-in_home, length-taken_from, retired, still_filled, remove-set, All-remove}
 use Rattle.pb_memtablet.proofs.Counted.{block_is_counted, taken_was_counted, counts_after, byte_of}
 use Rattle.pb_memtablet.proofs.chunks.take_among.Goals as goal
 use Rattle.pb_memtablet.proofs.chunks.take_among.Goals.{Else-is_empty-2, After-retire_chunk}
+use Rattle.pb_base.proofs.Logic.{truth}
 
 pub take_from-taken-requires : goal.take_from-taken-requires
 take_from-taken-requires g c =

@@ -1,8 +1,9 @@
 use Rattle.std.proofs.Common.{ap, ◌∙◌}
 use Rattle.std.specs.FinMap.{find}
-use Rattle.pb_memtablet.proofs.Spots.{holds, truth}
+use Rattle.pb_memtablet.proofs.Spots.{holds}
 use Rattle.pb_memtablet.proofs.Pieces.{home_sorted, find-in_home}
 use Rattle.pb_memtablet.proofs.chunks.value_at.Goals as goal
+use Rattle.pb_base.proofs.Logic.{truth}
 
 pub look_up-requires : goal.look_up-requires
 look_up-requires g c =

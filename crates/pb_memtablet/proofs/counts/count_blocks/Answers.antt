@@ -6,9 +6,10 @@ use Rattle.std.proofs.lemmas.List.Elements.{All-drop}
 use Rattle.pb_memtablet.specs.Chunks.{IsChunk}
 use Rattle.pb_memtablet.specs.BlockCounts.{AreCounts}
 use Rattle.pb_memtablet.proofs.Homes.{made}
-use Rattle.pb_memtablet.proofs.Pieces.{empty_by_length, is_zero}
+use Rattle.pb_memtablet.proofs.Pieces.{is_zero}
 use Rattle.pb_memtablet.proofs.Counted.{counts_go_on}
 use Rattle.pb_memtablet.proofs.counts.count_blocks.Goals as goal
+use Rattle.pb_base.proofs.Logic.{empty_by_length}
 
 pub loop-rest-preserved : goal.loop-rest-preserved
 loop-rest-preserved g c =

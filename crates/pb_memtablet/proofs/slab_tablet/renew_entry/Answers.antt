@@ -3,9 +3,10 @@ use Rattle.std.specs.FinMap.{find}
 use Rattle.pb_store.specs.Slot.{slot_cmp}
 use Rattle.pb_memtablet.specs.Stored.{HasItem}
 use Rattle.pb_memtablet.proofs.Spots.{holds}
-use Rattle.pb_memtablet.proofs.Kept.{of_found, renewed_seen, stored_renewed, no_key}
+use Rattle.pb_memtablet.proofs.Kept.{of_found, renewed_seen, stored_renewed}
 use Rattle.pb_memtablet.proofs.slab_tablet.renew_entry.Goals as goal
 use Rattle.pb_memtablet.proofs.slab_tablet.renew_entry.Goals.{After-replace}
+use Rattle.pb_base.proofs.Logic.{none_is as no_key}
 
 pub remove-requires : goal.remove-requires
 remove-requires c = of_found (HasItem c.args.items.now.slots) c.args.keys.now.entries c.args.gone.now c.in-Some.key (sym c.get-2.ensures ∙ c.in-Some.is) c.requires.stored.stored

@@ -1,7 +1,8 @@
 use Rattle.std.proofs.Common.{◌≡◌, subst, arith, get_or}
 use Rattle.std.specs.declared.cmp.Ordering.TheVariants.{Less, Equal}
-use Rattle.pb_memtablet.proofs.Spots.{holds, turned, as_read, found_at, gap_between}
+use Rattle.pb_memtablet.proofs.Spots.{holds, as_read, found_at, gap_between}
 use Rattle.pb_memtablet.proofs.sorted.search_from.Goals as goal
+use Rattle.pb_base.proofs.Logic.{turned}
 
 pub returns-in-Equal-clause-found : goal.returns-in-Equal-clause-found
 returns-in-Equal-clause-found g c =

@@ -1,7 +1,7 @@
 use Rattle.std.proofs.Common.{ap, sym, ◌∙◌}
 use Rattle.pb_isa.specs.Programs.{JudgedOf}
-use Rattle.pb_notify.proofs.Versions.{second_is}
 use Rattle.pb_notify.proofs.place.tells_old.Goals as goal
+use Rattle.pb_helpers.proofs.Versions.{second_is}
 
 pub returns : goal.returns
 returns c = c.tells_old.ensures ∙ second_is c.args.accepted.now.value c.version.result (ap (λ (j : JudgedOf). j.record_size) (sym c.deref.ensures) ∙ c.version.ensures)

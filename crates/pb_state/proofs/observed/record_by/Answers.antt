@@ -1,8 +1,8 @@
 use Rattle.std.proofs.Common.{ap, sym, ◌∙◌}
 use Rattle.pb_isa.specs.Programs.{JudgedOf}
 use Rattle.pb_helpers.specs.OldRecord.{record_by}
-use Rattle.pb_state.proofs.Versions.{second_is}
 use Rattle.pb_state.proofs.observed.record_by.Goals as goal
+use Rattle.pb_helpers.proofs.Versions.{second_is}
 
 pub returns : goal.returns
 returns c =

@@ -1,8 +1,8 @@
 use Rattle.std.proofs.Common.{sym, ap, ◌∙◌}
 use Rattle.pb_steps.specs.State.{StateOf}
-use Rattle.pb_core.proofs.Nothing.{nothing_if}
 use Rattle.pb_core.proofs.Fresh.{fresh_seats}
 use Rattle.pb_core.proofs.shared.Shared.open.Goals as goal
+use Rattle.pb_store.proofs.Fresh.{nothing_from_test as nothing_if}
 
 pub new-state-requires-clause-empty : goal.new-state-requires-clause-empty
 new-state-requires-clause-empty g c = nothing_if c.args.table.contents (sym c.is_empty.ensures ∙ c.if-not-is_empty.false)

@@ -3,8 +3,9 @@ use Rattle.std.specs.FinMap as map
 use Rattle.pb_steps.specs.State.{TransactionOf}
 use Rattle.pb_state.specs.Starts.{IsStartAt, IsNoStart}
 use Rattle.pb_state.proofs.Rising.{held, not_held, changed}
-use Rattle.pb_state.proofs.Outcomes.{ok_then, ok_always}
+use Rattle.pb_state.proofs.Outcomes.{ok_always}
 use Rattle.pb_state.proofs.transactions.Transactions.prewrite.Goals as goal
+use Rattle.pb_base.proofs.Logic.{ok_then}
 
 pub returns-in_default-clause-ok : goal.returns-in_default-clause-ok
 returns-in_default-clause-ok g c =

@@ -4,8 +4,8 @@ use Rattle.pb_steps.specs.State.{TransactionOf}
 use Rattle.pb_steps.specs.Read.{with_read}
 use Rattle.pb_state.specs.Starts.{IsStartAt, IsNoStart}
 use Rattle.pb_state.proofs.Rising.{held, not_held, changed}
-use Rattle.pb_state.proofs.Outcomes.{ok_then}
 use Rattle.pb_state.proofs.transactions.Transactions.record_read.Goals as goal
+use Rattle.pb_base.proofs.Logic.{ok_then}
 
 pub returns-in_default-clause-ok : goal.returns-in_default-clause-ok
 returns-in_default-clause-ok c =

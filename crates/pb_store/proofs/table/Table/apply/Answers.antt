@@ -2,12 +2,12 @@ use Rattle.std.proofs.Common.{◌≡◌, ◌<◌, length, sym, ap, ◌∙◌, su
 use Rattle.pb_store.specs.Contents.{after_edits, AreOfRow, edit_row}
 use Rattle.pb_store.specs.TableOf.{TableOf}
 use Rattle.pb_store.specs.Tiles.{tiles_of, joined, IsTiling, IsPlace}
-use Rattle.pb_store.proofs.Fresh.{positive}
 use Rattle.pb_store.proofs.Routing.{tiles_kept, firsts_kept}
-use Rattle.pb_store.proofs.Applying.{result_cases, ok_then, err_then, all_of_first, tiling_after, joined_after}
+use Rattle.pb_store.proofs.Applying.{result_cases, err_then, all_of_first, tiling_after, joined_after}
 use Rattle.pb_store.proofs.table.Table.apply.Given.{Over}
 use Rattle.pb_store.proofs.table.Table.apply.Goals as goal
 use Rattle.pb_store.proofs.table.Table.apply.Goals.{After-apply}
+use Rattle.pb_base.proofs.Logic.{positive, ok_then}
 
 module _ (g : Over) (c : After-apply g) where
   within : c.place_in-i.result < length c.self.inside.parts.items

@@ -3,8 +3,9 @@ use Rattle.pb_base.specs.declared.refusal.Reason.TheVariants.{RowsDontRise}
 use Rattle.pb_base.specs.Reasons.{TellsReason}
 use Rattle.pb_store.specs.Tiles.{tiles_of, rise_from_zero, all_nothing, table_reason}
 use Rattle.pb_store.proofs.Routing.{length-tiles_of}
-use Rattle.pb_store.proofs.Fresh.{tiling_of_nothing, joined-nothing, refused_unrisen, positive}
+use Rattle.pb_store.proofs.Fresh.{tiling_of_nothing, joined-nothing, refused_unrisen}
 use Rattle.pb_store.proofs.table.Table.new.Goals as goal
+use Rattle.pb_base.proofs.Logic.{positive}
 
 pub returns-then-not-rises-clause-refused : goal.returns-then-not-rises-clause-refused
 returns-then-not-rises-clause-refused g c =
