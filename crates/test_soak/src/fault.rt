@@ -7,10 +7,8 @@ use thiserror::Error;
 /// What of a run didn't hold, or that memory was refused.
 #[derive(Clone, Copy, Debug, PartialEq, Eq, Drop, Error)]
 pub enum Fault {
-    #[error("no memory")]
+    #[error("no memory, or the manifest or the script isn't read")]
     NoMemory,
-    #[error("the manifest or the script isn't read")]
-    Texts,
     #[error("the seats don't agree with the journal")]
     Seats,
     #[error("a seat was refused a step")]

@@ -1,7 +1,4 @@
 //! One run of workers, and what has to hold of what they leave.
-ghost use Rattle.std.specs.Prelude.{◌≤◌, length, IfOk};
-ghost use Rattle.pb_base.specs.declared.limits.TheConstants.{MAX_OBSERVERS};
-
 use crate::cells::cells_of;
 use crate::fault::Fault;
 use crate::fed::are_fed;
@@ -12,19 +9,16 @@ use pb_base::{Batch, MAX_ENTRIES, Out, Refusal, Ts};
 use pb_core::Shared;
 use pb_history::Entry;
 use pb_memtablet::ListTablet;
-use pb_parse::parse_script;
-use pb_registry::Registry;
 use pb_script::report;
 use pb_steps::Declared;
-use pb_verify::Observer;
-use pb_worker::{NotRun, Open, Worked, finish, run_workers};
+use pb_worker::{Open, Worked, finish};
 use std::alloc::Global;
 use std::collections::BTreeMap;
 use std::fmt;
 use std::fmt::{Display, Formatter, Write};
 use std::sync::Wait;
 use std::thread::Threads;
-use test_fixtures::opened;
+use test_fixtures::{batches_of, observers_of, opened, worked_on};
 
 /// What was met in some runs.
 #[derive(Drop)]
@@ -172,48 +166,13 @@ fn judged(alloc: Global, worked: Worked<ListTablet>, batches: &[Batch]) -> Resul
     }
 }
 
-fn observers(alloc: Global) -> Result<Vec<Observer>, Fault>
-    ensures { IfOk result (λ v. length v.items ≤ MAX_OBSERVERS) }
-{
-    match Registry::from_json(alloc, MANIFEST) {
-        Ok(registry) => match registry.into_observers(alloc) {
-            Ok(observers) => Ok(observers),
-            Err(_) => Err(Fault::NoMemory),
-        },
-        Err(_) => Err(Fault::Texts),
-    }
-}
-
-fn batches(alloc: Global, text: &str) -> Result<Vec<Batch>, Fault> {
-    match parse_script(alloc, text) {
-        Ok(batches) => Ok(batches),
-        Err(_) => Err(Fault::Texts),
-    }
-}
-
 /// Lets the workers make the changes, and judges what they leave.
 pub fn soak<R: Threads + Wait + Sync>(rt: &R, alloc: Global) -> Result<Met, Fault> {
     let text = script(alloc)?;
-    let same = batches(alloc, text.as_str())?;
-    let observers = observers(alloc)?;
-    let all = batches(alloc, text.as_str())?;
+    let same = batches_of(alloc, text.as_str())?;
+    let observers = observers_of(alloc, MANIFEST)?;
+    let all = batches_of(alloc, text.as_str())?;
     let (shared, seats) = opened(alloc, observers, WORKERS + 1, Ts(0), MAX_ENTRIES)?;
-    if seats.len() < 2 {
-        shared.close();
-        return Err(Fault::Seats);
-    }
-    match run_workers(rt, alloc, shared, seats, all, Vec::new(alloc), &Open) {
-        Ok(worked) => judged(alloc, worked, &same),
-        Err(
-            NotRun {
-                shared,
-                seats: _,
-                batches: _,
-                spares: _,
-            },
-        ) => {
-            shared.close();
-            Err(Fault::NoMemory)
-        }
-    }
+    let worked = worked_on(rt, alloc, shared, seats, all, Vec::new(alloc), &Open)?;
+    judged(alloc, worked, &same)
 }

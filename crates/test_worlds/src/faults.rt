@@ -1,13 +1,14 @@
 //! Events that can't happen, and what is run after them.
 ghost use Rattle.std.specs.Prelude.{◌≡◌, ◌≤◌};
 
-use crate::worlds::{Texts, Told, WATCH, each};
+use crate::worlds::{Texts, Told, each};
 use pb_base::{NoMemory, ObserverNo, Row, Ts};
 use pb_parse::{Event, Job};
 use pb_steps::Answer;
 use pb_world::Note;
 use std::alloc::Global;
 use std::rt::HostRuntime;
+use test_fixtures::WATCH;
 
 const CHANGE: Job = Job::Change(1);
 

@@ -1,13 +1,14 @@
 //! The note of every event, worked out by hand.
 ghost use Rattle.std.specs.Prelude.{◌≡◌, ◌≤◌};
 
-use crate::worlds::{COPY, Texts, Told, WATCH, replayed};
+use crate::worlds::{Texts, Told, replayed};
 use pb_base::{Cell, Column, Content, Row, Ts, Value};
 use pb_steps::Answer;
 use pb_world::Note;
 use std::alloc::Global;
 use std::process::Abort;
 use std::rt::HostRuntime;
+use test_fixtures::{COPY, WATCH};
 
 // Whether the events of a schedule, in a world of three actors, have these notes.
 fn have_notes(

@@ -3,24 +3,15 @@ ghost use Rattle.std.specs.Prelude.{◌≤◌, length, IfOk};
 ghost use Rattle.pb_core.specs.Calls.{AreSeats};
 ghost use Rattle.pb_base.specs.declared.limits.TheConstants.{MAX_OBSERVERS};
 
-use pb_base::{Batch, NoMemory, Out, Ts};
+use pb_base::{NoMemory, Out, Ts};
 use pb_core::{Seat, Shared};
 use pb_memtablet::ListTablet;
-use pb_parse::{Event, parse_schedule, parse_script};
-use pb_registry::Registry;
+use pb_parse::{Event, parse_schedule};
 use pb_script::report;
 use pb_verify::Observer;
 use pb_world::{Note, World};
 use std::alloc::Global;
-use test_fixtures::opened;
-
-/// An observer of column 0 that does nothing.
-pub const WATCH: &str =
-    "{\"profile\":1,\"observers\":[{\"name\":\"watch\",\"column\":0,\"helpers\":[],\"code\":\"b7000000000000009500000000000000\"}]}";
-
-/// One that copies the value of its cell to column 1.
-pub const COPY: &str =
-    "{\"profile\":1,\"observers\":[{\"name\":\"copy\",\"column\":0,\"helpers\":[2],\"code\":\"bf1600000000000079623000000000007b2ae0ff0000000079623800000000007b2ae8ff0000000079624000000000007b2af0ff0000000079624800000000007b2af8ff000000007961000000000000b702000001000000bfa300000000000007030000e0ffffff8500000002000000b7000000000000009500000000000000\"}]}";
+use test_fixtures::{batches_of, observers_of, opened};
 
 /// A manifest, a script and a schedule; and of the table the seats, the last timestamp given out and the journal's limit.
 #[derive(Clone, Copy)]
@@ -31,25 +22,6 @@ pub struct Texts<'a> {
     pub seats: u32,
     pub last: u64,
     pub limit: usize,
-}
-
-fn observers(alloc: Global, manifest: &str) -> Result<Vec<Observer>, NoMemory>
-    ensures { IfOk result (λ v. length v.items ≤ MAX_OBSERVERS) }
-{
-    match Registry::from_json(alloc, manifest) {
-        Ok(registry) => match registry.into_observers(alloc) {
-            Ok(observers) => Ok(observers),
-            Err(_) => Err(NoMemory),
-        },
-        Err(_) => Err(NoMemory),
-    }
-}
-
-fn changes(alloc: Global, script: &str) -> Result<Vec<Batch>, NoMemory> {
-    match parse_script(alloc, script) {
-        Ok(batches) => Ok(batches),
-        Err(_) => Err(NoMemory),
-    }
 }
 
 fn events(alloc: Global, schedule: &str, observers: &[Observer]) -> Result<Vec<Event>, NoMemory>
@@ -135,7 +107,7 @@ fn runs(
     requires seats { texts.now.seats ≤ 64 }
     requires bounded { texts.now.limit ≤ 1000000 }
 {
-    let batches = changes(alloc, texts.script)?;
+    let batches = batches_of(alloc, texts.script)?;
     let (shared, seats) = opened(alloc, observers, texts.seats, Ts(texts.last), texts.limit)?;
     run_in(alloc, shared, seats, batches, lists)
 }
@@ -146,7 +118,7 @@ pub fn replayed(alloc: Global, texts: &Texts) -> Result<(Told, Vec<u8>), NoMemor
     requires seats { texts.now.seats ≤ 64 }
     requires bounded { texts.now.limit ≤ 1000000 }
 {
-    let observers = observers(alloc, texts.manifest)?;
+    let observers = observers_of(alloc, texts.manifest)?;
     let events = events(alloc, texts.schedule, &observers)?;
     let Ran { mut told, report } = runs(alloc, texts, observers, &[events.as_slice()])?;
     let told = told.pop().ok_or(NoMemory)?;
@@ -159,7 +131,7 @@ pub fn each(alloc: Global, texts: &Texts, lists: &[&[Event]]) -> Result<Vec<Told
     requires seats { texts.now.seats ≤ 64 }
     requires bounded { texts.now.limit ≤ 1000000 }
 {
-    let observers = observers(alloc, texts.manifest)?;
+    let observers = observers_of(alloc, texts.manifest)?;
     let Ran { told, report: _ } = runs(alloc, texts, observers, lists)?;
     Ok(told)
 }

@@ -4,30 +4,22 @@
 //! was refused a step, the report is written, and no mark and no lock is left.
 #![tactic(auto)]
 
-ghost use Rattle.std.specs.Prelude.{◌≤◌, ◌<◌, length, IfOk};
-ghost use Rattle.pb_base.specs.declared.limits.TheConstants.{MAX_OBSERVERS};
+ghost use Rattle.std.specs.Prelude.{◌≤◌, ◌<◌};
 
 use pb_base::{MAX_ENTRIES, NoMemory, Out, Ts};
 use pb_core::Seat;
 use pb_memtablet::EitherTablet;
-use pb_parse::parse_script;
-use pb_registry::Registry;
 use pb_script::report;
 use pb_steps::Answer;
-use pb_verify::Observer;
-use pb_worker::{NotRun, Open, Worked, run_workers};
+use pb_worker::{Open, Worked};
 use std::alloc::{AllocError, Global};
 use std::env;
 use std::process::ExitCode;
 use std::sync::Wait;
 use std::thread::Threads;
-use test_fixtures::{opened_over, spares_of, table_of};
+use test_fixtures::{COPY, batches_of, observers_of, opened_over, spares_of, table_of, worked_on};
 
 const NONE: &str = "{\"profile\":1,\"observers\":[]}";
-
-// One that copies the value of its cell to column 1.
-const COPY: &str =
-    "{\"profile\":1,\"observers\":[{\"name\":\"copy\",\"column\":0,\"helpers\":[2],\"code\":\"bf1600000000000079623000000000007b2ae0ff0000000079623800000000007b2ae8ff0000000079624000000000007b2af0ff0000000079624800000000007b2af8ff000000007961000000000000b702000001000000bfa300000000000007030000e0ffffff8500000002000000b7000000000000009500000000000000\"}]}";
 
 // What is to be done, and by how many.
 #[derive(Drop)]
@@ -46,18 +38,6 @@ struct Task {
 struct Met {
     conflicts: usize,
     unfinished: usize,
-}
-
-fn observers(alloc: Global, manifest: &str) -> Result<Vec<Observer>, NoMemory>
-    ensures { IfOk result (λ v. length v.items ≤ MAX_OBSERVERS) }
-{
-    match Registry::from_json(alloc, manifest) {
-        Ok(registry) => match registry.into_observers(alloc) {
-            Ok(observers) => Ok(observers),
-            Err(_) => Err(NoMemory),
-        },
-        Err(_) => Err(NoMemory),
-    }
 }
 
 fn script(alloc: Global, count: u32, is_spread: bool) -> Result<String, NoMemory> {
@@ -115,11 +95,8 @@ fn do_task<R: Threads + Wait + Sync>(
     task: &Task,
 ) -> Result<Option<Met>, NoMemory> {
     let text = script(alloc, task.count, task.is_spread)?;
-    let observers = observers(alloc, task.manifest)?;
-    let batches = match parse_script(alloc, &text) {
-        Ok(batches) => batches,
-        Err(_) => return Err(NoMemory),
-    };
+    let observers = observers_of(alloc, task.manifest)?;
+    let batches = batches_of(alloc, &text)?;
     let spares = spares_of(alloc, [false, true], task.swaps as usize)?;
     let table = table_of(alloc, &[false, true])?;
     let (shared, seats) = opened_over(
@@ -130,24 +107,8 @@ fn do_task<R: Threads + Wait + Sync>(
         Ts(0),
         MAX_ENTRIES,
     )?;
-    if seats.len() < 2 {
-        shared.close();
-        return Ok(None);
-    }
-    match run_workers(rt, alloc, shared, seats, batches, spares, &Open) {
-        Ok(worked) => Ok(met_by(alloc, worked)),
-        Err(
-            NotRun {
-                shared,
-                seats: _,
-                batches: _,
-                spares: _,
-            },
-        ) => {
-            shared.close();
-            Ok(None)
-        }
-    }
+    let worked = worked_on(rt, alloc, shared, seats, batches, spares, &Open)?;
+    Ok(met_by(alloc, worked))
 }
 
 // What the words behind the program's own ask for.

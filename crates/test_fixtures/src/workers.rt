@@ -1,0 +1,42 @@
+//! Workers that tests begin with.
+ghost use Rattle.pb_core.specs.Calls.{AreSeats};
+
+use pb_base::{Batch, NoMemory};
+use pb_core::{Seat, Shared};
+use pb_store::Tablet;
+use pb_worker::{Gate, NotRun, Worked, run_workers};
+use std::alloc::Global;
+use std::sync::Wait;
+use std::thread::Threads;
+
+/// What workers leave who make these changes beside swaps of these spares. Where they can't begin, the table is closed.
+pub fn worked_on<R: Threads + Wait + Sync, T: Tablet + Send, G: Gate>(
+    rt: &R,
+    alloc: Global,
+    shared: Shared<T>,
+    seats: Vec<Seat>,
+    batches: Vec<Batch>,
+    spares: Vec<(usize, T)>,
+    gate: &G,
+) -> Result<Worked<T>, NoMemory>
+    requires { AreSeats shared seats.items }
+{
+    if seats.len() < 2 {
+        shared.close();
+        return Err(NoMemory);
+    }
+    match run_workers(rt, alloc, shared, seats, batches, spares, gate) {
+        Ok(worked) => Ok(worked),
+        Err(
+            NotRun {
+                shared,
+                seats: _,
+                batches: _,
+                spares: _,
+            },
+        ) => {
+            shared.close();
+            Err(NoMemory)
+        }
+    }
+}
