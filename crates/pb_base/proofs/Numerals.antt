@@ -1,5 +1,5 @@
 -- Numerals, as assembler texts, scripts and schedules have them: what one is, and what its digits say.
-use Rattle.std.proofs.Common.{◌≡◌, ℕ, zero, suc, ◌^◌, ◌<◌, false, List, length, refl, ap, arith, inl, inr, Bool, true, cond, ◌&&◌, Ok, sym, rules}
+use Rattle.std.proofs.Common.{◌≡◌, ℕ, zero, suc, ◌^◌, ◌<◌, false, List, length, refl, ap, arith, inl, inr, Bool, true, cond, ◌&&◌, rules}
 use Rattle.std.specs.Prelude.{◌==◌, nat_lt, slice_index}
 use Rattle.std.specs.Fmt.{decimal}
 use Rattle.std.proofs.lemmas.Fmt.{first_decimal, decimal_digit, digits_decimal, decimal_nonempty}
@@ -8,8 +8,8 @@ use Rattle.std.specs.Char.{is_ascii_digit}
 use Rattle.std.specs.List.{list_all}
 use Rattle.pb_base.specs.Reading.{is_numeral}
 use Rattle.pb_base.proofs.Logic.{positive}
-use Rattle.std.specs.Str.Parse.{digits_value, ParsesUnsigned}
-use Rattle.std.proofs.lemmas.Str.Parse.{parse_digits, IsDigitsTest, IsNumeralModel, numerals_by_value}
+use Rattle.std.specs.Str.Parse.{digits_value}
+use Rattle.std.proofs.lemmas.Str.Parse.{IsDigitsTest, IsNumeralModel, numerals_by_value}
 
 -- digits are told by their test
 pub tells : IsDigitsTest (λ ds. list_all is_ascii_digit ds ≡ true)
@@ -54,10 +54,6 @@ pub digits_in : (w : List ℕ) → is_numeral w ≡ true → (list_all is_ascii_
 digits_in w h =
     let a = both_fail (length w == 0) ((slice_index w 0 == 48) && nat_lt 1 (length w)) (list_all is_ascii_digit w) h in
     (a.2, a.1, positive (length w) a.0)
-
--- a numeral that is read has the value of its digits
-pub value_is : (E : Type 0) (w : List ℕ) (x : ℕ) → is_numeral w ≡ true → ParsesUnsigned {E = E} 64 10 w (Ok x) → digits_value 10 w ≡ x
-value_is E w x h p = sym (parse_digits own {E = E} 64 w (Ok x) p (digits_in w h).0).1
 
 -- the digits of a number are a numeral
 pub numeral_of : (n : ℕ) → n < 2 ^ 64 → is_numeral (decimal n) ≡ true

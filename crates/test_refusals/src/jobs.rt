@@ -3,10 +3,6 @@ ghost use Rattle.std.specs.Prelude.{◌≡◌};
 ghost use Rattle.pb_notify.specs.declared.need.Need.TheVariants.{Local};
 ghost use Rattle.pb_notify.specs.Runs.{need_of};
 
-use crate::observers::{finished, observers};
-use crate::refusals::Refusals;
-use crate::steps::{batch, column, column_of, declares, three_cells};
-use crate::twins::{Twins, all_called, called, close, opened_twice};
 use pb_base::{Batch, Cell, NoMemory, ObserverNo, Row, Ts};
 use pb_helpers::HelperTable;
 use pb_history::Entry;
@@ -17,6 +13,10 @@ use pb_txn::{ChangeJob, Outcome};
 use pb_verify::Accepted;
 use std::alloc::Global;
 use std::sync::Arc;
+use test_growths::observers::{finished, observers};
+use test_growths::refusals::Refusals;
+use test_growths::steps::{batch, column, column_of, declares, three_cells};
+use test_growths::twins::{Twins, all_called, called, close, opened_twice};
 
 // It asks for cell 7 1 with its fifth instruction, deletes cell 5 15 with its eighth, and exits.
 const ASK_AND_DELETE: &[u8] =

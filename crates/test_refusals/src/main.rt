@@ -7,21 +7,10 @@
 //! many instructions, and with `swap` it runs workers beside swaps.
 #![tactic(auto)]
 
-mod calls;
-mod copies;
 mod jobs;
-mod machines;
-mod observers;
 mod page;
-mod programs;
-mod refusals;
 mod reports;
 mod runs;
-mod same;
-mod steps;
-mod swaps;
-mod tablets;
-mod twins;
 mod workers;
 mod worlds;
 
@@ -31,12 +20,14 @@ use std::env;
 use std::process::ExitCode;
 use std::sync::Wait;
 use std::thread::Threads;
+use test_growths::refusals::Refusals;
+use test_growths::{calls, copies, machines, observers, programs, swaps, tablets};
 
 // How many tablets are swapped beside workers.
 const SWAPS: usize = 3;
 
 // Calls on programs, and machines.
-fn programs_hold(alloc: Global, refusals: &mut refusals::Refusals) -> Result<bool, NoMemory> {
+fn programs_hold(alloc: Global, refusals: &mut Refusals) -> Result<bool, NoMemory> {
     Ok(
         programs::programs_are_made(alloc, refusals)?
             && programs::bytes_are_decoded(alloc, refusals)?
@@ -52,7 +43,7 @@ fn programs_hold(alloc: Global, refusals: &mut refusals::Refusals) -> Result<boo
 }
 
 // Calls on batches, steps, tables and states.
-fn tables_hold(alloc: Global, refusals: &mut refusals::Refusals) -> Result<bool, NoMemory> {
+fn tables_hold(alloc: Global, refusals: &mut Refusals) -> Result<bool, NoMemory> {
     Ok(
         copies::batch_copies(alloc, refusals)?
             && copies::step_copies(alloc, refusals)?
@@ -74,7 +65,7 @@ fn tables_hold(alloc: Global, refusals: &mut refusals::Refusals) -> Result<bool,
 fn runs_hold<R: Threads + Wait + Sync>(
     rt: &R,
     alloc: Global,
-    refusals: &mut refusals::Refusals,
+    refusals: &mut Refusals,
 ) -> Result<bool, NoMemory> {
     Ok(
         runs::scripts_are_read(alloc, refusals)?
@@ -91,7 +82,7 @@ fn runs_hold<R: Threads + Wait + Sync>(
 fn all<R: Threads + Wait + Sync>(
     rt: &R,
     alloc: Global,
-    refusals: &mut refusals::Refusals,
+    refusals: &mut Refusals,
 ) -> Result<bool, NoMemory> {
     Ok(
         programs_hold(alloc, refusals)?
@@ -107,7 +98,7 @@ fn held_in(
     word: &str,
     path: &str,
     count: &str,
-    refusals: &mut refusals::Refusals,
+    refusals: &mut Refusals,
 ) -> Result<bool, NoMemory> {
     let Ok(count) = count.parse::<u16>() else {
         return Ok(false);
@@ -123,7 +114,7 @@ fn held_in(
 fn held<R: Threads + Wait + Sync>(
     threads: &R,
     rt: &HostRuntime,
-    refusals: &mut refusals::Refusals,
+    refusals: &mut Refusals,
 ) -> Result<bool, NoMemory> {
     let Ok(args) = env::args(rt) else {
         return Err(NoMemory);
@@ -142,7 +133,7 @@ fn held<R: Threads + Wait + Sync>(
 }
 
 // Whether the call that was refused is told, if one was.
-fn is_told(rt: &HostRuntime, refusals: &refusals::Refusals) -> bool {
+fn is_told(rt: &HostRuntime, refusals: &Refusals) -> bool {
     match refusals.first() {
         None => true,
         Some((call, "")) => println!(rt; "{call}").is_ok(),
@@ -151,7 +142,7 @@ fn is_told(rt: &HostRuntime, refusals: &refusals::Refusals) -> bool {
 }
 
 fn main(rt: HostRuntime) -> ExitCode {
-    let mut refusals = refusals::Refusals::none();
+    let mut refusals = Refusals::none();
     let held = match held(&rt, &rt, &mut refusals) {
         Ok(held) => held,
         // Only one request is refused: the second time neither a preparation is, nor a call.

@@ -1,17 +1,17 @@
 //! Reports.
 ghost use Rattle.std.specs.Prelude.{◌≡◌, false};
 
-use crate::observers::watchers;
 use crate::page::Page;
-use crate::refusals::Refusals;
-use crate::steps::{batch, cell_of, declares, three_cells};
-use crate::twins::{all_called, close, opened_twice};
 use pb_base::{NoMemory, Sink, Ts};
 use pb_core::Shared;
 use pb_script::report;
 use pb_steps::{Step, Work};
 use pb_store::Tablet;
 use std::alloc::Global;
+use test_growths::observers::watchers;
+use test_growths::refusals::Refusals;
+use test_growths::steps::{batch, cell_of, declares, three_cells};
+use test_growths::twins::{all_called, close, opened_twice};
 
 // A change of three cells, of which the last is locked still, and one that has locked its one cell.
 const REPORT: &[u8] =

@@ -1,11 +1,6 @@
 //! Scripts, and tables that are opened.
 ghost use Rattle.std.specs.Prelude.{◌≤◌, length};
 
-use crate::observers::watchers;
-use crate::refusals::Refusals;
-use crate::same::are_observers_same;
-use crate::steps::column_of;
-use crate::twins::SORTS;
 use pb_base::{Batch, Cell, Content, NoMemory, Row, Ts};
 use pb_core::{OpenRefused, Seat, Shared};
 use pb_memtablet::EitherTablet;
@@ -13,6 +8,11 @@ use pb_parse::parse_script;
 use pb_verify::Observer;
 use std::alloc::Global;
 use test_fixtures::table_of;
+use test_growths::observers::watchers;
+use test_growths::refusals::Refusals;
+use test_growths::same::are_observers_same;
+use test_growths::steps::column_of;
+use test_growths::twins::SORTS;
 
 /// Two changes, of three cells.
 pub const SCRIPT: &str = "put 7 0 2a\ndel 7 1; put 8 0 0b\n";

@@ -3,11 +3,8 @@ ghost use Rattle.std.specs.Prelude.{IfOk};
 ghost use Rattle.pb_core.specs.Calls.{AreSeats};
 
 use crate::page::Page;
-use crate::refusals::Refusals;
 use crate::reports::is_reported;
 use crate::runs::SCRIPT;
-use crate::same::{are_all_seats_same, are_batches_same, are_shared_same};
-use crate::twins::SORTS;
 use crate::worlds::used;
 use pb_base::{Batch, MAX_ENTRIES, NoMemory, Refusal};
 use pb_core::{Seat, Shared};
@@ -20,6 +17,9 @@ use std::alloc::Global;
 use std::sync::Wait;
 use std::thread::Threads;
 use test_fixtures::spares_of;
+use test_growths::refusals::Refusals;
+use test_growths::same::{are_all_seats_same, are_batches_same, are_shared_same};
+use test_growths::twins::SORTS;
 
 // What happens before: a run that only begins, with timestamp 1, and a sweep by the main seat, so that both seats have been told
 // something.

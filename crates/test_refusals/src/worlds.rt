@@ -5,11 +5,6 @@ ghost use Rattle.pb_core.specs.Calls.{AreSeats};
 ghost use Rattle.pb_world.specs.Sound.{IsSound};
 
 use crate::jobs::program;
-use crate::observers::observers;
-use crate::refusals::Refusals;
-use crate::same::{are_all_seats_same, are_batches_same, are_shared_same};
-use crate::steps::{batch, three_cells};
-use crate::twins::SORTS;
 use law_worlds::opened_worlds_are_sound;
 use pb_base::{Batch, NoMemory, Ts};
 use pb_core::{Seat, Shared};
@@ -18,6 +13,11 @@ use pb_parse::{Event, parse_schedule};
 use pb_world::{World, worlds_stay_sound};
 use std::alloc::Global;
 use test_fixtures::{opened_over, table_of};
+use test_growths::observers::observers;
+use test_growths::refusals::Refusals;
+use test_growths::same::{are_all_seats_same, are_batches_same, are_shared_same};
+use test_growths::steps::{batch, three_cells};
+use test_growths::twins::SORTS;
 
 // What happens before: a change, another that crashes with its lock there, and a sweep by the main seat.
 const BEFORE: &str =

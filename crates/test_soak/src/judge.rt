@@ -18,7 +18,8 @@ use std::fmt;
 use std::fmt::{Display, Formatter, Write};
 use std::sync::Wait;
 use std::thread::Threads;
-use test_fixtures::{batches_of, observers_of, opened, worked_on};
+use test_crew::worked_on;
+use test_fixtures::{batches_of, observers_of, opened};
 
 /// What was met in some runs.
 #[derive(Drop)]

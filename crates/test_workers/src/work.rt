@@ -12,7 +12,8 @@ use pb_worker::{Gate, Worked};
 use std::alloc::Global;
 use std::sync::Wait;
 use std::thread::Threads;
-use test_fixtures::{CountedTablet, batches_of, observers_of, opened_over, worked_on};
+use test_crew::worked_on;
+use test_fixtures::{CountedTablet, batches_of, observers_of, opened_over};
 
 fn table(parts: Vec<(Row, CountedTablet)>) -> Result<Table<CountedTablet>, NoMemory>
     ensures { IfOk result (λ t. t.contents ≡ nothing) }

@@ -17,7 +17,8 @@ use std::env;
 use std::process::ExitCode;
 use std::sync::Wait;
 use std::thread::Threads;
-use test_fixtures::{COPY, batches_of, observers_of, opened_over, spares_of, table_of, worked_on};
+use test_crew::worked_on;
+use test_fixtures::{COPY, batches_of, observers_of, opened_over, spares_of, table_of};
 
 const NONE: &str = "{\"profile\":1,\"observers\":[]}";
 

@@ -1,4 +1,6 @@
-//! Workers that tests begin with.
+//! Workers that tests begin with. It stands apart from what other tests begin with, so that those needn't wait for workers.
+#![tactic(auto)]
+
 ghost use Rattle.pb_core.specs.Calls.{AreSeats};
 
 use pb_base::{Batch, NoMemory};
