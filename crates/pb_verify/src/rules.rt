@@ -82,7 +82,7 @@ fn falls(program: &Program, slot: usize) -> Option<RuleCode>
 }
 
 // An operation on numbers alone: a pointer isn't calculated with, since what comes of it depends on where memory lies.
-#[tactic(auto, using(crate::proofs::LowestCode::lowest_append))]
+#[tactic(auto, using(pb_helpers::proofs::LowestCode::lowest_append))]
 fn numeric(frame: &Frame, dst: Reg, src: Operand) -> Option<RuleCode>
     ensures { result ≡ lowest_code (numeric_rules frame.now dst src) }
 {
@@ -93,7 +93,7 @@ fn numeric(frame: &Frame, dst: Reg, src: Operand) -> Option<RuleCode>
 }
 
 // A move of some of the source's bits, which takes no pointer, since a part of one points nowhere.
-#[tactic(auto, using(crate::proofs::LowestCode::lowest_append))]
+#[tactic(auto, using(pb_helpers::proofs::LowestCode::lowest_append))]
 fn part_mov(frame: &Frame, dst: Reg, src: Reg) -> Option<RuleCode>
     ensures { result ≡ lowest_code (part_mov_rules frame.now dst src) }
 {
@@ -103,7 +103,7 @@ fn part_mov(frame: &Frame, dst: Reg, src: Reg) -> Option<RuleCode>
         .or(RuleCode::PointerArithmetic.when(is_pointer))
 }
 
-#[tactic(auto, using(crate::proofs::LowestCode::lowest_append))]
+#[tactic(auto, using(pb_helpers::proofs::LowestCode::lowest_append))]
 fn mov(frame: &Frame, width: Width, dst: Reg, src: Operand) -> Option<RuleCode>
     ensures { result ≡ lowest_code (mov_rules frame.now width dst src) }
 {
@@ -117,7 +117,7 @@ fn mov(frame: &Frame, width: Width, dst: Reg, src: Operand) -> Option<RuleCode>
 }
 
 // A sum or a difference. With an immediate, on 64 bits, it may move a pointer, since it is known how far.
-#[tactic(auto, using(crate::proofs::LowestCode::lowest_append))]
+#[tactic(auto, using(pb_helpers::proofs::LowestCode::lowest_append))]
 fn add(frame: &Frame, width: Width, dst: Reg, src: Operand) -> Option<RuleCode>
     ensures { result ≡ lowest_code (add_rules frame.now width dst src) }
 {
@@ -189,7 +189,7 @@ fn stores(base: Kind, offset: i16, bytes: u8) -> Option<RuleCode>
     }
 }
 
-#[tactic(auto, using(crate::proofs::LowestCode::lowest_append))]
+#[tactic(auto, using(pb_helpers::proofs::LowestCode::lowest_append))]
 fn load(
     version: Version,
     frame: &Frame,
@@ -205,7 +205,7 @@ fn load(
     reads(frame, src).or(sets(dst)).or(access)
 }
 
-#[tactic(auto, using(crate::proofs::LowestCode::lowest_append))]
+#[tactic(auto, using(pb_helpers::proofs::LowestCode::lowest_append))]
 fn store_imm(frame: &Frame, size: Size, dst: Reg, offset: i16) -> Option<RuleCode>
     requires { IsWithin (2 ^ 62) frame.now }
     ensures { result ≡ lowest_code (store_imm_rules frame.now size dst offset) }
@@ -215,7 +215,7 @@ fn store_imm(frame: &Frame, size: Size, dst: Reg, offset: i16) -> Option<RuleCod
 }
 
 // A pointer isn't stored (24), so that every load makes a number and no frame needs kinds for stack bytes.
-#[tactic(auto, using(crate::proofs::LowestCode::lowest_append))]
+#[tactic(auto, using(pb_helpers::proofs::LowestCode::lowest_append))]
 fn store(frame: &Frame, size: Size, dst: Reg, src: Reg, offset: i16) -> Option<RuleCode>
     requires { IsWithin (2 ^ 62) frame.now }
     ensures { result ≡ lowest_code (store_rules frame.now size dst src offset) }
@@ -243,7 +243,7 @@ fn jumps(program: &Program, slot: usize, offset: i16) -> Option<RuleCode>
     RuleCode::JumpIntoPair.when(program.at(target).is_none())
 }
 
-#[tactic(auto, using(crate::proofs::LowestCode::lowest_append))]
+#[tactic(auto, using(pb_helpers::proofs::LowestCode::lowest_append))]
 fn jump_if(
     program: &Program,
     slot: usize,
@@ -264,7 +264,7 @@ fn jump_if(
         .or(RuleCode::PointerCompared.when(on_pointer(frame, dst, src)))
 }
 
-#[tactic(auto, using(crate::proofs::LowestCode::lowest_append))]
+#[tactic(auto, using(pb_helpers::proofs::LowestCode::lowest_append))]
 fn exit(frame: &Frame) -> Option<RuleCode>
     ensures { result ≡ lowest_code (exit_rules frame.now) }
 {
@@ -272,7 +272,7 @@ fn exit(frame: &Frame) -> Option<RuleCode>
 }
 
 /// The lowest code of the rules that the instruction at a slot breaks.
-#[tactic(auto, using(crate::proofs::LowestCode::lowest_append))]
+#[tactic(auto, using(pb_helpers::proofs::LowestCode::lowest_append))]
 pub fn lowest_broken(
     program: &Program,
     helpers: HelperTable,
