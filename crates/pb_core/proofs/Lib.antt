@@ -1,5 +1,4 @@
 pub mod StepsKeep
 pub mod Keeps
-pub mod Nothing
 pub mod Fresh
 mod Grows

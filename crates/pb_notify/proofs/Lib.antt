@@ -14,4 +14,3 @@ pub mod PlanEntries
 pub mod OwnSteps
 pub mod Allowed
 pub mod RunsKept
-pub mod Versions

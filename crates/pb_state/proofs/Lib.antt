@@ -11,4 +11,3 @@ mod Walking
 mod SameCells
 mod SameRuns
 mod Behind
-pub mod Versions

@@ -1,1 +1,0 @@
--- Of which version the record of an accepted program is.
