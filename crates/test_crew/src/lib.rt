@@ -12,7 +12,7 @@ use std::sync::Wait;
 use std::thread::Threads;
 
 /// What workers leave who make these changes beside swaps of these spares. Where they can't begin, the table is closed.
-pub fn worked_on<R: Threads + Wait + Sync, T: Tablet + Send, G: Gate>(
+pub fn worked_on<R: Threads + Wait + Sync, T: Tablet + Send + Drop, G: Gate>(
     rt: &R,
     alloc: Global,
     shared: Shared<T>,
