@@ -82,6 +82,10 @@ COPYING_RUN = numbered("""
 
 TWO_CELLS = "del 1000 1; put 7 0 0100\n"
 
+BOTH_CELLS = "put 7 1 aa; put 7 0 2a\n"
+
+LAST_ROW = 2**64 - 1
+
 HAND_MADE = [
     story(WATCHED, ONE, "", "runs watch 0\nquiet\n"),
     story(
@@ -181,6 +185,178 @@ HAND_MADE = [
 1 step -> idle
 """)
         + "marks 0 locks 1\n",
+        "--clock",
+        "18446744073709551614",
+    ),
+    # a job that is over leaves its actor idle, and a crash then takes nothing
+    story(
+        WATCHED,
+        ONE,
+        "launch 1 change 1\nstep 1 6\ncrash 1\nstep 1\n",
+        MADE + numbered("1 step -> idle\n1 crash -> idle\n1 step -> idle", 6) + f"{CHANGED}runs watch 0\nmarks 1 locks 0\n",
+    ),
+    # a run on a cell that has no version only sweeps it
+    story(
+        WATCHED,
+        "",
+        "launch 3 run watch 7\nstep 3 4\n",
+        numbered("""
+3 launch run watch 7 -> launched
+3 begin run watch 7 -> at 1
+3 read 1 7 0 -> absent
+3 sweep 7 0 -> no mark
+3 step -> idle
+""")
+        + "runs watch 0\nquiet\n",
+    ),
+    # of two runs on one change the second meets the first's lock of the acknowledgment
+    story(
+        WATCHED,
+        ONE,
+        "launch 1 change 1\nstep 1 5\nlaunch 1 run watch 7\nlaunch 2 run watch 7\nstep 1 3\nstep 2 3\nstep 1 4\nstep 2 6\n",
+        MADE
+        + numbered(
+            """
+1 launch run watch 7 -> launched
+2 launch run watch 7 -> launched
+1 begin run watch 7 -> at 3
+1 read 3 7 0 -> found 1 2 value 2a
+1 read 3 ack watch 7 0 -> absent
+2 begin run watch 7 -> at 4
+2 read 4 7 0 -> found 1 2 value 2a
+2 read 4 ack watch 7 0 -> absent
+1 instruction 0
+1 instruction 1
+1 declare 3 run watch result 0 -> done
+1 prewrite 3 ack watch 7 0 -> done
+2 instruction 0
+2 instruction 1
+2 declare 4 run watch result 0 -> done
+2 prewrite 4 ack watch 7 0 -> conflict
+2 step -> idle
+2 step -> idle
+""",
+            6,
+        )
+        + f"{CHANGED}runs watch 0\nmarks 1 locks 1\n",
+    ),
+    # a job that crashed is gone, and its actor may be launched anew
+    story(
+        WATCHED,
+        ONE,
+        "launch 1 change 1\ncrash 1\ncrash 1\nlaunch 1 change 1\nstep 1 2\ncrash 1\nstep 1\nlaunch 1 run watch 7\nstep 1\ncrash 1\n",
+        numbered("""
+1 launch change 1 -> launched
+1 crash -> crashed
+1 crash -> idle
+1 launch change 1 -> launched
+1 begin script -> at 1
+1 declare 1 script; 7 0 value 2a -> done
+1 crash -> crashed
+1 step -> idle
+1 launch run watch 7 -> launched
+1 begin run watch 7 -> at 2
+1 crash -> crashed
+""")
+        + "runs watch 0\nquiet\n",
+    ),
+    # the main seat's steps where nothing is, on locks before the commit, and on what was lost since
+    story(
+        WATCHED,
+        BOTH_CELLS,
+        "settle 7 0\nclear 7 0\nsweep 7 0\nlaunch 1 change 1\nstep 1 4\nsettle 7 0\nclear 7 0\nsettle 7 1\nclear 7 0\nstep 1 3\n"
+        "settle ack watch 7\nclear ack watch 7\n",
+        numbered("""
+0 settle 7 0 -> absent
+0 clear 7 0 -> absent
+0 sweep 7 0 -> no mark
+1 launch change 1 -> launched
+1 begin script -> at 1
+1 declare 1 script; 7 1 value aa; 7 0 value 2a -> done
+1 prewrite 1 7 1 -> done
+1 prewrite 1 7 0 -> done
+0 settle 7 0 -> locked 1 7 1
+0 clear 7 0 -> waits
+0 settle 7 1 -> rolled back
+0 clear 7 0 -> rolled back
+1 stamp 1 -> at 2
+1 commit 1 -> lost
+1 clear 7 0 -> absent
+0 settle ack watch 7 0 -> absent
+0 clear ack watch 7 0 -> absent
+""")
+        + "runs watch 0\nquiet\n",
+    ),
+    # the main seat's steps after the primary's commit, and on a mark before and after its run
+    story(
+        WATCHED,
+        BOTH_CELLS,
+        "launch 1 change 1\nstep 1 6\nclear 7 0\nsweep 7 0\nlaunch 2 run watch 7\nstep 2 9\nsweep 7 0\n",
+        numbered("""
+1 launch change 1 -> launched
+1 begin script -> at 1
+1 declare 1 script; 7 1 value aa; 7 0 value 2a -> done
+1 prewrite 1 7 1 -> done
+1 prewrite 1 7 0 -> done
+1 stamp 1 -> at 2
+1 commit 1 -> committed
+0 clear 7 0 -> committed at 2
+0 sweep 7 0 -> still behind
+2 launch run watch 7 -> launched
+2 begin run watch 7 -> at 3
+2 read 3 7 0 -> found 1 2 value 2a
+2 read 3 ack watch 7 0 -> absent
+2 instruction 0
+2 instruction 1
+2 declare 3 run watch result 0 -> done
+2 prewrite 3 ack watch 7 0 -> done
+2 stamp 3 -> at 4
+2 commit 3 -> committed
+0 sweep 7 0 -> done
+""")
+        + f"{CHANGED}cell 7 1 commit 2 value aa\nruns watch 1\nquiet\n",
+    ),
+    # an acknowledgment of the last row has the lock of a run, which waits
+    story(
+        WATCHED,
+        f"put {LAST_ROW} 0 2a\n",
+        f"launch 1 change 1\nstep 1 5\nlaunch 2 run watch {LAST_ROW}\nstep 2 7\nclear ack watch {LAST_ROW}\nclear ack watch 7\n",
+        numbered(f"""
+1 launch change 1 -> launched
+1 begin script -> at 1
+1 declare 1 script; {LAST_ROW} 0 value 2a -> done
+1 prewrite 1 {LAST_ROW} 0 -> done
+1 stamp 1 -> at 2
+1 commit 1 -> committed
+2 launch run watch {LAST_ROW} -> launched
+2 begin run watch {LAST_ROW} -> at 3
+2 read 3 {LAST_ROW} 0 -> found 1 2 value 2a
+2 read 3 ack watch {LAST_ROW} 0 -> absent
+2 instruction 0
+2 instruction 1
+2 declare 3 run watch result 0 -> done
+2 prewrite 3 ack watch {LAST_ROW} 0 -> done
+0 clear ack watch {LAST_ROW} 0 -> waits
+0 clear ack watch 7 0 -> absent
+""")
+        + f"cell {LAST_ROW} 0 commit 2 value 2a\nruns watch 0\nmarks 1 locks 1\n",
+    ),
+    # of two actors, the last and the first, one had the last timestamp, and neither gets another
+    story(
+        WATCHED,
+        ONE,
+        "launch 1 change 1\nstep 1\nlaunch 63 change 1\nstep 63 2\nstep 1 3\n",
+        numbered("""
+1 launch change 1 -> launched
+1 begin script -> at 18446744073709551615
+63 launch change 1 -> launched
+63 begin script -> refused 40
+63 step -> idle
+1 declare 18446744073709551615 script; 7 0 value 2a -> done
+1 prewrite 18446744073709551615 7 0 -> done
+1 stamp 18446744073709551615 -> refused 40
+""")
+        + "runs watch 0\nmarks 0 locks 1\n",
         "--clock",
         "18446744073709551614",
     ),

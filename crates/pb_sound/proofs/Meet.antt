@@ -7,11 +7,14 @@ use Rattle.pb_kinds.specs.Frames.{kind_of}
 use Rattle.pb_isa.specs.Machine.{Environment, State}
 use Rattle.pb_verify.specs.Ways.{Fact, HasKind, HasByte, Says}
 use Rattle.pb_sound.specs.Fits.{Holds, FitsFrame}
-use Rattle.pb_sound.proofs.Everywhere.{number_set}
 
 -- g says no more than f
 abbrev pub SaysLess : Frame → Frame → Type 0
 SaysLess g f = (x : Fact) → Says g x → Says f x
+
+-- a number isn't unset
+pub number_set : Number ≢ Unset
+number_set e = cc
 
 stack_set : (k : ℤ) → Stack k ≢ Unset
 stack_set k e = cc
