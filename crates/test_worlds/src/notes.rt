@@ -1,35 +1,17 @@
-//! The note of every event, worked out by hand.
+//! The notes of events, worked out by hand, where the table's journal ends before the schedule, and of as many actors as there
+//! may be. Other stories are rows (checks/tables/stories.py).
 ghost use Rattle.std.specs.Prelude.{◌≡◌, ◌≤◌};
 
 use crate::worlds::{Texts, Told, replayed};
-use pb_base::{Cell, Column, Content, Row, Ts, Value};
+use pb_base::{Content, Ts, Value};
 use pb_steps::Answer;
 use pb_world::Note;
 use std::alloc::Global;
 use std::process::Abort;
 use std::rt::HostRuntime;
-use test_fixtures::{COPY, WATCH};
+use test_fixtures::WATCH;
 
-// Whether the events of a schedule, in a world of three actors, have these notes.
-fn have_notes(
-    alloc: Global,
-    manifest: &str,
-    script: &str,
-    schedule: &str,
-    wanted: &[Note],
-) -> bool {
-    let texts = Texts {
-        manifest,
-        script,
-        schedule,
-        seats: 4,
-        last: 0,
-        limit: 1000,
-    };
-    are_noted(alloc, &texts, wanted)
-}
-
-// The same of any texts.
+// Whether the events of a schedule have these notes.
 fn are_noted(alloc: Global, texts: &Texts, wanted: &[Note]) -> bool
     requires some { 1 ≤ texts.now.seats }
     requires seats { texts.now.seats ≤ 64 }
@@ -64,10 +46,6 @@ fn at(ts: u64) -> Note {
     Note::Called(Answer::At(Ts(ts)))
 }
 
-fn data(rt: &impl Abort, row: u64, column: u8) -> Cell {
-    Cell::Data(Row(row), Column::new(column).expect(rt, "a column"))
-}
-
 const DONE: Note = Note::Called(Answer::Done);
 
 const COMMITTED: Note = Note::Called(Answer::Committed);
@@ -81,197 +59,6 @@ fn first_version() -> Note {
         commit: Ts(2),
         content: Content::Value(bytes),
     })
-}
-
-#[test]
-fn a_change(rt: HostRuntime) {
-    let schedule = "launch 1 change 1\nstep 1 6\ncrash 1\nstep 1\n";
-    let wanted = [
-        Note::Launched,
-        at(1),
-        DONE,
-        DONE,
-        at(2),
-        COMMITTED,
-        Note::Idle,
-        Note::Idle,
-        Note::Idle,
-    ];
-    assert!(rt; have_notes(rt.alloc(), WATCH, "put 7 0 2a\n", schedule, &wanted));
-}
-
-// A run of the copying observer: 26 notes, 16 of them of instructions.
-#[test]
-fn a_run_that_copies(rt: HostRuntime) {
-    let schedule = "launch 1 change 1\nstep 1 5\nlaunch 2 run copy 7\nstep 2 26\nstep 2\n";
-    let mut wanted = Vec::new(rt.alloc());
-    let before = [
-        Note::Launched,
-        at(1),
-        DONE,
-        DONE,
-        at(2),
-        COMMITTED,
-        Note::Launched,
-        at(3),
-        first_version(),
-        Note::Called(Answer::Absent),
-    ];
-    wanted.extend_from_slice(&before).expect(&rt, "memory");
-    wanted
-        .extend_from_slice(&[Note::Instruction; 16])
-        .expect(&rt, "memory");
-    let after = [DONE, DONE, DONE, at(4), COMMITTED, DONE, DONE, Note::Idle];
-    wanted.extend_from_slice(&after).expect(&rt, "memory");
-    assert!(rt; have_notes(rt.alloc(), COPY, "put 7 0 2a\n", schedule, &wanted));
-}
-
-// A run on a cell that has no version, one on a cell that isn't newer, and a rival's conflict.
-#[test]
-fn runs_that_write_nothing(rt: HostRuntime) {
-    let absent = [
-        Note::Launched,
-        at(1),
-        Note::Called(Answer::Absent),
-        Note::Called(Answer::NoMark),
-        Note::Idle,
-    ];
-    let schedule = "launch 3 run watch 7\nstep 3 4\n";
-    assert!(rt; have_notes(rt.alloc(), WATCH, "", schedule, &absent));
-    let schedule =
-        "launch 1 change 1\nstep 1 5\nlaunch 1 run watch 7\nlaunch 2 run watch 7\nstep 1 3\nstep 2 3\nstep 1 4\nstep 2 6\n";
-    let rivals = [
-        Note::Launched,
-        at(1),
-        DONE,
-        DONE,
-        at(2),
-        COMMITTED,
-        Note::Launched,
-        Note::Launched,
-        at(3),
-        first_version(),
-        Note::Called(Answer::Absent),
-        at(4),
-        first_version(),
-        Note::Called(Answer::Absent),
-        Note::Instruction,
-        Note::Instruction,
-        DONE,
-        DONE,
-        Note::Instruction,
-        Note::Instruction,
-        DONE,
-        Note::Called(Answer::Conflict),
-        Note::Idle,
-        Note::Idle,
-    ];
-    assert!(rt; have_notes(rt.alloc(), WATCH, "put 7 0 2a\n", schedule, &rivals));
-}
-
-// A job that crashed is gone, and its actor may be launched anew.
-#[test]
-fn crashes(rt: HostRuntime) {
-    let schedule =
-        "launch 1 change 1\ncrash 1\ncrash 1\nlaunch 1 change 1\nstep 1 2\ncrash 1\nstep 1\nlaunch 1 run watch 7\nstep 1\ncrash 1\n";
-    let wanted = [
-        Note::Launched,
-        Note::Crashed,
-        Note::Idle,
-        Note::Launched,
-        at(1),
-        DONE,
-        Note::Crashed,
-        Note::Idle,
-        Note::Launched,
-        at(2),
-        Note::Crashed,
-    ];
-    assert!(rt; have_notes(rt.alloc(), WATCH, "put 7 0 2a\n", schedule, &wanted));
-}
-
-// The world's own steps on locks before and after a commit, and on marks.
-#[test]
-fn steps_of_the_main_seat(rt: HostRuntime) {
-    let locked = Note::Called(Answer::Locked {
-        start: Ts(1),
-        primary: data(&rt, 7, 1),
-    });
-    let schedule =
-        "settle 7 0\nclear 7 0\nsweep 7 0\nlaunch 1 change 1\nstep 1 4\nsettle 7 0\nclear 7 0\nsettle 7 1\nclear 7 0\nstep 1 3\nsettle ack watch 7\nclear ack watch 7\n";
-    let taken_back = [
-        Note::Called(Answer::Absent),
-        Note::Called(Answer::Absent),
-        Note::Called(Answer::NoMark),
-        Note::Launched,
-        at(1),
-        DONE,
-        DONE,
-        DONE,
-        locked,
-        Note::Called(Answer::Waits),
-        Note::Called(Answer::RolledBack),
-        Note::Called(Answer::RolledBack),
-        at(2),
-        Note::Called(Answer::Lost),
-        Note::Called(Answer::Absent),
-        Note::Called(Answer::Absent),
-        Note::Called(Answer::Absent),
-    ];
-    let script = "put 7 1 aa; put 7 0 2a\n";
-    assert!(rt; have_notes(rt.alloc(), WATCH, script, schedule, &taken_back));
-    let schedule =
-        "launch 1 change 1\nstep 1 6\nclear 7 0\nsweep 7 0\nlaunch 2 run watch 7\nstep 2 9\nsweep 7 0\n";
-    let committed = [
-        Note::Launched,
-        at(1),
-        DONE,
-        DONE,
-        DONE,
-        at(2),
-        COMMITTED,
-        Note::Called(Answer::CommittedAt(Ts(2))),
-        Note::Called(Answer::StillBehind),
-        Note::Launched,
-        at(3),
-        first_version(),
-        Note::Called(Answer::Absent),
-        Note::Instruction,
-        Note::Instruction,
-        DONE,
-        DONE,
-        at(4),
-        COMMITTED,
-        DONE,
-    ];
-    assert!(rt; have_notes(rt.alloc(), WATCH, script, schedule, &committed));
-}
-
-// Of an acknowledgment that has the lock of a run, which waits.
-#[test]
-fn clears_of_an_acknowledgment(rt: HostRuntime) {
-    let schedule =
-        "launch 1 change 1\nstep 1 5\nlaunch 2 run watch 18446744073709551615\nstep 2 7\nclear ack watch 18446744073709551615\nclear ack watch 7\n";
-    let wanted = [
-        Note::Launched,
-        at(1),
-        DONE,
-        DONE,
-        at(2),
-        COMMITTED,
-        Note::Launched,
-        at(3),
-        first_version(),
-        Note::Called(Answer::Absent),
-        Note::Instruction,
-        Note::Instruction,
-        DONE,
-        DONE,
-        Note::Called(Answer::Waits),
-        Note::Called(Answer::Absent),
-    ];
-    let script = "put 18446744073709551615 0 2a\n";
-    assert!(rt; have_notes(rt.alloc(), WATCH, script, schedule, &wanted));
 }
 
 // A refused step ends its actor's job, and those of the main seat change nothing.
@@ -297,25 +84,6 @@ fn refusals(rt: HostRuntime) {
         Note::Refused(44),
     ];
     assert!(rt; are_noted(rt.alloc(), &full, &wanted));
-    let late = Texts {
-        manifest: WATCH,
-        script: "put 7 0 2a\n",
-        schedule: "launch 1 change 1\nstep 1\nlaunch 63 change 1\nstep 63 2\nstep 1 3\n",
-        seats: 64,
-        last: 18446744073709551614,
-        limit: 1000,
-    };
-    let wanted = [
-        Note::Launched,
-        at(18446744073709551615),
-        Note::Launched,
-        Note::Refused(40),
-        Note::Idle,
-        DONE,
-        DONE,
-        Note::Refused(40),
-    ];
-    assert!(rt; are_noted(rt.alloc(), &late, &wanted));
 }
 
 // A journal has room for so many of the five steps of a change, and refuses the next.
