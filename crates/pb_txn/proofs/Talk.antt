@@ -36,7 +36,7 @@ cleared_more (x ∷ xs) [] y a c can = absurd c
 cleared_more (x ∷ xs) (r ∷ rs) y a c can = (c.0, c.1, cleared_more xs rs y a c.2 can)
 
 -- some way to clear them
-pub clears : List Cell → List Received
+unfoldable pub clears : List Cell → List Received
 clears [] = []
 clears (x ∷ xs) = told (Clear x) Absent ∷ clears xs
 

@@ -9,5 +9,5 @@ returns g c = (
     report = subst (IsReportIn c.args.shared.now) (sym c.as_bytes.ensures.value) c.in_ok-text.ensures;
     appended = c.in-Err.ensures.part;
   },
-  c.in-Err.ensures.failed,
+  c.in-Err.ensures.fails,
 )
