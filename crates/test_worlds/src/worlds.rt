@@ -3,7 +3,7 @@ ghost use Rattle.std.specs.Prelude.{◌≤◌, length, IfOk};
 ghost use Rattle.pb_core.specs.Calls.{AreSeats};
 ghost use Rattle.pb_base.specs.declared.limits.TheConstants.{MAX_OBSERVERS};
 
-use pb_base::{NoMemory, Out, Ts};
+use pb_base::{Batch, NoMemory, Out, Ts};
 use pb_core::{Seat, Shared};
 use pb_memtablet::ListTablet;
 use pb_parse::{Event, parse_schedule};
