@@ -13,7 +13,7 @@ from functools import cache
 
 # how many tables there are, and how many rows in all, so that a lost one is noticed
 TABLE_COUNT = 231
-ROW_COUNT = 7885
+ROW_COUNT = 7893
 
 TOO_LARGE = bytes(16_777_217)
 
