@@ -1,6 +1,7 @@
 -- What a replay leaves where a file is at fault.
-use Rattle.std.proofs.Common.{◌≡◌, refl, false, Bool, ℕ, List, [], ◌∷◌, Option, inl, inr}
+use Rattle.std.proofs.Common.{ℕ, List, [], ◌∷◌, inl, inr}
 use Rattle.pb_driver.specs.declared.fault.RunFault.{RunFault}
+use Rattle.pb_script.specs.Taking.{Taking, TookNothing}
 use Rattle.pb_command.specs.declared.fault.Fault.{Fault}
 use Rattle.pb_command.specs.declared.fault.Fault.TheVariants as faults
 use Rattle.pb_command.specs.Files.{Text, Held}
@@ -23,13 +24,13 @@ no_run before paths f (inl unread) = run_unread before paths f unread
 no_run before paths f (inr read) = run_no_text before paths f read.1
 
 -- so a file's fault is the replay's, and nothing was written
-pub file_fails : (before : Held) (manifest script schedule : Text) (clock : ℕ) (old : Option (List ℕ)) (failed : Bool) (f : Fault) → failed ≡ false → IsFileFault before (manifest ∷ script ∷ schedule ∷ []) f → ReplayFails before manifest script schedule clock old old failed f
-file_fails before m s e clock old failed (faults.Unreadable p) quiet is = (refl, quiet, is)
-file_fails before m s e clock old failed (faults.TooLarge p) quiet is = (refl, quiet, is)
-file_fails before m s e clock old failed (faults.NotText p) quiet is = (refl, quiet, is)
-file_fails before m s e clock old failed (faults.Unwritable p) quiet is = (refl, quiet, is)
-file_fails before m s e clock old failed (faults.Text t) quiet is = (refl, quiet, is)
-file_fails before m s e clock old failed (faults.Run r) quiet is = absurd (no_run before (m ∷ s ∷ e ∷ []) r is)
-file_fails before m s e clock old failed (faults.Undone ran) quiet is = (refl, quiet, is)
-file_fails before m s e clock old failed faults.Output quiet is = (refl, quiet, is)
-file_fails before m s e clock old failed faults.NoMemory quiet is = (refl, quiet, is)
+pub file_fails : (before : Held) (manifest script schedule : Text) (clock : ℕ) (out : Taking) (f : Fault) → TookNothing out → IsFileFault before (manifest ∷ script ∷ schedule ∷ []) f → ReplayFails before manifest script schedule clock out f
+file_fails before m s e clock out (faults.Unreadable p) nothing is = (nothing, is)
+file_fails before m s e clock out (faults.TooLarge p) nothing is = (nothing, is)
+file_fails before m s e clock out (faults.NotText p) nothing is = (nothing, is)
+file_fails before m s e clock out (faults.Unwritable p) nothing is = (nothing, is)
+file_fails before m s e clock out (faults.Text t) nothing is = (nothing, is)
+file_fails before m s e clock out (faults.Run r) nothing is = absurd (no_run before (m ∷ s ∷ e ∷ []) r is)
+file_fails before m s e clock out (faults.Undone ran) nothing is = (nothing, is)
+file_fails before m s e clock out faults.Output nothing is = (nothing, is)
+file_fails before m s e clock out faults.NoMemory nothing is = (nothing, is)

@@ -1,13 +1,13 @@
 -- The fault of a known program's file is told.
-use Rattle.std.proofs.Common.{◌≡◌, refl, ap, sym, subst, ◌⊎◌, ℕ, Bool, List, Option, Some, Ok, Err, inl, inr}
+use Rattle.std.proofs.Common.{◌≡◌, refl, ap, sym, subst, ◌⊎◌, ℕ, Some, Ok, Err, inl, inr}
 use Rattle.pb_isa.specs.declared.profile.Profile.{Profile}
-use Rattle.pb_helpers.specs.declared.change.Version.{Version}
 use Rattle.pb_asm.specs.Texts.{program_of_text}
 use Rattle.pb_command.specs.declared.fault.Fault.{Fault}
 use Rattle.pb_command.specs.declared.fault.Fault.TheVariants as faults
-use Rattle.pb_command.specs.Files.{Text, Held}
+use Rattle.pb_script.specs.Taking.{Taking}
+use Rattle.pb_command.specs.Files.{Text, Held, Filing}
 use Rattle.pb_command.specs.PathFaults.{IsUnreadAt}
-use Rattle.pb_command.specs.Programs.{AnswerFails, Lists, Checks, IsFaultyText, Unwritten}
+use Rattle.pb_command.specs.Programs.{Judges, AnswerFails, Lists, Checks, IsFaultyText, Unwritten}
 use Rattle.pb_command.specs.ProgramFaults.{TellsPlace, FaultyTextIsTold, KnownBytesAreAnswered}
 use Rattle.pb_command.proofs.KnownFiles.{only_memory, same_bytes, text_is_text}
 
@@ -22,51 +22,41 @@ own_place profile before input text line code told_line told_code e bad r =
     (ap (λ (x : ℕ × ℕ). x.0) same, ap (λ (x : ℕ × ℕ). x.1) same)
 
 -- a refused text makes no bytes, so none of them fail to be written
-not_assembled : (profile : Profile) (before after : Held) (input output text : Text) (line code : ℕ) → before input ≡ Some (Ok text) → program_of_text profile text ≡ Err (line, code) → Unwritten profile before after input output → ⊥
-not_assembled profile before after input output text line code e bad w =
+not_assembled : (profile : Profile) (files : Filing) (input output text : Text) (line code : ℕ) → files.before input ≡ Some (Ok text) → program_of_text profile text ≡ Err (line, code) → Unwritten profile files input output → ⊥
+not_assembled profile files input output text line code e bad w =
     let a = w.assembles in
-    let read : program_of_text profile text ≡ Ok a.program = subst (λ t. program_of_text profile t ≡ Ok a.program) (same_bytes (before input) text a.text e a.text_held) a.read in
+    let read : program_of_text profile text ≡ Ok a.program = subst (λ t. program_of_text profile t ≡ Ok a.program) (same_bytes (files.before input) text a.text e a.text_held) a.read in
     cc
 
 -- so of a refused text its place is told, or that memory was refused
 pub faulty_text_is_told : FaultyTextIsTold
-faulty_text_is_told profile before after was failed input output text line code (faults.Text f) e utf8 bad fails = own_place profile before input text line code f.line f.code e bad fails.2
-faulty_text_is_told profile before after was failed input output text line code (faults.Unreadable p) e utf8 bad fails = unread_is_none before input text line code (faults.Unreadable p) e fails.2
-faulty_text_is_told profile before after was failed input output text line code (faults.TooLarge p) e utf8 bad fails = unread_is_none before input text line code (faults.TooLarge p) e fails.2
-faulty_text_is_told profile before after was failed input output text line code (faults.NotText p) e utf8 bad fails = text_is_text (before input) text input (faults.NotText p) e utf8 fails.2
-faulty_text_is_told profile before after was failed input output text line code (faults.Unwritable p) e utf8 bad fails = not_assembled profile before after input output text line code e bad fails.1
-faulty_text_is_told profile before after was failed input output text line code (faults.Run r) e utf8 bad fails = fails.2
-faulty_text_is_told profile before after was failed input output text line code (faults.Undone r) e utf8 bad fails = fails.2
-faulty_text_is_told profile before after was failed input output text line code faults.Output e utf8 bad fails = fails.2
-faulty_text_is_told profile before after was failed input output text line code faults.NoMemory e utf8 bad fails = tt
+faulty_text_is_told profile files input output text line code (faults.Text f) e utf8 bad fails = own_place profile files.before input text line code f.line f.code e bad fails.1
+faulty_text_is_told profile files input output text line code (faults.Unreadable p) e utf8 bad fails = unread_is_none files.before input text line code (faults.Unreadable p) e fails.1
+faulty_text_is_told profile files input output text line code (faults.TooLarge p) e utf8 bad fails = unread_is_none files.before input text line code (faults.TooLarge p) e fails.1
+faulty_text_is_told profile files input output text line code (faults.NotText p) e utf8 bad fails = text_is_text (files.before input) text input (faults.NotText p) e utf8 fails.1
+faulty_text_is_told profile files input output text line code (faults.Unwritable p) e utf8 bad fails = not_assembled profile files input output text line code e bad fails.1
+faulty_text_is_told profile files input output text line code (faults.Run r) e utf8 bad fails = fails.1
+faulty_text_is_told profile files input output text line code (faults.Undone r) e utf8 bad fails = fails.1
+faulty_text_is_told profile files input output text line code faults.Output e utf8 bad fails = fails.1
+faulty_text_is_told profile files input output text line code faults.NoMemory e utf8 bad fails = tt
 
-only_output : (bytes path : Text) (old now : Option (List ℕ)) (failed : Bool) (f : Fault) → (f ≡ faults.Output) ⊎ IsUnreadAt (Some (Ok bytes)) path f → (f ≡ faults.Output) ⊎ (f ≡ faults.NoMemory)
-only_output bytes path old now failed f (inl output) = inl output
-only_output bytes path old now failed f (inr unread) = inr (only_memory (Some (Ok bytes)) bytes path f refl unread)
+only_output : (bytes path : Text) (f : Fault) → (f ≡ faults.Output) ⊎ IsUnreadAt (Some (Ok bytes)) path f → (f ≡ faults.Output) ⊎ (f ≡ faults.NoMemory)
+only_output bytes path f (inl output) = inl output
+only_output bytes path f (inr unread) = inr (only_memory (Some (Ok bytes)) bytes path f refl unread)
 
-listed : (profile : Profile) (bytes path : Text) (old now : Option (List ℕ)) (failed : Bool) (f : Fault) → AnswerFails (Lists profile) (Some (Ok bytes)) path old now failed f → (f ≡ faults.Output) ⊎ IsUnreadAt (Some (Ok bytes)) path f
-listed profile bytes path old now failed faults.Output fails = inl refl
-listed profile bytes path old now failed (faults.Unreadable p) fails = inr fails.2
-listed profile bytes path old now failed (faults.TooLarge p) fails = inr fails.2
-listed profile bytes path old now failed (faults.NotText p) fails = inr fails.2
-listed profile bytes path old now failed (faults.Unwritable p) fails = inr fails.2
-listed profile bytes path old now failed (faults.Text t) fails = inr fails.2
-listed profile bytes path old now failed (faults.Run r) fails = inr fails.2
-listed profile bytes path old now failed (faults.Undone r) fails = inr fails.2
-listed profile bytes path old now failed faults.NoMemory fails = inr fails.2
-
-checked : (profile : Profile) (version : Version) (bytes path : Text) (old now : Option (List ℕ)) (failed : Bool) (f : Fault) → AnswerFails (Checks profile version) (Some (Ok bytes)) path old now failed f → (f ≡ faults.Output) ⊎ IsUnreadAt (Some (Ok bytes)) path f
-checked profile version bytes path old now failed faults.Output fails = inl refl
-checked profile version bytes path old now failed (faults.Unreadable p) fails = inr fails.2
-checked profile version bytes path old now failed (faults.TooLarge p) fails = inr fails.2
-checked profile version bytes path old now failed (faults.NotText p) fails = inr fails.2
-checked profile version bytes path old now failed (faults.Unwritable p) fails = inr fails.2
-checked profile version bytes path old now failed (faults.Text t) fails = inr fails.2
-checked profile version bytes path old now failed (faults.Run r) fails = inr fails.2
-checked profile version bytes path old now failed (faults.Undone r) fails = inr fails.2
-checked profile version bytes path old now failed faults.NoMemory fails = inr fails.2
+-- whichever way bytes are judged, the output failed, or they weren't read
+cut_or_unread : (judges : Judges) (bytes path : Text) (out : Taking) (f : Fault) → AnswerFails judges (Some (Ok bytes)) path out f → (f ≡ faults.Output) ⊎ IsUnreadAt (Some (Ok bytes)) path f
+cut_or_unread judges bytes path out faults.Output fails = inl refl
+cut_or_unread judges bytes path out (faults.Unreadable p) fails = inr fails.1
+cut_or_unread judges bytes path out (faults.TooLarge p) fails = inr fails.1
+cut_or_unread judges bytes path out (faults.NotText p) fails = inr fails.1
+cut_or_unread judges bytes path out (faults.Unwritable p) fails = inr fails.1
+cut_or_unread judges bytes path out (faults.Text t) fails = inr fails.1
+cut_or_unread judges bytes path out (faults.Run r) fails = inr fails.1
+cut_or_unread judges bytes path out (faults.Undone r) fails = inr fails.1
+cut_or_unread judges bytes path out faults.NoMemory fails = inr fails.1
 
 -- bytes that are known are listed and checked, unless a write or memory fails
 pub known_bytes_are_answered : KnownBytesAreAnswered
-known_bytes_are_answered profile version bytes path old now failed f (inl fails) = only_output bytes path old now failed f (listed profile bytes path old now failed f fails)
-known_bytes_are_answered profile version bytes path old now failed f (inr fails) = only_output bytes path old now failed f (checked profile version bytes path old now failed f fails)
+known_bytes_are_answered profile version bytes path out f (inl fails) = only_output bytes path f (cut_or_unread (Lists profile) bytes path out f fails)
+known_bytes_are_answered profile version bytes path out f (inr fails) = only_output bytes path f (cut_or_unread (Checks profile version) bytes path out f fails)

@@ -1,11 +1,10 @@
 -- How a fault is told, byte by byte, on standard error. The functions of src/fault.rt cite these.
-use Rattle.std.specs.Prelude.{◌≡◌, ℕ, ◌+◌, ◌⊎◌, Bool, true, false, List, [], ◌++◌, codes, Option, Some, None}
+use Rattle.std.specs.Prelude.{ℕ, ◌+◌, ◌⊎◌, List, [], ◌++◌, codes, Option, Some, None}
 use Rattle.std.specs.List.{enumerate_from, flat_map}
 use Rattle.std.specs.Fmt.{decimal}
-use Rattle.std.specs.Io.KnownBytes.{Appends}
 use Rattle.pb_base.specs.declared.refusal.Refusal.{Refusal}
 use Rattle.pb_registry.specs.FaultTexts.{fault_text}
-use Rattle.pb_base.specs.Sink.{AppendsPart}
+use Rattle.pb_script.specs.Taking.{Taking, TookAll, TookPart}
 use Rattle.pb_driver.specs.declared.fault.RunFault.{RunFault}
 use Rattle.pb_driver.specs.declared.fault.RunFault.TheVariants as runs
 use Rattle.pb_driver.specs.declared.run.Ran.{Ran}
@@ -72,13 +71,9 @@ fault_lines faults.Output = codes "cannot write the output\n"
 fault_lines faults.NoMemory = codes "no memory\n"
 
 -- the text was written whole, or a beginning of it where a write failed
-abbrev pub SaysLines : List ℕ → Option (List ℕ) → Option (List ℕ) → Bool → Type 0
-SaysLines text old now failed = (Appends old now text × (failed ≡ false)) ⊎ (AppendsPart old now text × (failed ≡ true))
+abbrev pub SaysLines : List ℕ → Taking → Type 0
+SaysLines text err = TookAll err text ⊎ TookPart err text
 
 -- the fault's lines were told, or that there is no memory for them
-abbrev pub Tells : Fault → Option (List ℕ) → Option (List ℕ) → Bool → Type 0
-Tells f old now failed = SaysLines (fault_lines f) old now failed ⊎ SaysLines (codes "no memory\n") old now failed
-
--- nothing was told
-abbrev pub SaysNothing : Option (List ℕ) → Option (List ℕ) → Bool → Type 0
-SaysNothing old now failed = (now ≡ old) × (failed ≡ false)
+abbrev pub Tells : Fault → Taking → Type 0
+Tells f err = SaysLines (fault_lines f) err ⊎ SaysLines (codes "no memory\n") err

@@ -1,6 +1,6 @@
 -- What reading the paths of files answers, where that is known. Of a system's file it isn't, as another program may
 -- change it between two readings; of files in memory it is. All contracts of commands speak of this.
-use Rattle.std.specs.Prelude.{◌≡◌, ◌≢◌, ◌⊎◌, ℕ, List, Option, Some, None, Result, Err}
+use Rattle.std.specs.Prelude.{◌≡◌, ◌≢◌, ◌⊎◌, ℕ, Bool, List, Option, Some, None, Result, Err}
 use Rattle.pb_command.specs.declared.paths.PathFault.{PathFault}
 use Rattle.pb_command.specs.declared.paths.PathFault.TheVariants.{NoMemory}
 
@@ -28,3 +28,18 @@ IsFaultKnownAs known fault = (fault ≡ NoMemory) ⊎ IsKnownAs known (Err fault
 -- reading each other path answers what it answered
 abbrev pub KeepsOthers : Held → Held → Text → Type 0
 KeepsOthers before after path = (other : Text) → other ≢ path → after other ≡ before other
+
+-- what the paths held before a command and hold after it, and whether a write to one had failed and has
+pub record Filing : Type 0 where
+  pub before : Held
+  pub after : Held
+  pub was : Bool
+  pub failed : Bool
+
+-- that of paths, by what they tell of themselves
+abbrev pub filing : {P : Type 0} → (P → Held) → (P → Bool) → P → P → Filing
+filing held failed old new = record { before = held old; after = held new; was = failed old; failed = failed new }
+
+-- nothing was written to a path, nor failed to be
+abbrev pub KeepsFiles : Filing → Type 0
+KeepsFiles files = (files.after ≡ files.before) × (files.failed ≡ files.was)

@@ -1,12 +1,13 @@
 -- Where it is known what reading a program's file answers, its own fault is told: the statements of the law
 -- `known_programs_are_judged`.
-use Rattle.std.specs.Prelude.{◌≡◌, ◌⊎◌, ℕ, Bool, List, Option, Some, Ok, Err, IsUtf8}
+use Rattle.std.specs.Prelude.{◌≡◌, ◌⊎◌, ℕ, Some, Ok, Err, IsUtf8}
 use Rattle.pb_isa.specs.declared.profile.Profile.{Profile}
 use Rattle.pb_helpers.specs.declared.change.Version.{Version}
 use Rattle.pb_asm.specs.Texts.{program_of_text}
+use Rattle.pb_script.specs.Taking.{Taking}
 use Rattle.pb_command.specs.declared.fault.Fault.{Fault}
 use Rattle.pb_command.specs.declared.fault.Fault.TheVariants as faults
-use Rattle.pb_command.specs.Files.{Text, Held}
+use Rattle.pb_command.specs.Files.{Text, Filing}
 use Rattle.pb_command.specs.Programs.{AsmFails, AnswerFails, Lists, Checks}
 
 -- this tells the place of a text's fault, or that memory was refused
@@ -17,13 +18,13 @@ TellsPlace line code _ = ⊥
 
 -- of text that is known and is no program's, it is told where it is at fault
 abbrev pub FaultyTextIsTold : Type 0
-FaultyTextIsTold = (profile : Profile) (before after : Held) (was failed : Bool) (input output text : Text) (line code : ℕ) (f : Fault) →
-    before input ≡ Some (Ok text) → IsUtf8 text → program_of_text profile text ≡ Err (line, code) →
-    AsmFails profile before after was failed input output f → TellsPlace line code f
+FaultyTextIsTold = (profile : Profile) (files : Filing) (input output text : Text) (line code : ℕ) (f : Fault) →
+    files.before input ≡ Some (Ok text) → IsUtf8 text → program_of_text profile text ≡ Err (line, code) →
+    AsmFails profile files input output f → TellsPlace line code f
 
 -- of bytes that are known, nothing but the output or memory fails where they are listed or checked
 abbrev pub KnownBytesAreAnswered : Type 0
-KnownBytesAreAnswered = (profile : Profile) (version : Version) (bytes path : Text) (old now : Option (List ℕ)) (failed : Bool) (f : Fault) →
-    AnswerFails (Lists profile) (Some (Ok bytes)) path old now failed f ⊎
-    AnswerFails (Checks profile version) (Some (Ok bytes)) path old now failed f →
+KnownBytesAreAnswered = (profile : Profile) (version : Version) (bytes path : Text) (out : Taking) (f : Fault) →
+    AnswerFails (Lists profile) (Some (Ok bytes)) path out f ⊎
+    AnswerFails (Checks profile version) (Some (Ok bytes)) path out f →
     (f ≡ faults.Output) ⊎ (f ≡ faults.NoMemory)

@@ -1,8 +1,7 @@
 -- What is left where a program is assembled, listed or checked. `dis` and `check` have one shape, a verdict and its
 -- text on standard output, so they share one definition; `asm` writes a file, and a refused text of it is a fault.
-use Rattle.std.specs.Prelude.{◌≡◌, ◌≢◌, ℕ, ◌⊎◌, Bool, true, false, List, ◌++◌, codes, Option, Result, Ok, Err}
+use Rattle.std.specs.Prelude.{◌≡◌, ◌≢◌, ℕ, ◌⊎◌, true, List, ◌++◌, codes, Option, Result, Ok, Err}
 use Rattle.std.specs.Fmt.{decimal}
-use Rattle.std.specs.Io.KnownBytes.{Appends}
 use Rattle.pb_isa.specs.Slots.{slots}
 use Rattle.pb_isa.specs.declared.profile.Profile.{Profile}
 use Rattle.pb_isa.specs.Programs.{ProgramOf, JudgedOf}
@@ -14,12 +13,12 @@ use Rattle.pb_decode.specs.Faults.{AreRefusedAs}
 use Rattle.pb_asm.specs.declared.fault.AsmFault.{AsmFault}
 use Rattle.pb_asm.specs.Listing.{listing}
 use Rattle.pb_asm.specs.Texts.{program_of_text}
-use Rattle.pb_base.specs.Sink.{AppendsPart}
+use Rattle.pb_script.specs.Taking.{Taking, TookAll, TookPart, TookNothing}
 use Rattle.pb_command.specs.declared.answer.Verdict.{Verdict}
 use Rattle.pb_command.specs.declared.answer.Verdict.TheVariants.{Accepted, Refused}
 use Rattle.pb_command.specs.declared.fault.Fault.{Fault}
 use Rattle.pb_command.specs.declared.fault.Fault.TheVariants as faults
-use Rattle.pb_command.specs.Files.{Text, ReadAnswer, Held, IsKnownAs, KeepsOthers}
+use Rattle.pb_command.specs.Files.{Text, ReadAnswer, Filing, IsKnownAs, KeepsOthers, KeepsFiles}
 use Rattle.pb_command.specs.PathFaults.{IsUnreadAt, IsNoText}
 
 -- ---- assembling
@@ -33,17 +32,18 @@ pub record Assembles (profile : Profile) (input : Option ReadAnswer) (bytes : Li
   pub encoded : Encodes bytes program
 
 -- the program's bytes stand at the path for the output
-pub record Assembled (profile : Profile) (before after : Held) (input output : Text) : Type 0 where
+pub record Assembled (profile : Profile) (files : Filing) (input output : Text) : Type 0 where
   pub bytes : List ℕ
-  pub assembles : Assembles profile (before input) bytes
-  pub written : IsKnownAs (after output) (Ok bytes)
-  pub others : KeepsOthers before after output
+  pub assembles : Assembles profile (files.before input) bytes
+  pub written : IsKnownAs (files.after output) (Ok bytes)
+  pub others : KeepsOthers files.before files.after output
 
 -- the text is a program's, whose bytes could not be written
-pub record Unwritten (profile : Profile) (before after : Held) (input output : Text) : Type 0 where
+pub record Unwritten (profile : Profile) (files : Filing) (input output : Text) : Type 0 where
   pub bytes : List ℕ
-  pub assembles : Assembles profile (before input) bytes
-  pub others : KeepsOthers before after output
+  pub assembles : Assembles profile (files.before input) bytes
+  pub others : KeepsOthers files.before files.after output
+  pub failed : files.failed ≡ true
 
 -- the text that the path holds is no program's, and this is its first fault
 pub record IsFaultyText (profile : Profile) (held : Option ReadAnswer) (line code : ℕ) : Type 0 where
@@ -58,17 +58,16 @@ IsNoProgramText profile held path (faults.NotText p) = IsNoText held path (fault
 IsNoProgramText profile held path f = IsUnreadAt held path f
 
 -- Why nothing was assembled, and whether a write to a path has failed: only where one did is it told of the output.
-abbrev pub AsmFails : Profile → Held → Held → Bool → Bool → Text → Text → Fault → Type 0
-AsmFails profile before after was failed input output (faults.Unwritable p) = (p.now ≡ output) × Unwritten profile before after input output × (failed ≡ true)
-AsmFails profile before after was failed input output faults.NoMemory =
-    ((after ≡ before) × (failed ≡ was)) ⊎ (Unwritten profile before after input output × (failed ≡ true))
-AsmFails profile before after was failed input output f = (after ≡ before) × (failed ≡ was) × IsNoProgramText profile (before input) input f
+abbrev pub AsmFails : Profile → Filing → Text → Text → Fault → Type 0
+AsmFails profile files input output (faults.Unwritable p) = (p.now ≡ output) × Unwritten profile files input output
+AsmFails profile files input output faults.NoMemory = KeepsFiles files ⊎ Unwritten profile files input output
+AsmFails profile files input output f = KeepsFiles files × IsNoProgramText profile (files.before input) input f
 
 -- what `asm` leaves: OUT with the bytes, or a fault; a text is refused as a fault and no answer
-abbrev pub AsmLeaves : Profile → Held → Held → Bool → Bool → Text → Text → Result Verdict Fault → Type 0
-AsmLeaves profile before after was failed input output (Ok Accepted) = Assembled profile before after input output × (failed ≡ was)
-AsmLeaves profile before after was failed input output (Ok Refused) = ⊥
-AsmLeaves profile before after was failed input output (Err f) = AsmFails profile before after was failed input output f
+abbrev pub AsmLeaves : Profile → Filing → Text → Text → Result Verdict Fault → Type 0
+AsmLeaves profile files input output (Ok Accepted) = Assembled profile files input output × (files.failed ≡ files.was)
+AsmLeaves profile files input output (Ok Refused) = ⊥
+AsmLeaves profile files input output (Err f) = AsmFails profile files input output f
 
 -- ---- answers on bytes
 
@@ -95,33 +94,31 @@ Checks profile version bytes Accepted text = (j : JudgedOf) × IsAcceptedCode pr
 Checks profile version bytes Refused text = (slot code : ℕ) × IsRefusedCode profile version bytes all_helpers slot code × (text ≡ refusal_line slot code)
 
 -- the bytes at a path were judged so, and the whole text was written
-pub record Answered (judges : Judges) (held : Option ReadAnswer) (old now : Option (List ℕ)) (failed : Bool) (verdict : Verdict) : Type 0 where
+pub record Answered (judges : Judges) (held : Option ReadAnswer) (out : Taking) (verdict : Verdict) : Type 0 where
   pub bytes : List ℕ
   pub text : List ℕ
   pub bytes_held : IsKnownAs held (Ok bytes)
   pub judged : judges bytes verdict text
-  pub written : Appends old now text
-  pub unfailed : failed ≡ false
+  pub taken : TookAll out text
 
 -- the bytes at a path were judged, and a write failed, with a beginning of the text written
-pub record Cut (judges : Judges) (held : Option ReadAnswer) (old now : Option (List ℕ)) (failed : Bool) : Type 0 where
+pub record Cut (judges : Judges) (held : Option ReadAnswer) (out : Taking) : Type 0 where
   pub bytes : List ℕ
   pub text : List ℕ
   pub verdict : Verdict
   pub bytes_held : IsKnownAs held (Ok bytes)
   pub judged : judges bytes verdict text
-  pub part : AppendsPart old now text
-  pub unwritten : failed ≡ true
+  pub taken : TookPart out text
 
 -- why no whole answer was written: a write failed, or nothing was read and so nothing written
-abbrev pub AnswerFails : Judges → Option ReadAnswer → Text → Option (List ℕ) → Option (List ℕ) → Bool → Fault → Type 0
-AnswerFails judges held path old now failed faults.Output = Cut judges held old now failed
-AnswerFails judges held path old now failed f = (now ≡ old) × (failed ≡ false) × IsUnreadAt held path f
+abbrev pub AnswerFails : Judges → Option ReadAnswer → Text → Taking → Fault → Type 0
+AnswerFails judges held path out faults.Output = Cut judges held out
+AnswerFails judges held path out f = TookNothing out × IsUnreadAt held path f
 
 -- what a command on a program's bytes leaves, whichever way it judges
-abbrev pub AnswerLeaves : Judges → Option ReadAnswer → Text → Option (List ℕ) → Option (List ℕ) → Bool → Result Verdict Fault → Type 0
-AnswerLeaves judges held path old now failed (Ok verdict) = Answered judges held old now failed verdict
-AnswerLeaves judges held path old now failed (Err f) = AnswerFails judges held path old now failed f
+abbrev pub AnswerLeaves : Judges → Option ReadAnswer → Text → Taking → Result Verdict Fault → Type 0
+AnswerLeaves judges held path out (Ok verdict) = Answered judges held out verdict
+AnswerLeaves judges held path out (Err f) = AnswerFails judges held path out f
 
 -- the fault is one of a text that was read
 abbrev pub IsTextFault : AsmFault → Fault → Type 0

@@ -4,6 +4,8 @@ ghost use Rattle.pb_base.specs.declared.limits.TheConstants.{MAX_SEATS};
 ghost use Rattle.pb_store.specs.Contents.{nothing};
 ghost use Rattle.pb_texts.specs.CommandLines.{IsInRange, swaps_asked};
 ghost use Rattle.pb_worker.specs.Swaps.{spares_of};
+ghost use Rattle.pb_script.specs.Taking.{taking};
+ghost use Rattle.pb_command.specs.Files.{filing};
 ghost use Rattle.pb_command.specs.Commands.{IsAllDone, RunLeaves, ReplayLeaves, IsToldAs, IsSequential, Commands};
 
 use crate::answer::Verdict;
@@ -45,7 +47,7 @@ fn run_files<'a, R: Threads + Wait + Sync, T: Tablet + Send, P: Paths, O: Sink>(
     requires unfailed { O.failed out.old ≡ false }
     ensures ran { RunLeaves (P.held paths.old) manifest.now script.now workers
         (spares_of T.contents spares.items)
-        (O.taken out.old) (O.taken out.new) (O.failed out.new) result }
+        (taking O.taken O.failed out.old out.new) result }
     ensures same { P.held paths.new ≡ P.held paths.old }
     ensures quiet { P.failed paths.new ≡ P.failed paths.old }
 {
@@ -95,8 +97,7 @@ fn replay_files<'a, T: Tablet, P: Paths, O: Sink>(
     requires empty { table.contents ≡ nothing }
     requires unfailed { O.failed out.old ≡ false }
     ensures ran { ReplayLeaves (P.held paths.old) manifest.now script.now schedule.now clock.0
-        (O.taken out.old)
-        (O.taken out.new) (O.failed out.new) result }
+        (taking O.taken O.failed out.old out.new) result }
     ensures same { P.held paths.new ≡ P.held paths.old }
     ensures quiet { P.failed paths.new ≡ P.failed paths.old }
 {
@@ -130,7 +131,7 @@ pub fn status_of<'a, E: Sink>(
     err: &mut E,
 ) -> u8
     requires unfailed { E.failed err.old ≡ false }
-    ensures { IsToldAs outcome.now (E.taken err.old) (E.taken err.new) (E.failed err.new) result }
+    ensures { IsToldAs outcome.now (taking E.taken E.failed err.old err.new) result }
 {
     match outcome {
         Ok(Verdict::Accepted) => 0,
@@ -166,11 +167,9 @@ pub fn sequential_command<T: Tablet, P: Paths, O: Sink, E: Sink>(
     requires empty { table.contents ≡ nothing }
     requires out_unfailed { O.failed out.old ≡ false }
     requires err_unfailed { E.failed err.old ≡ false }
-    ensures { Commands options.now (spares_of T.contents spares.items) (P.held paths.old)
-        (P.held paths.new)
-        (P.failed paths.old) (P.failed paths.new) (O.taken out.old) (O.taken out.new)
-        (O.failed out.new)
-        (E.taken err.old) (E.taken err.new) (E.failed err.new) result }
+    ensures { Commands options.now (spares_of T.contents spares.items)
+        (filing P.held P.failed paths.old paths.new) (taking O.taken O.failed out.old out.new)
+        (taking E.taken E.failed err.old err.new) result }
 {
     // None of these commands swaps, and tablets are linear, so that the spares are ended at once.
     end_spares(spares);
@@ -230,11 +229,9 @@ pub fn command<R: Threads + Wait + Sync, T: Tablet + Send, P: Paths, O: Sink, E:
     requires empty { table.contents ≡ nothing }
     requires out_unfailed { O.failed out.old ≡ false }
     requires err_unfailed { E.failed err.old ≡ false }
-    ensures { Commands options.now (spares_of T.contents spares.items) (P.held paths.old)
-        (P.held paths.new)
-        (P.failed paths.old) (P.failed paths.new) (O.taken out.old) (O.taken out.new)
-        (O.failed out.new)
-        (E.taken err.old) (E.taken err.new) (E.failed err.new) result }
+    ensures { Commands options.now (spares_of T.contents spares.items)
+        (filing P.held P.failed paths.old paths.new) (taking O.taken O.failed out.old out.new)
+        (taking E.taken E.failed err.old err.new) result }
 {
     match options {
         Options::Run {

@@ -1,5 +1,6 @@
 //! Why a command failed, and the lines that tell it, each made whole before it is written.
 ghost use Rattle.std.specs.Prelude.{◌≡◌, ◌+◌, false, IfOk, string_bytes};
+ghost use Rattle.pb_script.specs.Taking.{taking};
 ghost use Rattle.pb_command.specs.FaultLines.{place_line, script_line, schedule_line, event_line, run_fault_line, worker_line, worker_lines, change_line, change_lines, undone_lines, fault_lines, Tells};
 ghost use Rattle.pb_command.specs.declared.fault.Fault.TheVariants as faults;
 
@@ -165,7 +166,7 @@ fn lines_of(alloc: Global, fault: &Fault) -> Result<String, AllocError>
 /// the status says it alone.
 pub fn tell<E: Sink>(alloc: Global, fault: &Fault, err: &mut E)
     requires unfailed { E.failed err.old ≡ false }
-    ensures { Tells fault.now (E.taken err.old) (E.taken err.new) (E.failed err.new) }
+    ensures { Tells fault.now (taking E.taken E.failed err.old err.new) }
 {
     let _ = match lines_of(alloc, fault) {
         Ok(lines) => err.write_all(lines.as_bytes()),

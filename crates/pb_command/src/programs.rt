@@ -1,8 +1,8 @@
 //! Programs assembled, listed and checked. A file's bytes are judged, and the text made, before any of it is written.
-ghost use Rattle.std.specs.Io.KnownBytes.{Appends};
-ghost use Rattle.std.specs.Prelude.{◌≡◌, true, false, IfOk, IfErr, string_bytes};
-ghost use Rattle.pb_base.specs.Sink.{AppendsPart};
+ghost use Rattle.std.specs.Prelude.{◌≡◌, false, IfOk, IfErr, string_bytes};
+ghost use Rattle.pb_script.specs.Taking.{taking, TookAll, TookPart};
 ghost use Rattle.pb_command.specs.declared.fault.Fault.TheVariants as faults;
+ghost use Rattle.pb_command.specs.Files.{filing};
 ghost use Rattle.pb_command.specs.PathFaults.{IsUnreadAt};
 ghost use Rattle.pb_command.specs.Programs.{IsNoProgramText, IsTextFault, IsMemoryFault};
 ghost use Rattle.pb_command.specs.declared.answer.Verdict.TheVariants as verdicts;
@@ -60,8 +60,7 @@ pub fn assemble_file<'a, P: Paths>(
     output: &'a str,
     paths: &mut P,
 ) -> Result<Verdict, Fault<'a>>
-    ensures { AsmLeaves profile (P.held paths.old) (P.held paths.new) (P.failed paths.old)
-        (P.failed paths.new)
+    ensures { AsmLeaves profile (filing P.held P.failed paths.old paths.new)
         input.now output.now result }
 {
     let bytes = bytes_of_text(alloc, profile, input, paths)?;
@@ -148,10 +147,10 @@ fn verdict_of<'a>(
 /// Writes an answer.
 pub fn write_answer<'a, O: Sink>(answer: &VerdictText, out: &mut O) -> Result<Verdict, Fault<'a>>
     requires unfailed { O.failed out.old ≡ false }
-    ensures ok { IfOk result (λ v. (v ≡ answer.now.verdict) × (O.failed out.new ≡ false)
-        × Appends (O.taken out.old) (O.taken out.new) (string_bytes answer.now.text)) }
-    ensures err { IfErr result (λ f. (f ≡ faults.Output) × (O.failed out.new ≡ true)
-        × AppendsPart (O.taken out.old) (O.taken out.new) (string_bytes answer.now.text)) }
+    ensures ok { IfOk result (λ v. (v ≡ answer.now.verdict)
+        × TookAll (taking O.taken O.failed out.old out.new) (string_bytes answer.now.text)) }
+    ensures err { IfErr result (λ f. (f ≡ faults.Output)
+        × TookPart (taking O.taken O.failed out.old out.new) (string_bytes answer.now.text)) }
 {
     match out.write_all(answer.text.as_bytes()) {
         Ok(()) => Ok(answer.verdict),
@@ -169,8 +168,7 @@ pub fn list_file<'a, P: Paths, O: Sink>(
 ) -> Result<Verdict, Fault<'a>>
     requires unfailed { O.failed out.old ≡ false }
     ensures told { AnswerLeaves (Lists profile) (P.held paths.old file.now) file.now
-        (O.taken out.old) (O.taken out.new)
-        (O.failed out.new) result }
+        (taking O.taken O.failed out.old out.new) result }
     ensures same { P.held paths.new ≡ P.held paths.old }
     ensures quiet { P.failed paths.new ≡ P.failed paths.old }
 {
@@ -191,8 +189,7 @@ pub fn check_file<'a, P: Paths, O: Sink>(
 ) -> Result<Verdict, Fault<'a>>
     requires unfailed { O.failed out.old ≡ false }
     ensures told { AnswerLeaves (Checks profile version) (P.held paths.old file.now) file.now
-        (O.taken out.old)
-        (O.taken out.new) (O.failed out.new) result }
+        (taking O.taken O.failed out.old out.new) result }
     ensures same { P.held paths.new ≡ P.held paths.old }
     ensures quiet { P.failed paths.new ≡ P.failed paths.old }
 {

@@ -1,5 +1,5 @@
 -- How a run of events ends, by what its calls answered.
-use Rattle.std.proofs.Common.{◌≡◌, ℕ, Bool, true, false, List, Option, Ok, Err, refl}
+use Rattle.std.proofs.Common.{◌≡◌, Bool, true, false, List, Ok, Err, refl}
 use Rattle.std.specs.Prelude.{◌==◌, if◌then◌else◌}
 use Rattle.std.proofs.lemmas.Bool.{eqb-false}
 use Rattle.pb_base.specs.declared.refusal.Reason.TheVariants.{NoMemory}
@@ -10,21 +10,22 @@ use Rattle.pb_world.specs.declared.note.Note.{Note}
 use Rattle.pb_world.specs.Events.{WorldOf, RunsTo, StopsAtEvent}
 use Rattle.pb_script.specs.declared.fault.ReportFault.{ReportFault}
 use Rattle.pb_script.specs.declared.fault.ReportFault.TheVariants as ends
+use Rattle.pb_script.specs.Taking.{Taking, TookNothing}
 use Rattle.pb_script.specs.TableReports.{Reports}
 use Rattle.pb_driver.specs.declared.fault.RunFault.TheVariants as faults
 use Rattle.pb_driver.specs.Texts.{of_report}
 use Rattle.pb_driver.specs.Replays.{of_event, EventsEnd}
 
-pub reported : (w : WorldOf) (es : List Event) (ns : List Note) (v : WorldOf) (old now : Option (List ℕ)) (failed : Bool) → RunsTo w es ns v → Reports v.shared old now failed (Ok tt) → EventsEnd w es old now failed (Ok tt)
-reported w es ns v old now failed r p = (record { notes = ns; after = v; runs = r; wrote = p.0 }, p.1)
+pub reported : (w : WorldOf) (es : List Event) (ns : List Note) (v : WorldOf) (out : Taking) → RunsTo w es ns v → Reports v.shared out (Ok tt) → EventsEnd w es out (Ok tt)
+reported w es ns v out r p = record { notes = ns; after = v; runs = r; wrote = p }
 
-pub cut : (w : WorldOf) (es : List Event) (ns : List Note) (v : WorldOf) (old now : Option (List ℕ)) (failed : Bool) (f : ReportFault) → RunsTo w es ns v → Reports v.shared old now failed (Err f) → EventsEnd w es old now failed (Err (of_report f))
-cut w es ns v old now failed ends.Output r p = (record { notes = ns; after = v; runs = r; began = p.0 }, p.1)
-cut w es ns v old now failed ends.NoMemory r p = p
+pub cut : (w : WorldOf) (es : List Event) (ns : List Note) (v : WorldOf) (out : Taking) (f : ReportFault) → RunsTo w es ns v → Reports v.shared out (Err f) → EventsEnd w es out (Err (of_report f))
+cut w es ns v out ends.Output r p = record { notes = ns; after = v; runs = r; began = p }
+cut w es ns v out ends.NoMemory r p = p
 
-pub stopped : (w : WorldOf) (es : List Event) (f : WorldFault) (v : WorldOf) (old : Option (List ℕ)) (failed : Bool) → failed ≡ false → StopsAtEvent w es f.event f.code v → EventsEnd w es old old failed (Err (of_event f))
-stopped w es f v old failed quiet s = by (f.code == reason_code NoMemory) refl
+pub stopped : (w : WorldOf) (es : List Event) (f : WorldFault) (v : WorldOf) (out : Taking) → TookNothing out → StopsAtEvent w es f.event f.code v → EventsEnd w es out (Err (of_event f))
+stopped w es f v out nothing s = by (f.code == reason_code NoMemory) refl
   where
-    by : (b : Bool) → (f.code == reason_code NoMemory) ≡ b → EventsEnd w es old old failed (Err (if b then faults.NoMemory else faults.Event f))
-    by true e = (refl, quiet)
-    by false e = (record { other = eqb-false f.code (reason_code NoMemory) e; after = v; stops = s }, refl, quiet)
+    by : (b : Bool) → (f.code == reason_code NoMemory) ≡ b → EventsEnd w es out (Err (if b then faults.NoMemory else faults.Event f))
+    by true e = nothing
+    by false e = (record { other = eqb-false f.code (reason_code NoMemory) e; after = v; stops = s }, nothing)

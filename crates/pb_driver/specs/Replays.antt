@@ -1,6 +1,6 @@
 -- Replays: a schedule's events in a world of a manifest's observers and a script's changes, and the report of what
 -- they left. `replay_texts` promises it; where an event is at fault, nothing is reported.
-use Rattle.std.specs.Prelude.{◌≡◌, ◌≢◌, ℕ, ◌==◌, if◌then◌else◌, Bool, true, false, List, length, Option, Result, Ok, Err}
+use Rattle.std.specs.Prelude.{◌≢◌, ℕ, ◌==◌, if◌then◌else◌, List, length, Result, Ok, Err}
 use Rattle.pb_base.specs.declared.limits.TheConstants.{MAX_SEATS}
 use Rattle.pb_base.specs.declared.refusal.Reason.TheVariants.{NoMemory}
 use Rattle.pb_base.specs.Reasons.{reason_code}
@@ -11,6 +11,7 @@ use Rattle.pb_parse.specs.declared.event.Event.{Event}
 use Rattle.pb_world.specs.declared.fault.WorldFault.{WorldFault}
 use Rattle.pb_world.specs.declared.note.Note.{Note}
 use Rattle.pb_world.specs.Events.{WorldOf, idle_actors, RunsTo, StopsAtEvent}
+use Rattle.pb_script.specs.Taking.{Taking, TookNothing}
 use Rattle.pb_script.specs.TableReports.{Wrote, Began}
 use Rattle.pb_driver.specs.declared.fault.RunFault.{RunFault}
 use Rattle.pb_driver.specs.declared.fault.RunFault.TheVariants as faults
@@ -23,18 +24,18 @@ of_event f = if f.code == reason_code NoMemory then faults.NoMemory else faults.
 -- ---- the events and their report
 
 -- the events happened, and the report of the world that they lead to was written
-pub record Reported (w : WorldOf) (events : List Event) (old now : Option (List ℕ)) : Type 0 where
+pub record Reported (w : WorldOf) (events : List Event) (out : Taking) : Type 0 where
   pub notes : List Note
   pub after : WorldOf
   pub runs : RunsTo w events notes after
-  pub wrote : Wrote after.shared old now
+  pub wrote : Wrote after.shared out
 
 -- a beginning of that report was written
-pub record BeganReport (w : WorldOf) (events : List Event) (old now : Option (List ℕ)) : Type 0 where
+pub record BeganReport (w : WorldOf) (events : List Event) (out : Taking) : Type 0 where
   pub notes : List Note
   pub after : WorldOf
   pub runs : RunsTo w events notes after
-  pub began : Began after.shared old now
+  pub began : Began after.shared out
 
 -- an event was at fault by itself
 pub record Stopped (w : WorldOf) (events : List Event) (f : WorldFault) : Type 0 where
@@ -42,39 +43,39 @@ pub record Stopped (w : WorldOf) (events : List Event) (f : WorldFault) : Type 0
   pub after : WorldOf
   pub stops : StopsAtEvent w events f.event f.code after
 
--- how a run of events in a world ended, and what the sink had taken and has taken
-abbrev pub EventsEnd : WorldOf → List Event → Option (List ℕ) → Option (List ℕ) → Bool → Result (Unit {0}) RunFault → Type 0
-EventsEnd w events old now failed (Ok u) = Reported w events old now × (failed ≡ false)
-EventsEnd w events old now failed (Err faults.Output) = BeganReport w events old now × (failed ≡ true)
-EventsEnd w events old now failed (Err (faults.Event f)) = Stopped w events f × (now ≡ old) × (failed ≡ false)
-EventsEnd w events old now failed (Err faults.NoMemory) = (now ≡ old) × (failed ≡ false)
-EventsEnd w events old now failed (Err _) = ⊥
+-- how a run of events in a world ended, and what the sink took
+abbrev pub EventsEnd : WorldOf → List Event → Taking → Result (Unit {0}) RunFault → Type 0
+EventsEnd w events out (Ok u) = Reported w events out
+EventsEnd w events out (Err faults.Output) = BeganReport w events out
+EventsEnd w events out (Err (faults.Event f)) = Stopped w events f × TookNothing out
+EventsEnd w events out (Err faults.NoMemory) = TookNothing out
+EventsEnd w events out (Err _) = ⊥
 
 -- a world of a table with all its seats, where these changes may be launched, as it is opened
 abbrev pub opened_world : SharedOf → List SeatOf → List Writes → WorldOf
 opened_world shared seats batches = record { shared = shared; seats = seats; actors = idle_actors (length seats); batches = batches }
 
 -- how events ended in the world that such a table is opened as
-abbrev pub Replays : SharedOf → List SeatOf → List Writes → List Event → Option (List ℕ) → Option (List ℕ) → Bool → Result (Unit {0}) RunFault → Type 0
-Replays shared seats batches events old now failed result = EventsEnd (opened_world shared seats batches) events old now failed result
+abbrev pub Replays : SharedOf → List SeatOf → List Writes → List Event → Taking → Result (Unit {0}) RunFault → Type 0
+Replays shared seats batches events out result = EventsEnd (opened_world shared seats batches) events out result
 
 -- ---- the whole
 
 -- The three texts are read, and the schedule's events ended so in a world of the manifest's observers and the script's
 -- changes, over the table as opened with all its seats and the clock at `last`.
-pub record ReplayedOn (manifest script schedule : List ℕ) (last : ℕ) (old now : Option (List ℕ)) (failed : Bool) (result : Result (Unit {0}) RunFault) : Type 0 where
+pub record ReplayedOn (manifest script schedule : List ℕ) (last : ℕ) (out : Taking) (result : Result (Unit {0}) RunFault) : Type 0 where
   pub observers : List ObserverOf
   pub batches : List Writes
   pub events : List Event
   pub read : IsReplayRead manifest script schedule observers batches events
   pub seats : List SeatOf
   pub seated : AreSeats (fresh observers MAX_SEATS last) seats
-  pub ends : Replays (fresh observers MAX_SEATS last) seats batches events old now failed result
+  pub ends : Replays (fresh observers MAX_SEATS last) seats batches events out result
 
--- how a replay of three texts ended, and what the sink had taken and has taken
-abbrev pub ReplaysTexts : List ℕ → List ℕ → List ℕ → ℕ → Option (List ℕ) → Option (List ℕ) → Bool → Result (Unit {0}) RunFault → Type 0
-ReplaysTexts manifest script schedule last old now failed (Ok u) = ReplayedOn manifest script schedule last old now failed (Ok u)
-ReplaysTexts manifest script schedule last old now failed (Err faults.NoMemory) = (now ≡ old) × (failed ≡ false)
-ReplaysTexts manifest script schedule last old now failed (Err faults.Output) = ReplayedOn manifest script schedule last old now failed (Err faults.Output)
-ReplaysTexts manifest script schedule last old now failed (Err (faults.Event f)) = ReplayedOn manifest script schedule last old now failed (Err (faults.Event f))
-ReplaysTexts manifest script schedule last old now failed (Err f) = IsReplayUnread manifest script schedule f × (now ≡ old) × (failed ≡ false)
+-- how a replay of three texts ended, and what the sink took
+abbrev pub ReplaysTexts : List ℕ → List ℕ → List ℕ → ℕ → Taking → Result (Unit {0}) RunFault → Type 0
+ReplaysTexts manifest script schedule last out (Ok u) = ReplayedOn manifest script schedule last out (Ok u)
+ReplaysTexts manifest script schedule last out (Err faults.NoMemory) = TookNothing out
+ReplaysTexts manifest script schedule last out (Err faults.Output) = ReplayedOn manifest script schedule last out (Err faults.Output)
+ReplaysTexts manifest script schedule last out (Err (faults.Event f)) = ReplayedOn manifest script schedule last out (Err (faults.Event f))
+ReplaysTexts manifest script schedule last out (Err f) = IsReplayUnread manifest script schedule f × TookNothing out

@@ -1,7 +1,7 @@
 -- Runs: workers make a script's changes and run a manifest's observers on them, and the report is of what they left.
 -- Threads may take their turns in any way, so it is a relation: what they leave is told by their seats and the
 -- journal. `run_texts` cites it.
-use Rattle.std.specs.Prelude.{◌≡◌, ℕ, ◌+◌, ◌-◌, Bool, true, false, List, [], length, Option, Result, Ok, Err}
+use Rattle.std.specs.Prelude.{◌≡◌, ℕ, ◌+◌, ◌-◌, List, length, Option, Result, Ok, Err}
 use Rattle.pb_base.specs.declared.refusal.Refusal.{Refusal}
 use Rattle.pb_base.specs.Batch.{Writes}
 use Rattle.pb_verify.specs.Observers.{ObserverOf}
@@ -12,6 +12,7 @@ use Rattle.pb_worker.specs.Agrees.{Agree}
 use Rattle.pb_worker.specs.Laws.{MakesChanges}
 use Rattle.pb_worker.specs.Swaps.{Spare}
 use Rattle.pb_worker.specs.Work.{WorkedOn, KeepsOpening}
+use Rattle.pb_script.specs.Taking.{Taking, TookNothing}
 use Rattle.pb_script.specs.TableReports.{Wrote, Began}
 use Rattle.pb_driver.specs.declared.fault.RunFault.{RunFault}
 use Rattle.pb_driver.specs.declared.fault.RunFault.TheVariants as faults
@@ -20,80 +21,83 @@ use Rattle.pb_driver.specs.Texts.{IsRunRead, IsRunUnread, fresh}
 
 -- ---- what workers leave
 
--- workers went over the table as it was opened, beside the swaps of these spares, and left it with these seats, refusals and
--- unfinished changes
-pub record WorkersLeave (before : SharedOf) (olds : List SeatOf) (batches : List Writes) (spares : List Spare) (table : SharedOf) (seats : List SeatOf) (refusals : List (Option Refusal)) (unfinished : List ℕ) : Type 0 where
-  pub worked : WorkedOn before.state.observers batches spares olds seats refusals unfinished
-  pub keeps : KeepsOpening before table
+-- the table, its seats, the first refusal of each, and the changes of which no try committed
+pub record Remains : Type 0 where
+  pub table : SharedOf
+  pub seats : List SeatOf
+  pub refusals : List (Option Refusal)
+  pub unfinished : List ℕ
+
+-- workers went over the table as it was opened, beside the swaps of these spares, and left this
+pub record WorkersLeave (before : SharedOf) (olds : List SeatOf) (batches : List Writes) (spares : List Spare) (left : Remains) : Type 0 where
+  pub worked : WorkedOn before.state.observers batches spares olds left.seats left.refusals left.unfinished
+  pub keeps : KeepsOpening before left.table
 
 -- Beside that, the journal is legal from the table as opened, its entries of each seat are that seat's list, and its committed
 -- script transactions are the changes that aren't named as unfinished, each once.
-pub record FinishAccepts (before : SharedOf) (olds : List SeatOf) (batches : List Writes) (spares : List Spare) (table : SharedOf) (seats : List SeatOf) (refusals : List (Option Refusal)) (unfinished : List ℕ) : Type 0 where
-  pub left : WorkersLeave before olds batches spares table seats refusals unfinished
-  pub legal : IsLegal before.state.observers before.state.seats before.opened table.journal table.state
-  pub agree : Agree table seats
-  pub made : MakesChanges table (length olds - 1) batches unfinished
+pub record FinishAccepts (before : SharedOf) (olds : List SeatOf) (batches : List Writes) (spares : List Spare) (left : Remains) : Type 0 where
+  pub leave : WorkersLeave before olds batches spares left
+  pub legal : IsLegal before.state.observers before.state.seats before.opened left.table.journal left.table.state
+  pub agree : Agree left.table left.seats
+  pub made : MakesChanges left.table (length olds - 1) batches left.unfinished
 
 -- ---- the report
 
--- how it ended for a table with these seats, and what the sink had taken and has taken
-abbrev pub Concludes : SharedOf → List SeatOf → List (Option Refusal) → List ℕ → Option (List ℕ) → Option (List ℕ) → Bool → Result Ran RunFault → Type 0
-Concludes table seats refusals unfinished old now failed (Ok ran) =
-    IsLegalTable table × Agree table seats × (ran.refusals.items ≡ refusals) × (ran.unfinished.items ≡ unfinished) × Wrote table old now × (failed ≡ false)
-Concludes table seats refusals unfinished old now failed (Err faults.Output) = IsLegalTable table × Agree table seats × Began table old now × (failed ≡ true)
-Concludes table seats refusals unfinished old now failed (Err faults.SeatsDiffer) = (Agree table seats → ⊥) × (now ≡ old) × (failed ≡ false)
-Concludes table seats refusals unfinished old now failed (Err faults.NoMemory) = (now ≡ old) × (failed ≡ false)
-Concludes table seats refusals unfinished old now failed (Err _) = ⊥
+-- this tells what is left undone
+abbrev pub TellsUndone : Ran → Remains → Type 0
+TellsUndone ran left = (ran.refusals.items ≡ left.refusals) × (ran.unfinished.items ≡ left.unfinished)
+
+-- how it ended for what was left, and what the sink took
+abbrev pub Concludes : Remains → Taking → Result Ran RunFault → Type 0
+Concludes left out (Ok ran) = IsLegalTable left.table × Agree left.table left.seats × TellsUndone ran left × Wrote left.table out
+Concludes left out (Err faults.Output) = IsLegalTable left.table × Agree left.table left.seats × Began left.table out
+Concludes left out (Err faults.SeatsDiffer) = (Agree left.table left.seats → ⊥) × TookNothing out
+Concludes left out (Err faults.NoMemory) = TookNothing out
+Concludes left out (Err _) = ⊥
 
 -- the report of what workers left was written, and what they left undone is told
-pub record Reported (before : SharedOf) (olds : List SeatOf) (batches : List Writes) (spares : List Spare) (ran : Ran) (old now : Option (List ℕ)) : Type 0 where
-  pub table : SharedOf
-  pub seats : List SeatOf
-  pub accepts : FinishAccepts before olds batches spares table seats ran.refusals.items ran.unfinished.items
-  pub wrote : Wrote table old now
+pub record Reported (before : SharedOf) (olds : List SeatOf) (batches : List Writes) (spares : List Spare) (ran : Ran) (out : Taking) : Type 0 where
+  pub left : Remains
+  pub accepts : FinishAccepts before olds batches spares left
+  pub undone : TellsUndone ran left
+  pub wrote : Wrote left.table out
 
 -- a beginning of that report was written
-pub record BeganReport (before : SharedOf) (olds : List SeatOf) (batches : List Writes) (spares : List Spare) (old now : Option (List ℕ)) : Type 0 where
-  pub table : SharedOf
-  pub seats : List SeatOf
-  pub refusals : List (Option Refusal)
-  pub unfinished : List ℕ
-  pub accepts : FinishAccepts before olds batches spares table seats refusals unfinished
-  pub began : Began table old now
+pub record BeganReport (before : SharedOf) (olds : List SeatOf) (batches : List Writes) (spares : List Spare) (out : Taking) : Type 0 where
+  pub left : Remains
+  pub accepts : FinishAccepts before olds batches spares left
+  pub began : Began left.table out
 
 -- workers left seats that aren't what the journal tells of them
 pub record Differ (before : SharedOf) (olds : List SeatOf) (batches : List Writes) (spares : List Spare) : Type 0 where
-  pub table : SharedOf
-  pub seats : List SeatOf
-  pub refusals : List (Option Refusal)
-  pub unfinished : List ℕ
-  pub left : WorkersLeave before olds batches spares table seats refusals unfinished
-  pub differ : Agree table seats → ⊥
+  pub left : Remains
+  pub leave : WorkersLeave before olds batches spares left
+  pub differ : Agree left.table left.seats → ⊥
 
--- how a run on a table as opened ended, and what the sink had taken and has taken
-abbrev pub RunsOn : SharedOf → List SeatOf → List Writes → List Spare → Option (List ℕ) → Option (List ℕ) → Bool → Result Ran RunFault → Type 0
-RunsOn before olds batches spares old now failed (Ok ran) = Reported before olds batches spares ran old now × (failed ≡ false)
-RunsOn before olds batches spares old now failed (Err faults.Output) = BeganReport before olds batches spares old now × (failed ≡ true)
-RunsOn before olds batches spares old now failed (Err faults.SeatsDiffer) = Differ before olds batches spares × (now ≡ old) × (failed ≡ false)
-RunsOn before olds batches spares old now failed (Err faults.NoMemory) = (now ≡ old) × (failed ≡ false)
-RunsOn before olds batches spares old now failed (Err _) = ⊥
+-- how a run on a table as opened ended, and what the sink took
+abbrev pub RunsOn : SharedOf → List SeatOf → List Writes → List Spare → Taking → Result Ran RunFault → Type 0
+RunsOn before olds batches spares out (Ok ran) = Reported before olds batches spares ran out
+RunsOn before olds batches spares out (Err faults.Output) = BeganReport before olds batches spares out
+RunsOn before olds batches spares out (Err faults.SeatsDiffer) = Differ before olds batches spares × TookNothing out
+RunsOn before olds batches spares out (Err faults.NoMemory) = TookNothing out
+RunsOn before olds batches spares out (Err _) = ⊥
 
 -- ---- the whole
 
 -- The two texts are read, and the run ended so over the table as opened with the manifest's observers, a seat for each worker
 -- and the main one, and the clock at `last`.
-pub record RanOn (manifest script : List ℕ) (workers last : ℕ) (spares : List Spare) (old now : Option (List ℕ)) (failed : Bool) (result : Result Ran RunFault) : Type 0 where
+pub record RanOn (manifest script : List ℕ) (workers last : ℕ) (spares : List Spare) (out : Taking) (result : Result Ran RunFault) : Type 0 where
   pub observers : List ObserverOf
   pub batches : List Writes
   pub read : IsRunRead manifest script observers batches
   pub seats : List SeatOf
   pub seated : AreSeats (fresh observers (workers + 1) last) seats
-  pub ends : RunsOn (fresh observers (workers + 1) last) seats batches spares old now failed result
+  pub ends : RunsOn (fresh observers (workers + 1) last) seats batches spares out result
 
--- how a run of two texts ended, and what the sink had taken and has taken
-abbrev pub RunsTexts : List ℕ → List ℕ → ℕ → ℕ → List Spare → Option (List ℕ) → Option (List ℕ) → Bool → Result Ran RunFault → Type 0
-RunsTexts manifest script workers last spares old now failed (Ok ran) = RanOn manifest script workers last spares old now failed (Ok ran)
-RunsTexts manifest script workers last spares old now failed (Err faults.NoMemory) = (now ≡ old) × (failed ≡ false)
-RunsTexts manifest script workers last spares old now failed (Err faults.Output) = RanOn manifest script workers last spares old now failed (Err faults.Output)
-RunsTexts manifest script workers last spares old now failed (Err faults.SeatsDiffer) = RanOn manifest script workers last spares old now failed (Err faults.SeatsDiffer)
-RunsTexts manifest script workers last spares old now failed (Err f) = IsRunUnread manifest script f × (now ≡ old) × (failed ≡ false)
+-- how a run of two texts ended, and what the sink took
+abbrev pub RunsTexts : List ℕ → List ℕ → ℕ → ℕ → List Spare → Taking → Result Ran RunFault → Type 0
+RunsTexts manifest script workers last spares out (Ok ran) = RanOn manifest script workers last spares out (Ok ran)
+RunsTexts manifest script workers last spares out (Err faults.NoMemory) = TookNothing out
+RunsTexts manifest script workers last spares out (Err faults.Output) = RanOn manifest script workers last spares out (Err faults.Output)
+RunsTexts manifest script workers last spares out (Err faults.SeatsDiffer) = RanOn manifest script workers last spares out (Err faults.SeatsDiffer)
+RunsTexts manifest script workers last spares out (Err f) = IsRunUnread manifest script f × TookNothing out

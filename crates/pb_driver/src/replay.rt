@@ -2,6 +2,7 @@
 ghost use Rattle.std.specs.Prelude.{◌≡◌, false};
 ghost use Rattle.pb_store.specs.Contents.{nothing};
 ghost use Rattle.pb_core.specs.Calls.{AreSeats};
+ghost use Rattle.pb_script.specs.Taking.{taking};
 ghost use Rattle.pb_driver.specs.Replays.{Replays, EventsEnd, ReplaysTexts};
 
 use crate::fault::RunFault;
@@ -33,8 +34,7 @@ fn run<T: Tablet, S: Sink>(
     sink: &mut S,
 ) -> Result<(), RunFault>
     requires unfailed { S.failed sink.old ≡ false }
-    ensures { EventsEnd world.old events.now (S.taken sink.old) (S.taken sink.new)
-        (S.failed sink.new) result }
+    ensures { EventsEnd world.old events.now (taking S.taken S.failed sink.old sink.new) result }
 {
     match world.run(alloc, events) {
         Ok(_notes) => match report(alloc, sink, world.shared()) {
@@ -56,9 +56,7 @@ fn run_on<T: Tablet, S: Sink>(
 ) -> Result<(), RunFault>
     requires seated { AreSeats shared seats.items }
     requires unfailed { S.failed sink.old ≡ false }
-    ensures { Replays shared seats.items batches.items events.now (S.taken sink.old)
-        (S.taken sink.new)
-        (S.failed sink.new) result }
+    ensures { Replays shared seats.items batches.items events.now (taking S.taken S.failed sink.old sink.new) result }
 {
     match World::open(alloc, shared, seats, batches) {
         Ok(world) => {
@@ -91,9 +89,7 @@ pub fn replay_texts<T: Tablet, S: Sink>(
 ) -> Result<(), RunFault>
     requires empty { table.contents ≡ nothing }
     requires unfailed { S.failed sink.old ≡ false }
-    ensures { ReplaysTexts manifest.now script.now schedule.now last.0 (S.taken sink.old)
-        (S.taken sink.new)
-        (S.failed sink.new) result }
+    ensures { ReplaysTexts manifest.now script.now schedule.now last.0 (taking S.taken S.failed sink.old sink.new) result }
 {
     let (observers, batches, events) = match read_replay(alloc, manifest, script, schedule) {
         Ok(texts) => texts,

@@ -4,6 +4,7 @@ ghost use Rattle.pb_base.specs.declared.limits.TheConstants.{MAX_SEATS};
 ghost use Rattle.pb_store.specs.Contents.{nothing};
 ghost use Rattle.pb_core.specs.Calls.{AreSeats};
 ghost use Rattle.pb_worker.specs.Swaps.{spares_of};
+ghost use Rattle.pb_script.specs.Taking.{taking};
 ghost use Rattle.pb_driver.specs.Runs.{Concludes, RunsOn, RunsTexts};
 
 use crate::fault::RunFault;
@@ -34,8 +35,13 @@ fn conclude<T: Tablet, S: Sink>(
     sink: &mut S,
 ) -> Result<Ran, RunFault>
     requires unfailed { S.failed sink.old ≡ false }
-    ensures { Concludes worked.shared worked.seats.items worked.refusals.items
-        worked.unfinished.items (S.taken sink.old) (S.taken sink.new) (S.failed sink.new) result }
+    ensures { Concludes (record {
+      table = worked.shared;
+      seats = worked.seats.items;
+      refusals = worked.refusals.items;
+      unfinished = worked.unfinished.items;
+    })
+        (taking S.taken S.failed sink.old sink.new) result }
 {
     let Worked {
         shared,
@@ -79,8 +85,7 @@ fn run_on<R: Threads + Wait + Sync, T: Tablet + Send, S: Sink>(
     requires some { 1 < vec_len seats }
     requires unfailed { S.failed sink.old ≡ false }
     ensures { RunsOn shared seats.items batches.items (spares_of T.contents spares.items)
-        (S.taken sink.old)
-        (S.taken sink.new) (S.failed sink.new) result }
+        (taking S.taken S.failed sink.old sink.new) result }
 {
     // For the proof: where the seats agree, the journal's committed changes are those that aren't named as unfinished.
     changes_are_made();
@@ -127,8 +132,7 @@ pub fn run_texts<R: Threads + Wait + Sync, T: Tablet + Send, S: Sink>(
     requires empty { table.contents ≡ nothing }
     requires unfailed { S.failed sink.old ≡ false }
     ensures { RunsTexts manifest.now script.now workers last.0 (spares_of T.contents spares.items)
-        (S.taken sink.old)
-        (S.taken sink.new) (S.failed sink.new) result }
+        (taking S.taken S.failed sink.old sink.new) result }
 {
     let (observers, batches) = match read_run(alloc, manifest, script) {
         Ok(texts) => texts,

@@ -3,4 +3,5 @@ pub mod Reports
 pub mod Committed
 pub mod Puts
 pub mod Tallies
+pub mod Taking
 pub mod TableReports

@@ -5,6 +5,7 @@ ghost use Rattle.pb_script.specs.Committed.{AreSeen, HasNewest};
 ghost use Rattle.pb_script.specs.Reports.{AreNewest};
 ghost use Rattle.pb_script.specs.declared.reports.newest.Put.{Put};
 ghost use Rattle.pb_script.specs.TableReports.{IsReportIn, Reports};
+ghost use Rattle.pb_script.specs.Taking.{taking};
 
 use crate::fault::ReportFault;
 use crate::reports::{Newest, Put, note, report_of};
@@ -120,7 +121,7 @@ pub fn report<T: Tablet, S: Sink>(
     shared: &Shared<T>,
 ) -> Result<(), ReportFault>
     requires unfailed { S.failed sink.old ≡ false }
-    ensures { Reports shared.now (S.taken sink.old) (S.taken sink.new) (S.failed sink.new) result }
+    ensures { Reports shared.now (taking S.taken S.failed sink.old sink.new) result }
 {
     let text = text_of(alloc, shared)?;
     match sink.write_all(text.as_bytes()) {

@@ -1,5 +1,5 @@
 -- How the story of a list of events grows, and how it ends.
-use Rattle.std.proofs.Common.{◌≡◌, ◌∙◌, ℕ, ◌+◌, ◌≤◌, Bool, List, [], ◌∷◌, ◌++◌, length, take, Option, Some, Ok, Err, inl, inr, refl, sym, ap, subst, arith, append_assoc, append-nil}
+use Rattle.std.proofs.Common.{◌≡◌, ◌∙◌, ℕ, ◌+◌, ◌≤◌, Bool, false, List, [], ◌∷◌, ◌++◌, length, take, Option, Some, Ok, Err, inl, inr, refl, sym, ap, subst, arith, append_assoc, append-nil}
 use Rattle.std.specs.Prelude.{slice_get}
 use Rattle.std.specs.Io.KnownBytes.{Appends}
 use Rattle.std.proofs.KnownBytes.{Appends-trans}
@@ -7,12 +7,12 @@ use Rattle.std.proofs.lemmas.List.{take_more, take_all, length-take-le}
 use Rattle.std.proofs.lemmas.Option.{slice_get_within, get_or_from_slice_get}
 use Rattle.pb_parse.specs.declared.event.Event.{Event}
 use Rattle.pb_world.specs.Events.{WorldOf}
-use Rattle.pb_base.specs.Sink.{AppendsPart}
 use Rattle.pb_script.specs.declared.fault.ReportFault.TheVariants as ends
+use Rattle.pb_script.specs.Taking.{Taking, TookAll, TookPart}
 use Rattle.pb_script.specs.TableReports.{Reports}
 use Rattle.pb_story.specs.declared.fault.StoryFault.{StoryFault}
 use Rattle.pb_story.specs.declared.fault.StoryFault.TheVariants as faults
-use Rattle.pb_story.specs.Stories.{Recounts, IsTold, IsAtFault, IsUntold, EventEnds, AreTold, LeftOff, LinesEnd, StoryEnds}
+use Rattle.pb_story.specs.Stories.{Recounts, IsTold, IsAtFault, EventEnds, AreTold, LinesEnd, StoryEnds}
 
 -- ---- one event more
 
@@ -38,77 +38,73 @@ recounts_next w es i lines v u e line is r t =
     let at : i ≡ 0 + length (take i es) = let inside = slice_get_within es i e is in let long = length-take-le i es (omega (arith, inside)) in omega (arith, long) in
     subst (λ (xs : List Event). Recounts w 0 xs (lines ++ line) u) (sym (next_is es i e is)) (recounts_more w 0 (take i es) lines v u e line r (subst (λ k. IsTold v k e u line) at t))
 
--- ---- parts
+-- ---- what a sink took, in two pieces
 
-part_after : (a b c : Option (List ℕ)) (xs ys : List ℕ) → Appends a b xs → AppendsPart b c ys → AppendsPart a c (xs ++ ys)
-part_after a b c xs ys h p = (p.0, (xs ++ p.1.0, ap (λ (z : List ℕ). xs ++ z) p.1.1 ∙ sym (append_assoc xs p.1.0 p.0), Appends-trans a b c xs p.1.0 h p.1.2))
+-- first up to the middle, and then on from there
+abbrev pub took : Option (List ℕ) → Option (List ℕ) → Bool → Taking
+took old now failed = record { before = old; after = now; failed = failed }
+
+both_took : (old mid now : Option (List ℕ)) (was failed : Bool) (xs ys : List ℕ) → TookAll (took old mid was) xs → TookAll (took mid now failed) ys → TookAll (took old now failed) (xs ++ ys)
+both_took old mid now was failed xs ys a b = (Appends-trans old mid now xs ys a.0 b.0, b.1)
+
+part_took : (old mid now : Option (List ℕ)) (was failed : Bool) (xs ys : List ℕ) → TookAll (took old mid was) xs → TookPart (took mid now failed) ys → TookPart (took old now failed) (xs ++ ys)
+part_took old mid now was failed xs ys a p =
+    let part = p.0 in
+    ((part.0, (xs ++ part.1.0, ap (λ (z : List ℕ). xs ++ z) part.1.1 ∙ sym (append_assoc xs part.1.0 part.0), Appends-trans old mid now xs part.1.0 a.0 part.1.2)), p.1)
+
+-- where nothing followed, it took what it had taken
+told_still : (w : WorldOf) (es : List Event) (v : WorldOf) (old mid now : Option (List ℕ)) (was failed : Bool) → AreTold w es v (took old mid was) → now ≡ mid → failed ≡ false → AreTold w es v (took old now failed)
+told_still w es v old mid now was failed t same quiet = record { lines = t.lines; recounts = t.recounts; taken = (subst (λ (s : Option (List ℕ)). Appends old s t.lines) (sym same) t.taken.0, quiet) }
 
 -- ---- the lines
 
 -- one more event that was told makes the told ones one more
-pub told_more : (w : WorldOf) (es : List Event) (i : ℕ) (v u : WorldOf) (e : Event) (old mid now : Option (List ℕ)) (failed : Bool)
-    → slice_get es i ≡ Some e → AreTold w (take i es) v old mid → EventEnds v i e u mid now failed (Ok tt) → AreTold w (take (i + 1) es) u old now
-told_more w es i v u e old mid now failed is t end =
-    record { lines = t.lines ++ end.0; recounts = recounts_next w es i t.lines v u e end.0 is t.recounts end.1; written = Appends-trans old mid now t.lines end.0 t.written end.2 }
-
-untold : (w : WorldOf) (es : List Event) (i : ℕ) (v u : WorldOf) (e : Event) (old now : Option (List ℕ)) → slice_get es i ≡ Some e → AreTold w (take i es) v old now → IsUntold v e u → LeftOff w es u old now
-untold w es i v u e old now is t h = record { count = i; before = v; told = t; rest = inr (e, is, h) }
+pub told_more : (w : WorldOf) (es : List Event) (i : ℕ) (v u : WorldOf) (e : Event) (old mid now : Option (List ℕ)) (was failed : Bool)
+    → slice_get es i ≡ Some e → AreTold w (take i es) v (took old mid was) → EventEnds v i e u (took mid now failed) (Ok tt) → AreTold w (take (i + 1) es) u (took old now failed)
+told_more w es i v u e old mid now was failed is t end =
+    record { lines = t.lines ++ end.0; recounts = recounts_next w es i t.lines v u e end.0 is t.recounts end.1; taken = both_took old mid now was failed t.lines end.0 t.taken end.2 }
 
 -- the first fault ends the lines
-pub told_to : (w : WorldOf) (es : List Event) (i : ℕ) (v u : WorldOf) (e : Event) (old mid now : Option (List ℕ)) (failed : Bool) (f : StoryFault)
-    → slice_get es i ≡ Some e → AreTold w (take i es) v old mid → EventEnds v i e u mid now failed (Err f) → LinesEnd w es u old now failed (Err f)
-told_to w es i v u e old mid now failed faults.Output is t end =
+pub told_to : (w : WorldOf) (es : List Event) (i : ℕ) (v u : WorldOf) (e : Event) (old mid now : Option (List ℕ)) (was failed : Bool) (f : StoryFault)
+    → slice_get es i ≡ Some e → AreTold w (take i es) v (took old mid was) → EventEnds v i e u (took mid now failed) (Err f) → LinesEnd w es u (took old now failed) (Err f)
+told_to w es i v u e old mid now was failed faults.Output is t end =
     let lines = recounts_next w es i t.lines v u e end.0 is t.recounts end.1 in
     let within : i + 1 ≤ length es = let lt = slice_get_within es i e is in omega (arith, lt) in
-    (record { count = i + 1; within = within; lines = t.lines ++ end.0; recounts = lines; written = part_after old mid now t.lines end.0 t.written end.2 }, end.3)
-told_to w es i v u e old mid now failed faults.NoMemory is t end =
-    (untold w es i v u e old now is (subst (λ (s : Option (List ℕ)). AreTold w (take i es) v old s) (sym end.1) t) end.0, end.2)
-told_to w es i v u e old mid now failed (faults.Event f) is t end =
+    record { count = i + 1; within = within; lines = t.lines ++ end.0; recounts = lines; taken = part_took old mid now was failed t.lines end.0 t.taken end.2 }
+told_to w es i v u e old mid now was failed faults.NoMemory is t end =
+    record { count = i; before = v; told = told_still w (take i es) v old mid now was failed t end.1.0 end.1.1; rest = inr (e, is, end.0) }
+told_to w es i v u e old mid now was failed (faults.Event f) is t end =
     let at : i ≡ f.event = sym end.0.0 in
     let same : v ≡ u = sym end.0.2 in
-    let told = subst (λ (s : Option (List ℕ)). AreTold w (take i es) v old s) (sym end.1) t in (
-      record {
-        told = subst (λ x. AreTold w (take f.event es) x old now) same (subst (λ k. AreTold w (take k es) v old now) at told);
-        event = e;
-        there = subst (λ k. slice_get es k ≡ Some e) at is;
-        at_fault = subst (λ x. IsAtFault x e f.code) same end.0.1;
-      },
-      end.2,
-    )
+    let told = told_still w (take i es) v old mid now was failed t end.1.0 end.1.1 in
+    record {
+      told = subst (λ x. AreTold w (take f.event es) x (took old now failed)) same (subst (λ k. AreTold w (take k es) v (took old now failed)) at told);
+      event = e;
+      there = subst (λ k. slice_get es k ≡ Some e) at is;
+      at_fault = subst (λ x. IsAtFault x e f.code) same end.0.1;
+    }
 
 -- ---- the story
 
 -- behind the lines of all events, a report that was written makes the story whole
-pub reported : (w : WorldOf) (es : List Event) (v : WorldOf) (old mid now : Option (List ℕ)) (failed : Bool) → AreTold w es v old mid → Reports v.shared mid now failed (Ok tt) → StoryEnds w es v old now failed (Ok tt)
-reported w es v old mid now failed t r = (
-  record {
-    text = t.lines ++ r.0.text;
-    story = record { lines = t.lines; recounts = t.recounts; report = r.0.text; reported = r.0.report; text_is = refl };
-    written = Appends-trans old mid now t.lines r.0.text t.written r.0.appended;
-  },
-  r.1,
-)
+pub reported : (w : WorldOf) (es : List Event) (v : WorldOf) (old mid now : Option (List ℕ)) (was failed : Bool) → AreTold w es v (took old mid was) → Reports v.shared (took mid now failed) (Ok tt) → StoryEnds w es v (took old now failed) (Ok tt)
+reported w es v old mid now was failed t r = record {
+  text = t.lines ++ r.text;
+  story = record { lines = t.lines; recounts = t.recounts; report = r.text; reported = r.report; text_is = refl };
+  taken = both_took old mid now was failed t.lines r.text t.taken r.taken;
+}
 
 -- and one that was cut short makes a beginning of it
-pub report_cut : (w : WorldOf) (es : List Event) (v : WorldOf) (old mid now : Option (List ℕ)) (failed : Bool) → AreTold w es v old mid → Reports v.shared mid now failed (Err ends.Output) → StoryEnds w es v old now failed (Err faults.Output)
-report_cut w es v old mid now failed t r = (
-  inr (record {
-    text = t.lines ++ r.0.text;
-    story = record { lines = t.lines; recounts = t.recounts; report = r.0.text; reported = r.0.report; text_is = refl };
-    written = part_after old mid now t.lines r.0.text t.written r.0.appended;
-  }),
-  r.1,
-)
+pub report_cut : (w : WorldOf) (es : List Event) (v : WorldOf) (old mid now : Option (List ℕ)) (was failed : Bool) → AreTold w es v (took old mid was) → Reports v.shared (took mid now failed) (Err ends.Output) → StoryEnds w es v (took old now failed) (Err faults.Output)
+report_cut w es v old mid now was failed t r = inr (record {
+  text = t.lines ++ r.text;
+  story = record { lines = t.lines; recounts = t.recounts; report = r.text; reported = r.report; text_is = refl };
+  taken = part_took old mid now was failed t.lines r.text t.taken r.taken;
+})
 
 -- where there is no memory for the report, all lines stand and no report follows
-pub report_unmade : (w : WorldOf) (es : List Event) (v : WorldOf) (old mid now : Option (List ℕ)) (failed : Bool) → AreTold w es v old mid → Reports v.shared mid now failed (Err ends.NoMemory) → StoryEnds w es v old now failed (Err faults.NoMemory)
-report_unmade w es v old mid now failed t r =
+pub report_unmade : (w : WorldOf) (es : List Event) (v : WorldOf) (old mid now : Option (List ℕ)) (was failed : Bool) → AreTold w es v (took old mid was) → Reports v.shared (took mid now failed) (Err ends.NoMemory) → StoryEnds w es v (took old now failed) (Err faults.NoMemory)
+report_unmade w es v old mid now was failed t r =
     let all : take (length es) es ≡ es = take_all (length es) es (omega arith) in
-    let told = subst (λ (s : Option (List ℕ)). AreTold w (take (length es) es) v old s) (sym r.0) (subst (λ (xs : List Event). AreTold w xs v old mid) (sym all) t) in
-    (record { count = length es; before = v; told = told; rest = inl (refl, refl) }, r.1)
-
--- lines that ended early are a story that did
-pub lines_cut : (w : WorldOf) (es : List Event) (v : WorldOf) (old now : Option (List ℕ)) (failed : Bool) (f : StoryFault) → LinesEnd w es v old now failed (Err f) → StoryEnds w es v old now failed (Err f)
-lines_cut w es v old now failed faults.Output h = (inl h.0, h.1)
-lines_cut w es v old now failed faults.NoMemory h = h
-lines_cut w es v old now failed (faults.Event f) h = h
+    let told = told_still w es v old mid now was failed t r.0 r.1 in
+    record { count = length es; before = v; told = subst (λ (xs : List Event). AreTold w xs v (took old now failed)) (sym all) told; rest = inl (refl, refl) }

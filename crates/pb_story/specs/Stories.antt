@@ -1,14 +1,13 @@
 -- Stories: the lines of a list of events, and how they are written. A line is written at once, so a story that ends
 -- early has lines of the first events; each ending says which. `tell_story` promises it.
-use Rattle.std.specs.Prelude.{◌≡◌, ℕ, ◌+◌, ◌≤◌, ◌⊎◌, Bool, true, false, List, [], ◌∷◌, ◌++◌, length, take, Option, Some, slice_get, Result, Ok, Err}
-use Rattle.std.specs.Io.KnownBytes.{Appends}
+use Rattle.std.specs.Prelude.{◌≡◌, ℕ, ◌+◌, ◌≤◌, ◌⊎◌, List, [], ◌∷◌, ◌++◌, length, take, Some, slice_get, Result, Ok, Err}
 use Rattle.pb_parse.specs.declared.event.Event.{Event}
 use Rattle.pb_world.specs.declared.fault.EventFault.{EventFault}
 use Rattle.pb_world.specs.declared.fault.WorldFault.{WorldFault}
 use Rattle.pb_world.specs.declared.note.Note.{Note}
 use Rattle.pb_world.specs.Faults.{fault_code}
 use Rattle.pb_world.specs.Events.{WorldOf, fault_of, Happens}
-use Rattle.pb_base.specs.Sink.{AppendsPart}
+use Rattle.pb_script.specs.Taking.{Taking, TookAll, TookPart, TookNothing}
 use Rattle.pb_script.specs.TableReports.{IsReportIn}
 use Rattle.pb_story.specs.declared.fault.StoryFault.{StoryFault}
 use Rattle.pb_story.specs.declared.fault.StoryFault.TheVariants as faults
@@ -46,32 +45,32 @@ IsEventFault w number e v faults.Output = ⊥
 abbrev pub IsUntold : WorldOf → Event → WorldOf → Type 0
 IsUntold w e v = (v ≡ w) ⊎ ((n : Note) × Happens w e n v)
 
--- what the sink had taken and has taken: a line, a beginning of it where a write failed, or else nothing
-abbrev pub EventEnds : WorldOf → ℕ → Event → WorldOf → Option (List ℕ) → Option (List ℕ) → Bool → Result (Unit {0}) StoryFault → Type 0
-EventEnds w number e v old now failed (Ok _) = (line : List ℕ) × IsTold w number e v line × Appends old now line × (failed ≡ false)
-EventEnds w number e v old now failed (Err faults.Output) = (line : List ℕ) × IsTold w number e v line × AppendsPart old now line × (failed ≡ true)
-EventEnds w number e v old now failed (Err (faults.Event f)) = IsEventFault w number e v (faults.Event f) × (now ≡ old) × (failed ≡ false)
-EventEnds w number e v old now failed (Err faults.NoMemory) = IsUntold w e v × (now ≡ old) × (failed ≡ false)
+-- what the sink took: a line, a beginning of it where a write failed, or else nothing
+abbrev pub EventEnds : WorldOf → ℕ → Event → WorldOf → Taking → Result (Unit {0}) StoryFault → Type 0
+EventEnds w number e v out (Ok _) = (line : List ℕ) × IsTold w number e v line × TookAll out line
+EventEnds w number e v out (Err faults.Output) = (line : List ℕ) × IsTold w number e v line × TookPart out line
+EventEnds w number e v out (Err (faults.Event f)) = IsEventFault w number e v (faults.Event f) × TookNothing out
+EventEnds w number e v out (Err faults.NoMemory) = IsUntold w e v × TookNothing out
 
 -- ---- how all were told
 
 -- the lines of all events were written
-pub record AreTold (w : WorldOf) (es : List Event) (v : WorldOf) (old now : Option (List ℕ)) : Type 0 where
+pub record AreTold (w : WorldOf) (es : List Event) (v : WorldOf) (out : Taking) : Type 0 where
   pub lines : List ℕ
   pub recounts : Recounts w 0 es lines v
-  pub written : Appends old now lines
+  pub taken : TookAll out lines
 
 -- the first so many events happened, and a beginning of their lines was written
-pub record BeganLines (w : WorldOf) (es : List Event) (v : WorldOf) (old now : Option (List ℕ)) : Type 0 where
+pub record BeganLines (w : WorldOf) (es : List Event) (v : WorldOf) (out : Taking) : Type 0 where
   pub count : ℕ
   pub within : count ≤ length es
   pub lines : List ℕ
   pub recounts : Recounts w 0 (take count es) lines v
-  pub written : AppendsPart old now lines
+  pub taken : TookPart out lines
 
 -- an event was at fault by itself, and the lines of those before it were written
-pub record Stopped (w : WorldOf) (es : List Event) (v : WorldOf) (f : WorldFault) (old now : Option (List ℕ)) : Type 0 where
-  pub told : AreTold w (take f.event es) v old now
+pub record Stopped (w : WorldOf) (es : List Event) (v : WorldOf) (f : WorldFault) (out : Taking) : Type 0 where
+  pub told : AreTold w (take f.event es) v out
   pub event : Event
   pub there : slice_get es f.event ≡ Some event
   pub at_fault : IsAtFault v event f.code
@@ -81,18 +80,18 @@ abbrev pub IsUntoldAt : WorldOf → List Event → ℕ → WorldOf → Type 0
 IsUntoldAt w es number v = (e : Event) × (slice_get es number ≡ Some e) × IsUntold w e v
 
 -- memory was refused, and the lines of the first so many events were written: of all, or of those before one that is untold
-pub record LeftOff (w : WorldOf) (es : List Event) (v : WorldOf) (old now : Option (List ℕ)) : Type 0 where
+pub record LeftOff (w : WorldOf) (es : List Event) (v : WorldOf) (out : Taking) : Type 0 where
   pub count : ℕ
   pub before : WorldOf
-  pub told : AreTold w (take count es) before old now
+  pub told : AreTold w (take count es) before out
   pub rest : ((count ≡ length es) × (v ≡ before)) ⊎ IsUntoldAt before es count v
 
 -- how the lines ended, before any report: all of them, or up to a write, an event or a growth that failed
-abbrev pub LinesEnd : WorldOf → List Event → WorldOf → Option (List ℕ) → Option (List ℕ) → Bool → Result (Unit {0}) StoryFault → Type 0
-LinesEnd w es v old now failed (Ok _) = AreTold w es v old now × (failed ≡ false)
-LinesEnd w es v old now failed (Err faults.Output) = BeganLines w es v old now × (failed ≡ true)
-LinesEnd w es v old now failed (Err (faults.Event f)) = Stopped w es v f old now × (failed ≡ false)
-LinesEnd w es v old now failed (Err faults.NoMemory) = LeftOff w es v old now × (failed ≡ false)
+abbrev pub LinesEnd : WorldOf → List Event → WorldOf → Taking → Result (Unit {0}) StoryFault → Type 0
+LinesEnd w es v out (Ok _) = AreTold w es v out
+LinesEnd w es v out (Err faults.Output) = BeganLines w es v out
+LinesEnd w es v out (Err (faults.Event f)) = Stopped w es v f out
+LinesEnd w es v out (Err faults.NoMemory) = LeftOff w es v out
 
 -- ---- the story of events in a world: their lines, and then the report of what they left
 
@@ -105,20 +104,20 @@ pub record IsStory (w : WorldOf) (es : List Event) (v : WorldOf) (text : List �
   pub text_is : text ≡ lines ++ report
 
 -- the story was written whole
-pub record WroteStory (w : WorldOf) (es : List Event) (v : WorldOf) (old now : Option (List ℕ)) : Type 0 where
+pub record WroteStory (w : WorldOf) (es : List Event) (v : WorldOf) (out : Taking) : Type 0 where
   pub text : List ℕ
   pub story : IsStory w es v text
-  pub written : Appends old now text
+  pub taken : TookAll out text
 
 -- a beginning of the story was written
-pub record BeganStory (w : WorldOf) (es : List Event) (v : WorldOf) (old now : Option (List ℕ)) : Type 0 where
+pub record BeganStory (w : WorldOf) (es : List Event) (v : WorldOf) (out : Taking) : Type 0 where
   pub text : List ℕ
   pub story : IsStory w es v text
-  pub written : AppendsPart old now text
+  pub taken : TookPart out text
 
--- how a story ended, to which world the events led, and what the sink had taken and has taken
-abbrev pub StoryEnds : WorldOf → List Event → WorldOf → Option (List ℕ) → Option (List ℕ) → Bool → Result (Unit {0}) StoryFault → Type 0
-StoryEnds w es v old now failed (Ok _) = WroteStory w es v old now × (failed ≡ false)
-StoryEnds w es v old now failed (Err faults.Output) = (BeganLines w es v old now ⊎ BeganStory w es v old now) × (failed ≡ true)
-StoryEnds w es v old now failed (Err (faults.Event f)) = Stopped w es v f old now × (failed ≡ false)
-StoryEnds w es v old now failed (Err faults.NoMemory) = LeftOff w es v old now × (failed ≡ false)
+-- how a story ended, to which world the events led, and what the sink took
+abbrev pub StoryEnds : WorldOf → List Event → WorldOf → Taking → Result (Unit {0}) StoryFault → Type 0
+StoryEnds w es v out (Ok _) = WroteStory w es v out
+StoryEnds w es v out (Err faults.Output) = BeganLines w es v out ⊎ BeganStory w es v out
+StoryEnds w es v out (Err (faults.Event f)) = Stopped w es v f out
+StoryEnds w es v out (Err faults.NoMemory) = LeftOff w es v out

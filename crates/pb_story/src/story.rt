@@ -2,6 +2,7 @@
 //! that a replay makes, so that there is no second way for events to happen.
 ghost use Rattle.std.specs.Prelude.{◌≡◌, false, IfOk, IfErr};
 ghost use Rattle.pb_world.specs.Events.{Happens};
+ghost use Rattle.pb_script.specs.Taking.{taking};
 ghost use Rattle.pb_story.specs.Stories.{IsEventFault, EventEnds, LinesEnd, StoryEnds};
 
 use crate::fault::StoryFault;
@@ -48,9 +49,8 @@ fn tell_event<T: Tablet, S: Sink>(
     sink: &mut S,
 ) -> Result<(), StoryFault>
     requires unfailed { S.failed sink.old ≡ false }
-    ensures { EventEnds world.old number event.now world.new (S.taken sink.old) (S.taken sink.new)
-        (S.failed sink.new)
-        result }
+    ensures { EventEnds world.old number event.now world.new
+        (taking S.taken S.failed sink.old sink.new) result }
 {
     // Before the event, since what it does is told of the world before it.
     let mut line = open_line(alloc, world, number, event)?;
@@ -70,8 +70,8 @@ fn tell_events<T: Tablet, S: Sink>(
     sink: &mut S,
 ) -> Result<(), StoryFault>
     requires unfailed { S.failed sink.old ≡ false }
-    ensures { LinesEnd world.old events.now world.new (S.taken sink.old) (S.taken sink.new)
-        (S.failed sink.new) result }
+    ensures { LinesEnd world.old events.now world.new
+        (taking S.taken S.failed sink.old sink.new) result }
 {
     for number in 0..events.len() {
         tell_event(alloc, world, number, &events[number], sink)?;
@@ -91,9 +91,8 @@ pub fn tell_story<T: Tablet, S: Sink>(
     sink: &mut S,
 ) -> Result<(), StoryFault>
     requires unfailed { S.failed sink.old ≡ false }
-    ensures { StoryEnds world.old events.now world.new (S.taken sink.old) (S.taken sink.new)
-        (S.failed sink.new)
-        result }
+    ensures { StoryEnds world.old events.now world.new
+        (taking S.taken S.failed sink.old sink.new) result }
 {
     tell_events(alloc, world, events, sink)?;
     match report(alloc, sink, world.shared()) {

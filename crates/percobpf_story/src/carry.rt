@@ -2,6 +2,8 @@
 //! that return.
 ghost use Rattle.std.specs.Prelude.{◌≡◌, false};
 ghost use Rattle.pb_store.specs.Contents.{nothing};
+ghost use Rattle.pb_script.specs.Taking.{taking};
+ghost use Rattle.pb_command.specs.Files.{filing};
 ghost use Rattle.percobpf_story.specs.Commands.{TellLeaves, StoryCommands};
 
 use crate::frames::frames_file;
@@ -26,8 +28,7 @@ fn tell_files<'a, T: Tablet, P: Paths, O: Sink>(
     requires empty { table.contents ≡ nothing }
     requires unfailed { O.failed out.old ≡ false }
     ensures told { TellLeaves (P.held paths.old) manifest.now script.now schedule.now clock.0
-        (O.taken out.old)
-        (O.taken out.new) (O.failed out.new) result }
+        (taking O.taken O.failed out.old out.new) result }
     ensures same { P.held paths.new ≡ P.held paths.old }
     ensures quiet { P.failed paths.new ≡ P.failed paths.old }
 {
@@ -70,10 +71,8 @@ pub fn story_command<T: Tablet, P: Paths, O: Sink, E: Sink>(
     requires empty { table.contents ≡ nothing }
     requires out_unfailed { O.failed out.old ≡ false }
     requires err_unfailed { E.failed err.old ≡ false }
-    ensures { StoryCommands options.now (P.held paths.old) (P.held paths.new) (P.failed paths.old)
-        (P.failed paths.new)
-        (O.taken out.old) (O.taken out.new) (O.failed out.new) (E.taken err.old) (E.taken err.new)
-        (E.failed err.new)
+    ensures { StoryCommands options.now (filing P.held P.failed paths.old paths.new)
+        (taking O.taken O.failed out.old out.new) (taking E.taken E.failed err.old err.new)
         result }
 {
     let outcome = match options {

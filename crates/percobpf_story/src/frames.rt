@@ -1,5 +1,6 @@
 //! What is known before each slot of a file's program, told as `dis` and `check` tell theirs: a verdict and its text.
 ghost use Rattle.std.specs.Prelude.{◌≡◌, false, IfOk, IfErr, string_bytes};
+ghost use Rattle.pb_script.specs.Taking.{taking};
 ghost use Rattle.pb_command.specs.Programs.{IsMemoryFault, AnswerLeaves};
 ghost use Rattle.percobpf_story.specs.Frames.{KnowsFrames};
 
@@ -39,8 +40,7 @@ pub fn frames_file<'a, P: Paths, O: Sink>(
 ) -> Result<Verdict, Fault<'a>>
     requires unfailed { O.failed out.old ≡ false }
     ensures told { AnswerLeaves (KnowsFrames profile) (P.held paths.old file.now) file.now
-        (O.taken out.old)
-        (O.taken out.new) (O.failed out.new) result }
+        (taking O.taken O.failed out.old out.new) result }
     ensures same { P.held paths.new ≡ P.held paths.old }
     ensures quiet { P.failed paths.new ≡ P.failed paths.old }
 {

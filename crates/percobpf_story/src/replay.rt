@@ -3,6 +3,7 @@
 ghost use Rattle.std.specs.Prelude.{◌≡◌, false};
 ghost use Rattle.pb_store.specs.Contents.{nothing};
 ghost use Rattle.pb_core.specs.Calls.{AreSeats};
+ghost use Rattle.pb_script.specs.Taking.{taking};
 ghost use Rattle.pb_driver.specs.Replays.{opened_world};
 ghost use Rattle.percobpf_story.specs.Replays.{of_story, StoryEndsFrom, TellsTexts};
 
@@ -38,8 +39,7 @@ fn tell_on<T: Tablet, S: Sink>(
     requires seated { AreSeats shared seats.items }
     requires unfailed { S.failed sink.old ≡ false }
     ensures { StoryEndsFrom (opened_world shared seats.items batches.items) events.now
-        (S.taken sink.old)
-        (S.taken sink.new) (S.failed sink.new) result }
+        (taking S.taken S.failed sink.old sink.new) result }
 {
     match World::open(alloc, shared, seats, batches) {
         Ok(world) => {
@@ -73,9 +73,8 @@ pub fn tell_texts<T: Tablet, S: Sink>(
 ) -> Result<(), RunFault>
     requires empty { table.contents ≡ nothing }
     requires unfailed { S.failed sink.old ≡ false }
-    ensures { TellsTexts manifest.now script.now schedule.now last.0 (S.taken sink.old)
-        (S.taken sink.new)
-        (S.failed sink.new) result }
+    ensures { TellsTexts manifest.now script.now schedule.now last.0
+        (taking S.taken S.failed sink.old sink.new) result }
 {
     let (observers, batches, events) = match read_replay(alloc, manifest, script, schedule) {
         Ok(texts) => texts,

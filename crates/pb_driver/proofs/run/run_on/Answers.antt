@@ -1,5 +1,6 @@
 use Rattle.std.proofs.Common.{arith}
 use Rattle.pb_worker.specs.Swaps.{spares_of}
+use Rattle.pb_script.specs.Taking.{taking}
 use Rattle.pb_driver.proofs.RunEndings.{concluded}
 use Rattle.pb_driver.proofs.run.run_on.Goals as goal
 
@@ -8,5 +9,5 @@ returns-in-Ok g c =
     let w = c.in-Ok.worked in
     concluded c.changes_are_made.ensures c.args.shared c.args.seats.items c.args.batches.items (spares_of g.T.Tablet.contents c.args.spares.items)
     c.requires.fresh c.requires.seated (omega (arith, c.requires.some, c.args.seats.ok))
-    w.shared w.seats.items w.refusals.items w.unfinished.items (record { worked = c.in-Ok.ensures.worked; keeps = c.in-Ok.ensures.table })
-    (g.S.Sink.taken c.args.sink.now) (g.S.Sink.taken c.conclude.new.sink) (g.S.Sink.failed c.conclude.new.sink) c.conclude.result c.conclude.ensures
+    (record { table = w.shared; seats = w.seats.items; refusals = w.refusals.items; unfinished = w.unfinished.items }) (record { worked = c.in-Ok.ensures.worked; keeps = c.in-Ok.ensures.table })
+    (taking g.S.Sink.taken g.S.Sink.failed c.args.sink.now c.conclude.new.sink) c.conclude.result c.conclude.ensures

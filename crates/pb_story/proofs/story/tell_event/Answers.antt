@@ -14,4 +14,4 @@ returns g c =
       is_line = record { opening = string_bytes c.in_ok-line.line; opens = c.in_ok-line.ensures; text_is = ended };
     } in
     let part = subst (AppendsPart (g.S.Sink.taken c.args.sink.now) (g.S.Sink.taken c.write_all.new.self)) c.as_bytes.ensures.value c.in-Err.ensures.part in
-    (line, told, part, c.in-Err.ensures.fails)
+    (line, told, (part, c.in-Err.ensures.fails))

@@ -2,4 +2,4 @@ use Rattle.std.proofs.Common.{inl, refl}
 use Rattle.percobpf_story.proofs.carry.tell_files.Goals as goal
 
 pub returns-clause-told : goal.returns-clause-told
-returns-clause-told g c = inl (c.in-Err.ensures.fault, refl, c.requires.unfailed)
+returns-clause-told g c = inl (c.in-Err.ensures.fault, (refl, c.requires.unfailed))
