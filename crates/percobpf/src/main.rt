@@ -8,7 +8,8 @@
 //! does what the words ask. Here the tablets are made, and the words taken from the system.
 #![tactic(auto)]
 
-ghost use Rattle.std.specs.Prelude.{◌≡◌, vec_len};
+ghost use Rattle.std.specs.Prelude.{◌≡◌, ◌∷◌, [], vec_len};
+ghost use Rattle.pb_store.specs.TableOf.{firsts_of};
 ghost use Rattle.pb_texts.specs.CommandLines.{IsInRange, swaps_asked};
 
 mod tablets;
@@ -46,8 +47,9 @@ fn end_all<T: Tablet>(mut parts: Vec<(Row, T)>) {
     parts.destroy_empty();
 }
 
-// Carries out a command over the real files, on a table of these tablets and with these spares, with workers in
-// threads of this handle. Its contract doesn't know the tablets' rows, so that a table which is refused is told too.
+// Carries out a command over the real files, on a table of these tablets, whose rows begin at 0 and at 1,000, and with these
+// spares, with workers in threads of this handle. What is in the tablets isn't known here, so that a table which is refused is
+// told too.
 fn carry_out<R: Threads + Wait + Sync, T: Tablet + Send>(
     threads: &R,
     rt: &HostRuntime,
@@ -56,6 +58,7 @@ fn carry_out<R: Threads + Wait + Sync, T: Tablet + Send>(
     spares: Vec<(usize, T)>,
 ) -> u8
     requires range { IsInRange options.now }
+    requires rows { firsts_of parts.items ≡ 0 ∷ 1000 ∷ [] }
     requires spares { vec_len spares ≡ swaps_asked options.now }
 {
     match Table::new(parts) {
