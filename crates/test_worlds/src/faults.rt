@@ -1,12 +1,13 @@
-//! Events that can't happen, and what is run after them.
+//! Events that can't happen, and what is run after them; and what faults of texts and reports are told as.
 ghost use Rattle.std.specs.Prelude.{◌≡◌, ◌≤◌};
 
 use crate::worlds::{Texts, Told, each};
 use pb_base::{NoMemory, ObserverNo, Row, Ts};
-use pb_parse::{Event, Job};
+use pb_parse::{Event, Job, ScriptFault};
+use pb_script::ReportFault;
 use pb_steps::Answer;
 use pb_world::Note;
-use std::alloc::Global;
+use std::alloc::{AllocError, Global};
 use std::rt::HostRuntime;
 use test_fixtures::WATCH;
 
@@ -109,4 +110,16 @@ fn worlds_go_on_after_a_fault(rt: HostRuntime) {
     assert!(rt; are_notes(&answers, 1, &second));
     assert!(rt; is_fault(&answers, 2, 0, 61));
     assert!(rt; are_notes(&answers, 3, &[Note::Crashed, Note::Launched]));
+}
+
+#[test]
+fn faults_are_told_as_text(rt: HostRuntime) -> Result<(), AllocError> {
+    let alloc = rt.alloc();
+    let line = ScriptFault { line: 7, code: 72 };
+    assert!(rt; format!(in alloc; "{line}")?.as_str() == "line 7 code 72");
+    let output = ReportFault::Output;
+    assert!(rt; format!(in alloc; "{output}")?.as_str() == "cannot write the output");
+    let memory = ReportFault::NoMemory;
+    assert!(rt; format!(in alloc; "{memory}")?.as_str() == "no memory");
+    Ok(())
 }
