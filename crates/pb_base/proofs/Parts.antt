@@ -1,13 +1,11 @@
-use Rattle.std.proofs.Common.{◌≡◌, ◌≢◌, ℕ, zero, suc, Bool, true, false, Ok, List, [], ◌++◌, Option, take, drop, refl, sym, ap, subst, ◌∙◌, append_assoc}
-use Rattle.std.specs.Io.KnownBytes.{Appends, Keeps}
-use Rattle.std.proofs.KnownBytes.{Appends-nil, Appends-trans, Appends-kept}
-use Rattle.std.proofs.lemmas.List.{take-append-drop, append-nil}
+-- How far a text is written, write by write.
+use Rattle.std.proofs.Common.{◌≡◌, ◌≢◌, ℕ, zero, suc, Bool, true, false, Ok, List, ◌++◌, Option, take, drop, refl, sym, ap, subst, ◌∙◌, append_assoc}
+use Rattle.std.specs.Io.KnownBytes.{Appends}
+use Rattle.std.proofs.KnownBytes.{Appends-trans}
+use Rattle.std.proofs.lemmas.List.{take-append-drop}
 use Rattle.std.specs.Prelude.{◌||◌, ◌&&◌}
 use Rattle.pb_base.specs.declared.sink.SinkFault.{SinkFault}
-use Rattle.pb_base.specs.Sink.{took_none, IsPart, AppendsPart}
-
-pub begins : (old : Option (List ℕ)) (bytes : List ℕ) → IsPart old old bytes bytes
-begins old bytes = ([], refl, Appends-nil old)
+use Rattle.pb_base.specs.Sink.{took_none, IsPart}
 
 pub goes_on : (old now new : Option (List ℕ)) (bytes rest : List ℕ) (n : ℕ) → IsPart old now bytes rest → Appends now new (take n rest) → IsPart old new bytes (drop n rest)
 goes_on old now new bytes rest n h e =
@@ -15,15 +13,6 @@ goes_on old now new bytes rest n h e =
 
 pub goes_to : (old now new : Option (List ℕ)) (bytes rest left : List ℕ) (n : ℕ) → IsPart old now bytes rest → Appends now new (take n rest) → left ≡ drop n rest → IsPart old new bytes left
 goes_to old now new bytes rest left n h e is = subst (IsPart old new bytes) (sym is) (goes_on old now new bytes rest n h e)
-
-pub stays : (old now new : Option (List ℕ)) (bytes rest : List ℕ) → IsPart old now bytes rest → Keeps now new → AppendsPart old new bytes
-stays old now new bytes rest h e = (rest, (h.0, h.1, Appends-kept old now new h.0 h.2 e))
-
-pub stops : (old now new : Option (List ℕ)) (bytes rest : List ℕ) (n : ℕ) → IsPart old now bytes rest → Appends now new (take n rest) → AppendsPart old new bytes
-stops old now new bytes rest n h e = (drop n rest, goes_on old now new bytes rest n h e)
-
-pub ends : (old now : Option (List ℕ)) (bytes rest : List ℕ) → IsPart old now bytes rest → rest ≡ [] → Appends old now bytes
-ends old now bytes rest h e = subst (Appends old now) (sym (h.1 ∙ ap (λ (x : List ℕ). h.0 ++ x) e ∙ append-nil h.0)) h.2
 
 -- a write that took some bytes did not fail
 pub still : (a b new : Bool) (n : ℕ) → n ≢ 0 → new ≡ (a || (b && took_none {E = SinkFault} (Ok n))) → new ≡ a

@@ -52,10 +52,6 @@ same_report newest runs marks locks s t one g h =
     let e : g.entries ≡ h.entries = same_by_lookup g.entries h.entries g.rising h.rising (λ x. told_one newest one x _ _ (g.told x) (h.told x)) in
     g.lines ∙ ap (λ (es : Entries). cell_lines es ++ (run_lines runs ++ last_line marks locks)) e ∙ sym h.lines
 
--- what is newest may be said in other words
-pub said_by : (M N : Cell → Option Newest → Type 0) (runs : Tallies) (marks locks : ℕ) (text : List ℕ) → ((x : Cell) (r : Option Newest) → M x r → N x r) → IsReportOf M runs marks locks text → IsReportOf N runs marks locks text
-said_by M N runs marks locks text f h = record { entries = h.entries; rising = h.rising; told = λ x. told_by M N x _ (f x _) (h.told x); lines = h.lines }
-
 same_number : (a b : ℕ) → a ≤ b → b ≤ a → a ≡ b
 same_number a b g h = omega arith
 

@@ -65,10 +65,6 @@ pub some_tile : (tiles : List Tile) → IsTiling tiles → 0 < length tiles
 some_tile [] t = absurd t.zero_first
 some_tile (tile ∷ tiles) t = omega arith
 
-pub zero_low : (tiles : List Tile) → IsTiling tiles → first_at tiles 0 ≡ 0
-zero_low [] t = refl
-zero_low (tile ∷ tiles) t = t.zero_first
-
 -- the first rows of tiles after one, up to another, are above the row
 abbrev pub FirstsAbove : List Tile → ℕ → ℕ → ℕ → Type 0
 FirstsAbove tiles row from upto = (k : ℕ) → from < k → k < upto → row < first_at tiles k
