@@ -8,19 +8,19 @@ use Rattle.pb_isa.specs.Meaning.{Point, point, Means}
 use Rattle.pb_helpers.specs.declared.ask.Ask.{Ask}
 use Rattle.pb_helpers.specs.Replies.{ask_of}
 use Rattle.pb_sound.specs.OneMeaning.{EachHasOneMeaning}
-use Rattle.pb_vm.specs.declared.moved.MachinePhase.TheVariants.{Asking}
+use Rattle.pb_vm.specs.declared.moved.MachinePhase.TheVariants as phases
 use Rattle.pb_vm.specs.Position.{Position}
 use Rattle.pb_vm.specs.Moves.{environment_at, IsAtState, SameGiven, Went, AskedFor, AsksAt}
 use Rattle.pb_vm.specs.Finished.{Meant}
 use Rattle.pb_steps.specs.declared.step.Declared.{Declared}
 use Rattle.pb_steps.specs.declared.step.Declared.TheVariants as declared
-use Rattle.pb_notify.specs.declared.machine.stepped.Stepped.{Stepped}
-use Rattle.pb_notify.specs.declared.machine.stepped.Stepped.TheVariants as did
+use Rattle.pb_txn.specs.Plans.{fresh}
+use Rattle.pb_notify.specs.declared.look.Look.TheVariants.{Reading}
 use Rattle.pb_notify.specs.declared.place.RunPlace.{RunPlace}
+use Rattle.pb_notify.specs.declared.place.RunPlace.TheVariants.{Computing, Asking, Planning}
 use Rattle.pb_notify.specs.Machines.{Leaves}
-use Rattle.pb_notify.specs.Steps.{WentOn, Steps}
 use Rattle.pb_notify.specs.Steps as steps
-use Rattle.pb_notify.specs.Places.{place_of, Comes}
+use Rattle.pb_notify.specs.Places.{Comes, goes, waits, declares}
 
 -- a position is at one state of a placement, since entry leads to one
 one_state : (v : Position) (a : Placement) (s t : State) → IsAtState v a s → IsAtState v a t → s ≡ t
@@ -64,11 +64,11 @@ module _ (v : Position) (a : Placement) (p : IsPlacement (length v.bytes) a) whe
   went_once : (w u : Position) → Went v w → Went v u → w ≡ u
   went_once w u x y = one_position w u x.given y.given (x.talk ∙ sym y.talk) (x.taken ∙ sym y.taken) (x.phase ∙ sym y.phase)
 
-  asks_once : (q r : Ask) (w u : Position) → AskedFor v q w → AskedFor v r u → did.Asks w q ≡ did.Asks u r
-  asks_once q r w u x y =
+  asks_once : (s : Ts) (q r : Ask) (w u : Position) → AskedFor v q w → AskedFor v r u → Asking s w q Reading ≡ Asking s u r Reading
+  asks_once s q r w u x y =
       let e : q ≡ r = one_ask q r (x.at a p) (y.at a p) in
-      let f : w ≡ u = one_position w u x.given y.given (x.talk ∙ sym y.talk) (x.taken ∙ sym y.taken) (x.phase ∙ (ap Asking e ∙ sym y.phase)) in
-      λ i. did.Asks (f i) (e i)
+      let f : w ≡ u = one_position w u x.given y.given (x.talk ∙ sym y.talk) (x.taken ∙ sym y.taken) (x.phase ∙ (ap phases.Asking e ∙ sym y.phase)) in
+      λ i. Asking s (f i) (e i) Reading
 
   meant_by : (f : Meant) → Leaves v f → Means v.judged v.bytes v.began v.talk f.result f.writes
   meant_by f l = subst (λ (z : Type 0). z) (λ i. Means (l.judged i) (l.bytes i) (l.began i) (l.talk i) f.result f.writes) l.meant
@@ -85,10 +85,10 @@ module _ (v : Position) (a : Placement) (p : IsPlacement (length v.bytes) a) whe
         writes = one.1 i;
       }
 
-  ends_once : EachHasOneMeaning → (o r v' : ℕ) (what more : Declared) → steps.Ends o v r what → steps.Ends o v v' more → did.Ended r what ≡ did.Ended v' more
-  ends_once law o r v' what more x y =
+  ends_once : EachHasOneMeaning → (o : ℕ) (s : Ts) (r n : ℕ) (what more : Declared) → steps.Ends o v r what → steps.Ends o v n more → Planning r (fresh s.0 what) ≡ Planning n (fresh s.0 more)
+  ends_once law o s r n what more x y =
       let e : x.left ≡ y.left = leaves_once law x.left y.left x.leaves y.leaves in
-      λ i. did.Ended ((x.result ∙ (ap (λ (f : Meant). f.result) e ∙ sym y.result)) i) ((x.declares ∙ (ap (declared.Run o) e ∙ sym y.declares)) i)
+      λ i. Planning ((x.result ∙ (ap (λ (f : Meant). f.result) e ∙ sym y.result)) i) (fresh s.0 ((x.declares ∙ (ap (declared.Run o) e ∙ sym y.declares)) i))
 
   -- ---- each with another
 
@@ -110,16 +110,13 @@ module _ (v : Position) (a : Placement) (p : IsPlacement (length v.bytes) a) whe
       let h = y.ends a p in
       asks_or_ends (ask_of q) g.goes f.result h.made (one_act g.here h.last _ _ g.was h.was g.acts h.acts)
 
-  steps_once : EachHasOneMeaning → (o : ℕ) (x y : Stepped) → Steps o v x → Steps o v y → x ≡ y
-  steps_once law o (did.Went w) (did.Went u) x y = ap did.Went (went_once w u x.went y.went)
-  steps_once law o (did.Asks w q) (did.Asks u r) x y = asks_once q r w u x y
-  steps_once law o (did.Ended r what) (did.Ended n more) x y = ends_once law o r n what more x y
-  steps_once law o (did.Went w) (did.Asks u q) x y = absurd (went_or_asks w u q x.went y)
-  steps_once law o (did.Went w) (did.Ended r what) x y = absurd (went_or_ends w y.left x.went y.leaves)
-  steps_once law o (did.Asks w q) (did.Went u) x y = absurd (went_or_asks u w q y.went x)
-  steps_once law o (did.Asks w q) (did.Ended r what) x y = absurd (asks_or_leaves w q y.left x y.leaves)
-  steps_once law o (did.Ended r what) (did.Went u) x y = absurd (went_or_ends u x.left y.went x.leaves)
-  steps_once law o (did.Ended r what) (did.Asks u q) x y = absurd (asks_or_leaves u q x.left y x.leaves)
-
   pub comes_once : EachHasOneMeaning → (o : ℕ) (s : Ts) (x y : RunPlace) → Comes o s v x → Comes o s v y → x ≡ y
-  comes_once law o s x y c d = c.place_is ∙ (ap (place_of s) (steps_once law o c.stepped d.stepped c.steps d.steps) ∙ sym d.place_is)
+  comes_once law o s x y (goes w c) (goes u d) = ap (Computing s) (went_once w u c.went d.went)
+  comes_once law o s x y (waits w q c) (waits u r d) = asks_once s q r w u c d
+  comes_once law o s x y (declares r what c) (declares n more d) = ends_once law o s r n what more c d
+  comes_once law o s x y (goes w c) (waits u q d) = absurd (went_or_asks w u q c.went d)
+  comes_once law o s x y (goes w c) (declares r what d) = absurd (went_or_ends w d.left c.went d.leaves)
+  comes_once law o s x y (waits w q c) (goes u d) = absurd (went_or_asks u w q d.went c)
+  comes_once law o s x y (waits w q c) (declares r what d) = absurd (asks_or_leaves w q d.left c d.leaves)
+  comes_once law o s x y (declares r what c) (goes u d) = absurd (went_or_ends u c.left d.went c.leaves)
+  comes_once law o s x y (declares r what c) (waits u q d) = absurd (asks_or_leaves u q c.left d c.leaves)

@@ -1,5 +1,5 @@
 -- What a job's place says of its parts, after an answer and after an instruction.
-use Rattle.std.proofs.Common.{◌≡◌, ℕ, ◌+◌, ◌<◌, Bool, true, false, cond, Option, Some, None, length, refl, sym, subst, arith}
+use Rattle.std.proofs.Common.{◌≡◌, ℕ, ◌+◌, ◌<◌, Bool, true, false, cond, Option, Some, None, length, refl, arith}
 use Rattle.std.specs.Prelude.{nat_lt}
 use Rattle.pb_base.specs.declared.cell.Cell.{Cell}
 use Rattle.pb_base.specs.declared.names.Row.{Row}
@@ -25,14 +25,11 @@ use Rattle.pb_notify.specs.declared.look.Look.{Look}
 use Rattle.pb_notify.specs.declared.look.Look.TheVariants.{Reading, Clearing, Settling, ClearingAgain}
 use Rattle.pb_notify.specs.declared.look.Looked.{Looked}
 use Rattle.pb_notify.specs.declared.look.Looked.TheVariants.{On, Tells, Blocks}
-use Rattle.pb_notify.specs.declared.machine.stepped.Stepped.{Stepped}
-use Rattle.pb_notify.specs.declared.machine.stepped.Stepped.TheVariants as did
 use Rattle.pb_notify.specs.declared.need.JobEnd.TheVariants as ends
 use Rattle.pb_notify.specs.declared.place.RunPlace.{RunPlace}
 use Rattle.pb_notify.specs.declared.place.RunPlace.TheVariants.{Beginning, Observing, Acknowledging, Recalling, Starting, Computing, Asking, Planning, Sweeping, Over}
 use Rattle.pb_notify.specs.Looks.{look_after, locked_after}
-use Rattle.pb_notify.specs.Steps.{Steps}
-use Rattle.pb_notify.specs.Places.{place_after, locked_at, after_begin, if_found, after_cell, if_recalled, seen_so_far, after_acknowledgment, after_recall, after_ask, by_outcome, place_of, Comes, ComesFrom, AtPlace, step_at}
+use Rattle.pb_notify.specs.Places.{place_after, locked_at, after_begin, if_found, after_cell, if_recalled, seen_so_far, after_acknowledgment, after_recall, after_ask, by_outcome, Comes, goes, waits, declares, ComesFrom, AtPlace, step_at}
 use Rattle.pb_notify.specs.Runs.{need_at}
 use Rattle.pb_notify.specs.declared.need.Need.TheVariants as needs
 use Rattle.pb_notify.proofs.PlansFit.{fits_after, next_is}
@@ -121,13 +118,10 @@ at_after second locked (Over end) a at = tt
 -- ---- instructions
 
 -- what an instruction did tells how the machine stands at the next place
-at_stepped : (locked o : ℕ) (s : Ts) (v : Position) (stepped : Stepped) → Steps o v stepped → locked < MAX_LOCKED → AtPlace locked (place_of s stepped)
-at_stepped locked o s v (did.Went w) steps few = (few, steps.went.phase)
-at_stepped locked o s v (did.Asks w q) steps few = (few, steps.phase)
-at_stepped locked o s v (did.Ended r what) steps few = (refl, tt)
-
-at_come : (locked o : ℕ) (s : Ts) (v : Position) (place : RunPlace) → Comes o s v place → locked < MAX_LOCKED → AtPlace locked place
-at_come locked o s v place comes few = subst (AtPlace locked) (sym comes.place_is) (at_stepped locked o s v comes.stepped comes.steps few)
+pub at_come : (locked o : ℕ) (s : Ts) (v : Position) (place : RunPlace) → Comes o s v place → locked < MAX_LOCKED → AtPlace locked place
+at_come locked o s v place (goes w went) few = (few, went.went.phase)
+at_come locked o s v place (waits w q asked) few = (few, asked.phase)
+at_come locked o s v place (declares r what did) few = (refl, tt)
 
 -- and so after any instruction
 pub at_computed : (locked o : ℕ) (judged : JudgedOf) (x : Cell) (place next : RunPlace) → ComesFrom o judged x place next → AtPlace locked place → AtPlace locked next

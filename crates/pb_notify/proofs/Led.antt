@@ -29,14 +29,11 @@ use Rattle.pb_txn.specs.Plans as plans
 use Rattle.pb_txn.specs.Forms.{PlansTalk, PlansEnd}
 use Rattle.pb_notify.specs.declared.look.Looked.{Looked}
 use Rattle.pb_notify.specs.declared.look.Looked.TheVariants.{On, Tells, Blocks}
-use Rattle.pb_notify.specs.declared.machine.stepped.Stepped.{Stepped}
-use Rattle.pb_notify.specs.declared.machine.stepped.Stepped.TheVariants as did
 use Rattle.pb_notify.specs.declared.need.JobEnd.TheVariants as ends
 use Rattle.pb_notify.specs.declared.place.RunPlace.{RunPlace}
 use Rattle.pb_notify.specs.declared.place.RunPlace.TheVariants.{Beginning, Observing, Acknowledging, Recalling, Starting, Computing, Asking, Planning, Sweeping, Over}
 use Rattle.pb_notify.specs.Looks.{look_after}
-use Rattle.pb_notify.specs.Steps.{Steps}
-use Rattle.pb_notify.specs.Places.{place_after, after_begin, if_found, after_cell, if_recalled, seen_so_far, after_acknowledgment, after_recall, after_ask, by_outcome, place_of, Comes, ComesFrom, IsToldBy, IsToldAt}
+use Rattle.pb_notify.specs.Places.{place_after, after_begin, if_found, after_cell, if_recalled, seen_so_far, after_acknowledgment, after_recall, after_ask, by_outcome, Comes, goes, waits, declares, ComesFrom, IsToldBy, IsToldAt}
 use Rattle.pb_notify.specs.Runs.{RunOf, fresh}
 use Rattle.pb_notify.specs.Talks.{Reaches, made, took, computed}
 use Rattle.pb_notify.specs.Forms.{IsLooking}
@@ -153,13 +150,10 @@ answered_led second locked (Sweeping end) a led is = tt
 answered_led second locked (Over end) a led is = tt
 
 -- and after any instruction
-stepped_led : (o : ℕ) (s : Ts) (v : Position) (stepped : Stepped) → HasSize v → Steps o v stepped → AtLed (place_of s stepped)
-stepped_led o s v (did.Went w) size st = (went_led v w st.went, sized v w st.went.given size)
-stepped_led o s v (did.Asks w q) size st = (asks_led v q w st, sized v w st.given size, asks_open v q w st)
-stepped_led o s v (did.Ended r what) size st = tt
-
 comes_led : (o : ℕ) (s : Ts) (v : Position) (place : RunPlace) → HasSize v → Comes o s v place → AtLed place
-comes_led o s v place size c = subst AtLed (sym c.place_is) (stepped_led o s v c.stepped size c.steps)
+comes_led o s v place size (goes w st) = (went_led v w st.went, sized v w st.went.given size)
+comes_led o s v place size (waits w q st) = (asks_led v q w st, sized v w st.given size, asks_open v q w st)
+comes_led o s v place size (declares r what st) = tt
 
 computed_led : (o : ℕ) (judged : JudgedOf) (x : Cell) (place next : RunPlace) → AtLed place → ComesFrom o judged x place next → AtLed next
 computed_led o judged x (Starting s seen) next led c = comes_led o s _ next c.size c.comes

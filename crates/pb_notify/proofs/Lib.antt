@@ -4,9 +4,6 @@ pub mod Kept
 pub mod LookTalk
 pub mod RunTalk
 pub mod Led
-pub mod MovedInPlace
-pub mod FollowedInPlace
-pub mod InstructionsLeft
 pub mod RecordedReads
 pub mod ItsRun
 pub mod PlanSteps

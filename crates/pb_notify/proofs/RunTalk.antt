@@ -37,16 +37,13 @@ use Rattle.pb_notify.specs.declared.look.Look.{Look}
 use Rattle.pb_notify.specs.declared.look.Look.TheVariants.{Reading, Clearing, Settling, ClearingAgain}
 use Rattle.pb_notify.specs.declared.look.Looked.{Looked}
 use Rattle.pb_notify.specs.declared.look.Looked.TheVariants.{On, Tells, Blocks}
-use Rattle.pb_notify.specs.declared.machine.stepped.Stepped.{Stepped}
-use Rattle.pb_notify.specs.declared.machine.stepped.Stepped.TheVariants as did
 use Rattle.pb_notify.specs.declared.need.JobEnd.{JobEnd}
 use Rattle.pb_notify.specs.declared.need.JobEnd.TheVariants as ends
 use Rattle.pb_notify.specs.declared.need.Need.TheVariants as needs
 use Rattle.pb_notify.specs.declared.place.RunPlace.{RunPlace}
 use Rattle.pb_notify.specs.declared.place.RunPlace.TheVariants.{Beginning, Observing, Acknowledging, Recalling, Starting, Computing, Asking, Planning, Sweeping, Over}
 use Rattle.pb_notify.specs.Looks.{look_after, locked_after}
-use Rattle.pb_notify.specs.Steps.{Steps}
-use Rattle.pb_notify.specs.Places.{place_after, locked_at, after_begin, if_found, after_cell, if_recalled, seen_so_far, after_acknowledgment, after_recall, after_ask, by_outcome, place_of, Comes, ComesFrom, AtPlace, step_at}
+use Rattle.pb_notify.specs.Places.{place_after, locked_at, after_begin, if_found, after_cell, if_recalled, seen_so_far, after_acknowledgment, after_recall, after_ask, by_outcome, Comes, goes, waits, declares, ComesFrom, AtPlace, step_at}
 use Rattle.pb_notify.specs.Runs.{RunOf, fresh, answered, need_at}
 use Rattle.pb_notify.specs.Talks.{Reaches, made, took, computed}
 use Rattle.pb_notify.specs.Forms.{AreRounds, one_more, IsLooked, at_first, its_begin, IsObserved, IsAcknowledged, IsRecalled, AreAsked, dirty, asked as asked_more, IsRunOn, LooksFrom, at_cell, at_acknowledgment, at_old, at_ask, IsRunTalk, absent, clean, ran, conflicted, lost, blocked, WasMeant, JobsTalk, JobsEnd}
@@ -282,15 +279,15 @@ module _ (o : ℕ) (judged : JudgedOf) (row : Row) (column : ℕ) where
 
     -- ---- one instruction
 
-    stepped_more : (n : ℕ) (s : Ts) (v : Position) (seen : Seen) (stepped : Stepped) (said : List Received) → n < MAX_LOCKED → IsGiven s seen v → AreAsked o second row column s seen v.talk n said
-        → Steps o v stepped → SoFar n (place_of s stepped) said
-    stepped_more n s v seen (did.Went w) said few given was st =
+    comes_more : (n : ℕ) (s : Ts) (v : Position) (seen : Seen) (place : RunPlace) (said : List Received) → n < MAX_LOCKED → IsGiven s seen v → AreAsked o second row column s seen v.talk n said
+        → Comes o s v place → SoFar n place said
+    comes_more n s v seen place said few given was (goes w st) =
         let w-is = st.went in (
           seen,
           record { program = w-is.given.judged ∙ given.program; bytes = w-is.given.bytes ∙ given.bytes; began = w-is.given.began ∙ given.began },
           subst (λ talk. AreAsked o second row column s seen talk n said) (sym w-is.talk) was,
         )
-    stepped_more n s v seen (did.Asks w q) said few given was st = (
+    comes_more n s v seen place said few given was (waits w q st) = (
       seen,
       n,
       said,
@@ -298,7 +295,7 @@ module _ (o : ℕ) (judged : JudgedOf) (row : Row) (column : ℕ) where
       subst (λ talk. AreAsked o second row column s seen talk n said) (sym st.talk) was,
       at_first,
     )
-    stepped_more n s v seen (did.Ended r what) said few given was st =
+    comes_more n s v seen place said few given was (declares r what st) =
         let l = st.leaves in
         record {
           s = s;
@@ -315,10 +312,6 @@ module _ (o : ℕ) (judged : JudgedOf) (row : Row) (column : ℕ) where
           said_is = sym (append-nil said);
           few = few;
         }
-
-    comes_more : (n : ℕ) (s : Ts) (v : Position) (seen : Seen) (place : RunPlace) (said : List Received) → n < MAX_LOCKED → IsGiven s seen v → AreAsked o second row column s seen v.talk n said
-        → Comes o s v place → SoFar n place said
-    comes_more n s v seen place said few given was c = subst (λ p. SoFar n p said) (sym c.place_is) (stepped_more n s v seen c.stepped said few given was c.steps)
 
     computed_more : (n : ℕ) (place next : RunPlace) (said : List Received) → AtPlace n place → SoFar n place said → ComesFrom o judged cell place next → SoFar n next said
     computed_more n (Starting s seen) next said at i c = comes_more n s _ seen next said at (record { program = refl; bytes = refl; began = refl }) i c.comes

@@ -1,6 +1,6 @@
 -- Machines of runs, seen by their positions, and what their exit leaves. At its exit a machine is seen before it
 -- until that is declared, since memory may be refused then, and the exit is tried again.
-use Rattle.std.specs.Prelude.{◌≡◌, ℕ, ◌+◌, ◌<◌, ◌≤◌, List, [], ◌∷◌, ◌++◌, length}
+use Rattle.std.specs.Prelude.{◌≡◌, ℕ, ◌+◌, ◌<◌, ◌≤◌, true, false, List, [], ◌∷◌, ◌++◌, length}
 use Rattle.pb_isa.specs.Programs.{JudgedOf}
 use Rattle.pb_isa.specs.Slots.{slots}
 use Rattle.pb_isa.specs.Machine.{Placement, IsPlacement}
@@ -8,7 +8,7 @@ use Rattle.pb_isa.specs.Machine as machine
 use Rattle.pb_helpers.specs.declared.ask.Ask.{Ask}
 use Rattle.pb_helpers.specs.declared.ask.Reply.{Reply}
 use Rattle.pb_helpers.specs.Replies.{ask_of, reply_of}
-use Rattle.pb_vm.specs.declared.moved.MachinePhase.TheVariants.{Going}
+use Rattle.pb_vm.specs.declared.moved.MachinePhase.TheVariants.{Going, Over}
 use Rattle.pb_vm.specs.Position.{Position}
 use Rattle.pb_vm.specs.Moves.{EndsAt, RepliedWith}
 use Rattle.pb_vm.specs.MachineSlot.{IsAtSlot}
@@ -49,12 +49,17 @@ pub record Leaves (v : Position) (f : Meant) : Type 0 where
 abbrev pub exit_at : Meant → ℕ → Position
 exit_at f taken = record { judged = f.judged; bytes = f.bytes; began = f.began; talk = f.talk; taken = taken; phase = Going }
 
--- where a machine is seen: one that has exited, before its exit
+-- and behind it
+abbrev pub ended_at : Meant → ℕ → Position
+ended_at f taken = record { judged = f.judged; bytes = f.bytes; began = f.began; talk = f.talk; taken = taken + 1; phase = Over f.result }
+
+-- where a machine is seen: one that has exited, before its exit, until it does that again
 abbrev pub position_in : Standing → Position
 position_in (Running v) = v
-position_in (Exited f taken slot) = exit_at f taken
+position_in (Exited f taken slot false) = exit_at f taken
+position_in (Exited f taken slot true) = ended_at f taken
 
 -- what is kept of an exit is what that exit leaves, with its slot
 abbrev pub IsKept : Standing → Type 0
 IsKept (Running v) = Unit {0}
-IsKept (Exited f taken slot) = Leaves (exit_at f taken) f × IsAtSlot (exit_at f taken) slot
+IsKept (Exited f taken slot again) = Leaves (exit_at f taken) f × IsAtSlot (exit_at f taken) slot

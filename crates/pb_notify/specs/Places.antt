@@ -14,6 +14,7 @@ use Rattle.pb_vm.specs.MachineSlot.{IsAtSlot}
 use Rattle.pb_vm.specs.Position.{Position}
 use Rattle.pb_steps.specs.declared.seen.Seen.{Seen}
 use Rattle.pb_steps.specs.declared.step.Work.TheVariants as works
+use Rattle.pb_steps.specs.declared.step.Declared.{Declared}
 use Rattle.pb_steps.specs.declared.step.Step.{Step}
 use Rattle.pb_steps.specs.declared.step.Step.TheVariants as steps
 use Rattle.pb_steps.specs.declared.step.Answer.{Answer}
@@ -29,16 +30,13 @@ use Rattle.pb_notify.specs.declared.look.TheConstants.{MAX_LOCKED}
 use Rattle.pb_notify.specs.declared.look.Look.TheVariants.{Reading}
 use Rattle.pb_notify.specs.declared.look.Looked.{Looked}
 use Rattle.pb_notify.specs.declared.look.Looked.TheVariants.{On, Tells, Blocks}
-use Rattle.pb_notify.specs.declared.machine.stepped.Stepped.{Stepped}
-use Rattle.pb_notify.specs.declared.machine.stepped.Stepped.TheVariants as did
 use Rattle.pb_notify.specs.declared.need.JobEnd.TheVariants as ends
 use Rattle.pb_notify.specs.declared.place.RunPlace.{RunPlace}
 use Rattle.pb_notify.specs.declared.place.RunPlace.TheVariants.{Beginning, Observing, Acknowledging, Recalling, Starting, Computing, Asking, Planning, Sweeping, Over}
 use Rattle.pb_notify.specs.Looks.{look_step, look_after, locked_after}
 use Rattle.pb_notify.specs.Machines.{first_position, after_reply, HearsReply}
-use Rattle.pb_notify.specs.Steps.{Steps, WentOn, MovesOn, Proceeds, FollowsOn, IsAtExit}
+use Rattle.pb_notify.specs.Steps.{WentOn, Ends, MovesOn, IsAtExit}
 use Rattle.pb_vm.specs.declared.moved.Moved.{Moved}
-use Rattle.pb_vm.specs.declared.moved.Moved.TheVariants as moved
 use Rattle.pb_vm.specs.Moves.{AskedFor}
 
 -- ---- the step at a place
@@ -152,17 +150,12 @@ locked_at locked _ a = locked
 
 -- ---- where an instruction leads
 
--- the machine goes on, a cell is read for it, or its run is declared by a plan from the same start
-abbrev pub place_of : Ts → Stepped → RunPlace
-place_of s (did.Went w) = Computing s w
-place_of s (did.Asks w q) = Asking s w q Reading
-place_of s (did.Ended r what) = Planning r (fresh s.0 what)
-
--- one instruction of a run of this observer, begun at this start, leads from the position to the place
-pub record Comes (o : ℕ) (s : Ts) (v : Position) (place : RunPlace) : Type 0 where
-  pub stepped : Stepped
-  pub steps : Steps o v stepped
-  pub place_is : place ≡ place_of s stepped
+-- one instruction of a run of this observer, begun at this start, leads from the position to the place: the machine goes
+-- on, a cell is read for it, or its run is declared by a plan from the same start
+pub data Comes (o : ℕ) (s : Ts) (v : Position) : RunPlace → Type 0 where
+  goes : (w : Position) → WentOn v w → Comes o s v (Computing s w)
+  waits : (w : Position) (q : Ask) → AskedFor v q w → Comes o s v (Asking s w q Reading)
+  declares : (r : ℕ) (what : Declared) → Ends o v r what → Comes o s v (Planning r (fresh s.0 what))
 
 -- the machine begins on the record of what was seen of the cell
 pub record Starts (o : ℕ) (judged : JudgedOf) (x : Cell) (s : Ts) (seen : Seen) (place : RunPlace) : Type 0 where
@@ -175,35 +168,9 @@ ComesFrom o judged x (Starting s seen) place = Starts o judged x s seen place
 ComesFrom o judged x (Computing s v) place = Comes o s v place
 ComesFrom o judged x _ place = ⊥
 
--- one instruction was done where the machine stands
-abbrev pub MovesAt : RunPlace → Moved → RunPlace → Type 0
-MovesAt (Computing s v) m (Computing t w) = (t ≡ s) × MovesOn v m w
-MovesAt before m after = ⊥
-
--- one that isn't the exit
-abbrev pub GoesAt : RunPlace → Moved → RunPlace → Type 0
-GoesAt (Computing s v) moved.Went (Computing t w) = (t ≡ s) × WentOn v w
-GoesAt (Computing s v) (moved.Asks q) (Computing t w) = (t ≡ s) × AskedFor v q w
-GoesAt before m after = ⊥
-
--- the machine waits for what it asked
-abbrev pub waiting : RunPlace → Ask → RunPlace
-waiting (Computing s v) q = Asking s v q Reading
-waiting place q = place
-
--- any number of instructions were done where the machine stands, and it goes on
-abbrev pub ProceedsAt : RunPlace → RunPlace → Type 0
-ProceedsAt (Computing s v) (Computing t w) = (t ≡ s) × Proceeds v w
-ProceedsAt before after = after ≡ before
-
--- all up to the first that asks or ends were done where the machine stands
-abbrev pub FollowsAt : RunPlace → Moved → RunPlace → Type 0
-FollowsAt (Computing s v) m (Computing t w) = (t ≡ s) × FollowsOn v m w
-FollowsAt before m after = ⊥
-
--- and it waits for what it asked
-abbrev pub WaitsAt : RunPlace → RunPlace → Type 0
-WaitsAt before after = (q : Ask) × (place : RunPlace) × FollowsAt before (moved.Asks q) place × (after ≡ waiting place q)
+-- one instruction was done where the machine stands, of a run that was begun at this start
+abbrev pub MovesAt : Ts → Position → Moved → RunPlace → Type 0
+MovesAt s v m place = (w : Position) × (place ≡ Computing s w) × MovesOn v m w
 
 -- the next instruction takes memory: the first, for its machine, or the exit, for what it declares
 abbrev pub GrowsAt : RunPlace → Type 0
@@ -227,11 +194,10 @@ AtPlace locked (Planning r p) = (outcome_of p ≡ None) × orders.LiesWithin (le
 AtPlace locked (Sweeping end) = Unit {0}
 AtPlace locked (Over end) = Unit {0}
 
--- its machine's next instruction is done
-abbrev pub IsLocal : RunPlace → Type 0
-IsLocal (Starting s seen) = Unit {0}
-IsLocal (Computing s v) = v.phase ≡ phases.Going
-IsLocal place = ⊥
+-- its machine isn't started
+abbrev pub IsStarting : RunPlace → Type 0
+IsStarting (Starting s seen) = Unit {0}
+IsStarting place = ⊥
 
 -- the slot of that instruction: of the first, before the machine is started
 abbrev pub IsSlotAt : RunPlace → Option ℕ → Type 0

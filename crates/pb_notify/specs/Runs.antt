@@ -76,13 +76,6 @@ pub data ComputesOn (j : RunOf) : RunOf → Type 0 where
   at_first : ComputesOn j j
   one_more : (k l : RunOf) → ComputesOn j k → need_of k ≡ needs.Local → Computes k l → ComputesOn j l
 
--- at least one
-pub record ComputesSome (j l : RunOf) : Type 0 where
-  pub before : RunOf
-  pub on : ComputesOn j before
-  pub is_next : need_of before ≡ needs.Local
-  pub last : Computes before l
-
 -- its next instruction takes memory: the first, or the exit
 abbrev pub GrowsNext : RunOf → Type 0
 GrowsNext j = GrowsAt j.place

@@ -6,12 +6,10 @@ use Rattle.pb_isa.specs.Machine.{Placement, IsPlacement}
 use Rattle.pb_vm.specs.Position.{Position}
 use Rattle.pb_vm.specs.declared.moved.Moved.{Moved}
 use Rattle.pb_vm.specs.declared.moved.MachinePhase.TheVariants.{Going}
-use Rattle.pb_vm.specs.Moves.{Went, AskedFor, EndsAt, Moves, IsStop}
+use Rattle.pb_vm.specs.Moves.{Went, EndsAt, Moves, IsStop}
 use Rattle.pb_vm.specs.Finished.{Meant}
 use Rattle.pb_steps.specs.declared.step.Declared.{Declared}
 use Rattle.pb_steps.specs.declared.step.Declared.TheVariants as declared
-use Rattle.pb_notify.specs.declared.machine.stepped.Stepped.{Stepped}
-use Rattle.pb_notify.specs.declared.machine.stepped.Stepped.TheVariants as did
 use Rattle.pb_notify.specs.Machines.{Leaves}
 
 -- no run does more instructions than its program has slots
@@ -25,12 +23,6 @@ pub record Ends (o : ℕ) (v : Position) (r : ℕ) (what : Declared) : Type 0 wh
   pub leaves : Leaves v left
   pub result : r ≡ left.result
   pub declares : what ≡ declared.Run o left
-
--- what one instruction of a run of this observer does
-abbrev pub Steps : ℕ → Position → Stepped → Type 0
-Steps o v (did.Went w) = WentOn v w
-Steps o v (did.Asks w q) = AskedFor v q w
-Steps o v (did.Ended r what) = Ends o v r what
 
 -- what one instruction does where the machine stands, also at the exit
 pub record MovesOn (v : Position) (m : Moved) (w : Position) : Type 0 where

@@ -1,15 +1,12 @@
 //! Jobs of observers: where a run stands, the step that is next, and how many locks its reads have met.
 use crate::need::Need;
-use crate::place::{
-    RunPlace, compute, follow, keep_step, locked_at, move_on, step_at, take, tells_old, wait_at,
-};
+use crate::place::{RunPlace, begin, keep_step, leave, locked_at, take, tells_old};
 use pb_base::{Cell, Column, NoMemory, ObserverNo, Row};
 use pb_steps::{Answer, Step, Work};
 use pb_verify::Accepted;
 use pb_vm::Moved;
 use std::alloc::Global;
 use std::marker::Model;
-use std::mem;
 use std::sync::Arc;
 
 /// One run of an observer on a cell of its column (OSDI 2010, section 2.4), step after step: it begins a transaction,
@@ -47,7 +44,7 @@ impl Model for ObserverJob {
 impl ObserverJob {
     ghost use Rattle.std.specs.Prelude.{◌≡◌, ◌≢◌, None, Some, MatchOption, OnOk, OnErr};
     ghost use Rattle.pb_notify.specs.declared.need.Need.TheVariants.{Local, Call};
-    ghost use Rattle.pb_notify.specs.Runs.{fresh, next_of, HasNext, need_of, IsSlotOf, answered, HearsLook, CanTake, Computes, ComputesOn, ComputesSome, GrowsNext};
+    ghost use Rattle.pb_notify.specs.Runs.{fresh, next_of, HasNext, need_of, IsSlotOf, answered, HearsLook, CanTake, Computes, ComputesOn, GrowsNext};
 
     /// The run of this observer, whose program this is, on the cell of this row and column. It takes no memory.
     pub fn new(
@@ -139,49 +136,16 @@ impl ObserverJob {
         ensures same { OnErr result (self.new ≡ self.old) }
         ensures grows { OnErr result (GrowsNext self.old) }
     {
-        match move_on(&mut self.place) {
-            Some(Moved::Went) => Ok(()),
-            Some(Moved::Asks(ask)) => {
-                wait_at(&mut self.place, ask);
-                keep_step(
-                    &mut self.next,
-                    self.observer,
-                    self.row,
-                    self.column,
-                    &self.place,
-                );
-                Ok(())
+        match &mut self.place {
+            RunPlace::Computing(_, machine) => match machine.local() {
+                // It stands where it stood, and so does the job.
+                Moved::Went => return Ok(()),
+                moved => leave(alloc, self.observer, &mut self.place, moved)?,
+            },
+            _ => {
+                let cell = Cell::Data(self.row, self.column);
+                begin(alloc, self.observer, &self.accepted, cell, &mut self.place)?;
             }
-            // `move_on` leaves the exit undone, since that takes memory.
-            Some(Moved::Ended(_)) => unreachable!(),
-            None => self.compute(alloc),
-        }
-    }
-
-    /// Does all instructions of its machine up to the next ask, or up to the exit and that too, as so many calls of
-    /// [`local`](ObserverJob::local) would. Refused for memory, it stands before its first instruction or before its
-    /// exit, with all that it did, and goes on from there when it is called again.
-    pub fn follow(&mut self, alloc: Global) -> Result<(), NoMemory>
-        requires { need_of self.old ≡ Local }
-        ensures on { ComputesOn self.old self.new }
-        ensures ok { OnOk result (need_of self.new ≢ Local) }
-        ensures err { OnErr result (GrowsNext self.new) }
-    {
-        // Twice at most: a machine that isn't started does its first instruction alone.
-        while self.needs() == Need::Local {
-            self.go_on(alloc)?;
-        }
-        Ok(())
-    }
-
-    // Does those up to the next ask, or up to the exit and that too; or the first alone, if its machine isn't started.
-    fn go_on(&mut self, alloc: Global) -> Result<(), NoMemory>
-        requires { need_of self.old ≡ Local }
-        ensures ok { OnOk result (ComputesSome self.old self.new) }
-        ensures err { OnErr result (ComputesOn self.old self.new × GrowsNext self.new) }
-    {
-        if !follow(&mut self.place) {
-            return self.compute(alloc);
         }
         keep_step(
             &mut self.next,
@@ -193,25 +157,30 @@ impl ObserverJob {
         Ok(())
     }
 
-    // Does the first instruction, or the exit. The place is taken out for it, since an exit uses its machine up.
-    #[inline(never)]
-    fn compute(&mut self, alloc: Global) -> Result<(), NoMemory>
+    /// Does all instructions of its machine up to the next ask, or up to the exit and that too, as so many calls of
+    /// [`local`](ObserverJob::local) would. Refused for memory, it stands before its first instruction or before its
+    /// exit, with all that it did, and goes on from there when it is called again.
+    pub fn follow(&mut self, alloc: Global) -> Result<(), NoMemory>
         requires { need_of self.old ≡ Local }
-        ensures ok { OnOk result (Computes self.old self.new) }
-        ensures same { OnErr result (self.new ≡ self.old) }
+        ensures on { ComputesOn self.old self.new }
+        ensures ok { OnOk result (need_of self.new ≢ Local) }
+        ensures err { OnErr result (GrowsNext self.new) }
     {
-        let place = mem::replace(&mut self.place, RunPlace::Beginning);
-        let cell = Cell::Data(self.row, self.column);
-        match compute(alloc, self.observer, &self.accepted, cell, place) {
-            Ok(place) => {
-                self.next = step_at(self.observer, self.row, self.column, &place);
-                self.place = place;
-                Ok(())
-            }
-            Err(place) => {
-                self.place = place;
-                Err(NoMemory)
-            }
+        // A machine that isn't started does its first instruction alone.
+        if let RunPlace::Starting(..) = &self.place {
+            self.local(alloc)?;
         }
+        if let RunPlace::Computing(_, machine) = &mut self.place {
+            let moved = machine.follow();
+            leave(alloc, self.observer, &mut self.place, moved)?;
+            keep_step(
+                &mut self.next,
+                self.observer,
+                self.row,
+                self.column,
+                &self.place,
+            );
+        }
+        Ok(())
     }
 }

@@ -1,24 +1,24 @@
-//! The machine of a run. It can try its exit again where memory was refused, since what the exit left is kept until
-//! it is declared.
-ghost use Rattle.std.specs.Prelude.{◌≡◌, length, IfOk};
+//! The machine of a run. Instructions are done where it stands, since to move it in and out costs more than one. It
+//! can do its exit again where memory was refused, since what the exit left is kept until it is declared.
+ghost use Rattle.std.specs.Prelude.{◌≡◌, ℕ, length, IfOk, IfErr};
 ghost use Rattle.pb_steps.specs.Reads.{value_in};
-ghost use Rattle.pb_notify.specs.Machines.{first_position, after_reply, HearsReply};
+ghost use Rattle.pb_notify.specs.Machines.{first_position, after_reply, HearsReply, exit_at, Leaves};
+ghost use Rattle.pb_notify.specs.Steps.{Ends, MovesOn, FollowsOn};
 ghost use Rattle.pb_vm.specs.MachineSlot.{IsAtSlot};
-ghost use Rattle.pb_vm.specs.declared.moved.MachinePhase.TheVariants.{Asking};
+ghost use Rattle.pb_vm.specs.Position.{Position};
+ghost use Rattle.pb_vm.specs.declared.moved.Moved.TheVariants.{Ended};
+ghost use Rattle.pb_vm.specs.declared.moved.MachinePhase.TheVariants.{Going, Asking};
 
-mod stepped;
-
-use pb_base::{NoMemory, Ts};
+use pb_base::{NoMemory, ObserverNo, Ts};
 use pb_helpers::{Ask, Record};
-use pb_steps::{Answer, reply_in};
+use pb_steps::{Answer, Declaration, Declared, EndedRun, reply_in};
 use pb_verify::Accepted;
-use pb_vm::{Finished, Vm};
+use pb_vm::{Finished, Moved, Vm};
 use std::alloc::Global;
 use std::marker::Model;
 use std::sync::Arc;
-pub use stepped::Stepped;
 
-/// A machine of an accepted program. It is seen at its exit as long as that isn't declared.
+/// A machine of an accepted program. Where its exit couldn't be declared, it is seen before it.
 #[derive(Drop)]
 pub struct Machine {
     standing: Standing,
@@ -27,8 +27,14 @@ pub struct Machine {
 #[derive(Drop)]
 enum Standing {
     Running(Vm),
-    /// What it left at its exit, with the instructions before that and its slot, so that it is still seen there.
-    Exited(Finished, u16, usize),
+    /// At an exit whose declaration was refused: what it left, with the instructions before that and its slot, so that
+    /// it is still seen there, and whether it did that exit again.
+    Exited {
+        left: Finished,
+        taken: u16,
+        slot: usize,
+        again: bool,
+    },
 }
 
 impl Model for Machine {
@@ -65,7 +71,35 @@ impl Machine {
     {
         match &self.standing {
             Standing::Running(vm) => vm.slot(),
-            Standing::Exited(_, _, slot) => *slot,
+            Standing::Exited { slot, .. } => *slot,
+        }
+    }
+
+    /// Does one instruction, and tells what it did.
+    pub fn local(&mut self) -> Moved
+        requires { self.old.phase ≡ Going }
+        ensures { MovesOn self.old result self.new }
+    {
+        match &mut self.standing {
+            Standing::Running(vm) => vm.step(),
+            Standing::Exited { left, again, .. } => {
+                *again = true;
+                Moved::Ended(left.result())
+            }
+        }
+    }
+
+    /// Does all instructions up to the next ask or the exit, and tells what the last one did.
+    pub fn follow(&mut self) -> Moved
+        requires { self.old.phase ≡ Going }
+        ensures { FollowsOn self.old result self.new }
+    {
+        match &mut self.standing {
+            Standing::Running(vm) => vm.follow(),
+            Standing::Exited { left, again, .. } => {
+                *again = true;
+                Moved::Ended(left.result())
+            }
         }
     }
 
@@ -82,8 +116,71 @@ impl Machine {
                     standing: Standing::Running(vm),
                 }
             }
-            // It isn't here while it asks, since at its exit it is seen as going on.
-            Standing::Exited(..) => unreachable!(),
+            // It isn't here while it asks, since at its exit it is seen as going on or as ended.
+            Standing::Exited { .. } => unreachable!(),
         }
     }
+
+    /// Declares what the run of this observer leaves, with register 0, once its exit is done. Refused for memory, it is
+    /// before its exit again.
+    pub fn exit(self, alloc: Global, observer: ObserverNo) -> Result<(u64, Declaration), Machine>
+        requires { (v : Position) × (r : ℕ) × MovesOn v (Ended r) self }
+        ensures ok { (v : Position) (r : ℕ) → MovesOn v (Ended r) self
+            → IfOk result (λ d. Ends observer v d.0 d.1) }
+        ensures same { (v : Position) (r : ℕ) → MovesOn v (Ended r) self
+            → IfErr result (λ m. m ≡ v) }
+    {
+        match self.standing {
+            Standing::Running(vm) => {
+                let slot = vm.slot();
+                // The exit is counted already, and `Exited` keeps the count before it.
+                let taken = vm.taken() - 1;
+                let finished = vm.finish();
+                // For the proof: result and writes are what the program means.
+                finished.known();
+                declare(alloc, observer, finished, taken, slot)
+            }
+            Standing::Exited {
+                left,
+                taken,
+                slot,
+                ..
+            } => declare(alloc, observer, left, taken, slot),
+        }
+    }
+}
+
+// Declares what it left. Refused, it stands at its exit: both growths hand back what they were given, so that nothing
+// is lost.
+fn declare(
+    alloc: Global,
+    observer: ObserverNo,
+    left: Finished,
+    taken: u16,
+    slot: usize,
+) -> Result<(u64, Declaration), Machine>
+    requires leaves { Leaves (exit_at left taken) left }
+    requires at { IsAtSlot (exit_at left taken) slot }
+    ensures ok { IfOk result (λ d. Ends observer (exit_at left taken) d.0 d.1) }
+    ensures same { IfErr result (λ m. m ≡ exit_at left taken) }
+{
+    let end = left.result();
+    let left = match EndedRun::new(alloc, left) {
+        Ok(run) => match Declaration::new(alloc, Declared::Run(observer, run)) {
+            Ok(what) => return Ok((end, what)),
+            Err(failed) => match failed.value {
+                Declared::Run(_, run) => run.into_finished(),
+                Declared::Script(_) => unreachable!(),
+            },
+        },
+        Err(failed) => failed.value,
+    };
+    Err(Machine {
+        standing: Standing::Exited {
+            left,
+            taken,
+            slot,
+            again: false,
+        },
+    })
 }

@@ -1,19 +1,22 @@
 //! Where a job stands, and where an answer or an instruction leads. `Beginning` holds nothing, so that it stands in
 //! for a place that is taken out to be moved.
-ghost use Rattle.std.specs.Prelude.{◌≡◌, ◌<◌, ℕ, Some, length, IfOk, IfErr, IsTrue, IsFalse, MatchOption};
+ghost use Rattle.std.specs.Prelude.{◌≡◌, ◌≢◌, ◌<◌, Some, length, IfOk, IfErr, OnOk, OnErr, IsTrue};
 ghost use Rattle.pb_helpers.specs.OldRecord as versions;
 ghost use Rattle.pb_txn.specs.Plans.{PlanOf};
 ghost use Rattle.pb_txn.specs.Plans as plans;
 ghost use Rattle.pb_notify.specs.declared.place.RunPlace.TheVariants as places;
-ghost use Rattle.pb_notify.specs.Places.{stored_step, place_after, locked_at, place_of, CanTakeAt, AtPlace, IsLocal, IsToldBy, IsToldAt, Starts, Comes, ComesFrom, MovesAt, GoesAt, ProceedsAt, FollowsAt, WaitsAt, GrowsAt, waiting, by_outcome, IsPlanning};
-ghost use Rattle.pb_notify.specs.declared.place.RunPlace.{RunPlace};
-ghost use Rattle.pb_vm.specs.declared.moved.Moved.TheVariants.{Ended};
-ghost use Rattle.pb_vm.specs.declared.moved.MachinePhase.TheVariants.{Going, Asking};
+ghost use Rattle.pb_notify.specs.Places.{stored_step, place_after, locked_at, CanTakeAt, AtPlace, IsToldBy, IsToldAt, Comes, ComesFrom, MovesAt, IsStarting, by_outcome, IsPlanning};
+ghost use Rattle.pb_notify.specs.Runs.{need_at};
+ghost use Rattle.pb_notify.specs.Steps.{MovesOn, IsAtExit};
+ghost use Rattle.pb_notify.specs.declared.need.Need.TheVariants.{Local};
+ghost use Rattle.pb_vm.specs.Moves.{IsStop};
+ghost use Rattle.pb_vm.specs.Position.{Position};
+ghost use Rattle.pb_vm.specs.declared.moved.MachinePhase.TheVariants.{Asking};
 
 use crate::look::{Look, Looked, locked_after, look_after, look_step};
-use crate::machine::{Machine, Stepped};
+use crate::machine::Machine;
 use crate::need::JobEnd;
-use pb_base::{Cell, Column, ObserverNo, Revision, Row, Ts};
+use pb_base::{Cell, Column, NoMemory, ObserverNo, Revision, Row, Ts};
 use pb_helpers::{Ask, Record};
 use pb_steps::{Answer, Seen, Step, Work, acknowledged_in, old_at, reply_in, version_in};
 use pb_txn::{Outcome, Plan};
@@ -295,34 +298,6 @@ pub fn tells_old(accepted: &Arc<Accepted>) -> bool
     accepted.version().tells_old()
 }
 
-// Where an instruction leads.
-fn place_of(start: Ts, stepped: Stepped) -> RunPlace
-    ensures { result ≡ place_of start stepped }
-{
-    match stepped {
-        Stepped::Went(machine) => RunPlace::Computing(start, machine),
-        Stepped::Asks(machine, ask) => RunPlace::Asking(start, machine, ask, Look::Reading),
-        Stepped::Ended(end, what) => RunPlace::Planning(end, Plan::new(start, what)),
-    }
-}
-
-// The next instruction of a machine.
-fn go_on(
-    alloc: Global,
-    observer: ObserverNo,
-    start: Ts,
-    machine: Machine,
-) -> Result<RunPlace, RunPlace>
-    requires { machine.phase ≡ Going }
-    ensures ok { IfOk result (Comes observer start machine) }
-    ensures same { IfErr result (λ p. p ≡ places.Computing start machine) }
-{
-    match machine.step(alloc, observer) {
-        Ok(stepped) => Ok(place_of(start, stepped)),
-        Err(machine) => Err(RunPlace::Computing(start, machine)),
-    }
-}
-
 // The record of what was seen of a cell, of the version that the program is accepted for: no other has the size for
 // which the verifier judged it.
 fn record_by(accepted: &Arc<Accepted>, cell: Cell, seen: &Seen) -> Record
@@ -335,148 +310,90 @@ fn record_by(accepted: &Arc<Accepted>, cell: Cell, seen: &Seen) -> Record
     Record::of_version(version, cell, &seen.version, seen.acknowledged, seen.old)
 }
 
-// The first instruction of a machine on the record of what was seen of a cell.
-fn begin(
+// Where an instruction leads that a machine did. Refused, as the exit alone can be, the machine is before it again.
+fn leads(
+    alloc: Global,
+    observer: ObserverNo,
+    start: Ts,
+    machine: Machine,
+    moved: Moved,
+) -> Result<RunPlace, Machine>
+    requires { (v : Position) × MovesOn v moved machine }
+    ensures ok { (v : Position) → MovesOn v moved machine → IfOk result (Comes observer start v) }
+    ensures left { IsStop moved → IfOk result (λ p. need_at p ≢ Local) }
+    ensures same { (v : Position) → MovesOn v moved machine
+        → IfErr result (λ m. (m ≡ v) × IsAtExit v) }
+{
+    match moved {
+        Moved::Went => Ok(RunPlace::Computing(start, machine)),
+        Moved::Asks(ask) => Ok(RunPlace::Asking(start, machine, ask, Look::Reading)),
+        Moved::Ended(_) => {
+            let (end, what) = machine.exit(alloc, observer)?;
+            Ok(RunPlace::Planning(end, Plan::new(start, what)))
+        }
+    }
+}
+
+/// Starts the machine of a run of this observer, whose program this is, on the record of what was seen of this cell, and
+/// does its first instruction. Refused for memory, the place is as before. It isn't inlined, since the room for a
+/// second place is cleared at each entry.
+#[inline(never)]
+pub fn begin(
     alloc: Global,
     observer: ObserverNo,
     accepted: &Arc<Accepted>,
     cell: Cell,
-    start: Ts,
-    seen: Seen,
-) -> Result<RunPlace, RunPlace>
-    ensures ok { IfOk result (Starts observer accepted.now.value cell start seen) }
-    ensures same { IfErr result (λ p. p ≡ places.Starting start seen) }
+    place: &mut RunPlace,
+) -> Result<(), NoMemory>
+    requires { IsStarting place.old }
+    ensures ok { OnOk result (ComesFrom observer accepted.now.value cell place.old place.new) }
+    ensures same { OnErr result (place.new ≡ place.old) }
 {
-    let record = record_by(accepted, cell, &seen);
-    let Ok(machine) = Machine::start(alloc, accepted, record, start) else {
-        return Err(RunPlace::Starting(start, seen));
+    let RunPlace::Starting(start, seen) = place else {
+        unreachable!()
     };
-    match machine.step(alloc, observer) {
-        Ok(stepped) => Ok(place_of(start, stepped)),
+    let (start, seen) = (*start, *seen);
+    let record = record_by(accepted, cell, &seen);
+    let mut machine = Machine::start(alloc, accepted, record, start)?;
+    let moved = machine.local();
+    match leads(alloc, observer, start, machine, moved) {
+        Ok(next) => {
+            *place = next;
+            Ok(())
+        }
         // The first instruction is the exit, and its declaration was refused: the machine goes, since a start leads
         // there again.
-        Err(_) => Err(RunPlace::Starting(start, seen)),
+        Err(_) => Err(NoMemory),
     }
 }
 
-// Does the next instruction of a machine where it stands, and tells what it did, if anything.
-fn move_at(place: &mut RunPlace) -> Option<Moved>
-    requires { IsLocal place.old }
-    ensures { MatchOption result (GrowsAt place.old × (place.new ≡ place.old))
-        (λ m. MovesAt place.old m place.new) }
-{
-    match place {
-        RunPlace::Computing(_, machine) => machine.move_on(),
-        _ => None,
-    }
-}
-
-// A machine that did its exit where it stands is before it again, with what it left.
-fn before_exit(place: RunPlace) -> RunPlace
-    requires { (old : RunPlace) × (r : ℕ) × MovesAt old (Ended r) place }
-    ensures { (old : RunPlace) (r : ℕ) → MovesAt old (Ended r) place → result ≡ old }
-{
-    match place {
-        RunPlace::Computing(start, machine) => RunPlace::Computing(start, machine.before_exit()),
-        _ => unreachable!(),
-    }
-}
-
-// A place whose machine did its exit is before it again, where it stands. It isn't inlined, since only exits need it.
+/// Leaves the machine's turn after an ask or an exit, which was done where the machine stands. Refused for memory, as
+/// an exit alone can be, the machine is before it again. It isn't inlined, as above.
 #[inline(never)]
-fn go_back(place: &mut RunPlace)
-    requires { (old : RunPlace) × (r : ℕ) × MovesAt old (Ended r) place.old }
-    ensures { (old : RunPlace) (r : ℕ) → MovesAt old (Ended r) place.old → place.new ≡ old }
-{
-    let ended = mem::replace(place, RunPlace::Beginning);
-    *place = before_exit(ended);
-}
-
-/// Does the next instruction of a machine where it stands, if it is neither the first nor the exit, and tells what it
-/// did: a job is moved to another place at these two and at asks alone.
-pub fn move_on(place: &mut RunPlace) -> Option<Moved>
-    requires { IsLocal place.old }
-    ensures { MatchOption result (GrowsAt place.old × (place.new ≡ place.old))
-        (λ m. GoesAt place.old m place.new) }
-{
-    let moved = move_at(place);
-    if let Some(Moved::Ended(_)) = moved {
-        go_back(place);
-        return None;
-    }
-    moved
-}
-
-// The place of a machine that asked where it stands: its look at that cell begins with a read.
-fn waiting(place: RunPlace, ask: Ask) -> RunPlace
-    ensures { result ≡ waiting place ask }
-{
-    match place {
-        RunPlace::Computing(start, machine) => RunPlace::Asking(start, machine, ask, Look::Reading),
-        place => place,
-    }
-}
-
-/// Lets a machine wait that asked where it stands.
-#[inline(never)]
-pub fn wait_at(place: &mut RunPlace, ask: Ask)
-    ensures { place.new ≡ waiting place.old ask }
-{
-    let asking = mem::replace(place, RunPlace::Beginning);
-    *place = waiting(asking, ask);
-}
-
-// Does all instructions of a machine up to the next ask or the exit where it stands, and tells what the last one did;
-// none where it isn't started, and at an exit that was refused.
-fn follow_at(place: &mut RunPlace) -> Option<Moved>
-    requires { IsLocal place.old }
-    ensures { MatchOption result (GrowsAt place.old × (place.new ≡ place.old))
-        (λ m. FollowsAt place.old m place.new) }
-{
-    match place {
-        RunPlace::Computing(_, machine) => machine.follow(),
-        _ => None,
-    }
-}
-
-/// Does all instructions of a machine up to the next ask or the exit where it stands, and tells whether it waits for
-/// what it asked; else it is before its exit, or isn't started.
-pub fn follow(place: &mut RunPlace) -> bool
-    requires { IsLocal place.old }
-    ensures waits { IsTrue result → WaitsAt place.old place.new }
-    ensures grows { IsFalse result → ProceedsAt place.old place.new × GrowsAt place.new }
-{
-    match follow_at(place) {
-        Some(Moved::Asks(ask)) => {
-            wait_at(place, ask);
-            true
-        }
-        Some(Moved::Ended(_)) => {
-            go_back(place);
-            false
-        }
-        // A machine that is followed stops at an ask or at the exit alone.
-        Some(Moved::Went) => unreachable!(),
-        None => false,
-    }
-}
-
-/// Where the next instruction leads, for the run of this observer, whose program this is, on this cell. Refused for
-/// memory, the place is as before.
-pub fn compute(
+pub fn leave(
     alloc: Global,
     observer: ObserverNo,
-    accepted: &Arc<Accepted>,
-    cell: Cell,
-    place: RunPlace,
-) -> Result<RunPlace, RunPlace>
-    requires { IsLocal place }
-    ensures ok { IfOk result (ComesFrom observer accepted.now.value cell place) }
-    ensures same { IfErr result (λ p. p ≡ place) }
+    place: &mut RunPlace,
+    moved: Moved,
+) -> Result<(), NoMemory>
+    requires { (s : Ts) × (v : Position) × MovesAt s v moved place.old }
+    ensures ok { (s : Ts) (v : Position) → MovesAt s v moved place.old
+        → OnOk result (Comes observer s v place.new) }
+    ensures left { IsStop moved → OnOk result (need_at place.new ≢ Local) }
+    ensures same { (s : Ts) (v : Position) → MovesAt s v moved place.old
+        → OnErr result ((place.new ≡ places.Computing s v) × IsAtExit v) }
 {
-    match place {
-        RunPlace::Starting(start, seen) => begin(alloc, observer, accepted, cell, start, seen),
-        RunPlace::Computing(start, machine) => go_on(alloc, observer, start, machine),
-        _ => unreachable!(),
+    let RunPlace::Computing(start, machine) = mem::replace(place, RunPlace::Beginning) else {
+        unreachable!()
+    };
+    match leads(alloc, observer, start, machine, moved) {
+        Ok(next) => {
+            *place = next;
+            Ok(())
+        }
+        Err(machine) => {
+            *place = RunPlace::Computing(start, machine);
+            Err(NoMemory)
+        }
     }
 }

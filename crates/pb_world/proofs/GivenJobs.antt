@@ -18,11 +18,9 @@ use Rattle.pb_history.specs.History.{Has}
 use Rattle.pb_core.specs.Calls.{SharedOf, SeatOf, call_reason}
 use Rattle.pb_txn.specs.Changes.{new_change}
 use Rattle.pb_txn.specs.Changes as changes
-use Rattle.pb_notify.specs.declared.machine.stepped.Stepped.{Stepped}
-use Rattle.pb_notify.specs.declared.machine.stepped.Stepped.TheVariants as did
 use Rattle.pb_notify.specs.declared.place.RunPlace.{RunPlace}
 use Rattle.pb_notify.specs.declared.place.RunPlace.TheVariants.{Starting, Computing}
-use Rattle.pb_notify.specs.Places.{place_of, Comes, ComesFrom}
+use Rattle.pb_notify.specs.Places.{Comes, goes, waits, declares, ComesFrom}
 use Rattle.pb_notify.specs.Runs.{RunOf, fresh, need_at}
 use Rattle.pb_parse.specs.declared.event.Event.{Event}
 use Rattle.pb_parse.specs.declared.event.Event.TheVariants as events
@@ -94,13 +92,10 @@ of_in w v (jobs.Change n) (Run r) os bs is = absurd is
 of_in w v (jobs.Run o row) (Change c) os bs is = absurd is
 
 -- after an instruction a run isn't over
-stepped_goes : (s : Ts) (stepped : Stepped) → is_over_need (need_at (place_of s stepped)) ≡ false
-stepped_goes s (did.Went w) = refl
-stepped_goes s (did.Asks w q) = refl
-stepped_goes s (did.Ended r what) = refl
-
 comes_on : (o : ℕ) (s : Ts) (v : Position) (place : RunPlace) → Comes o s v place → is_over_need (need_at place) ≡ false
-comes_on o s v place c = subst (λ p. is_over_need (need_at p) ≡ false) (sym c.place_is) (stepped_goes s c.stepped)
+comes_on o s v place (goes w st) = refl
+comes_on o s v place (waits w q st) = refl
+comes_on o s v place (declares r what st) = refl
 
 from_on : (o : ℕ) (judged : JudgedOf) (x : Cell) (place next : RunPlace) → ComesFrom o judged x place next → is_over_need (need_at next) ≡ false
 from_on o judged x (Starting s seen) next c = comes_on o s _ next c.comes

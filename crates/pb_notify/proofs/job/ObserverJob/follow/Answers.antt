@@ -1,16 +1,124 @@
-use Rattle.pb_notify.specs.Runs.{at_first}
-use Rattle.pb_notify.proofs.FollowedInPlace.{joined, some_joined}
-use Rattle.pb_notify.proofs.InstructionsLeft.{fewer}
+use Rattle.std.proofs.Common.{◌≡◌, ℕ, refl, sym, ap, subst, ◌∙◌, rules}
+use Rattle.pb_base.specs.declared.cell.Cell.{Cell}
+use Rattle.pb_base.specs.declared.names.Ts.{Ts}
+use Rattle.pb_isa.specs.Programs.{JudgedOf}
+use Rattle.pb_vm.specs.Position.{Position}
+use Rattle.pb_steps.specs.declared.seen.Seen.{Seen}
+use Rattle.pb_notify.specs.declared.need.Need.TheVariants.{Local}
+use Rattle.pb_notify.specs.declared.place.RunPlace.{RunPlace}
+use Rattle.pb_notify.specs.declared.place.RunPlace.TheVariants.{Starting, Computing}
+use Rattle.pb_notify.specs.Places.{Comes, goes, waits, declares, ComesFrom, GrowsAt, AtPlace}
+use Rattle.pb_notify.specs.Runs.{RunOf, need_at, IsJob, ComputesOn, at_first, one_more}
+use Rattle.pb_notify.specs.Steps.{Proceeds}
+use Rattle.pb_notify.specs.Steps as steps
+use Rattle.pb_notify.proofs.Kept.{at_come}
 use Rattle.pb_notify.proofs.job.ObserverJob.follow.Goals as goal
+use Rattle.pb_notify.proofs.job.ObserverJob.follow.Goals.{in-Starting+in_ok-local, in_default}
 
-pub loop-alloc-init : goal.loop-alloc-init
-loop-alloc-init c = at_first
+-- the job, with its machine at this place
+abbrev job_at : RunOf → RunPlace → RunOf
+job_at j p = record j { place = p }
 
-pub loop-alloc-smaller : goal.loop-alloc-smaller
-loop-alloc-smaller c = fewer c.loop-alloc.self c.go_on.new.self c.in_ok-go_on.ensures.ok
+-- its machine's instructions are as many of the job's
+on_computing : (j : RunOf) (s : Ts) (v w : Position) → Proceeds v w → ComputesOn (job_at j (Computing s v)) (job_at j (Computing s w))
+on_computing j s v w steps.at_first = at_first
+on_computing j s v w (steps.one_more u x on went) = one_more (job_at j (Computing s u)) (job_at j (Computing s x)) (on_computing j s v u on) refl (record { comes = goes x went; same = refl })
 
-pub loop-alloc-preserved : goal.loop-alloc-preserved
-loop-alloc-preserved c = some_joined c.args.self.now c.loop-alloc.self c.go_on.new.self c.loop-alloc.invariant c.in_ok-go_on.ensures.ok
+-- some instructions after others are instructions of one job
+joined : (j k l : RunOf) → ComputesOn j k → ComputesOn k l → ComputesOn j l
+joined j k l on at_first = on
+joined j k l on (one_more m n to is_next last) = one_more m n (joined j k m on to) is_next last
 
-pub returns-in_err-go_on-clause-on : goal.returns-in_err-go_on-clause-on
-returns-in_err-go_on-clause-on c = joined c.args.self.now c.loop-alloc.self c.go_on.new.self c.loop-alloc.invariant c.in_err-go_on.ensures.err.0
+-- where another instruction is next, a machine was left that goes on
+went_local : (o : ℕ) (s : Ts) (v : Position) (place : RunPlace) → Comes o s v place → need_at place ≡ Local → (t : Ts) × (w : Position) × (place ≡ Computing t w)
+went_local o s v place (goes w st) e = (s, w, refl)
+went_local o s v place (waits w q st) e = absurd cc
+went_local o s v place (declares r what st) e = absurd cc
+
+came_local : (o : ℕ) (judged : JudgedOf) (x : Cell) (before after : RunPlace) → ComesFrom o judged x before after → need_at after ≡ Local → (t : Ts) × (w : Position) × (after ≡ Computing t w)
+came_local o judged x (Starting s seen) after c e = went_local o s _ after c.comes e
+came_local o judged x (Computing s v) after c e = went_local o s v after c e
+came_local o judged x _ after c e = absurd c
+
+-- and where it is started
+started_local : (place : RunPlace) → ((s : Ts) (seen : Seen) → place ≡ Starting s seen → ⊥) → need_at place ≡ Local → (t : Ts) × (w : Position) × (place ≡ Computing t w)
+started_local (Starting s seen) isnt e = absurd (isnt s seen refl)
+started_local (Computing s v) isnt e = (s, v, refl)
+started_local _ isnt e = absurd cc
+
+pub returns-in_err-local-clause-on : goal.returns-in_err-local-clause-on
+returns-in_err-local-clause-on c = subst (λ (k : RunOf). ComputesOn c.args.self.now k) (sym c.in_err-local.ensures.same) at_first
+
+pub invariant_of-self : goal.invariant_of-self
+invariant_of-self c =
+    let i = c.self-2.inside in
+    let f = c.follow-moved.ensures in
+    let back = c.in_err-leave.ensures.same c.in-Computing.field-0 f.last (c.follow-moved.new.self, refl, f.moves) in
+    let kept : IsJob i.observer i.row i.column i.locked (Computing c.in-Computing.field-0 c.in-Computing.machine) i.next = subst (λ p. IsJob i.observer i.row i.column i.locked p i.next) c.in-Computing.is c.self-2.invariant in
+    let here : IsJob i.observer i.row i.column i.locked (Computing c.in-Computing.field-0 f.last) i.next = record { stored = kept.stored; at = (kept.at.0, f.moves.going) } in
+    subst (λ p. IsJob i.observer i.row i.column i.locked p i.next) (sym back.0) here
+
+pub returns-in_err-leave-clause-on : goal.returns-in_err-leave-clause-on
+returns-in_err-leave-clause-on c =
+    let i = c.self-2.inside in
+    let f = c.follow-moved.ensures in
+    let so_far : ComputesOn c.args.self.now c.match-self.self = elim c.match-self.branch [
+      | in-Starting+in_ok-local w ↦ rw w.self-is (one_more c.args.self.now w.local.new.self at_first c.requires w.in_ok-local.ensures.ok)
+      | in_default w ↦ rw w.self-is at_first
+    ] in
+    let j : RunOf = record { observer = i.observer; judged = i.accepted.value; row = i.row; column = i.column; locked = i.locked; place = i.place } in
+    let started : ComputesOn c.args.self.now (job_at j (Computing c.in-Computing.field-0 c.in-Computing.machine)) = subst (λ p. ComputesOn c.args.self.now (job_at j p)) c.in-Computing.is (subst (λ (k : RunOf). ComputesOn c.args.self.now k) (sym c.self-2.view_is) so_far) in
+    let here = joined c.args.self.now _ _ started (on_computing j c.in-Computing.field-0 c.in-Computing.machine f.last f.proceeds) in
+    let back = c.in_err-leave.ensures.same c.in-Computing.field-0 f.last (c.follow-moved.new.self, refl, f.moves) in
+    subst (λ p. ComputesOn c.args.self.now (job_at j p)) (sym back.0) here
+
+pub returns-in_err-leave-clause-err : goal.returns-in_err-leave-clause-err
+returns-in_err-leave-clause-err c =
+    let f = c.follow-moved.ensures in
+    let back = c.in_err-leave.ensures.same c.in-Computing.field-0 f.last (c.follow-moved.new.self, refl, f.moves) in
+    let grows : GrowsAt c.leave.new.place = subst GrowsAt (sym back.0) back.1 in
+    search (rules, grows)
+
+pub invariant_of-self-in-Computing : goal.invariant_of-self-in-Computing
+invariant_of-self-in-Computing c =
+    let i = c.self-2.inside in
+    let f = c.follow-moved.ensures in
+    let few = (subst (AtPlace i.locked) c.in-Computing.is c.self-2.invariant.at).0 in
+    let comes = c.in_ok-leave.ensures.ok c.in-Computing.field-0 f.last (c.follow-moved.new.self, refl, f.moves) in
+    record { stored = c.keep_step.ensures; at = at_come i.locked i.observer c.in-Computing.field-0 f.last c.leave.new.place comes few }
+
+pub returns-in_ok-leave-clause-on : goal.returns-in_ok-leave-clause-on
+returns-in_ok-leave-clause-on c =
+    let i = c.self-2.inside in
+    let f = c.follow-moved.ensures in
+    let so_far : ComputesOn c.args.self.now c.match-self.self = elim c.match-self.branch [
+      | in-Starting+in_ok-local w ↦ rw w.self-is (one_more c.args.self.now w.local.new.self at_first c.requires w.in_ok-local.ensures.ok)
+      | in_default w ↦ rw w.self-is at_first
+    ] in
+    let j : RunOf = record { observer = i.observer; judged = i.accepted.value; row = i.row; column = i.column; locked = i.locked; place = i.place } in
+    let started : ComputesOn c.args.self.now (job_at j (Computing c.in-Computing.field-0 c.in-Computing.machine)) = subst (λ p. ComputesOn c.args.self.now (job_at j p)) c.in-Computing.is (subst (λ (k : RunOf). ComputesOn c.args.self.now k) (sym c.self-2.view_is) so_far) in
+    let here = joined c.args.self.now _ _ started (on_computing j c.in-Computing.field-0 c.in-Computing.machine f.last f.proceeds) in
+    let comes = c.in_ok-leave.ensures.ok c.in-Computing.field-0 f.last (c.follow-moved.new.self, refl, f.moves) in
+    one_more (job_at j (Computing c.in-Computing.field-0 f.last)) (job_at j c.leave.new.place) here refl (record { comes = comes; same = refl })
+
+pub returns-in_default-place : goal.returns-in_default-place
+returns-in_default-place c =
+    let so_far : ComputesOn c.args.self.now c.match-self.self = elim c.match-self.branch [
+      | in-Starting+in_ok-local w ↦ rw w.self-is (one_more c.args.self.now w.local.new.self at_first c.requires w.in_ok-local.ensures.ok)
+      | in_default w ↦ rw w.self-is at_first
+    ] in
+    record {
+      on = subst (λ (k : RunOf). ComputesOn c.args.self.now k) (sym c.self-2.view_is) so_far;
+      ok = λ need. elim c.match-self.branch [
+        | in-Starting+in_ok-local w ↦
+            let is = ap (λ (j : RunOf). j.place) (c.self-2.view_is ∙ w.self-is) in
+            let did = w.in_ok-local.ensures.ok in
+            let here = came_local c.args.self.now.observer c.args.self.now.judged _ c.args.self.now.place w.local.new.self.place did.comes (subst (λ p. need_at p ≡ Local) is need) in
+            c.in_default-place.not-Computing here.0 here.1 (is ∙ here.2)
+        | in_default w ↦
+            let is = ap (λ (j : RunOf). j.place) (c.self-2.view_is ∙ w.self-is ∙ sym c.self.view_is) in
+            let here = started_local c.self.inside.place w.in_default.not-Starting (subst (λ p. need_at p ≡ Local) is need) in
+            c.in_default-place.not-Computing here.0 here.1 (is ∙ here.2)
+      ];
+      err = tt;
+    }

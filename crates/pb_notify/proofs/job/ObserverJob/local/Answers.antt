@@ -1,33 +1,48 @@
-use Rattle.std.proofs.Common.{◌≡◌, subst, sym, refl, rules}
+use Rattle.std.proofs.Common.{◌≡◌, refl, sym, subst, ◌∙◌, rules}
 use Rattle.pb_base.specs.declared.cell.Cell.TheVariants.{Data}
-use Rattle.pb_notify.specs.Places.{ComesFrom, GoesAt, AtPlace, waiting}
-use Rattle.pb_notify.specs.Runs.{RunOf, Computes}
-use Rattle.pb_notify.proofs.MovedInPlace.{went_comes, asks_at, asks_comes}
+use Rattle.pb_notify.specs.declared.place.RunPlace.{RunPlace}
+use Rattle.pb_notify.specs.declared.place.RunPlace.TheVariants.{Computing}
+use Rattle.pb_notify.specs.Places.{goes, ComesFrom, GrowsAt, AtPlace}
+use Rattle.pb_notify.specs.Runs.{RunOf, IsJob, Computes}
+use Rattle.pb_notify.specs.Steps.{MovesOn}
+use Rattle.pb_notify.proofs.Kept.{at_come, at_computed}
 use Rattle.pb_notify.proofs.job.ObserverJob.local.Goals as goal
+use Rattle.pb_notify.proofs.job.ObserverJob.local.Goals.{in-Computing+in_default-local+in_ok-leave-in_default-local, in_default+in_ok-begin-in_default}
 
-pub returns-in-Some-Went-clause-ok : goal.returns-in-Some-Went-clause-ok
-returns-in-Some-Went-clause-ok c =
+pub returns-in-Went-clause-ok : goal.returns-in-Went-clause-ok
+returns-in-Went-clause-ok c =
     let i = c.self.inside in
-    let goes = subst (λ m. GoesAt i.place m c.move_on.new.place) c.in-Some-Went.field-0-is c.in-Some-Went.ensures in
-    let k : RunOf = record { observer = i.observer; judged = i.accepted.value; row = i.row; column = i.column; locked = i.locked; place = c.move_on.new.place } in
+    let place : RunPlace = Computing c.in-Computing.field-0 c.local.new.self in
+    let k : RunOf = record { observer = i.observer; judged = i.accepted.value; row = i.row; column = i.column; locked = i.locked; place = place } in
+    let did = subst (λ m. MovesOn c.in-Computing.machine m c.local.new.self) c.in-Went.is c.local.ensures in
     subst (λ (j : RunOf). Computes j k) c.self.view_is
-    (record { comes = went_comes i.observer i.accepted.value (Data i.row i.column) i.place c.move_on.new.place goes; same = refl })
+    (record { comes = subst (λ p. ComesFrom i.observer i.accepted.value (Data i.row i.column) p place) (sym c.in-Computing.is) (goes c.local.new.self (record { went = did.moves; most = did.most })); same = refl })
 
-pub returns-in-Some-Asks-clause-ok : goal.returns-in-Some-Asks-clause-ok
-returns-in-Some-Asks-clause-ok c =
+pub invariant_of-self-in_err-leave-in_default-local : goal.invariant_of-self-in_err-leave-in_default-local
+invariant_of-self-in_err-leave-in_default-local c =
     let i = c.self.inside in
-    let goes = subst (λ m. GoesAt i.place m c.move_on.new.place) c.in-Some-Asks.field-0-is c.in-Some-Asks.ensures in
-    let waits : c.wait_at.new.place ≡ waiting c.move_on.new.place c.in-Some-Asks.ask = search rules in
-    let k : RunOf = record { observer = i.observer; judged = i.accepted.value; row = i.row; column = i.column; locked = i.locked; place = c.wait_at.new.place } in
-    subst (λ (j : RunOf). Computes j k) c.self.view_is
-    (record {
-      comes = subst (ComesFrom i.observer i.accepted.value (Data i.row i.column) i.place) (sym waits) (asks_comes i.observer i.accepted.value (Data i.row i.column) i.place c.move_on.new.place c.in-Some-Asks.ask goes);
-      same = refl;
-    })
+    let back = c.in_err-leave-in_default-local.ensures.same c.in-Computing.field-0 c.in-Computing.machine (c.local.new.self, refl, c.local.ensures) in
+    subst (λ p. IsJob i.observer i.row i.column i.locked p i.next) (c.in-Computing.is ∙ sym back.0) c.self.invariant
 
-pub invariant_of-self-in-Some-Asks : goal.invariant_of-self-in-Some-Asks
-invariant_of-self-in-Some-Asks c =
+pub returns-in_err-leave-in_default-local : goal.returns-in_err-leave-in_default-local
+returns-in_err-leave-in_default-local c =
     let i = c.self.inside in
-    let goes = subst (λ m. GoesAt i.place m c.move_on.new.place) c.in-Some-Asks.field-0-is c.in-Some-Asks.ensures in
-    let waits : c.wait_at.new.place ≡ waiting c.move_on.new.place c.in-Some-Asks.ask = search rules in
-    record { stored = c.keep_step.ensures; at = subst (AtPlace i.locked) (sym waits) (asks_at i.locked i.place c.move_on.new.place c.in-Some-Asks.ask c.self.invariant.at goes) }
+    let back = c.in_err-leave-in_default-local.ensures.same c.in-Computing.field-0 c.in-Computing.machine (c.local.new.self, refl, c.local.ensures) in
+    let same : c.leave.new.place ≡ i.place = back.0 ∙ sym c.in-Computing.is in
+    let grows : GrowsAt i.place = subst GrowsAt (sym c.in-Computing.is) back.1 in
+    search (rules, same, grows)
+
+pub invariant_of-self-2 : goal.invariant_of-self-2
+invariant_of-self-2 c = record {
+  stored = c.keep_step.ensures;
+  at = elim c.match-self.branch [
+    | in-Computing+in_default-local+in_ok-leave-in_default-local w ↦
+        let i = c.self.inside in
+        let few = (subst (AtPlace i.locked) w.in-Computing.is c.self.invariant.at).0 in
+        let comes = w.in_ok-leave-in_default-local.ensures.ok w.in-Computing.field-0 w.in-Computing.machine (w.local.new.self, refl, w.local.ensures) in
+        rw w.self-inside-is (at_come i.locked i.observer w.in-Computing.field-0 w.in-Computing.machine w.leave.new.place comes few)
+    | in_default+in_ok-begin-in_default w ↦
+        let i = c.self.inside in
+        rw w.self-inside-is (at_computed i.locked i.observer i.accepted.value (Data i.row i.column) i.place w.begin.new.place w.in_ok-begin-in_default.ensures.ok c.self.invariant.at)
+  ];
+}

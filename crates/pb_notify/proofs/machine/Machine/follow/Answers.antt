@@ -1,22 +1,57 @@
-use Rattle.std.proofs.Common.{◌≡◌, sym, subst, rules}
+use Rattle.std.proofs.Common.{◌≡◌, inl, inr, ℕ, zero, suc, ◌≤◌, refl, sym, ap, subst, ◌∙◌, arith, rules}
+use Rattle.pb_isa.specs.Programs.{JudgedOf}
+use Rattle.pb_isa.specs.Slots.{slots}
 use Rattle.pb_vm.specs.Position.{Position}
-use Rattle.pb_notify.specs.Steps.{at_first, FollowsOn, IsAtExit}
-use Rattle.pb_notify.specs.Machines.{IsKept, position_in}
-use Rattle.pb_notify.proofs.FollowedInPlace.{follows}
+use Rattle.pb_vm.specs.Moves.{Moves, IsStop, Advances}
+use Rattle.pb_vm.specs.declared.moved.Moved.{Moved}
+use Rattle.pb_vm.specs.declared.moved.Moved.TheVariants as moved
+use Rattle.pb_vm.specs.declared.moved.MachinePhase.TheVariants.{Going}
+use Rattle.pb_notify.specs.Steps.{WentOn, Proceeds, at_first, one_more, FollowsOn}
 use Rattle.pb_notify.proofs.machine.Machine.follow.Goals as goal
 use Rattle.pb_notify.proofs.machine.Machine.follow.Goals.{in-Running, in-Exited}
 
+-- the slots of its program, which no run's instructions exceed
+abbrev slots_of : Position → ℕ
+slots_of v = slots v.judged.program.insns
+
+same_slots : (v w : Position) → w.judged ≡ v.judged → slots_of w ≡ slots_of v
+same_slots v w e = ap (λ (j : JudgedOf). slots j.program.insns) e
+
+-- it has done no fewer, of the same program
+record IsLater (v w : Position) : Type 0 where
+  taken : v.taken ≤ w.taken
+  same : slots_of w ≡ slots_of v
+
+-- an ask or the exit takes no instruction back
+stop_later : (v : Position) (m : Moved) (w : Position) → IsStop m → Moves v m w → IsLater v w
+stop_later v moved.Went w stop h = absurd stop
+stop_later v (moved.Asks q) w stop h = record { taken = omega (arith, h.taken); same = same_slots v w h.given.judged }
+stop_later v (moved.Ended r) w stop h = record { taken = omega (arith, h.taken); same = same_slots v w h.given.judged }
+
+-- nor do all that lead there
+later : (n : ℕ) (v : Position) (m : Moved) (w : Position) → Advances n v m w → IsLater v w
+later zero v m w h = subst (IsLater v) (sym h.1) (record { taken = omega arith; same = refl })
+later (suc n) v m w (inl stop) = stop_later v m w stop.0 stop.1
+later (suc n) v m w (inr on) =
+    let rest = later n on.0 m w on.2 in
+    let one = on.1.taken in
+    record { taken = omega (arith, rest.taken, one); same = rest.same ∙ same_slots v on.0 on.1.given.judged }
+
+-- all that lead to an ask or the exit
+follows : (n : ℕ) (v u : Position) (m : Moved) (w : Position) → Proceeds v u → u.phase ≡ Going → IsStop m → Advances n u m w → w.taken ≤ slots_of w → FollowsOn v m w
+follows zero v u m w on going stops h most = absurd (subst IsStop h.0 stops)
+follows (suc n) v u m w on going stops (inl stop) most = record { last = u; proceeds = on; stops = stop.0; moves = record { going = going; moves = stop.1; most = most } }
+follows (suc n) v u m w on going stops (inr more) most =
+    let rest = later n more.0 m w more.2 in
+    let went : WentOn u more.0 = record { went = more.1; most = omega (arith, rest.taken, rest.same, most) } in
+    follows n v more.0 m w (one_more u more.0 on went) more.1.phase stops more.2 most
+
 pub returns : goal.returns
-returns c =
-    let v : Position = c.args.self.now in
-    elim c.match-self.branch [
-      | in-Running w ↦
-          let old : w.in-Running.vm ≡ v = search rules in
-          let all = w.follow.ensures.follows in
-          let did = follows all.1.0 w.in-Running.vm w.in-Running.vm w.follow.result w.follow.new.self at_first (search rules) all.0 all.1.1 w.follow.ensures.most in
-          rw (w.result-is, w.self-inside-is) (subst (λ (p : Position). FollowsOn p w.follow.result w.follow.new.self) old did)
-      | in-Exited w ↦
-          let kept = subst IsKept w.in-Exited.is c.self.invariant in
-          let ends = subst (λ s. IsAtExit (position_in s)) (sym w.in-Exited.is) (w.in-Exited.field-0.result, kept.0.ends) in
-          rw (w.result-is, w.self-inside-is) (subst IsAtExit c.self.view_is ends, c.self.view_is)
-    ]
+returns c = elim c.match-self.branch [
+  | in-Running w ↦
+      let old : w.in-Running.vm ≡ c.args.self.now = search rules in
+      let all = w.follow.ensures.follows in
+      let did = follows all.1.0 w.in-Running.vm w.in-Running.vm w.follow.result w.follow.new.self at_first (search rules) all.0 all.1.1 w.follow.ensures.most in
+      rw (w.result-is, w.self-inside-is) (subst (λ (v : Position). FollowsOn v w.follow.result w.follow.new.self) old did)
+  | in-Exited w ↦ rw (w.result-is, w.self-inside-is) (record { last = c.args.self.now; proceeds = at_first; stops = tt; moves = search rules })
+]

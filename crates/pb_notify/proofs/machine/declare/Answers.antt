@@ -1,0 +1,13 @@
+use Rattle.std.proofs.Common.{rules, ◌≡◌, sym, subst}
+use Rattle.pb_vm.specs.MachineSlot.{IsAtSlot}
+use Rattle.pb_notify.specs.Machines.{exit_at, Leaves}
+use Rattle.pb_notify.proofs.machine.declare.Goals as goal
+use Rattle.pb_notify.proofs.machine.declare.Goals.{in-Ok+in-Err-new+in-Run, in-Err}
+
+pub invariant_of-result : goal.invariant_of-result
+invariant_of-result c =
+    let same : c.match-new.left ≡ c.args.left = elim c.match-new.branch [
+      | in-Ok+in-Err-new+in-Run w ↦ search rules
+      | in-Err w ↦ search rules
+    ] in
+    subst (λ f. Leaves (exit_at f c.args.taken) f × IsAtSlot (exit_at f c.args.taken) c.args.slot) (sym same) (c.requires.leaves, c.requires.at)
