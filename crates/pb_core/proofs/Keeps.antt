@@ -1,16 +1,12 @@
 -- A table keeps its invariant over one more entry.
-use Rattle.std.proofs.Common.{◌≡◌, ◌≢◌, ℕ, ◌+◌, ◌<◌, Bool, true, false, eqb, cond, List, [], ◌∷◌, ◌++◌, length, length-append, length-set, get_or-set_same, get_or-set_other, slice_set, slice_index_or, Option, Some, None, refl, sym, ◌∙◌, ap, subst, arith, eq-eqb, ne_eqb, suc, nat_lt, add-zero}
+use Rattle.std.proofs.Common.{◌≡◌, ◌≢◌, ℕ, ◌+◌, ◌<◌, Bool, true, false, eqb, cond, List, [], ◌∷◌, ◌++◌, length, length-append, length-set, get_or-set_same, get_or-set_other, slice_set, slice_index_or, refl, sym, ◌∙◌, ap, subst, arith, eq-eqb, ne_eqb, suc, add-zero}
 use Rattle.std.proofs.lemmas.Bool.{eqb-false, eqb-true}
 use Rattle.pb_steps.specs.declared.step.Step.{Step}
 use Rattle.pb_steps.specs.declared.step.Answer.{Answer}
 use Rattle.pb_steps.specs.State.{StateOf, opening}
 use Rattle.pb_steps.specs.Steps.{TableStep}
-use Rattle.pb_base.specs.declared.refusal.Reason.{Reason}
-use Rattle.pb_base.specs.declared.refusal.Reason.TheVariants.{JournalFull}
-use Rattle.pb_base.specs.Reasons.{reason_code}
 use Rattle.pb_history.specs.declared.entry.Entry.{Entry}
 use Rattle.pb_history.specs.Places.{places_from}
-use Rattle.pb_core.specs.Calls.{or_full}
 use Rattle.pb_history.specs.Journals.{JournalLeads}
 use Rattle.pb_core.specs.Keeping.{SharedKeeps}
 use Rattle.pb_core.proofs.StepsKeep.{case_kept}
@@ -23,16 +19,6 @@ machine_seats s seat step a t m = (case_kept s seat step a t m.taken).seats
 -- and none the observers
 pub machine_observers : (s : StateOf) (seat : ℕ) (step : Step) (a : Answer) (t : StateOf) → TableStep s seat step a t → t.observers ≡ s.observers
 machine_observers s seat step a t m = (case_kept s seat step a t m.taken).observers
-
--- no reason is left where the lowest is none
-pub none_by_state : (r : Option Reason) (full : Bool) → or_full r full ≡ None → r ≡ None
-none_by_state None full e = refl
-none_by_state (Some r) true e = kept_by (nat_lt (reason_code JournalFull) (reason_code r)) e
-  where
-    kept_by : (b : Bool) → cond b (Some JournalFull) (Some r) ≡ None → Some r ≡ None
-    kept_by true h = cc
-    kept_by false h = h
-none_by_state (Some r) false e = e
 
 places_head : (at seat : ℕ) (d : Entry) (ps qs : List ℕ) (n : ℕ) → ps ≡ qs ++ n ∷ [] → cond (eqb d.seat seat) (at ∷ ps) ps ≡ cond (eqb d.seat seat) (at ∷ qs) qs ++ n ∷ []
 places_head at seat d ps qs n is = head_by (eqb d.seat seat)

@@ -10,7 +10,7 @@ use pb_history::{
     reads_tell_snapshots, records_are_told, runs_are_counted, runs_are_told, scripts_write_batches,
     steps_can_answer, timestamps_rise, writers_are_apart,
 };
-use pb_state::State;
+use pb_state::{Admitted, State};
 use pb_steps::{Answer, Phase, Step};
 use pb_store::{Table, Tablet};
 use pb_verify::Observer;
@@ -149,11 +149,13 @@ impl<T: Tablet> Shared<T> {
     ghost use Rattle.pb_store.specs.Contents.{nothing, is_nothing};
     ghost use Rattle.pb_store.specs.Tiles.{TellsSwapReason};
     ghost use Rattle.std.specs.FinMap as map;
+    ghost use Rattle.std.specs.Result.{result_err};
     ghost use Rattle.pb_base.specs.Reasons.{refusal_by};
     ghost use Rattle.pb_base.specs.declared.refusal.Reason.TheVariants as reasons;
     ghost use Rattle.pb_steps.specs.State.{opening, phase_in};
     ghost use Rattle.pb_steps.specs.Readings.{lock_count};
     ghost use Rattle.pb_steps.specs.Answers.{CanAnswer};
+    ghost use Rattle.pb_state.specs.Admitted.{Admits, step_of};
     ghost use Rattle.pb_core.specs.Calls.{AreSeats, Calls, call_reason};
     ghost use Rattle.pb_history.specs.Handled.{TellsQuiet};
     ghost use Rattle.pb_history.specs.History.{TellsHistory};
@@ -361,26 +363,27 @@ impl<T: Tablet> Shared<T> {
         self.state.marks()
     }
 
-    // Why a call is refused, if it is: of the reasons that apply, the one with the lowest number.
-    fn reason(&self, seat: u32, step: &Step) -> Option<Reason>
-        ensures { result ≡ call_reason self.now seat step.now }
+    // A step with what it needs, or why its call is refused: of the reasons that apply, the one with the lowest number.
+    fn admit<'s>(&self, seat: u32, step: &'s Step) -> Result<Admitted<'s>, Reason>
+        ensures reason { result_err result ≡ call_reason self.now seat step.now }
+        ensures step { IfOk result (λ a. step_of a ≡ step.now) }
+        ensures admitted { IfOk result (λ a. Admits self.now.state seat a) }
     {
         // 44 lies between the state's own numbers, so that it is told before those above it.
-        let by_state = self.state.reason(seat, step);
         let is_full = self.journal.len() == self.limit;
-        match by_state {
-            None => {
+        match self.state.admit(seat, step) {
+            Ok(admitted) => {
                 if is_full {
-                    Some(Reason::JournalFull)
+                    Err(Reason::JournalFull)
                 } else {
-                    None
+                    Ok(admitted)
                 }
             }
-            Some(reason) => {
+            Err(reason) => {
                 if is_full && Reason::JournalFull.code() < reason.code() {
-                    Some(Reason::JournalFull)
+                    Err(Reason::JournalFull)
                 } else {
-                    Some(reason)
+                    Err(reason)
                 }
             }
         }
@@ -401,19 +404,27 @@ impl<T: Tablet> Shared<T> {
         ensures seat { OnErr result (seat.new ≡ seat.old) }
     {
         steps_can_answer();
-        if let Some(reason) = self.reason(seat.number, step) {
-            return Err(reason.refusal());
-        }
-        match self.keep(seat, step) {
-            Ok(answer) => Ok(answer),
-            Err(_) => Err(Reason::NoMemory.refusal()),
+        match self.admit(seat.number, step) {
+            Ok(admitted) => match self.keep(seat, step, &admitted) {
+                Ok(answer) => Ok(answer),
+                Err(_) => Err(Reason::NoMemory.refusal()),
+            },
+            Err(reason) => Err(reason.refusal()),
         }
     }
 
-    // All growths come before the first change, so that a refused one leaves table and seat as they were. The step is
-    // copied for each of both lists, since one copy behind a shared pointer would take more memory than two.
-    fn keep(&mut self, seat: &mut Seat, step: &Step) -> Result<Answer, NoMemory>
-        requires { call_reason self.old seat.old.number step.now ≡ None }
+    // All growths come before the first change, so that a refused one leaves table and seat as they were, and what was
+    // admitted holds when the step is taken. The step is copied for each of both lists, since one copy behind a shared
+    // pointer would take more memory than two.
+    fn keep(
+        &mut self,
+        seat: &mut Seat,
+        step: &Step,
+        admitted: &Admitted<'_>,
+    ) -> Result<Answer, NoMemory>
+        requires allowed { call_reason self.old seat.old.number step.now ≡ None }
+        requires step { step_of admitted.now ≡ step.now }
+        requires admitted { Admits self.old.state seat.old.number admitted.now }
         ensures taken { IfOk result (λ a. Calls self.old seat.old step.now a self.new seat.new) }
         ensures table { OnErr result (self.new ≡ self.old) }
         ensures seat { OnErr result (seat.new ≡ seat.old) }
@@ -426,7 +437,7 @@ impl<T: Tablet> Shared<T> {
         make_rooms(&mut self.journal, &mut book.places, &mut seat.received)?;
         self.journal_room.make()?;
         self.seat_room.make()?;
-        let answer = self.state.take(number, step)?;
+        let answer = self.state.take_admitted(number, admitted)?;
         append(&mut book.places, place);
         let entry = entry_of(number, kept, &answer, &mut self.journal_room);
         append(&mut self.journal, entry);

@@ -7,7 +7,7 @@ use Rattle.pb_base.specs.declared.names.Row.{Row}
 use Rattle.pb_base.specs.declared.content.Revision.{Revision}
 use Rattle.pb_store.specs.Contents.{Entries}
 use Rattle.pb_verify.specs.Observers.{ObserverOf}
-use Rattle.pb_steps.specs.Readings.{last_timestamp, IsVersion, NoVersion}
+use Rattle.pb_steps.specs.Readings.{last_timestamp, IsVersion}
 use Rattle.pb_steps.specs.Marks.{SomeBehind, AllUpToDate}
 use Rattle.pb_state.specs.Behind.{SomeLate, AreOnTime}
 

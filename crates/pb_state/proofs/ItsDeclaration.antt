@@ -22,9 +22,9 @@ use Rattle.pb_steps.specs.declared.step.Work.TheVariants as works
 use Rattle.pb_steps.specs.declared.step.Declared.{Declared}
 use Rattle.pb_steps.specs.declared.step.Declared.TheVariants as declared
 use Rattle.pb_steps.specs.Reads.{asked_cell, version_in, acknowledged_in, value_in, value_code}
-use Rattle.pb_steps.specs.State.{cells_of}
+use Rattle.pb_steps.specs.State.{cells_of, batch_in}
 use Rattle.pb_verify.specs.Observers.{ObserverOf, observed_cell, acknowledgment}
-use Rattle.pb_state.specs.Cells.{acknowledgment_by}
+use Rattle.pb_state.specs.Cells.{acknowledgment_by, run_writes}
 use Rattle.pb_steps.specs.Declarations.{IsReadOf, old_at, WasOld, WasSeen, AreReplies, IsItsRun, MayDeclare, is_at, is_read_of, with_old, seen_by, seen_in, asked_in, is_replied, are_replies, is_made_of, is_run, is_run_by, is_run_of, is_its}
 use Rattle.pb_base.proofs.Logic.{and_true as both}
 use Rattle.pb_base.proofs.SameCells.{cell_is as same_cell}
@@ -169,10 +169,22 @@ may_be_its observers (works.Run p row) s reads (declared.Run o f) h =
 by_observer : (observers : List ObserverOf) (p : ℕ) (row : Row) (ob : ObserverOf) → slice_get observers p ≡ Some ob → acknowledgment_by observers (works.Run p row) ≡ Some (acknowledgment observers p row)
 by_observer observers p row ob e = rw e refl
 
+-- a declaration without an acknowledgment is a script's, and writes its batch
+pub script_writes : (observers : List ObserverOf) (work : Work) (s : ℕ) (reads : List RecordedRead) (what : Declared) → is_its observers work s reads what ≡ true → None ≡ acknowledgment_by observers work → batch_in what ≡ cells_of observers work s what
+script_writes observers works.Script s reads (declared.Script batch) h none = refl
+script_writes observers works.Script s reads (declared.Run o f) h none = cc
+script_writes observers (works.Run p row) s reads (declared.Script batch) h none = cc
+script_writes observers (works.Run p row) s reads (declared.Run o f) h none =
+    let k = (may_be_its observers (works.Run p row) s reads (declared.Run o f) h).1 in
+    let there = by_observer observers p row k.observer k.observer_is in
+    absurd cc
+
 -- a run writes its acknowledgment, and then what its program does
-pub run_cells : (observers : List ObserverOf) (work : Work) (s : Ts) (reads : List RecordedRead) (o : ℕ) (f : Meant) → is_its observers work s.0 reads (declared.Run o f) ≡ true
-    → (x : Cell) × (acknowledgment_by observers work ≡ Some x) × ((x, contents.Stamp s) ∷ f.writes ≡ cells_of observers work s.0 (declared.Run o f))
-run_cells observers works.Script s reads o f h = cc
-run_cells observers (works.Run p row) s reads o f h =
+pub run_writes_all : (observers : List ObserverOf) (work : Work) (s : Ts) (reads : List RecordedRead) (what : Declared) (x : Cell) → is_its observers work s.0 reads what ≡ true → Some x ≡ acknowledgment_by observers work → (x, contents.Stamp s) ∷ run_writes what ≡ cells_of observers work s.0 what
+run_writes_all observers works.Script s reads what x h some = cc
+run_writes_all observers (works.Run p row) s reads (declared.Script batch) x h some = cc
+run_writes_all observers (works.Run p row) s reads (declared.Run o f) x h some =
     let k = (may_be_its observers (works.Run p row) s.0 reads (declared.Run o f) h).1 in
-    (acknowledgment observers p row, by_observer observers p row k.observer k.observer_is, refl)
+    let there = by_observer observers p row k.observer k.observer_is in
+    let same : x ≡ acknowledgment observers p row = cc in
+    ap (λ y. (y, contents.Stamp s) ∷ f.writes) same

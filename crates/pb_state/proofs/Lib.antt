@@ -2,7 +2,6 @@ pub mod Taking
 pub mod Rising
 pub mod Outcomes
 pub mod Newest
-pub mod Allowed
 pub mod NewState
 pub mod ItsDeclaration
 pub mod ReadsTaken

@@ -1,7 +1,7 @@
 -- What a result brings, whichever it is.
-use Rattle.std.proofs.Common.{Result, Ok, Err, OnOk}
+use Rattle.std.proofs.Common.{Result, Ok, Err, OnErr}
 
--- what holds anyway holds of a call that was done
-pub ok_always : {A E : Type 0} (r : Result A E) (Q : Type 0) → Q → OnOk r Q
-ok_always (Ok x) Q q = q
-ok_always (Err e) Q q = tt
+-- what holds anyway holds of a call that was refused
+pub err_always : {A E : Type 0} (r : Result A E) (Q : Type 0) → Q → OnErr r Q
+err_always (Ok x) Q q = tt
+err_always (Err e) Q q = q

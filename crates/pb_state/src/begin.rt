@@ -1,10 +1,11 @@
 //! A transaction begins, with a fresh timestamp as its start.
 ghost use Rattle.std.specs.Prelude.{◌≡◌, IfOk, OnErr, None};
 ghost use Rattle.pb_history.specs.Sound.{IsSoundTable};
-ghost use Rattle.pb_steps.specs.Begin.{begin_reasons, is_unknown};
-ghost use Rattle.pb_steps.specs.Reasons.{first_reason};
+ghost use Rattle.pb_steps.specs.Begin.{is_unknown};
 ghost use Rattle.pb_steps.specs.Steps.{step_reason, TableStep};
+ghost use Rattle.pb_state.specs.Admitted.{TellsAdmission};
 
+use crate::admitted::Admitted;
 use crate::parts::Parts;
 use crate::transaction::Transaction;
 use pb_base::{NoMemory, Reason, Ts};
@@ -24,20 +25,18 @@ fn is_unknown(observers: &[Observer], work: Work) -> bool
 }
 
 impl<T: Tablet> Parts<T> {
-    pub(crate) fn begin_reason(&self, seat: u32, work: Work) -> Option<Reason>
-        ensures { result ≡ first_reason (begin_reasons self.now seat work) }
+    pub(crate) fn admit_begin(&self, seat: u32, work: &Work) -> Result<Admitted<'static>, Reason>
+        ensures { TellsAdmission self.now seat (Step.Begin work.now) result }
     {
         // By rising numbers, since the lowest that applies is told.
         if self.clock == u64::MAX {
-            return Some(Reason::OutOfTimestamps);
+            return Err(Reason::OutOfTimestamps);
         }
-        if seat >= self.seats {
-            return Some(Reason::NotOfSeat);
+        self.admit_seat(seat)?;
+        if is_unknown(&self.observers, *work) {
+            return Err(Reason::NoSuchObserver);
         }
-        if is_unknown(&self.observers, work) {
-            return Some(Reason::NoSuchObserver);
-        }
-        None
+        Ok(Admitted::Begin(*work))
     }
 
     pub(crate) fn begin(&mut self, seat: u32, work: Work) -> Result<Answer, NoMemory>

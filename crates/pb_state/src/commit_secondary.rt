@@ -1,9 +1,9 @@
 //! Another lock of a committed transaction is replaced by its write record.
-ghost use Rattle.std.specs.Prelude.{◌≡◌, IfOk, OnErr, None};
-ghost use Rattle.pb_steps.specs.CommitSecondary.{secondary_reasons};
-ghost use Rattle.pb_steps.specs.Reasons.{own_reasons, first_reason};
-ghost use Rattle.pb_steps.specs.Steps.{step_reason, TableStep};
+ghost use Rattle.std.specs.Prelude.{◌≡◌, IfOk, OnErr};
+ghost use Rattle.pb_steps.specs.Steps.{TableStep};
+ghost use Rattle.pb_state.specs.Admitted.{Admits, TellsAdmission};
 
+use crate::admitted::Admitted;
 use crate::commit::commit_cell;
 use crate::parts::Parts;
 use crate::readings::has_lock;
@@ -12,20 +12,26 @@ use pb_steps::{Answer, Phase, Step};
 use pb_store::Tablet;
 
 impl<T: Tablet> Parts<T> {
-    pub(crate) fn secondary_reason(&self, seat: u32, start: Ts, cell: &Cell) -> Option<Reason>
-        ensures { result ≡ first_reason (own_reasons self.now seat start.0
-            (secondary_reasons cell.now)) }
+    pub(crate) fn admit_secondary(
+        &self,
+        seat: u32,
+        start: Ts,
+        cell: &Cell,
+    ) -> Result<Admitted<'static>, Reason>
+        ensures { TellsAdmission self.now seat (Step.CommitSecondary start cell.now) result }
     {
-        let Some(transaction) = self.own(seat, start) else {
-            return Some(Reason::NotOfSeat);
+        let (_, transaction) = self.own(seat, start)?;
+        let Phase::Committed(commit) = transaction.phase() else {
+            return Err(Reason::WrongPhase);
         };
-        if !transaction.phase().is_committed() {
-            return Some(Reason::WrongPhase);
+        if transaction.content(*cell).is_none() {
+            return Err(Reason::NotDeclared);
         }
-        if !transaction.declares(cell) {
-            return Some(Reason::NotDeclared);
-        }
-        None
+        Ok(Admitted::CommitSecondary {
+            start,
+            cell: *cell,
+            commit,
+        })
     }
 
     pub(crate) fn commit_secondary(
@@ -33,18 +39,13 @@ impl<T: Tablet> Parts<T> {
         seat: u32,
         start: Ts,
         cell: &Cell,
+        commit: Ts,
     ) -> Result<Answer, NoMemory>
-        requires { step_reason self.old seat (Step.CommitSecondary start cell.now) ≡ None }
+        requires { Admits self.old seat (Admitted.CommitSecondary start cell.now commit) }
         ensures taken { IfOk result (λ a. TableStep self.old seat
             (Step.CommitSecondary start cell.now) a self.new) }
         ensures same { OnErr result (self.new ≡ self.old) }
     {
-        let Some(transaction) = self.transactions.get(start) else {
-            unreachable!()
-        };
-        let Phase::Committed(commit) = transaction.phase() else {
-            unreachable!()
-        };
         // Who cleared the lock put the same commit there, so that nothing is left to do.
         if !has_lock(&self.table, cell, start) {
             return Ok(Answer::Done);

@@ -1,53 +1,72 @@
 //! A transaction declares what it writes.
-ghost use Rattle.std.specs.Prelude.{◌≡◌, IfOk, OnErr, None};
-ghost use Rattle.pb_steps.specs.Declare.{declare_reasons};
-ghost use Rattle.pb_steps.specs.Reasons.{own_reasons, first_reason};
-ghost use Rattle.pb_steps.specs.Steps.{step_reason, TableStep};
+ghost use Rattle.std.specs.Prelude.{◌≡◌, IfOk, OnErr};
+ghost use Rattle.pb_steps.specs.Steps.{TableStep};
+ghost use Rattle.pb_state.specs.Admitted.{Admits, TellsAdmission};
 
-use crate::observed::{cells_of, is_its};
+use crate::admitted::{Admitted, TransactionAt};
+use crate::cells::Cells;
+use crate::observed::{acknowledgment_of, is_its};
 use crate::parts::Parts;
-use pb_base::{NoMemory, Reason, Ts};
-use pb_steps::{Answer, Declaration, Declared, Step};
+use pb_base::{Cell, NoMemory, Reason, Ts};
+use pb_steps::{Answer, Declaration, Step};
 use pb_store::Tablet;
 
 impl<T: Tablet> Parts<T> {
-    pub(crate) fn declare_reason(&self, seat: u32, start: Ts, what: &Declared) -> Option<Reason>
-        ensures { result ≡ first_reason
-            (own_reasons self.now seat start.0
-            (declare_reasons self.now.observers start.0 what.now)) }
+    pub(crate) fn admit_declare<'s>(
+        &self,
+        seat: u32,
+        start: Ts,
+        what: &'s Declaration,
+    ) -> Result<Admitted<'s>, Reason>
+        ensures { TellsAdmission self.now seat (Step.Declare start what.now) result }
     {
-        let Some(transaction) = self.own(seat, start) else {
-            return Some(Reason::NotOfSeat);
-        };
+        let (by, transaction) = self.own(seat, start)?;
         if !transaction.phase().is_reading() {
-            return Some(Reason::WrongPhase);
+            return Err(Reason::WrongPhase);
         }
         let reads = transaction.reads();
-        if !is_its(&self.observers, transaction.work(), start, reads, what) {
-            return Some(Reason::NotItsDeclaration);
+        if !is_its(
+            &self.observers,
+            transaction.work(),
+            start,
+            reads,
+            what.get(),
+        ) {
+            return Err(Reason::NotItsDeclaration);
         }
-        None
+        let acknowledgment = acknowledgment_of(&self.observers, transaction.work());
+        Ok(Admitted::Declare {
+            by,
+            what,
+            acknowledgment,
+        })
     }
 
     pub(crate) fn declare(
         &mut self,
         seat: u32,
-        start: Ts,
+        by: TransactionAt,
         what: &Declaration,
+        acknowledgment: Option<Cell>,
     ) -> Result<Answer, NoMemory>
-        requires { step_reason self.old seat (Step.Declare start what.now) ≡ None }
+        requires { Admits self.old seat (Admitted.Declare by what acknowledgment) }
         ensures taken { IfOk result (λ a. TableStep self.old seat
-            (Step.Declare start what.now) a self.new) }
+            (Step.Declare by.start what.now) a self.new) }
         ensures same { OnErr result (self.new ≡ self.old) }
     {
-        // It is there, since the step isn't refused. Only one more owner of the declaration takes memory.
-        let Some(transaction) = self.transactions.get(start) else {
-            unreachable!()
+        // For the proof: what is declared has its meaning, and a batch a first cell.
+        let _ = what.get();
+        // Only one more owner of the declaration takes memory.
+        let what = what.share()?;
+        let cells = match acknowledgment {
+            None => Cells::Batch(what),
+            Some(acknowledgment) => Cells::Run {
+                acknowledgment,
+                stamp: by.start,
+                what,
+            },
         };
-        let work = transaction.work();
-        let reads = transaction.reads();
-        let cells = cells_of(&self.observers, work, start, reads, what)?;
-        self.transactions.declare(start, cells);
+        self.transactions.at_mut(by).declare(cells);
         Ok(Answer::Done)
     }
 }

@@ -3,11 +3,13 @@
 //! A state has a table of tablets, the observers, the clock and the transactions, and no past: the journal that led to
 //! it is kept by `pb_core`, its only caller in the program, and what journals tell is shown in `pb_history`, below. So
 //! a new body here checks no law anew. The promise: steps are taken exactly as `TableStep` says, and refused exactly
-//! where it says so, with the lowest number; refused for memory, the state is as before. `Prewrite(1, cell)` on a free
-//! cell, for one, has room made for one prewritten cell more, puts data and lock by one `apply`, which is the last that
-//! may be refused, and answers `Done`.
+//! where it says so, with the lowest number; refused for memory, the state is as before. What a step needs is looked up
+//! once, where it is tested. `Prewrite(1, cell)` on a free cell, for one, is admitted with where transaction 1 stands,
+//! what that declared for the cell, and its primary; it has room made for one prewritten cell more, puts data and lock
+//! by one `apply`, which is the last that may be refused, and answers `Done`.
 #![tactic(auto)]
 
+mod admitted;
 mod begin;
 mod cells;
 mod clear;
@@ -28,6 +30,7 @@ mod sweep;
 mod transaction;
 mod transactions;
 
+pub use admitted::{Admitted, TransactionAt};
 pub use pb_helpers::Record;
 pub use pb_steps::{
     Answer, Declaration, Declared, EndedRun, Phase, RecordedRead, Seen, Step, Work,

@@ -11,12 +11,10 @@ ghost use Rattle.pb_helpers.specs.OldRecord as versions;
 ghost use Rattle.pb_steps.specs.State.{cells_of};
 ghost use Rattle.pb_state.specs.Cells.{acknowledgment_by, cells_in};
 
-use crate::cells::Cells;
-use pb_base::{Cell, NoMemory, ObserverNo, Revision, Row, Ts};
+use pb_base::{Cell, ObserverNo, Revision, Row, Ts};
 use pb_helpers::{Ask, Record, Reply};
 use pb_steps::{
-    Answer, Declaration, Declared, RecordedRead, Seen, Work, acknowledged_in, old_at, reply_in,
-    version_in,
+    Answer, Declared, RecordedRead, Seen, Work, acknowledged_in, old_at, reply_in, version_in,
 };
 use pb_verify::{Accepted, Observer};
 use pb_vm::Finished;
@@ -314,35 +312,4 @@ pub(crate) fn acknowledgment_of(observers: &[Observer], work: Work) -> Option<Ce
             None => None,
         },
     }
-}
-
-// What a declaration, which is one of its transaction, writes. No cell is copied, since it is shared.
-pub(crate) fn cells_of(
-    observers: &[Observer],
-    work: Work,
-    start: Ts,
-    reads: &[RecordedRead],
-    what: &Declaration,
-) -> Result<Cells, NoMemory>
-    requires { is_its observers.now work start.0 reads.now what.now ≡ true }
-    ensures cells { IfOk result (λ c. cells_in c ≡ cells_of observers.now work start.0 what.now) }
-    ensures some { IfOk result (λ c. is_some (primary_in (cells_in c)) ≡ true) }
-    ensures known { IsKnown what.now }
-{
-    if let Declared::Script(batch) = what.get() {
-        // For the proof: that the batch has a first cell.
-        let _primary = batch.primary();
-        let what = what.share()?;
-        return Ok(Cells::Batch(what));
-    }
-    // Its observer is there, since the run is one by it.
-    let Some(acknowledgment) = acknowledgment_of(observers, work) else {
-        unreachable!()
-    };
-    let what = what.share()?;
-    Ok(Cells::Run {
-        acknowledgment,
-        stamp: start,
-        what,
-    })
 }

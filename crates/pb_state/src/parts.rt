@@ -1,6 +1,7 @@
 //! The parts of a state, which the steps change, each in a file of its own.
 ghost use Rattle.std.specs.Prelude.{◌≡◌};
 
+use crate::admitted::{Admitted, TransactionAt};
 use crate::transaction::Transaction;
 use crate::transactions::Transactions;
 use pb_base::{NoMemory, Reason, Ts};
@@ -36,69 +37,115 @@ impl<T: Tablet> Model for Parts<T> {
 }
 
 impl<T: Tablet> Parts<T> {
-    ghost use Rattle.std.specs.Prelude.{OnErr, IfOk, None};
-    ghost use Rattle.std.specs.Option.{option_copied};
+    ghost use Rattle.std.specs.Prelude.{OnErr, IfOk, IfErr, Some, None};
+    ghost use Rattle.std.specs.Result.{result_err};
+    ghost use Rattle.pb_base.specs.declared.refusal.Reason.TheVariants.{NotOfSeat};
     ghost use Rattle.pb_history.specs.Sound.{IsSoundTable};
-    ghost use Rattle.pb_steps.specs.Reasons.{own_transaction};
-    ghost use Rattle.pb_steps.specs.Steps.{step_reason, TableStep};
+    ghost use Rattle.pb_steps.specs.Reasons.{own_transaction, first_reason, seat_reasons};
+    ghost use Rattle.pb_steps.specs.Steps.{TableStep};
+    ghost use Rattle.pb_state.specs.Admitted.{IsFound, Admits, TellsAdmission, step_of};
 
-    // The transaction of this start, if the table has this seat and it is one of it.
-    pub(crate) fn own(&self, seat: u32, start: Ts) -> Option<&Transaction>
-        ensures { option_copied result ≡ own_transaction self.now seat start.0 }
+    // Whether the table has this seat.
+    pub(crate) fn admit_seat(&self, seat: u32) -> Result<(), Reason>
+        ensures { result_err result ≡ first_reason (seat_reasons self.now seat) }
     {
         if seat >= self.seats {
-            return None;
+            return Err(Reason::NotOfSeat);
         }
-        match self.transactions.get(start) {
-            Some(transaction) => {
+        Ok(())
+    }
+
+    // The transaction of this start, if the table has this seat and it is one of it.
+    pub(crate) fn own(&self, seat: u32, start: Ts) -> Result<(TransactionAt, &Transaction), Reason>
+        ensures found { IfOk result (λ f. (f.0.start ≡ start)
+            × IsFound self.now seat f.0 f.1.now) }
+        ensures own { IfOk result (λ f. own_transaction self.now seat start.0 ≡ Some f.1.now) }
+        ensures refused { IfErr result (λ r. (r ≡ NotOfSeat)
+            × (own_transaction self.now seat start.0 ≡ None)) }
+    {
+        self.admit_seat(seat)?;
+        match self.transactions.find(start) {
+            Some((at, transaction)) => {
                 if transaction.seat() == seat {
-                    Some(transaction)
+                    Ok((at, transaction))
                 } else {
-                    None
+                    Err(Reason::NotOfSeat)
                 }
             }
-            None => None,
+            None => Err(Reason::NotOfSeat),
         }
     }
 
-    /// Why a step is refused, if it is: of the reasons that apply, the one with the lowest number.
-    pub(crate) fn reason(&self, seat: u32, step: &Step) -> Option<Reason>
-        ensures { result ≡ step_reason self.now seat step.now }
+    /// A step with what it needs, or why it is refused: of the reasons that apply, the one with the lowest number.
+    pub(crate) fn admit<'s>(&self, seat: u32, step: &'s Step) -> Result<Admitted<'s>, Reason>
+        ensures { TellsAdmission self.now seat step.now result }
     {
         match step {
-            Step::Begin(work) => self.begin_reason(seat, *work),
-            Step::Read(start, _) => self.read_reason(seat, *start),
-            Step::ReadAt(start, _, at) => self.read_at_reason(seat, *start, *at),
-            Step::Declare(start, what) => self.declare_reason(seat, *start, what.get()),
-            Step::Prewrite(start, cell) => self.prewrite_reason(seat, *start, cell),
-            Step::Stamp(start) => self.stamp_reason(seat, *start),
-            Step::CommitPrimary(start) => self.commit_reason(seat, *start),
-            Step::CommitSecondary(start, cell) => self.secondary_reason(seat, *start, cell),
-            Step::Settle(_) | Step::Clear(_) => self.seat_reason(seat),
-            Step::NextMark(_) | Step::Sweep(_) => self.seat_reason(seat),
+            Step::Begin(work) => self.admit_begin(seat, work),
+            Step::Read(start, cell) => self.admit_read(seat, *start, cell, None),
+            Step::ReadAt(start, cell, at) => self.admit_read(seat, *start, cell, Some(*at)),
+            Step::Declare(start, what) => self.admit_declare(seat, *start, what),
+            Step::Prewrite(start, cell) => self.admit_prewrite(seat, *start, cell),
+            Step::Stamp(start) => self.admit_stamp(seat, *start),
+            Step::CommitPrimary(start) => self.admit_primary(seat, *start),
+            Step::CommitSecondary(start, cell) => self.admit_secondary(seat, *start, cell),
+            // Any seat may take those that name no transaction, since who left a lock may never come back.
+            Step::Settle(cell) => {
+                self.admit_seat(seat)?;
+                Ok(Admitted::Settle(*cell))
+            }
+            Step::Clear(cell) => {
+                self.admit_seat(seat)?;
+                Ok(Admitted::Clear(*cell))
+            }
+            Step::NextMark(after) => {
+                self.admit_seat(seat)?;
+                Ok(Admitted::NextMark(*after))
+            }
+            Step::Sweep(cell) => {
+                self.admit_seat(seat)?;
+                Ok(Admitted::Sweep(*cell))
+            }
         }
     }
 
-    /// Takes a step that isn't refused.
-    pub(crate) fn take(&mut self, seat: u32, step: &Step) -> Result<Answer, NoMemory>
+    /// Takes a step that is admitted.
+    pub(crate) fn take(&mut self, seat: u32, admitted: &Admitted<'_>) -> Result<Answer, NoMemory>
         requires sound { IsSoundTable self.old }
-        requires allowed { step_reason self.old seat step.now ≡ None }
-        ensures taken { IfOk result (λ a. TableStep self.old seat step.now a self.new) }
+        requires admitted { Admits self.old seat admitted.now }
+        ensures taken { IfOk result (λ a. TableStep self.old seat
+            (step_of admitted.now) a self.new) }
         ensures same { OnErr result (self.new ≡ self.old) }
     {
-        match step {
-            Step::Begin(work) => self.begin(seat, *work),
-            Step::Read(start, cell) => self.read(seat, *start, cell, None),
-            Step::ReadAt(start, cell, at) => self.read(seat, *start, cell, Some(*at)),
-            Step::Declare(start, what) => self.declare(seat, *start, what),
-            Step::Prewrite(start, cell) => self.prewrite(seat, *start, cell),
-            Step::Stamp(start) => Ok(self.stamp(seat, *start)),
-            Step::CommitPrimary(start) => self.commit_primary(seat, *start),
-            Step::CommitSecondary(start, cell) => self.commit_secondary(seat, *start, cell),
-            Step::Settle(cell) => self.settle(seat, cell),
-            Step::Clear(cell) => self.clear(seat, cell),
-            Step::NextMark(after) => Ok(self.next_mark(seat, *after)),
-            Step::Sweep(cell) => self.sweep(seat, cell),
+        match admitted {
+            Admitted::Begin(work) => self.begin(seat, *work),
+            Admitted::Read { by, cell, at } => self.read(seat, *by, cell, *at),
+            Admitted::Declare {
+                by,
+                what,
+                acknowledgment,
+            } => self.declare(seat, *by, what, *acknowledgment),
+            Admitted::Prewrite {
+                by,
+                cell,
+                content,
+                primary,
+            } => self.prewrite(seat, *by, cell, *content, *primary),
+            Admitted::Stamp(by) => Ok(self.stamp(seat, *by)),
+            Admitted::CommitPrimary {
+                by,
+                commit,
+                primary,
+            } => self.commit_primary(seat, *by, *commit, primary),
+            Admitted::CommitSecondary {
+                start,
+                cell,
+                commit,
+            } => self.commit_secondary(seat, *start, cell, *commit),
+            Admitted::Settle(cell) => self.settle(seat, cell),
+            Admitted::Clear(cell) => self.clear(seat, cell),
+            Admitted::NextMark(after) => Ok(self.next_mark(seat, *after)),
+            Admitted::Sweep(cell) => self.sweep(seat, cell),
         }
     }
 }

@@ -1,10 +1,11 @@
 //! A declared cell is locked, and its data written.
-ghost use Rattle.std.specs.Prelude.{◌≡◌, IfOk, OnErr, None};
+ghost use Rattle.std.specs.Prelude.{◌≡◌, IfOk, OnErr};
 ghost use Rattle.pb_store.specs.Contents.{Contents, AreEdits, after_edits};
-ghost use Rattle.pb_steps.specs.Prewrite.{prewrite_reasons, put_lock};
-ghost use Rattle.pb_steps.specs.Reasons.{own_reasons, first_reason};
-ghost use Rattle.pb_steps.specs.Steps.{step_reason, TableStep};
+ghost use Rattle.pb_steps.specs.Prewrite.{put_lock};
+ghost use Rattle.pb_steps.specs.Steps.{TableStep};
+ghost use Rattle.pb_state.specs.Admitted.{Admits, TellsAdmission};
 
+use crate::admitted::{Admitted, TransactionAt};
 use crate::parts::Parts;
 use crate::readings::{is_taken, slot_of};
 use pb_base::{Cell, Content, NoMemory, Reason, Ts};
@@ -27,39 +28,59 @@ fn lock_edits(cell: &Cell, start: Ts, content: Content, primary: Cell) -> [Edit;
 }
 
 impl<T: Tablet> Parts<T> {
-    pub(crate) fn prewrite_reason(&self, seat: u32, start: Ts, cell: &Cell) -> Option<Reason>
-        ensures { result ≡ first_reason (own_reasons self.now seat start.0
-            (prewrite_reasons cell.now)) }
+    pub(crate) fn admit_prewrite(
+        &self,
+        seat: u32,
+        start: Ts,
+        cell: &Cell,
+    ) -> Result<Admitted<'static>, Reason>
+        ensures { TellsAdmission self.now seat (Step.Prewrite start cell.now) result }
     {
-        let Some(transaction) = self.own(seat, start) else {
-            return Some(Reason::NotOfSeat);
+        let (by, transaction) = self.own(seat, start)?;
+        if !transaction.phase().is_declared() {
+            return Err(Reason::WrongPhase);
+        }
+        let Some(primary) = transaction.primary() else {
+            return Err(Reason::WrongPhase);
         };
-        transaction.prewrite_reason(cell)
+        if *cell != primary && !transaction.is_prewritten(&primary) {
+            return Err(Reason::WrongPhase);
+        }
+        let Some(content) = transaction.content(*cell) else {
+            return Err(Reason::NotDeclared);
+        };
+        if transaction.is_prewritten(cell) {
+            return Err(Reason::AlreadyPrewritten);
+        }
+        Ok(Admitted::Prewrite {
+            by,
+            cell: *cell,
+            content,
+            primary,
+        })
     }
 
-    pub(crate) fn prewrite(&mut self, seat: u32, start: Ts, cell: &Cell) -> Result<Answer, NoMemory>
-        requires { step_reason self.old seat (Step.Prewrite start cell.now) ≡ None }
+    pub(crate) fn prewrite(
+        &mut self,
+        seat: u32,
+        by: TransactionAt,
+        cell: &Cell,
+        content: Content,
+        primary: Cell,
+    ) -> Result<Answer, NoMemory>
+        requires { Admits self.old seat (Admitted.Prewrite by cell.now content primary) }
         ensures taken { IfOk result (λ a. TableStep self.old seat
-            (Step.Prewrite start cell.now) a self.new) }
+            (Step.Prewrite by.start cell.now) a self.new) }
         ensures same { OnErr result (self.new ≡ self.old) }
     {
-        if is_taken(&self.table, cell, start) {
-            self.transactions.set_phase(start, Phase::Failed);
+        let is_taken = is_taken(&self.table, cell, by.start);
+        let transaction = self.transactions.at_mut(by);
+        if is_taken {
+            transaction.set_phase(Phase::Failed);
             return Ok(Answer::Conflict);
         }
-        // It is there and declares the cell, since the step isn't refused, and past reading it has a primary.
-        let Some(transaction) = self.transactions.get(start) else {
-            unreachable!()
-        };
-        let Some(content) = transaction.content(*cell) else {
-            unreachable!()
-        };
-        let Some(primary) = transaction.primary() else {
-            unreachable!()
-        };
-        let edits = lock_edits(cell, start, content, primary);
-        self.transactions
-            .prewrite(&mut self.table, start, *cell, &edits)?;
+        let edits = lock_edits(cell, by.start, content, primary);
+        transaction.prewrite(&mut self.table, *cell, &edits)?;
         Ok(Answer::Done)
     }
 }

@@ -2,12 +2,11 @@
 ghost use Rattle.std.specs.Prelude.{◌≡◌, IfOk, OnErr, None};
 ghost use Rattle.pb_store.specs.Contents.{Contents, AreEdits, after_edits};
 ghost use Rattle.pb_steps.specs.Commits.{erase_lock};
-ghost use Rattle.pb_steps.specs.Reasons.{first_reason, seat_reasons};
 ghost use Rattle.pb_steps.specs.Steps.{step_reason, TableStep};
 
 use crate::parts::Parts;
 use crate::readings::{any_lock_on, slot_of};
-use pb_base::{Cell, NoMemory, Reason, Ts};
+use pb_base::{Cell, NoMemory, Ts};
 use pb_steps::{Answer, Step};
 use pb_store::{Edit, Sort, Tablet};
 
@@ -23,16 +22,6 @@ pub(crate) fn erase_edits(cell: &Cell, start: Ts) -> [Edit; 2]
 }
 
 impl<T: Tablet> Parts<T> {
-    // Of a step that names no transaction. Any seat may take it, since who left a lock may never come back.
-    pub(crate) fn seat_reason(&self, seat: u32) -> Option<Reason>
-        ensures { result ≡ first_reason (seat_reasons self.now seat) }
-    {
-        if seat >= self.seats {
-            return Some(Reason::NotOfSeat);
-        }
-        None
-    }
-
     pub(crate) fn settle(&mut self, seat: u32, cell: &Cell) -> Result<Answer, NoMemory>
         requires { step_reason self.old seat (Step.Settle cell.now) ≡ None }
         ensures taken { IfOk result (λ a. TableStep self.old seat

@@ -1,6 +1,7 @@
 //! The state of the shared table, and the steps that it takes.
 ghost use Rattle.std.specs.Prelude.{◌≡◌};
 
+use crate::admitted::Admitted;
 use crate::parts::Parts;
 use crate::readings::{count_locks, count_marks};
 use crate::transactions::Transactions;
@@ -43,6 +44,7 @@ impl<T: Tablet> State<T> {
     ghost use Rattle.pb_steps.specs.State.{opening, phase_in};
     ghost use Rattle.pb_steps.specs.Readings.{lock_count};
     ghost use Rattle.pb_steps.specs.Steps.{step_reason, TableStep};
+    ghost use Rattle.pb_state.specs.Admitted.{Admits, TellsAdmission, step_of};
 
     /// A state over an empty table, with seats numbered from 0 and the last timestamp given out. It has no entry, no mark
     /// and no transaction.
@@ -101,10 +103,8 @@ impl<T: Tablet> State<T> {
     pub fn phase(&self, start: Ts) -> Option<Phase>
         ensures { result ≡ phase_in self.now start.0 }
     {
-        match self.parts.transactions.get(start) {
-            Some(transaction) => Some(transaction.phase()),
-            None => None,
-        }
+        let (_, transaction) = self.parts.transactions.find(start)?;
+        Some(transaction.phase())
     }
 
     /// The table, to read it.
@@ -131,21 +131,29 @@ impl<T: Tablet> State<T> {
         count_marks(&self.parts.table)
     }
 
+    /// A step with what it needs of the state, so that nothing is looked up twice, or why it is refused: of the reasons
+    /// that apply, the one with the lowest number.
+    pub fn admit<'s>(&self, seat: u32, step: &'s Step) -> Result<Admitted<'s>, Reason>
+        ensures { TellsAdmission self.now seat step.now result }
+    {
+        self.parts.admit(seat, step)
+    }
+
     /// The lowest of the numbers 40 to 43, 45 to 47 and 49 that a step is refused with, if one applies.
     pub fn refused(&self, seat: u32, step: &Step) -> Option<Refusal>
         ensures { result ≡ option_map refusal_by (step_reason self.now seat step.now) }
     {
-        match self.reason(seat, step) {
-            Some(reason) => Some(reason.refusal()),
-            None => None,
-        }
+        self.reason(seat, step).map(Reason::refusal)
     }
 
     /// Why a step is refused, if it is: of the reasons that apply, the one with the lowest number.
     pub fn reason(&self, seat: u32, step: &Step) -> Option<Reason>
         ensures { result ≡ step_reason self.now seat step.now }
     {
-        self.parts.reason(seat, step)
+        match self.admit(seat, step) {
+            Ok(_) => None,
+            Err(reason) => Some(reason),
+        }
     }
 
     /// Takes a step that isn't refused. A commit of a primary answers `Lost` where its lock is gone. The step and its
@@ -155,9 +163,23 @@ impl<T: Tablet> State<T> {
         ensures taken { IfOk result (λ a. TableStep self.old seat step.now a self.new) }
         ensures same { OnErr result (self.new ≡ self.old) }
     {
+        // It is admitted, since it isn't refused.
+        let Ok(admitted) = self.admit(seat, step) else {
+            unreachable!()
+        };
+        self.take_admitted(seat, &admitted)
+    }
+
+    /// Takes a step that the state admits, as `take` does, and looks nothing up that was found.
+    pub fn take_admitted(&mut self, seat: u32, admitted: &Admitted<'_>) -> Result<Answer, NoMemory>
+        requires { Admits self.old seat admitted.now }
+        ensures taken { IfOk result (λ a. TableStep self.old seat
+            (step_of admitted.now) a self.new) }
+        ensures same { OnErr result (self.new ≡ self.old) }
+    {
         // For the proof: every step keeps the table sound.
         steps_keep_sound();
-        self.parts.take(seat, step)
+        self.parts.take(seat, admitted)
     }
 
     /// Copies all that a tablet of the table contains into another, puts that in its place, and answers the old one, emptied.

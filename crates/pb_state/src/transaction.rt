@@ -44,16 +44,14 @@ impl Model for Transaction {
 }
 
 impl Transaction {
-    ghost use Rattle.std.specs.Prelude.{◌≡◌, OnOk, OnErr, ◌++◌, ◌∷◌, [], is_some, true, false};
+    ghost use Rattle.std.specs.Prelude.{◌≡◌, OnOk, OnErr, ◌++◌, ◌∷◌, [], MatchOption, Some, is_some, true, false};
     ghost use Rattle.pb_base.specs.Batch.{content_in, primary_in};
     ghost use Rattle.pb_store.specs.Contents.{AreEdits, after_edits};
     ghost use Rattle.pb_steps.specs.State.{new_transaction, is_in};
     ghost use Rattle.pb_state.specs.Cells.{cells_in};
     ghost use Rattle.pb_steps.specs.Read.{with_read};
     ghost use Rattle.pb_steps.specs.Stamp.{is_whole};
-    ghost use Rattle.pb_steps.specs.Prewrite.{is_early, prewrite_reasons};
-    ghost use Rattle.pb_steps.specs.Phases.{is_reading};
-    ghost use Rattle.pb_steps.specs.Reasons.{first_reason};
+    ghost use Rattle.pb_steps.specs.Phases.{is_reading, is_stamped};
 
     pub(crate) fn new(alloc: Global, seat: u32, work: Work) -> Transaction
         ensures { result ≡ new_transaction seat work }
@@ -100,14 +98,6 @@ impl Transaction {
         self.cells.content(cell)
     }
 
-    /// Whether it declared to write the cell.
-    pub(crate) fn declares(&self, cell: &Cell) -> bool
-        ensures { result ≡ is_some (content_in self.now.declared cell.now) }
-    {
-        let content = self.content(*cell);
-        content.is_some()
-    }
-
     /// The first cell that it declared.
     pub(crate) fn primary(&self) -> Option<Cell>
         ensures first { result ≡ primary_in self.now.declared }
@@ -122,33 +112,17 @@ impl Transaction {
         self.prewritten.contains(cell)
     }
 
-    /// Whether a cell that isn't the primary comes while that isn't prewritten.
-    pub(crate) fn is_early(&self, cell: &Cell) -> bool
-        ensures { result ≡ is_early self.now cell.now }
+    /// Its commit timestamp and its primary, if it is stamped.
+    pub(crate) fn stamp_and_primary(&self) -> Option<(Ts, Cell)>
+        ensures { MatchOption result (is_stamped self.now.phase ≡ false)
+            (λ s. (self.now.phase ≡ Phase.Stamped s.0)
+            × (primary_in self.now.declared ≡ Some s.1)) }
     {
-        match self.primary() {
-            None => true,
-            Some(primary) => *cell != primary && !self.is_prewritten(&primary),
-        }
-    }
-
-    /// Why it may not prewrite a cell.
-    pub(crate) fn prewrite_reason(&self, cell: &Cell) -> Option<Reason>
-        ensures { result ≡ first_reason (prewrite_reasons cell.now self.now) }
-    {
-        if !self.phase().is_declared() {
-            return Some(Reason::WrongPhase);
-        }
-        if self.is_early(cell) {
-            return Some(Reason::WrongPhase);
-        }
-        if !self.declares(cell) {
-            return Some(Reason::NotDeclared);
-        }
-        if self.is_prewritten(cell) {
-            return Some(Reason::AlreadyPrewritten);
-        }
-        None
+        let Phase::Stamped(commit) = self.phase else {
+            return None;
+        };
+        let primary = self.primary()?;
+        Some((commit, primary))
     }
 
     pub(crate) fn set_phase(&mut self, phase: Phase)

@@ -2,11 +2,9 @@
 ghost use Rattle.std.specs.Prelude.{◌≡◌, ◌<◌, MatchOption};
 ghost use Rattle.pb_state.specs.Starts.{StartsRise, IsStartAt, IsNoStart};
 
-use crate::cells::Cells;
+use crate::admitted::TransactionAt;
 use crate::transaction::Transaction;
-use pb_base::{Cell, NoMemory, Ts};
-use pb_steps::{Answer, Phase};
-use pb_store::{Edit, Table, Tablet};
+use pb_base::{NoMemory, Ts};
 use std::alloc::Global;
 use std::marker::Model;
 
@@ -78,15 +76,12 @@ fn place_of(list: &[(u64, Transaction)], start: u64) -> Option<usize>
 }
 
 impl Transactions {
-    ghost use Rattle.std.specs.Prelude.{◌≡◌, ◌<◌, ◌++◌, ◌∷◌, [], ℕ, OnOk, OnErr, Some, None, is_some, true, false};
-    ghost use Rattle.pb_steps.specs.Phases.{is_reading};
-    ghost use Rattle.std.specs.Option.{option_copied};
+    ghost use Rattle.std.specs.Prelude.{◌≡◌, ◌<◌, ℕ, OnOk, OnErr, Some, None};
     ghost use Rattle.std.specs.FinMap as map;
-    ghost use Rattle.pb_store.specs.Contents.{AreEdits, after_edits};
+    ghost use Rattle.std.specs.Borrow.{sem};
     ghost use Rattle.pb_steps.specs.State.{TransactionOf};
-    ghost use Rattle.pb_steps.specs.Read.{with_read};
-    ghost use Rattle.pb_state.specs.Cells.{cells_in};
-    ghost use Rattle.pb_base.specs.Batch.{primary_in};
+    ghost use Rattle.pb_state.specs.Admitted.{StandsAt};
+    ghost use Rattle.pb_state.specs.Lending.{LendsTransaction};
 
     pub(crate) fn new(alloc: Global) -> Transactions
         ensures { result ≡ map.empty }
@@ -96,13 +91,25 @@ impl Transactions {
         }
     }
 
-    pub(crate) fn get(&self, start: Ts) -> Option<&Transaction>
-        ensures { option_copied result ≡ map.get self.now start.0 }
+    /// The transaction of a start, and where it stands.
+    pub(crate) fn find(&self, start: Ts) -> Option<(TransactionAt, &Transaction)>
+        ensures { MatchOption result (map.get self.now start.0 ≡ None)
+            (λ f. (f.0.start ≡ start) × (map.get self.now start.0 ≡ Some f.1.now)
+            × StandsAt self.now f.0 f.1.now) }
     {
         match place_of(&self.list, start.0) {
-            Some(place) => Some(&self.list[place].1),
+            Some(place) => Some((TransactionAt { start, place }, &self.list[place].1)),
             None => None,
         }
+    }
+
+    /// The transaction that stands there, to change it.
+    pub(crate) fn at_mut(&mut self, at: TransactionAt) -> &mut Transaction
+        requires { (t : TransactionOf) × StandsAt self.old at t }
+        ensures* changed { sem 𝓛 (LendsTransaction self.entry at result) }
+        ensures there { map.get self.old at.start.0 ≡ Some result.now }
+    {
+        &mut self.list[at.place].1
     }
 
     /// Adds one that began last.
@@ -113,73 +120,5 @@ impl Transactions {
     {
         self.list.push((start.0, transaction))?;
         Ok(())
-    }
-
-    pub(crate) fn set_phase(&mut self, start: Ts, phase: Phase)
-        requires { (t : TransactionOf) → map.get self.old start.0 ≡ Some t
-            → is_reading t.phase ≡ false }
-        ensures { (t : TransactionOf) → map.get self.old start.0 ≡ Some t
-            → self.new ≡ map.insert self.old start.0 (record t { phase = phase }) }
-    {
-        if let Some(place) = place_of(&self.list, start.0) {
-            let entry = &mut self.list[place];
-            entry.1.set_phase(phase);
-        }
-    }
-
-    pub(crate) fn declare(&mut self, start: Ts, cells: Cells)
-        requires { is_some (primary_in (cells_in cells)) ≡ true }
-        ensures { (t : TransactionOf) → map.get self.old start.0 ≡ Some t
-            → self.new ≡ map.insert self.old start.0
-            (record t { phase = Phase.Declared; declared = cells_in cells }) }
-    {
-        if let Some(place) = place_of(&self.list, start.0) {
-            let entry = &mut self.list[place];
-            entry.1.declare(cells);
-        }
-    }
-
-    /// Records what a read was answered.
-    pub(crate) fn record_read(
-        &mut self,
-        start: Ts,
-        cell: Cell,
-        at: Option<Ts>,
-        answer: &Answer,
-    ) -> Result<(), NoMemory>
-        ensures ok { OnOk result ((t : TransactionOf) → map.get self.old start.0 ≡ Some t
-            → self.new ≡ map.insert self.old start.0 (with_read t cell at answer.now)) }
-        ensures err { OnErr result (self.new ≡ self.old) }
-    {
-        let Some(place) = place_of(&self.list, start.0) else {
-            return Ok(());
-        };
-        let entry = &mut self.list[place];
-        entry.1.record_read(cell, at, answer)
-    }
-
-    /// Does the edits in the table and adds a prewritten cell to the transaction, or neither.
-    pub(crate) fn prewrite<T: Tablet>(
-        &mut self,
-        table: &mut Table<T>,
-        start: Ts,
-        cell: Cell,
-        edits: &[Edit],
-    ) -> Result<(), NoMemory>
-        requires { AreEdits edits.now }
-        ensures ok { OnOk result ((t : TransactionOf) → map.get self.old start.0 ≡ Some t
-            → self.new ≡ map.insert self.old start.0
-            (record t { prewritten = t.prewritten ++ cell ∷ [] })) }
-        ensures applied { OnOk result (table.new.contents
-            ≡ after_edits edits.now table.old.contents) }
-        ensures err { OnErr result (self.new ≡ self.old) }
-        ensures kept { OnErr result (table.new.contents ≡ table.old.contents) }
-    {
-        let Some(place) = place_of(&self.list, start.0) else {
-            // The edits are done all the same, since what is promised of the table asks for no transaction.
-            return table.apply(edits);
-        };
-        let entry = &mut self.list[place];
-        entry.1.prewrite(table, cell, edits)
     }
 }

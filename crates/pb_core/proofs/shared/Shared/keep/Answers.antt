@@ -2,28 +2,25 @@ use Rattle.std.proofs.Common.{◌<◌, ◌≡◌, length, rules, get_or, [], ref
 use Rattle.std.proofs.lemmas.List.{get_or_read}
 use Rattle.pb_steps.specs.Steps.{TableStep}
 use Rattle.pb_core.proofs.StepsKeep.{case_kept}
-use Rattle.pb_core.proofs.Keeps.{kept_more, none_by_state}
+use Rattle.pb_core.proofs.Keeps.{kept_more}
 use Rattle.pb_core.proofs.shared.Shared.keep.Goals as goal
-
-pub take-requires : goal.take-requires
-take-requires g c = none_by_state _ _ (rw (← c.self.view_is, ← c.seat.view_is) at c.requires)
 
 pub invariant_of-self-2 : goal.invariant_of-self-2
 invariant_of-self-2 g c =
     let s = c.self.inside in
     let seat = c.seat.inside.number in
-    let m : TableStep s.state seat c.args.step.now c.in_ok-answer.answer c.take.new.self = search rules in
+    let m : TableStep s.state seat c.args.step.now c.in_ok-answer.answer c.take_admitted.new.self = search rules in
     let seated : seat < length s.books.items = search rules in
     let room : length s.journal.items < s.limit = search rules in
     let read : c.index_mut-book.result.now ≡ get_or s.books.items seat [] = get_or_read s.books.items seat _ seated c.index_mut-book.ensures.value [] in
-    kept_more s.journal.items s.books.items s.state s.opened s.limit seat c.args.step.now c.in_ok-answer.answer c.take.new.self _ _ c.self.invariant m seated room (search rules) (search (rules, read))
+    kept_more s.journal.items s.books.items s.state s.opened s.limit seat c.args.step.now c.in_ok-answer.answer c.take_admitted.new.self _ _ c.self.invariant m seated room (search rules) (search (rules, read))
 
 pub returns-clause-taken : goal.returns-clause-taken
 returns-clause-taken g c =
     let s = c.self.inside in
     let seat = c.seat.inside.number in
-    let m : TableStep s.state seat c.args.step.now c.in_ok-answer.answer c.take.new.self = search rules in
-    let rest = case_kept s.state seat c.args.step.now c.in_ok-answer.answer c.take.new.self m.taken in
+    let m : TableStep s.state seat c.args.step.now c.in_ok-answer.answer c.take_admitted.new.self = search rules in
+    let rest = case_kept s.state seat c.args.step.now c.in_ok-answer.answer c.take_admitted.new.self m.taken in
     rw (← c.self.view_is, ← c.seat.view_is) (record {
       machine = m;
       journal = search rules;

@@ -1,0 +1,59 @@
+-- What was found for a step that isn't refused: the step that it is, and that all is as the state has it.
+use Rattle.std.specs.Prelude.{◌≡◌, ℕ, Some, None, Result, Ok, Err, slice_get}
+use Rattle.std.specs.FinMap as map
+use Rattle.pb_base.specs.declared.refusal.Reason.{Reason}
+use Rattle.pb_base.specs.Batch.{content_in, primary_in}
+use Rattle.pb_steps.specs.declared.step.Step.{Step}
+use Rattle.pb_steps.specs.declared.step.Step.TheVariants as steps
+use Rattle.pb_steps.specs.declared.phase.Phase.TheVariants as phases
+use Rattle.pb_steps.specs.State.{StateOf, TransactionOf, Transactions}
+use Rattle.pb_steps.specs.Reasons.{IsOwn}
+use Rattle.pb_steps.specs.Read.{read_step}
+use Rattle.pb_steps.specs.Steps.{step_reason}
+use Rattle.pb_state.specs.Cells.{acknowledgment_by}
+use Rattle.pb_state.specs.declared.admitted.TransactionAt.{TransactionAt}
+use Rattle.pb_state.specs.declared.admitted.Admitted.{Admitted}
+use Rattle.pb_state.specs.declared.admitted.Admitted.TheVariants.{Begin, Read, Declare, Prewrite, Stamp, CommitPrimary, CommitSecondary, Settle, Clear, NextMark, Sweep}
+
+-- the transaction stands there, in the order of starts
+abbrev pub StandsAt : Transactions → TransactionAt → TransactionOf → Type 0
+StandsAt ts at t = slice_get (map.entries ts) at.place ≡ Some (at.start.0, t)
+
+-- it is the seat's own, and stands there
+pub record IsFound (s : StateOf) (seat : ℕ) (at : TransactionAt) (t : TransactionOf) : Type 0 where
+  pub own : IsOwn s seat at.start.0 t
+  pub there : StandsAt s.transactions at t
+
+-- the step, without what was found
+abbrev pub step_of : Admitted → Step
+step_of (Begin work) = steps.Begin work
+step_of (Read by x at) = read_step by.start x at
+step_of (Declare by what ack) = steps.Declare by.start what.now
+step_of (Prewrite by x content primary) = steps.Prewrite by.start x
+step_of (Stamp by) = steps.Stamp by.start
+step_of (CommitPrimary by commit primary) = steps.CommitPrimary by.start
+step_of (CommitSecondary start x commit) = steps.CommitSecondary start x
+step_of (Settle x) = steps.Settle x
+step_of (Clear x) = steps.Clear x
+step_of (NextMark after) = steps.NextMark after
+step_of (Sweep x) = steps.Sweep x
+
+-- what was found is what the seat's transaction has
+abbrev pub Finds : StateOf → ℕ → Admitted → Type 0
+Finds s seat (Read by x at) = (t : TransactionOf) × IsFound s seat by t
+Finds s seat (Declare by what ack) = (t : TransactionOf) × IsFound s seat by t × (ack ≡ acknowledgment_by s.observers t.work)
+Finds s seat (Prewrite by x content primary) = (t : TransactionOf) × IsFound s seat by t × (content_in t.declared x ≡ Some content) × (primary_in t.declared ≡ Some primary)
+Finds s seat (Stamp by) = (t : TransactionOf) × IsFound s seat by t
+Finds s seat (CommitPrimary by commit primary) = (t : TransactionOf) × IsFound s seat by t × (t.phase ≡ phases.Stamped commit) × (primary_in t.declared ≡ Some primary)
+Finds s seat (CommitSecondary start x commit) = (t : TransactionOf) × IsOwn s seat start.0 t × (t.phase ≡ phases.Committed commit)
+Finds s seat _ = Unit {0}
+
+-- the step isn't refused, and what was found is what the state has
+pub record Admits (s : StateOf) (seat : ℕ) (a : Admitted) : Type 0 where
+  pub allowed : step_reason s seat (step_of a) ≡ None
+  pub found : Finds s seat a
+
+-- what is told of a step: what was found for it, or why it is refused
+abbrev pub TellsAdmission : StateOf → ℕ → Step → Result Admitted Reason → Type 0
+TellsAdmission s seat step (Ok a) = (step_of a ≡ step) × Admits s seat a
+TellsAdmission s seat step (Err r) = step_reason s seat step ≡ Some r
