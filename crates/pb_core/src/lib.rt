@@ -8,9 +8,11 @@
 //! with the clock 0, `Begin(Script)` of seat 1 is answered `At(1)`, and journal and seat 1 have one entry.
 #![tactic(auto)]
 
+mod laws;
 mod seat;
 mod shared;
 
+pub use laws::legal_tables_tell;
 pub use pb_helpers::Record;
 pub use pb_history::{Entry, KeptAnswer, Received};
 pub use pb_steps::{

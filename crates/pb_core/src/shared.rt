@@ -2,13 +2,12 @@
 ghost use Rattle.std.specs.Prelude.{◌≡◌, ◌<◌, ◌++◌, ◌∷◌, [], OnOk, IfOk, vec_len, vec_capacity, true};
 ghost use Rattle.pb_core.specs.Calls.{IsFresh, IsBlank};
 
+use crate::laws::legal_tables_tell;
 use crate::seat::{Book, Seat};
 use pb_base::{MAX_ENTRIES, MAX_OBSERVERS, MAX_SEATS, NoMemory, Reason, Refusal, Ts};
 use pb_history::{
-    AnswerRoom, Entry, KeptAnswer, Received, behind_is_marked, commits_are_ordered,
-    handled_at_most_once, handled_when_quiet, histories_are_told, quiet_is_counted, reads_are_told,
-    reads_tell_snapshots, records_are_told, runs_are_counted, runs_are_told, scripts_write_batches,
-    steps_can_answer, timestamps_rise, writers_are_apart,
+    AnswerRoom, Entry, KeptAnswer, Received, histories_are_told, quiet_is_counted, reads_are_told,
+    runs_are_counted, steps_can_answer,
 };
 use pb_state::{Admitted, State};
 use pb_steps::{Answer, Phase, Step};
@@ -275,20 +274,11 @@ impl<T: Tablet> Shared<T> {
         ensures records { TellsRecords self.now.journal self.now.state }
         ensures once { HandlesOnce self.now }
     {
-        // For the proof: each law of legal journals is one clause.
+        // For the proof: what legal journals tell.
         histories_are_told();
         reads_are_told();
         runs_are_counted();
-        timestamps_rise();
-        commits_are_ordered();
-        reads_tell_snapshots();
-        writers_are_apart();
-        runs_are_told();
-        scripts_write_batches();
-        records_are_told();
-        behind_is_marked();
-        handled_at_most_once();
-        handled_when_quiet();
+        legal_tables_tell();
         &self.journal
     }
 

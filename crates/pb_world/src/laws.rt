@@ -3,11 +3,7 @@ ghost use Rattle.pb_world.specs.Headline.{WorldsHold, RunsJoin, RunsPart};
 ghost use Rattle.pb_world.specs.Sound.{EventsKeepSound};
 ghost use Rattle.pb_world.specs.GivenJobs.{JobsAreGiven, BusyActorsAreLeft, BusyActorsAreTold, RefusedJobsEnd};
 
-use pb_history::{
-    behind_is_marked, commits_are_ordered, handled_at_most_once, handled_when_quiet,
-    reads_tell_snapshots, records_are_told, runs_are_told, scripts_write_batches, timestamps_rise,
-    writers_are_apart,
-};
+use pb_core::legal_tables_tell;
 use pb_notify::{jobs_talk, machines_are_led};
 use pb_sound::accepted_are_never_stuck;
 use pb_txn::changes_talk;
@@ -46,14 +42,5 @@ pub fn worlds_hold()
     jobs_talk();
     machines_are_led();
     changes_talk();
-    timestamps_rise();
-    commits_are_ordered();
-    reads_tell_snapshots();
-    writers_are_apart();
-    runs_are_told();
-    scripts_write_batches();
-    records_are_told();
-    behind_is_marked();
-    handled_at_most_once();
-    handled_when_quiet();
+    legal_tables_tell();
 }
