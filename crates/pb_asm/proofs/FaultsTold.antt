@@ -29,7 +29,7 @@ use Rattle.pb_asm.proofs.NamesAndDigits.{word_back}
 use Rattle.pb_asm.proofs.ListingsReadBack.{line_back, insn_shown}
 use Rattle.pb_asm.proofs.FirstFault.{first}
 use Rattle.pb_asm.proofs.OnlyListings.{lines_are, lines_back}
-use Rattle.pb_reading.proofs.Steps.{err_is, FailsBy, then_fails, if_fails, there_fails, next_fails, end_fails, numeral_fails}
+use Rattle.pb_reading.proofs.Readings.{err_is, FailsBy, then_fails, if_fails, there_fails, next_fails, end_fails, numeral_fails}
 use Rattle.pb_reading.specs.Faults.{StopsAt}
 use Rattle.pb_asm.specs.Codes.{asm_code}
 use Rattle.pb_asm.proofs.OneSpelling.{named_is, word_among, line_spelled}

@@ -9,7 +9,7 @@ use Rattle.pb_asm.specs.Texts.{with_insn_line, insns_of_lines, some_of, program_
 use Rattle.pb_reading.specs.Reading.{◌>>=◌, lines_of}
 use Rattle.pb_reading.specs.Faults.{StopsAt}
 use Rattle.pb_reading.proofs.FirstFault.{stops_at}
-use Rattle.pb_reading.proofs.Steps.{err_is}
+use Rattle.pb_reading.proofs.Readings.{err_is}
 
 -- a line stops it, or all are read and there is no instruction
 whole : (q : Profile) (text : List ℕ) (line told : ℕ) (r : Result (List Insn) (ℕ × ℕ)) → insns_of_lines q 0 [] (lines_of text) ≡ r → (r >>= some_of q) ≡ Err (line, told) → StopsAt asm_code (with_insn_line q) [] text line told ⊎ HasNone q text line told

@@ -38,7 +38,7 @@ use Rattle.pb_asm.specs.Listing.{operand_text, offset_text, place_text, insn_tex
 use Rattle.pb_asm.proofs.TextCuts.{split_end}
 use Rattle.pb_asm.proofs.ListingsReadBack.{line_back}
 use Rattle.pb_reading.proofs.NumeralValues.{numeral_is}
-use Rattle.pb_reading.proofs.Steps.{then_ok, ok_is, else_ok, there_ok}
+use Rattle.pb_reading.proofs.Readings.{then_ok, ok_is, else_ok, there_ok}
 
 -- ---- what a reading that ended well has read
 

@@ -18,7 +18,7 @@ use Rattle.pb_asm.specs.Listing.{insn_text, listing}
 use Rattle.pb_reading.specs.Reading.{is_skipped, lines_of}
 use Rattle.pb_asm.specs.Codes.{asm_code}
 use Rattle.pb_asm.specs.Texts.{instruction_lines, with_insn_line, insns_of_lines, some_of, program_of_text}
-use Rattle.pb_reading.proofs.Steps.{then_ok, ok_is, else_ok}
+use Rattle.pb_reading.proofs.Readings.{then_ok, ok_is, else_ok}
 use Rattle.pb_reading.proofs.LinesInTurn.{Adds, TakesLines, heads, read, back}
 use Rattle.pb_asm.proofs.OneSpelling.{line_spelled}
 use Rattle.pb_asm.proofs.ListingsReadBack.{insn_shown, line_back, lines_cut, slots_append, some_there}

@@ -29,7 +29,7 @@ use Rattle.pb_asm.specs.OutOfRange.{IsAbove, IsImmBeyond, IsOffsetBeyond, IsUnli
 use Rattle.pb_asm.specs.Codes.{asm_code}
 use Rattle.pb_asm.specs.Texts.{with_insn_line}
 use Rattle.pb_asm.proofs.ListingsReadBack.{size_there, few_bits}
-use Rattle.pb_reading.proofs.Steps.{ok_is, if_ok, there_ok}
+use Rattle.pb_reading.proofs.Readings.{ok_is, if_ok, there_ok}
 use Rattle.pb_asm.proofs.OneSpelling.{behind_whole, before_whole, around_whole, reg_is, word_is, operand_is, place_is, comma_is}
 use Rattle.pb_asm.proofs.FaultsTold.{failed, moved, own_told}
 use Rattle.pb_asm.proofs.NumbersBeyond.{range_told}

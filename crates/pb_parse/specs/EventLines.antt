@@ -7,7 +7,7 @@ use Rattle.pb_base.specs.declared.limits.TheConstants.{COLUMNS, MAX_CHANGES, MAX
 use Rattle.pb_base.specs.declared.names.Row.{Row}
 use Rattle.pb_base.specs.declared.cell.Cell.{Cell}
 use Rattle.pb_base.specs.declared.cell.Cell.TheVariants.{Data, Ack}
-use Rattle.pb_base.specs.Reading.{is_skipped, lines_of}
+use Rattle.pb_reading.specs.Reading.{is_skipped, lines_of}
 use Rattle.pb_verify.specs.Observers.{ObserverOf, observed_column}
 use Rattle.pb_parse.specs.declared.event.Job.{Job}
 use Rattle.pb_parse.specs.declared.event.Job.TheVariants.{Change, Run}

@@ -2,7 +2,7 @@
 use Rattle.std.proofs.Common.{◌≡◌, ℕ, ◌+◌, List, [], ◌∷◌, ◌++◌, length, Result, Ok, Err, refl, sym, ap, ◌∙◌, arith}
 use Rattle.pb_reading.specs.Reading.{◌>>=◌, in_turn, lines_of, numbered}
 use Rattle.pb_reading.specs.Faults.{in_lines, StopsAt}
-use Rattle.pb_reading.proofs.Steps.{err_is}
+use Rattle.pb_reading.proofs.Readings.{err_is}
 
 -- the things in front are read, as before, and the next is at fault after them
 pub record IsFirst {S A E : Type 0} (step : ℕ → S → A → Result S E) (n : ℕ) (s : S) (xs : List A) (e : E) : Type 0 where

@@ -1,5 +1,5 @@
 pub mod FirstPart
-pub mod Steps
+pub mod Readings
 pub mod NumeralValues
 pub mod SkippedLines
 pub mod FirstFault

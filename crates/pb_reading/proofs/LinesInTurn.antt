@@ -4,7 +4,7 @@ use Rattle.std.proofs.Common.{◌≡◌, ℕ, ◌+◌, Bool, true, false, List, 
 use Rattle.std.specs.List.{flat_map}
 use Rattle.pb_reading.specs.Reading.{◌>>=◌, is_skipped, numbered}
 use Rattle.pb_reading.specs.Faults.{in_lines}
-use Rattle.pb_reading.proofs.Steps.{ok_is}
+use Rattle.pb_reading.proofs.Readings.{ok_is}
 use Rattle.pb_reading.proofs.SkippedLines.{kept, kept_not, kept_one}
 
 -- what one line added: the thing that it says, and room for what that makes
@@ -30,6 +30,11 @@ pub record TakesLines {T I C : Type 0} (with_line : List T → List ℕ → Resu
 
 pub heads : {A : Type 0} (x y : A) (xs ys : List A) → x ∷ xs ≡ y ∷ ys → (x ≡ y) × (xs ≡ ys)
 heads x y xs ys h = (cc, cc)
+
+-- things that make one item each
+pub singles : {A : Type 0} (xs : List A) → flat_map (λ x. x ∷ []) xs ≡ xs
+singles [] = refl
+singles {A} (x ∷ xs) = ap (λ (ys : List A). x ∷ ys) (singles xs)
 
 module _ {T I C : Type 0} (code : C → ℕ) (with_line : List T → List ℕ → Result (List T) C) (said : List ℕ → Result I C) (made : I → List T) (Room : List T → Type 0) (law : TakesLines with_line said made Room) where
   -- ---- what has been read

@@ -9,7 +9,7 @@ use Rattle.std.specs.List.{list_all}
 use Rattle.pb_reading.specs.Reading.{is_numeral, numeral_upto}
 use Rattle.pb_base.proofs.Logic.{positive}
 use Rattle.std.specs.Str.Parse.{digits_value, ParsesUnsigned}
-use Rattle.pb_reading.proofs.Steps.{if_ok, ok_is}
+use Rattle.pb_reading.proofs.Readings.{if_ok, ok_is}
 use Rattle.std.proofs.lemmas.Str.Parse.{IsDigitsTest, IsNumeralModel, numerals_by_value, parse_digits}
 
 -- digits are told by their test

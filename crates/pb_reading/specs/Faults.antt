@@ -6,12 +6,16 @@ use Rattle.pb_reading.specs.declared.fault.LineFault.TheVariants.{NoMemory, Code
 use Rattle.pb_reading.specs.declared.fault.TextFault.{TextFault}
 use Rattle.pb_reading.specs.Reading.{lines_of, in_turn, numbered}
 
--- what was returned, seen by view, is what reading gives, unless memory ran out: of that nothing follows, since no
--- contract can say when there is any
+-- what reading gives where a line wasn't taken for this: that fault. Of want of memory nothing follows, since no contract
+-- can say when there is any
+abbrev pub Ends : {Y C : Type 0} → LineFault C → Result Y C → Type 0
+Ends NoMemory read = Unit {0}
+Ends (Code c) read = read ≡ Err c
+
+-- what was returned of a line, seen by view, is what reading gives, unless memory ran out
 abbrev pub ReadsLine : {X Y C : Type 0} → (X → Y) → Result X (LineFault C) → Result Y C → Type 0
 ReadsLine view (Ok x) read = read ≡ Ok (view x)
-ReadsLine view (Err NoMemory) read = Unit {0}
-ReadsLine view (Err (Code c)) read = read ≡ Err c
+ReadsLine view (Err fault) read = Ends fault read
 
 -- how want of memory is told: no line has number 0, so that it is taken for no other
 abbrev pub no_memory_told : TextFault

@@ -1,25 +1,21 @@
--- The fault of a schedule is that of its first line at fault, which is told by its text.
-use Rattle.std.proofs.Common.{◌≡◌, ◌≢◌, ℕ, ◌+◌, ◌<◌, Bool, true, false, List, [], ◌++◌, length, Result, Ok, Err, refl, sym, ap, ◌∙◌, arith, inl, inr}
+-- Too many events are told exactly of a line that is read and goes past what a schedule may have.
+use Rattle.std.proofs.Common.{◌≡◌, ◌≢◌, ℕ, ◌+◌, ◌<◌, Bool, true, false, List, ◌++◌, length, Ok, Err, refl, sym, ◌∙◌, inl, inr}
 use Rattle.std.specs.Prelude.{◌⊎◌, ◌↔◌, nat_lt, replicate}
 use Rattle.std.proofs.lemmas.Bool.{ltb-true, lt-ltb}
 use Rattle.pb_base.specs.declared.limits.TheConstants.{MAX_EVENTS}
-use Rattle.pb_base.specs.Reading.{is_skipped, lines_of, numbered}
+use Rattle.pb_reading.specs.Reading.{is_skipped}
 use Rattle.pb_verify.specs.Observers.{ObserverOf}
 use Rattle.pb_parse.specs.declared.event.Event.{Event}
 use Rattle.pb_parse.specs.declared.schedule.words.Order.{Order}
-use Rattle.pb_parse.specs.declared.schedule.fault.ScheduleCode.{ScheduleCode}
-use Rattle.pb_parse.specs.declared.schedule.fault.ScheduleCode.TheVariants.{Memory, Form, Range, NoObserver, TooMany}
-use Rattle.pb_parse.specs.ScheduleCodes.{schedule_code}
+use Rattle.pb_parse.specs.declared.schedule.code.ScheduleCode.{ScheduleCode}
+use Rattle.pb_parse.specs.declared.schedule.code.ScheduleCode.TheVariants.{Form, Range, NoObserver, TooMany}
 use Rattle.pb_parse.specs.ScheduleWords.{order_of}
-use Rattle.pb_parse.specs.Schedules.{with_order, with_event_line, schedule_of}
-use Rattle.pb_parse.specs.ScheduleFaults.{ScheduleStopsAt, Field, LaunchActor, ChangeNumber, RunName, RunRow, StepActor, StepTimes, CrashActor, SettleRow, SettleColumn, SettleName, SettleAckRow, ClearRow, ClearColumn, ClearName, ClearAckRow, SweepRow, SweepColumn, IsRefusedAt, GoesPast}
-use Rattle.pb_parse.proofs.FirstFault.{first_fault}
-use Rattle.pb_parse.proofs.FieldsRefused.{bind_err, blamed}
+use Rattle.pb_parse.specs.Schedules.{with_order, with_event_line}
+use Rattle.pb_parse.specs.ScheduleFaults.{Field, LaunchActor, ChangeNumber, RunName, RunRow, StepActor, StepTimes, CrashActor, SettleRow, SettleColumn, SettleName, SettleAckRow, ClearRow, ClearColumn, ClearName, ClearAckRow, SweepRow, SweepColumn, IsRefusedAt, GoesPast}
+use Rattle.pb_reading.proofs.Readings.{err_is, then_err}
+use Rattle.pb_parse.proofs.FieldsRefused.{blamed}
 use Rattle.pb_parse.proofs.WholeSchedules.{skip_line, shown_line}
 use Rattle.pb_base.proofs.Logic.{chosen}
-
-err_is : {A : Type 0} (d e : ScheduleCode) → ◌≡◌ {A = Result A ScheduleCode} (Err d) (Err e) → d ≡ e
-err_is d e h = cc
 
 -- the causes of a field's refusal
 abbrev IsFieldCause : ScheduleCode → Type 0
@@ -52,11 +48,11 @@ line_cause observers line cause h = elim (blamed observers line cause h) [
   | inr s ↦ inr (field_cause observers s.field s.word cause s.refused)
 ]
 
--- what is none of a line's own faults isn't its cause
-other_than : (e cause : ScheduleCode) → (cause ≡ Form) ⊎ IsFieldCause cause → (e ≡ Form → ⊥) → (e ≡ Range → ⊥) → (e ≡ NoObserver → ⊥) → cause ≢ e
-other_than e cause (inl form) a b c is = a (sym is ∙ form)
-other_than e cause (inr (inl range)) a b c is = b (sym is ∙ range)
-other_than e cause (inr (inr name)) a b c is = c (sym is ∙ name)
+-- so too many events are no line's own fault
+never : (cause : ScheduleCode) → (cause ≡ Form) ⊎ IsFieldCause cause → cause ≢ TooMany
+never cause (inl form) is = let e : TooMany ≡ Form = sym is ∙ form in absurd cc
+never cause (inr (inl range)) is = let e : TooMany ≡ Range = sym is ∙ range in absurd cc
+never cause (inr (inr name)) is = let e : TooMany ≡ NoObserver = sym is ∙ name in absurd cc
 
 -- ---- one line
 
@@ -75,17 +71,9 @@ past before order cause h = elim (chosen (nat_lt MAX_EVENTS (length before + ord
 faulty : (observers : List ObserverOf) (before : List Event) (line : List ℕ) (cause : ScheduleCode) (b : Bool) → is_skipped line ≡ b → with_event_line observers before line ≡ Err cause → Faulty observers before line cause
 faulty observers before line cause true is h = let e = sym (skip_line observers before line is) ∙ h in absurd cc
 faulty observers before line cause false is h =
-    elim (bind_err (order_of observers line) (with_order before) cause (sym (shown_line observers before line is) ∙ h)) [
+    elim (then_err (order_of observers line) (with_order before) cause (sym (shown_line observers before line is) ∙ h)) [
       | inl own ↦ record { shown = is; how = inl own }
       | inr a ↦ let p = past before a.0 cause a.2 in record { shown = is; how = inr (a.0, a.1, p.0, p.1) }
-    ]
-
--- a line's fault is never want of memory
-by_text : (observers : List ObserverOf) (before : List Event) (line : List ℕ) (cause : ScheduleCode) → with_event_line observers before line ≡ Err cause → cause ≢ Memory
-by_text observers before line cause h =
-    elim (faulty observers before line cause (is_skipped line) refl h).how [
-      | inl own ↦ other_than Memory cause (line_cause observers line cause own) (λ e. absurd cc) (λ e. absurd cc) (λ e. absurd cc)
-      | inr a ↦ λ is. let e : TooMany ≡ Memory = a.3 ∙ is in absurd cc
     ]
 
 -- 92 comes only where a line is read and goes past
@@ -93,7 +81,7 @@ goes_past : (observers : List ObserverOf) (before : List Event) (line : List ℕ
 goes_past observers before line h =
     let f = faulty observers before line TooMany (is_skipped line) refl h in
     elim f.how [
-      | inl own ↦ absurd (other_than TooMany TooMany (line_cause observers line TooMany own) (λ e. absurd cc) (λ e. absurd cc) (λ e. absurd cc) refl)
+      | inl own ↦ absurd (never TooMany (line_cause observers line TooMany own) refl)
       | inr a ↦ record { order = a.0; shown = f.shown; read = a.1; past = a.2 }
     ]
 
@@ -103,21 +91,3 @@ too_many observers before line g = shown_line observers before line g.shown ∙ 
 
 pub told_too_many : (observers : List ObserverOf) (before : List Event) (line : List ℕ) → (with_event_line observers before line ≡ Err TooMany) ↔ GoesPast observers before line
 told_too_many observers before line = (goes_past observers before line, too_many observers before line)
-
--- ---- and a text
-
-pair_is : (p q : ℕ × ℕ) → ◌≡◌ {A = Result (List Event) (ℕ × ℕ)} (Err p) (Err q) → p ≡ q
-pair_is p q e = cc
-
-numbered_err : (n line code : ℕ) (r : Result (List Event) ScheduleCode) → numbered schedule_code n r ≡ Err (line, code) → (cause : ScheduleCode) × (r ≡ Err cause) × (line ≡ n + 1) × (code ≡ schedule_code cause)
-numbered_err n line code (Ok b) h = absurd cc
-numbered_err n line code (Err c) h =
-    let e : (n + 1, schedule_code c) ≡ (line, code) = pair_is (n + 1, schedule_code c) (line, code) h in
-    (c, refl, sym (ap (λ (p : ℕ × ℕ). p.0) e), sym (ap (λ (p : ℕ × ℕ). p.1) e))
-
--- a schedule that isn't read stops at its first line at fault
-pub stops : (observers : List ObserverOf) (text : List ℕ) (line code : ℕ) → schedule_of observers text ≡ Err (line, code) → ScheduleStopsAt observers text line code
-stops observers text line code h =
-    let f = first_fault (λ m events l. numbered schedule_code m (with_event_line observers events l)) 0 [] (lines_of text) (line, code) h in
-    let g = numbered_err (0 + length f.front) line code (with_event_line observers f.before f.here) f.fault in
-    record { front = f.front; here = f.here; after = f.after; before = f.before; cause = g.0; parts = f.parts; read = f.read; fault = g.1; number = omega (arith, g.2); told = g.3; by_text = by_text observers f.before f.here g.0 g.1 }

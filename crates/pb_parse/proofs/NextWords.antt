@@ -1,62 +1,34 @@
--- What the steps of a reading say of their words.
-use Rattle.std.proofs.Common.{◌≡◌, ◌≢◌, ℕ, zero, suc, ◌+◌, ◌-◌, ◌^◌, ◌<◌, ◌≤◌, Bool, true, false, cond, List, [], ◌∷◌, length, Result, Ok, Err, refl, sym, ap, subst, ◌∙◌, arith}
-use Rattle.std.specs.Prelude.{◌==◌, not, nat_le, nat_lt}
+-- What the steps of reading a line say of their words.
+use Rattle.std.proofs.Common.{◌≡◌, ◌≢◌, ℕ, zero, suc, ◌+◌, ◌-◌, ◌^◌, ◌<◌, ◌≤◌, Bool, true, false, cond, List, [], ◌∷◌, length, Ok, refl, sym, ap, subst, ◌∙◌, arith}
+use Rattle.std.specs.Prelude.{◌==◌, not, nat_lt}
 use Rattle.std.specs.Fmt.{decimal}
 use Rattle.std.specs.List.{list_all}
 use Rattle.std.specs.Str.{bytes_eq}
-use Rattle.std.specs.Str.Parse.{digits_value}
-use Rattle.std.proofs.lemmas.Bool.{leb-true, ltb-false, ltb-true, le-leb, le-ltb, lt-ltb}
+use Rattle.std.proofs.lemmas.Bool.{ltb-false, ltb-true, le-ltb, lt-ltb}
 use Rattle.std.proofs.lemmas.Slice.Eq.{bytes_eq-Decides}
 use Rattle.pb_base.specs.declared.names.Row.{Row}
-use Rattle.pb_base.specs.Reading.{◌>>=◌, is_numeral, next_word, no_word, numeral_upto}
+use Rattle.pb_reading.specs.Reading.{next_word, no_word, numeral_upto}
 use Rattle.pb_verify.specs.Observers.{ObserverOf}
 use Rattle.pb_parse.specs.declared.event.Event.{Event}
 use Rattle.pb_parse.specs.declared.schedule.words.Order.{Order}
-use Rattle.pb_parse.specs.declared.schedule.fault.ScheduleCode.{ScheduleCode}
-use Rattle.pb_parse.specs.declared.schedule.fault.ScheduleCode.TheVariants.{Form, Range, NoObserver}
+use Rattle.pb_parse.specs.declared.schedule.code.ScheduleCode.{ScheduleCode}
+use Rattle.pb_parse.specs.declared.schedule.code.ScheduleCode.TheVariants.{Form, Range, NoObserver}
 use Rattle.pb_parse.specs.ScheduleWords.{number_between, next_number, next_row, first_named, observer_named, next_observer, once}
 use Rattle.pb_parse.specs.EventLines.{name_of, IsRow, IsNamed}
-use Rattle.pb_parse.proofs.Blanks.{IsWord, AreWords}
-use Rattle.pb_parse.proofs.Numerals.{decimal_of, value_of}
-use Rattle.pb_base.proofs.Numerals.{numeral_of}
-
--- where two readings in turn succeed, the first does, and the second with what it read
-pub then_ok : {A B : Type 0} (r : Result A ScheduleCode) (f : A → Result B ScheduleCode) (y : B) → (r >>= f) ≡ Ok y → (x : A) × (r ≡ Ok x) × (f x ≡ Ok y)
-then_ok (Ok x) f y h = (x, refl, h)
-then_ok (Err e) f y h = absurd cc
-
-pub ok_is : {A : Type 0} (x y : A) → ◌≡◌ {A = Result A ScheduleCode} (Ok x) (Ok y) → x ≡ y
-ok_is x y h = cc
-
-if_ok : {A : Type 0} (b : Bool) (r : Result A ScheduleCode) (e : ScheduleCode) (x : A) → cond b r (Err e) ≡ Ok x → (b ≡ true) × (r ≡ Ok x)
-if_ok true r e x h = (refl, h)
-if_ok false r e x h = absurd cc
-
--- what is read behind a test wasn't refused by it
-pub else_ok : {A : Type 0} (b : Bool) (r : Result A ScheduleCode) (e : ScheduleCode) (x : A) → cond b (Err e) r ≡ Ok x → (b ≡ false) × (r ≡ Ok x)
-else_ok true r e x h = absurd cc
-else_ok false r e x h = (refl, h)
+use Rattle.pb_reading.proofs.Parts.{Lacks, AreParts, if_lacks}
+use Rattle.pb_reading.proofs.NumeralValues.{numeral_back, numeral_is}
+use Rattle.pb_reading.proofs.Readings.{ok_is, then_ok, if_ok, else_ok, next_is, none_left}
 
 -- words that compare alike are the same word
 pub same_text : (a b : List ℕ) → bytes_eq a b ≡ true → a ≡ b
 same_text a b h = (bytes_eq-Decides a b).0 h
-
--- the next word was the first of the words
-pub next_is : (words : List (List ℕ)) (x : List ℕ × List (List ℕ)) → next_word Form words ≡ Ok x → words ≡ x.0 ∷ x.1
-next_is [] x h = absurd cc
-next_is (w ∷ ws) x h = ap (λ (p : List ℕ × List (List ℕ)). p.0 ∷ p.1) (ok_is (w, ws) x h)
-
--- no word is left only where there is none
-pub none_left : (words : List (List ℕ)) (x : Unit {0}) → no_word Form words ≡ Ok x → words ≡ []
-none_left [] x h = refl
-none_left (w ∷ ws) x h = absurd cc
 
 -- what is asked for once has no word behind it
 pub once_is : (event : Event) (words : List (List ℕ)) (order : Order) → once event words ≡ Ok order → (words ≡ []) × (record { event = event; times = 1 } ≡ order)
 unfolding once
 once_is event words order h =
     let a = then_ok (no_word Form words) _ order h in
-    (none_left words a.0 a.1, ok_is (record { event = event; times = 1 }) order a.2)
+    (none_left Form words a.0 a.1, ok_is (record { event = event; times = 1 }) order a.2)
 
 -- ---- numbers
 
@@ -70,23 +42,18 @@ pub record IsBetween (least greatest n : ℕ) (word : List ℕ) : Type 0 where
 pub number_is : (least greatest n : ℕ) (word : List ℕ) → greatest < 2 ^ 64 → number_between least greatest word ≡ Ok n → IsBetween least greatest n word
 number_is least greatest n word lt h =
     let a = then_ok (numeral_upto Form Range greatest word) _ n h in
-    let p = if_ok (is_numeral word) _ Form a.0 a.1 in
-    let q = if_ok (nat_le (digits_value 10 word) greatest) (Ok (digits_value 10 word)) Range a.0 p.1 in
     let b = else_ok (nat_lt a.0 least) (Ok a.0) Range n a.2 in
-    let le : digits_value 10 word ≤ greatest = leb-true _ _ q.0 in
-    let value : digits_value 10 word ≡ n = ok_is (digits_value 10 word) a.0 q.1 ∙ ok_is a.0 n b.1 in
-    let same : a.0 ≡ n = ok_is a.0 n b.1 in
+    let p = numeral_is Form Range greatest a.0 word lt a.1 in
+    let same : a.0 ≡ n = ok_is {E = ScheduleCode} a.0 n b.1 in
     let low : least ≤ a.0 = ltb-false _ _ b.0 in
-    record { written = decimal_of word p.0 (omega (arith, le, lt)) ∙ ap decimal value; low = omega (arith, low, same); high = omega (arith, le, value) }
+    let high = p.1 in
+    record { written = p.0 ∙ ap decimal same; low = omega (arith, low, same); high = omega (arith, high, same) }
 
 -- and each number in the range is read from its spelling
 pub number_back : (least greatest n : ℕ) → greatest < 2 ^ 64 → least ≤ n → n ≤ greatest → number_between least greatest (decimal n) ≡ Ok n
 number_back least greatest n lt low high =
-    let small : n < 2 ^ 64 = omega (arith, lt, high) in
-    let v : digits_value 10 (decimal n) ≡ n = value_of n small in
-    let e : nat_le (digits_value 10 (decimal n)) greatest ≡ true = le-leb _ _ (omega (arith, v, high)) in
     let f : nat_lt n least ≡ false = le-ltb _ _ low in
-    rw (numeral_of n small, e, v, f) refl
+    rw (numeral_back Form Range greatest n (omega (arith, lt, high)) high, f) refl
 
 -- a word of a number in front of other words
 pub record TakesNumber (least greatest n : ℕ) (words rest : List (List ℕ)) : Type 0 where
@@ -102,7 +69,7 @@ next_number_is least greatest words x lt h =
     let b = then_ok (number_between least greatest a.0.0) _ x a.2 in
     let n = number_is least greatest b.0 a.0.0 lt b.1 in
     subst (λ (y : ℕ × List (List ℕ)). TakesNumber least greatest y.0 words y.1) (ok_is (b.0, a.0.1) x b.2)
-    (record { written = next_is words a.0 a.1 ∙ ap (λ (w : List ℕ). w ∷ a.0.1) n.written; low = n.low; high = n.high })
+    (record { written = next_is Form words a.0 a.1 ∙ ap (λ (w : List ℕ). w ∷ a.0.1) n.written; low = n.low; high = n.high })
 
 pub next_number_back : (least greatest n : ℕ) (rest : List (List ℕ)) → greatest < 2 ^ 64 → least ≤ n → n ≤ greatest → next_number least greatest (decimal n ∷ rest) ≡ Ok (n, rest)
 unfolding next_number
@@ -178,13 +145,13 @@ some_named [] name o lt is = absurd (omega (arith, lt))
 some_named (x ∷ xs) name o lt is = place_there xs x name o (bytes_eq x.name name) refl (some_named xs name) lt is
 
 -- a name that is read is the observer's own, and a name without blanks names it in a line
-pub named_is : (observers : List ObserverOf) (name : List ℕ) (o : ℕ) → observer_named observers name ≡ Ok o → (name_of observers o ≡ name) × (IsWord name → IsNamed observers o)
+pub named_is : (observers : List ObserverOf) (name : List ℕ) (o : ℕ) → observer_named observers name ≡ Ok o → (name_of observers o ≡ name) × (Lacks 32 name → IsNamed observers o)
 named_is observers name o h =
     let p = if_ok (nat_lt (first_named observers name) (length observers)) (Ok (first_named observers name)) NoObserver o h in
     let lt : first_named observers name < length observers = ltb-true _ _ p.0 in
     let f = first_is observers name lt in
-    subst (λ (k : ℕ). (name_of observers k ≡ name) × (IsWord name → IsNamed observers k)) (ok_is (first_named observers name) o p.1)
-    (f.same, λ word. record { there = lt; first = λ k less is. f.first k less (is ∙ f.same); word = ap (list_all (λ b. not (b == 32))) f.same ∙ word })
+    subst (λ (k : ℕ). (name_of observers k ≡ name) × (Lacks 32 name → IsNamed observers k)) (ok_is (first_named observers name) o p.1)
+    (f.same, λ word. record { there = lt; first = λ k less is. f.first k less (is ∙ f.same); word = ap (list_all (λ b. not (b == 32))) f.same ∙ if_lacks 32 name word })
 
 -- an observer that is the first of its name is read from it
 pub named_back : (observers : List ObserverOf) (o : ℕ) → IsNamed observers o → observer_named observers (name_of observers o) ≡ Ok o
@@ -199,14 +166,14 @@ pub record TakesName (observers : List ObserverOf) (o : ℕ) (words rest : List 
   pub named : IsNamed observers o
 
 -- the next word is read as a name that a line can have, since a line's words have no blank
-pub next_observer_is : (observers : List ObserverOf) (words : List (List ℕ)) (x : ℕ × List (List ℕ)) → AreWords words → next_observer observers words ≡ Ok x → TakesName observers x.0 words x.1
+pub next_observer_is : (observers : List ObserverOf) (words : List (List ℕ)) (x : ℕ × List (List ℕ)) → AreParts 32 words → next_observer observers words ≡ Ok x → TakesName observers x.0 words x.1
 unfolding next_observer
 next_observer_is observers words x some h =
     let a = then_ok (next_word Form words) _ x h in
     let b = then_ok (observer_named observers a.0.0) _ x a.2 in
     let n = named_is observers a.0.0 b.0 b.1 in
-    let cut = next_is words a.0 a.1 in
-    let parts = subst AreWords cut some in
+    let cut = next_is Form words a.0 a.1 in
+    let parts = subst (AreParts 32) cut some in
     subst (λ (y : ℕ × List (List ℕ)). TakesName observers y.0 words y.1) (ok_is (b.0, a.0.1) x b.2)
     (record { written = cut ∙ ap (λ (w : List ℕ). w ∷ a.0.1) (sym n.0); named = n.1 parts.0 })
 
