@@ -17,14 +17,14 @@ use Rattle.pb_asm.specs.declared.fault.AsmCode.TheVariants as code
 use Rattle.pb_asm.specs.declared.names.Word.{Word}
 use Rattle.pb_asm.specs.declared.names.Word.TheVariants as word
 use Rattle.pb_asm.specs.Names.{name, words, IsWordOf, sizes, word_in, word_named, reg_named}
-use Rattle.pb_reading.specs.Reading.{◌>>=◌}
+use Rattle.pb_reading.specs.Reading.{◌>>=◌, shown_lines}
 use Rattle.std.specs.Prelude.{ok_or}
 use Rattle.pb_asm.specs.Cuts.{strip_prefix, strip_suffix, split_once}
 use Rattle.pb_reading.specs.Reading.{numeral_upto, next_word, no_word}
 use Rattle.pb_asm.specs.Operands.{minus, plus, signed_or, imm_of_text, plus_or_fault, offset_of_text, reg_of_text, operand_of_text, size_in, bits_of_text, base_and_offset, at_minus, at_plus, place_of_text, comma, last, alu_operands, mov_sx_operands, load_imm_operands, load_operands, store_imm_operands, store_operands, jump_if_operands, operands, insn_of_words, line_of}
 use Rattle.pb_asm.specs.Listing.{insn_text}
 use Rattle.pb_reading.specs.Reading.{is_skipped, ◌>>=◌}
-use Rattle.pb_asm.specs.Texts.{instruction_lines, with_insn_line, some_of, program_of_text, HasNone}
+use Rattle.pb_asm.specs.Texts.{with_insn_line, some_of, program_of_text, HasNone}
 use Rattle.pb_asm.proofs.NamesAndDigits.{word_back}
 use Rattle.pb_asm.proofs.ListingsReadBack.{line_back, insn_shown}
 use Rattle.pb_asm.proofs.FirstFault.{first}
@@ -286,14 +286,14 @@ line_told q line c h = fields_told q (slice_split blank line) c h
 -- ---- no instruction
 
 -- where 84 is told, no line has an instruction, since a line's fault has a number from 1
-has_none : (q : Profile) (text : List ℕ) → StopsAt asm_code (with_insn_line q) [] text 0 84 ⊎ HasNone q text 0 84 → instruction_lines text ≡ []
+has_none : (q : Profile) (text : List ℕ) → StopsAt asm_code (with_insn_line q) [] text 0 84 ⊎ HasNone q text 0 84 → shown_lines text ≡ []
 has_none q text (inl f) = let k = f.number in let no : ⊥ = omega (arith, k) in absurd no
 has_none q text (inr f) = (lines_are q text [] f.read).lines
 
 -- where no line has one, 84 is told
-none_told : (q : Profile) (text : List ℕ) → instruction_lines text ≡ [] → program_of_text q text ≡ Err (0, 84)
+none_told : (q : Profile) (text : List ℕ) → shown_lines text ≡ [] → program_of_text q text ≡ Err (0, 84)
 none_told q text h = ap (λ (r : Result (List Insn) (ℕ × ℕ)). r >>= some_of q) (lines_back q text [] (record { lines = h; fits = tt; of_profile = tt; most = omega arith }))
 
 -- 84 is told exactly where each line is empty or a remark
-pub nothing_told : (q : Profile) (text : List ℕ) → (program_of_text q text ≡ Err (0, 84)) ↔ (instruction_lines text ≡ [])
+pub nothing_told : (q : Profile) (text : List ℕ) → (program_of_text q text ≡ Err (0, 84)) ↔ (shown_lines text ≡ [])
 nothing_told q text = (λ h. has_none q text (first q text 0 84 h), none_told q text)

@@ -12,12 +12,12 @@ use Rattle.pb_isa.specs.declared.profile.Profile.{Profile}
 use Rattle.pb_isa.specs.Profiles.{max_slots, IsOf}
 use Rattle.pb_asm.specs.declared.fault.AsmCode.{AsmCode}
 use Rattle.pb_asm.specs.declared.fault.AsmCode.TheVariants as code
-use Rattle.pb_reading.specs.Reading.{◌>>=◌}
+use Rattle.pb_reading.specs.Reading.{◌>>=◌, shown_lines}
 use Rattle.pb_asm.specs.Operands.{line_of}
 use Rattle.pb_asm.specs.Listing.{insn_text, listing}
 use Rattle.pb_reading.specs.Reading.{is_skipped, lines_of}
 use Rattle.pb_asm.specs.Codes.{asm_code}
-use Rattle.pb_asm.specs.Texts.{instruction_lines, with_insn_line, insns_of_lines, some_of, program_of_text}
+use Rattle.pb_asm.specs.Texts.{with_insn_line, insns_of_lines, some_of, program_of_text}
 use Rattle.pb_reading.proofs.Readings.{then_ok, ok_is, else_ok}
 use Rattle.pb_reading.proofs.LinesInTurn.{Adds, TakesLines, heads, read, back}
 use Rattle.pb_asm.proofs.OneSpelling.{line_spelled}
@@ -91,7 +91,7 @@ said k [] fits have = refl
 said k (i ∷ is) fits have = ap (λ (r : Result Insn AsmCode). r ∷ map (line_of k) (map insn_text is)) (line_back k i fits.0 have.0) ∙ ap (λ (rs : List (Result Insn AsmCode)). Ok i ∷ rs) (said k is fits.1 have.1)
 
 -- lines that are read are those of their instructions
-pub lines_are : (k : Profile) (text : List ℕ) (q : List Insn) → insns_of_lines k 0 [] (lines_of text) ≡ Ok q → AreListed k (instruction_lines text) q
+pub lines_are : (k : Profile) (text : List ℕ) (q : List Insn) → insns_of_lines k 0 [] (lines_of text) ≡ Ok q → AreListed k (shown_lines text) q
 lines_are k text q h =
     let f = read asm_code (with_insn_line k) (line_of k) one (Room k) (takes k) 0 [] q (lines_of text) h (omega arith) in
     let p = listed k (kept (lines_of text)) f.things f.says in
@@ -99,7 +99,7 @@ lines_are k text q h =
     record { lines = p.0 ∙ ap (map insn_text) (sym same); fits = subst (AllByRecursion Fits) (sym same) p.1; of_profile = subst (AllByRecursion (IsOf k)) (sym same) p.2; most = f.room }
 
 -- and lines whose kept ones are a listing are read as it
-pub lines_back : (k : Profile) (text : List ℕ) (p : List Insn) → AreListed k (instruction_lines text) p → insns_of_lines k 0 [] (lines_of text) ≡ Ok p
+pub lines_back : (k : Profile) (text : List ℕ) (p : List Insn) → AreListed k (shown_lines text) p → insns_of_lines k 0 [] (lines_of text) ≡ Ok p
 lines_back k text p a =
     back asm_code (with_insn_line k) (line_of k) one (Room k) (takes k) 0 (lines_of text) [] p (ap (map (line_of k)) a.lines ∙ said k p a.fits a.of_profile) (subst (Room k) (sym (singles p)) a.most)
     ∙ ap Ok (singles p)
@@ -123,7 +123,7 @@ some_same k (i ∷ is) p h = program_is (record { profile = k; insns = i ∷ is 
 
 -- the program's lines, and that it is one of this profile
 abbrev Whole : Profile → List ℕ → ProgramOf → Type 0
-Whole k text p = (instruction_lines text ≡ map insn_text p.insns) × (p.profile ≡ k) × IsProgram p × AllByRecursion Fits p.insns
+Whole k text p = (shown_lines text ≡ map insn_text p.insns) × (p.profile ≡ k) × IsProgram p × AllByRecursion Fits p.insns
 
 -- a text that is read is a listing with empty lines and remarks in it
 read_whole : (k : Profile) (text : List ℕ) (p : ProgramOf) (r : Result (List Insn) (ℕ × ℕ)) → insns_of_lines k 0 [] (lines_of text) ≡ r → (r >>= some_of k) ≡ Ok p → Whole k text p
@@ -133,7 +133,7 @@ read_whole k text p (Ok q) is h =
     subst (Whole k text) (some_same k q p h) (a.lines, refl, record { some = some_slots k q p h; most = a.most; of_profile = a.of_profile }, a.fits)
 
 -- and such a listing is read
-read_back : (text : List ℕ) (p : ProgramOf) → instruction_lines text ≡ map insn_text p.insns → IsProgram p → AllByRecursion Fits p.insns → program_of_text p.profile text ≡ Ok p
+read_back : (text : List ℕ) (p : ProgramOf) → shown_lines text ≡ map insn_text p.insns → IsProgram p → AllByRecursion Fits p.insns → program_of_text p.profile text ≡ Ok p
 read_back text p lines is fits =
     ap (λ (r : Result (List Insn) (ℕ × ℕ)). r >>= some_of p.profile) (lines_back p.profile text p.insns (record { lines = lines; fits = fits; of_profile = is.of_profile; most = is.most }))
     ∙ some_there p.profile p.insns is.some

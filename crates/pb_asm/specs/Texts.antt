@@ -1,7 +1,6 @@
 -- A text of lines, each an instruction. It is the whole reading, with line numbers, as contracts of `assemble_in` and
 -- the laws cite it.
-use Rattle.std.specs.Prelude.{◌≡◌, ℕ, not, nat_lt, if◌then◌else◌, List, [], ◌∷◌, ◌++◌, Result, Ok, Err}
-use Rattle.std.specs.List.{filter}
+use Rattle.std.specs.Prelude.{◌≡◌, ℕ, nat_lt, if◌then◌else◌, List, [], ◌∷◌, ◌++◌, Result, Ok, Err}
 use Rattle.pb_isa.specs.declared.insn.Insn.{Insn}
 use Rattle.pb_isa.specs.declared.profile.Profile.{Profile}
 use Rattle.pb_isa.specs.Profiles.{max_slots}
@@ -13,10 +12,6 @@ use Rattle.pb_reading.specs.Reading.{◌>>=◌, lines_of, is_skipped}
 use Rattle.pb_reading.specs.Faults.{in_lines}
 use Rattle.pb_asm.specs.Codes.{asm_code}
 use Rattle.pb_asm.specs.Operands.{line_of}
-
--- the lines that are not skipped
-abbrev pub instruction_lines : List ℕ → List (List ℕ)
-instruction_lines text = filter (λ line. not (is_skipped line)) (lines_of text)
 
 -- The instructions so far, with the one of one more line. That it ends past the profile's last slot is told
 -- last of its line's faults.

@@ -12,13 +12,13 @@ ghost use Rattle.pb_asm.specs.declared.fault.AsmCode.{AsmCode};
 ghost use Rattle.pb_asm.specs.declared.fault.AsmCode.TheVariants as code;
 ghost use Rattle.pb_asm.specs.declared.names.Word.{Word};
 ghost use Rattle.pb_asm.specs.Names.{name, IsWordOf};
-ghost use Rattle.pb_reading.specs.Reading.{lines_of, numbered};
+ghost use Rattle.pb_reading.specs.Reading.{lines_of, numbered, shown_lines};
 ghost use Rattle.pb_reading.specs.Faults.{ReadsLine, ReadsText, StopsAt};
 ghost use Rattle.pb_asm.specs.Codes.{asm_code};
 ghost use Rattle.pb_asm.specs.Listing.{insn_text, listing};
 ghost use Rattle.pb_asm.specs.Operands.{line_of};
 ghost use Rattle.pb_asm.specs.OutOfRange.{NumberPlace, line_with, FitsBefore, place_word, IsBeyond, EndsWord, IsOutOfRange};
-ghost use Rattle.pb_asm.specs.Texts.{instruction_lines, with_insn_line, insns_of_lines, program_of_text, HasNone};
+ghost use Rattle.pb_asm.specs.Texts.{with_insn_line, insns_of_lines, program_of_text, HasNone};
 
 use crate::fault::AsmCode;
 use crate::line::line_of;
@@ -44,10 +44,7 @@ impl Lines {
         if is_skipped(line) {
             return Ok(());
         }
-        let insn = match line_of(profile, line) {
-            Ok(insn) => insn,
-            Err(code) => return Err(LineFault::Code(code)),
-        };
+        let insn = line_of(profile, line).map_err(LineFault::Code)?;
         let most = profile.max_slots();
         let slots = self.taken + slots_of(insn);
         if slots > most {
@@ -151,7 +148,7 @@ pub fn one_spelling()
 /// listing line by line, and it is a program of that profile.
 pub fn only_listings_are_read()
     ensures { (q : Profile) (text : List ℕ) (p : ProgramOf) → (program_of_text q text ≡ Ok p)
-        ↔ ((instruction_lines text ≡ map insn_text p.insns) × (p.profile ≡ q) × IsProgram p
+        ↔ ((shown_lines text ≡ map insn_text p.insns) × (p.profile ≡ q) × IsProgram p
         × AllByRecursion Fits p.insns) }
 {}
 
@@ -175,7 +172,7 @@ pub fn faults_are_told_where_they_are()
         ↔ ((i : Insn) × (line ≡ insn_text i) × Fits i × IsOf p i
         × (max_slots p < slots (before ++ i ∷ []))) }
     ensures nothing { (p : Profile) (text : List ℕ) → (program_of_text p text ≡ Err (0, 84))
-        ↔ (instruction_lines text ≡ []) }
+        ↔ (shown_lines text ≡ []) }
     ensures line { (p : Profile) (line : List ℕ) (c : AsmCode) → line_of p line ≡ Err c
         → (c ≡ code.Word) ⊎ (c ≡ code.Form) ⊎ (c ≡ code.Range) }
     ensures own { (p : Profile) (before : List Insn) (line : List ℕ) (c : AsmCode)

@@ -1,5 +1,5 @@
--- The words of a schedule's line, each read from left to right: what is read, and the words after it. Each method of
--- the cursor `Words` cites the one of its name; what they read together is said without an order in EventLines.
+-- The words of a schedule's line, each read from left to right: what is read, and the words after it. Each function of
+-- src/schedule/words.rt cites the one of its name; what they read together is said without an order in EventLines.
 use Rattle.std.specs.Prelude.{ℕ, ◌-◌, ◌^◌, nat_lt, if◌then◌else◌, List, [], ◌∷◌, length, codes, Result, Ok, Err}
 use Rattle.std.specs.List.{position_or_len}
 use Rattle.std.specs.Str.{bytes_eq}

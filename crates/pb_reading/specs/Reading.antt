@@ -1,9 +1,9 @@
 -- Reading a text from left to right, which may stop at a fault: lines, words, numbers, and what a reader returned. The
 -- readers of programs' texts, scripts and schedules are all said by these, so that they count lines and take numbers
 -- alike.
-use Rattle.std.specs.Prelude.{◌≡◌, ℕ, ◌+◌, Bool, true, false, ◌&&◌, ◌||◌, ◌==◌, nat_le, nat_lt, if◌then◌else◌, List, [], ◌∷◌, length, map, slice_index, Option, Some, None, Result, Ok, Err}
+use Rattle.std.specs.Prelude.{◌≡◌, ℕ, ◌+◌, Bool, true, false, not, ◌&&◌, ◌||◌, ◌==◌, nat_le, nat_lt, if◌then◌else◌, List, [], ◌∷◌, length, map, slice_index, Option, Some, None, Result, Ok, Err}
 use Rattle.std.specs.Char.{is_ascii_digit}
-use Rattle.std.specs.List.{list_all, slice_split}
+use Rattle.std.specs.List.{filter, list_all, slice_split}
 use Rattle.std.specs.Str.Parse.{digits_value}
 use denote.Ref.{Bor}
 
@@ -51,6 +51,10 @@ words_left (Some line) = words_of line.now
 -- a line that is empty, or a remark, which begins with `#`
 abbrev pub is_skipped : List ℕ → Bool
 is_skipped line = (length line == 0) || (slice_index line 0 == 35)
+
+-- the lines of a text that are not skipped
+abbrev pub shown_lines : List ℕ → List (List ℕ)
+shown_lines text = filter (λ line. not (is_skipped line)) (lines_of text)
 
 -- the next word and those after it; where there is none, this fault
 abbrev pub next_word : {E : Type 0} → E → List (List ℕ) → Result (List ℕ × List (List ℕ)) E

@@ -31,10 +31,7 @@ fn add(writes: &mut Vec<Change>, text: &str) -> Result<(), LineFault<ScriptCode>
     ensures { ReadsLine (λ _. writes_of writes.new.items) result
         (with_operation (writes_of writes.old.items) text.now) }
 {
-    let write = match operation(text) {
-        Ok(write) => write,
-        Err(code) => return Err(LineFault::Code(code)),
-    };
+    let write = operation(text).map_err(LineFault::Code)?;
     // Before the count, so that a 17th operation that names a cell of the line again is 73 and not 74.
     if names(writes, Cell::Data(write.0, write.1)) {
         return Err(LineFault::Code(ScriptCode::Twice));

@@ -75,7 +75,8 @@ fn cell_at(words: &mut LineWords) -> Result<CellNumbers, ScriptCode>
 
 #[tactic(auto, unfolding(crate::specs::ScriptWords::put_of))]
 fn put_of(words: &mut LineWords) -> Result<Change, ScriptCode>
-    ensures { Gives (λ _. false) (λ w. (Data w.0 w.1, w.2)) result (put_of (words_left words.old.rest)) }
+    ensures { Gives (λ _. false) (λ w. (Data w.0 w.1, w.2)) result
+        (put_of (words_left words.old.rest)) }
 {
     let place = cell_at(words)?;
     let word = words.next_word(ScriptCode::Form)?;
@@ -86,7 +87,8 @@ fn put_of(words: &mut LineWords) -> Result<Change, ScriptCode>
 
 #[tactic(auto, unfolding(crate::specs::ScriptWords::del_of))]
 fn del_of(words: &mut LineWords) -> Result<Change, ScriptCode>
-    ensures { Gives (λ _. false) (λ w. (Data w.0 w.1, w.2)) result (del_of (words_left words.old.rest)) }
+    ensures { Gives (λ _. false) (λ w. (Data w.0 w.1, w.2)) result
+        (del_of (words_left words.old.rest)) }
 {
     let place = cell_at(words)?;
     words.no_word(ScriptCode::Form)?;
