@@ -43,6 +43,7 @@ fn add_line(
     if is_skipped(line) {
         return Ok(());
     }
+    // A match and no `?`, since the toolchain doesn't find the type `Job` in an order that `?` hands on.
     match order_of(observers, line) {
         Ok(order) => append(events, order),
         Err(code) => Err(LineFault::Code(code)),
