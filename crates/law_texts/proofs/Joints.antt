@@ -5,7 +5,7 @@ use Rattle.std.specs.List.{flat_map, join_by, onto_first}
 use Rattle.std.proofs.lemmas.Bool.{and_parts, eqb-true}
 use Rattle.std.proofs.lemmas.List.{append-nil}
 use Rattle.pb_parse.specs.ScriptLines.{cut}
-use Rattle.law_texts.proofs.Parts.{Lacks, AreParts}
+use Rattle.pb_reading.proofs.Parts.{Lacks, AreParts}
 
 -- texts with `; ` between them
 abbrev pub joined : List (List ℕ) → List ℕ

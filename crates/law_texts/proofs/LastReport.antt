@@ -4,7 +4,6 @@ use Rattle.pb_history.specs.Laws.{ClockIsLastGiven}
 use Rattle.pb_history.specs.Timestamps.{timestamps}
 use Rattle.pb_history.specs.LastGiven.{IsLastGiven}
 use Rattle.pb_core.specs.Calls.{SharedOf}
-use Rattle.pb_core.specs.Histories.{IsLegalTable}
 use Rattle.pb_script.specs.TableReports.{IsReportIn}
 use Rattle.law_texts.specs.LastReport.{IsReportAt, ReportsAreOfTheLastGiven}
 

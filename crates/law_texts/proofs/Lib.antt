@@ -1,5 +1,4 @@
 pub mod LowerHex
-pub mod Parts
 pub mod Joints
 pub mod OperationsWritten
 pub mod OperationsRead

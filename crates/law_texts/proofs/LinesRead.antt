@@ -14,7 +14,7 @@ use Rattle.pb_parse.specs.ScriptLines.{cut, batch_of}
 use Rattle.pb_parse.specs.Operations.{Say}
 use Rattle.law_texts.specs.OperationTexts.{IsOperationOf}
 use Rattle.law_texts.specs.LineTexts.{IsBatchLine}
-use Rattle.law_texts.proofs.Parts.{AreParts}
+use Rattle.pb_reading.proofs.Parts.{AreParts}
 use Rattle.law_texts.proofs.DistinctWrites.{distinct_is}
 use Rattle.law_texts.proofs.Joints.{joined, joined_cut, cut_joined}
 use Rattle.law_texts.proofs.OperationsWritten.{operation_written}

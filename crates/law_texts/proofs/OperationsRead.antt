@@ -1,11 +1,10 @@
 -- A write's operation is read as the write.
-use Rattle.std.proofs.Common.{◌≡◌, ℕ, ◌-◌, ◌*◌, ◌^◌, ◌<◌, ◌≤◌, Bool, true, false, cond, List, [], ◌∷◌, ◌++◌, length, Result, Ok, Err, refl, sym, ap, subst, ◌∙◌, arith}
-use Rattle.std.specs.Prelude.{◌==◌, ◌||◌, codes, nat_le, nat_lt}
+use Rattle.std.proofs.Common.{◌≡◌, ℕ, ◌-◌, ◌*◌, ◌^◌, ◌<◌, ◌≤◌, Bool, false, cond, List, [], ◌∷◌, ◌++◌, length, Result, Ok, Err, refl, sym, ap, subst, ◌∙◌, arith}
+use Rattle.std.specs.Prelude.{◌==◌, ◌||◌, codes, nat_lt}
 use Rattle.std.specs.Char.{is_ascii_uppercase}
 use Rattle.std.specs.Fmt.{decimal}
 use Rattle.std.specs.List.{join_with_byte, list_any}
-use Rattle.std.specs.Str.Parse.{digits_value}
-use Rattle.std.proofs.lemmas.Bool.{le-leb, le-ltb}
+use Rattle.std.proofs.lemmas.Bool.{le-ltb}
 use Rattle.std.proofs.lemmas.List.{drop-replicate}
 use Rattle.hex.specs.Hex.{decode_of, encode_lower, lower_digits}
 use Rattle.hex.proofs.HexLemmas.{decode_of-encode_lower, length-encode_with}
@@ -14,23 +13,14 @@ use Rattle.pb_base.specs.declared.cell.Cell.{Cell}
 use Rattle.pb_base.specs.declared.cell.Cell.TheVariants.{Data, Ack}
 use Rattle.pb_base.specs.declared.content.Content.{Content}
 use Rattle.pb_base.specs.declared.content.Content.TheVariants.{Value, Deleted, Stamp}
-use Rattle.pb_base.specs.Reading.{words_of}
+use Rattle.pb_reading.specs.Reading.{words_of}
 use Rattle.pb_parse.specs.declared.script.code.ScriptCode.{ScriptCode}
-use Rattle.pb_parse.specs.declared.script.code.ScriptCode.TheVariants.{Hex}
-use Rattle.pb_parse.specs.ScriptWords.{number_upto, padded, content_of, cell_at, put_of, del_of, write_of, operation}
-use Rattle.pb_parse.proofs.Numerals.{value_of}
+use Rattle.pb_parse.specs.declared.script.code.ScriptCode.TheVariants.{Form, Range, Hex}
+use Rattle.pb_parse.specs.ScriptWords.{padded, content_of, cell_at, put_of, del_of, write_of, operation}
 use Rattle.law_texts.specs.OperationTexts.{AreDigitsOf, AreInRange, IsOperationOf}
 use Rattle.law_texts.proofs.LowerHex.{digit_of, digits_hold, none_upper}
-use Rattle.law_texts.proofs.Parts.{Lacks, AreParts, IsNoDigit, decimal_lacks, joined_parts, lacks_joined}
-use Rattle.pb_base.proofs.Numerals.{numeral_of}
-
--- a number in decimal is read as itself, where it isn't over the greatest
-number_back : (greatest n : ℕ) → greatest < 2 ^ 64 → n ≤ greatest → number_upto greatest (decimal n) ≡ Ok n
-number_back greatest n lt high =
-    let small : n < 2 ^ 64 = omega (arith, lt, high) in
-    let v : digits_value 10 (decimal n) ≡ n = value_of n small in
-    let e : nat_le (digits_value 10 (decimal n)) greatest ≡ true = le-leb _ _ (omega (arith, v, high)) in
-    rw (numeral_of n small, e, v) refl
+use Rattle.pb_reading.proofs.Parts.{Lacks, AreParts, IsNoDigit, blank_no_digit, decimal_lacks, joined_parts, lacks_joined}
+use Rattle.pb_reading.proofs.NumeralValues.{numeral_back}
 
 -- row and column are read as the cell
 place_back : (row : Row) (column : ℕ) (rest : List (List ℕ)) → AreInRange row column → cell_at (decimal row.0 ∷ decimal column ∷ rest) ≡ Ok (Data row column, rest)
@@ -38,7 +28,7 @@ unfolding cell_at
 place_back row column rest fits =
     let wide = fits.0 in
     let few = fits.1 in
-    rw (number_back (2 ^ 64 - 1) row.0 (omega arith) (omega (arith, wide)), number_back 15 column (omega arith) (omega (arith, few))) refl
+    rw (numeral_back Form Range (2 ^ 64 - 1) row.0 wide (omega (arith, wide)), numeral_back Form Range 15 column (omega (arith, few)) (omega (arith, few))) refl
 
 -- ---- values
 
@@ -86,9 +76,6 @@ row_lacks c row column none fits = decimal_lacks c row.0 none fits.0
 
 column_lacks : (c : ℕ) (row : Row) (column : ℕ) → IsNoDigit c → AreInRange row column → Lacks c (decimal column)
 column_lacks c row column none fits = let few = fits.1 in decimal_lacks c column none (omega (arith, few))
-
-blank_no_digit : IsNoDigit 32
-blank_no_digit n lt = grind arith
 
 blank_no_hex_digit : IsNoHexDigit 32
 blank_no_hex_digit v lt = grind arith

@@ -1,12 +1,11 @@
 -- What is read as a write is written as the write's operation.
-use Rattle.std.proofs.Common.{◌≡◌, ℕ, ◌-◌, ◌^◌, ◌<◌, ◌≤◌, Bool, true, false, cond, List, [], ◌∷◌, ◌++◌, length, Result, Ok, Err, refl, sym, ap, subst, ◌∙◌, arith, inl, inr}
-use Rattle.std.specs.Prelude.{◌==◌, ◌||◌, codes, drop, nat_le, nat_lt, replicate}
+use Rattle.std.proofs.Common.{◌≡◌, ℕ, ◌-◌, ◌^◌, ◌≤◌, Bool, true, false, List, [], ◌∷◌, ◌++◌, length, Result, Ok, Err, refl, sym, ap, subst, ◌∙◌, arith, inl, inr}
+use Rattle.std.specs.Prelude.{◌==◌, ◌||◌, codes, drop, nat_lt, replicate}
 use Rattle.std.specs.Char.{is_ascii_uppercase}
 use Rattle.std.specs.Fmt.{decimal}
 use Rattle.std.specs.List.{join_with_byte, list_any}
 use Rattle.std.specs.Str.{bytes_eq}
-use Rattle.std.specs.Str.Parse.{digits_value}
-use Rattle.std.proofs.lemmas.Bool.{eqb-false, leb-true, ltb-false}
+use Rattle.std.proofs.lemmas.Bool.{eqb-false, ltb-false}
 use Rattle.std.proofs.lemmas.List.{drop-replicate}
 use Rattle.std.proofs.lemmas.List.Splits.{join_with_byte-slice_split}
 use Rattle.hex.specs.Hex.{decode_of}
@@ -17,42 +16,16 @@ use Rattle.pb_base.specs.declared.cell.Cell.{Cell}
 use Rattle.pb_base.specs.declared.cell.Cell.TheVariants.{Data}
 use Rattle.pb_base.specs.declared.content.Content.{Content}
 use Rattle.pb_base.specs.declared.content.Content.TheVariants.{Value, Deleted}
-use Rattle.pb_base.specs.Reading.{is_numeral, next_word, no_word, words_of}
+use Rattle.pb_reading.specs.Reading.{next_word, no_word, words_of}
+use Rattle.pb_reading.proofs.NumeralValues.{numeral_is}
+use Rattle.pb_reading.proofs.Readings.{then_ok, ok_is, else_ok, next_is, none_left}
 use Rattle.pb_parse.specs.declared.script.code.ScriptCode.{ScriptCode}
 use Rattle.pb_parse.specs.declared.script.code.ScriptCode.TheVariants.{Form, Range, Hex}
 use Rattle.pb_parse.specs.ScriptWords.{number_upto, padded, content_of, cell_at, put_of, del_of, write_of, operation}
-use Rattle.pb_parse.proofs.Batches.{bind_ok, ok_same}
-use Rattle.pb_parse.proofs.Numerals.{decimal_of}
-use Rattle.pb_parse.proofs.Steps.{same_text}
+use Rattle.pb_parse.proofs.NextWords.{same_text}
 use Rattle.law_texts.specs.OperationTexts.{AreDigitsOf, AreInRange, IsOperationOf}
 use Rattle.law_texts.proofs.LowerHex.{lower_written}
 use Rattle.pb_base.proofs.Logic.{chosen}
-
--- what passes a test and isn't refused is the result
-passed : {A : Type 0} (b : Bool) (r : Result A ScriptCode) (fault : ScriptCode) (x : A) → cond b r (Err fault) ≡ Ok x → (b ≡ true) × (r ≡ Ok x)
-passed true r fault x h = (refl, h)
-passed false r fault x h = absurd cc
-
-pub not_refused : {A : Type 0} (b : Bool) (r : Result A ScriptCode) (fault : ScriptCode) (x : A) → cond b (Err fault) r ≡ Ok x → (b ≡ false) × (r ≡ Ok x)
-not_refused true r fault x h = absurd cc
-not_refused false r fault x h = (refl, h)
-
-taken_is : (words : List (List ℕ)) (x : List ℕ × List (List ℕ)) → next_word Form words ≡ Ok x → words ≡ x.0 ∷ x.1
-taken_is [] x h = absurd cc
-taken_is (word ∷ words) x h = ap (λ (p : List ℕ × List (List ℕ)). p.0 ∷ p.1) (ok_same {E = ScriptCode} (word, words) x h)
-
-none_left : (words : List (List ℕ)) (x : Unit {0}) → no_word Form words ≡ Ok x → words ≡ []
-none_left [] x h = refl
-none_left (word ∷ words) x h = absurd cc
-
--- a number that is read is written in decimal, without leading zeros
-number_is : (greatest n : ℕ) (word : List ℕ) → greatest < 2 ^ 64 → number_upto greatest word ≡ Ok n → (word ≡ decimal n) × (n ≤ greatest)
-number_is greatest n word lt h =
-    let p = passed (is_numeral word) _ Form n h in
-    let q = passed (nat_le (digits_value 10 word) greatest) (Ok (digits_value 10 word)) Range n p.1 in
-    let le : digits_value 10 word ≤ greatest = leb-true _ _ q.0 in
-    let value : digits_value 10 word ≡ n = ok_same {E = ScriptCode} (digits_value 10 word) n q.1 in
-    (decimal_of word p.0 (omega (arith, le, lt)) ∙ ap decimal value, omega (arith, le, value))
 
 -- ---- places
 
@@ -68,23 +41,23 @@ record TakesPlace (x : Cell) (words rest : List (List ℕ)) : Type 0 where
 place_is : (words : List (List ℕ)) (x : Cell × List (List ℕ)) → cell_at words ≡ Ok x → TakesPlace x.0 words x.1
 unfolding cell_at
 place_is words x h =
-    let a = bind_ok (next_word Form words) _ x h in
-    let r = bind_ok (number_upto (2 ^ 64 - 1) a.0.0) _ x a.2 in
-    let b = bind_ok (next_word Form a.0.1) _ x r.2 in
-    let c = bind_ok (number_upto 15 b.0.0) _ x b.2 in
-    let row = number_is (2 ^ 64 - 1) r.0 a.0.0 (omega arith) r.1 in
-    let column = number_is 15 c.0 b.0.0 (omega arith) c.1 in
+    let a = then_ok (next_word Form words) _ x h in
+    let r = then_ok (number_upto (2 ^ 64 - 1) a.0.0) _ x a.2 in
+    let b = then_ok (next_word Form a.0.1) _ x r.2 in
+    let c = then_ok (number_upto 15 b.0.0) _ x b.2 in
+    let row = numeral_is Form Range (2 ^ 64 - 1) r.0 a.0.0 (omega arith) r.1 in
+    let column = numeral_is Form Range 15 c.0 b.0.0 (omega arith) c.1 in
     let wide = row.1 in
     let few = column.1 in
-    let same : (Data (record { 0 = r.0 }) c.0, b.0.1) ≡ x = ok_same {E = ScriptCode} (Data (record { 0 = r.0 }) c.0, b.0.1) x c.2 in
-    let whole : words ≡ decimal r.0 ∷ decimal c.0 ∷ b.0.1 = taken_is words a.0 a.1 ∙ (λ i. row.0 i ∷ taken_is a.0.1 b.0 b.1 i) ∙ ap (λ (w : List ℕ). decimal r.0 ∷ w ∷ b.0.1) column.0 in
+    let same : (Data (record { 0 = r.0 }) c.0, b.0.1) ≡ x = ok_is {E = ScriptCode} (Data (record { 0 = r.0 }) c.0, b.0.1) x c.2 in
+    let whole : words ≡ decimal r.0 ∷ decimal c.0 ∷ b.0.1 = next_is Form words a.0 a.1 ∙ (λ i. row.0 i ∷ next_is Form a.0.1 b.0 b.1 i) ∙ ap (λ (w : List ℕ). decimal r.0 ∷ w ∷ b.0.1) column.0 in
     subst (λ (y : Cell × List (List ℕ)). TakesPlace y.0 words y.1) same
     (record { row = record { 0 = r.0 }; column = c.0; cell = refl; written = whole; fits = (omega (arith, wide), omega (arith, few)) })
 
 -- ---- values
 
 padded_is : (r : Result (List ℕ) FromHexError) (value : List ℕ) → padded r ≡ Ok value → (bytes : List ℕ) × (r ≡ Ok bytes) × (bytes ++ drop (length bytes) (replicate 32 0) ≡ value)
-padded_is (Ok bytes) value h = (bytes, refl, ok_same {E = ScriptCode} (bytes ++ drop (length bytes) (replicate 32 0)) value h)
+padded_is (Ok bytes) value h = (bytes, refl, ok_is {E = ScriptCode} (bytes ++ drop (length bytes) (replicate 32 0)) value h)
 padded_is (Err e) value h = absurd cc
 
 all_fail : (a b c : Bool) → (a || (b || c)) ≡ false → (a ≡ false) × (b ≡ false) × (c ≡ false)
@@ -95,7 +68,7 @@ all_fail false false c h = (refl, refl, h)
 -- what is read as a value is written as digits of it
 digits_are : (word value : List ℕ) → content_of word ≡ Ok value → AreDigitsOf value word
 digits_are word value h =
-    let p = not_refused ((length word == 0) || (nat_lt 64 (length word) || list_any is_ascii_uppercase word)) (padded (decode_of word)) Hex value h in
+    let p = else_ok ((length word == 0) || (nat_lt 64 (length word) || list_any is_ascii_uppercase word)) (padded (decode_of word)) Hex value h in
     let t = all_fail (length word == 0) (nat_lt 64 (length word)) (list_any is_ascii_uppercase word) p.0 in
     let q = padded_is (decode_of word) value p.1 in
     let d = decode_of-ok word q.0 q.1 in
@@ -118,18 +91,18 @@ abbrev IsWriteOf : List (List ℕ) → Cell × Content → Type 0
 IsWriteOf words w = IsOperationOf w.0 w.1 (join_with_byte 32 words)
 
 moved : (words : List (List ℕ)) (x y : Cell) (content : Content) (w : Cell × Content) → x ≡ y → ◌≡◌ {A = Result (Cell × Content) ScriptCode} (Ok (y, content)) (Ok w) → IsWriteOf words (x, content) → IsWriteOf words w
-moved words x y content w cell is h = subst (IsWriteOf words) (ap (λ (z : Cell). (z, content)) cell ∙ ok_same {E = ScriptCode} (y, content) w is) h
+moved words x y content w cell is h = subst (IsWriteOf words) (ap (λ (z : Cell). (z, content)) cell ∙ ok_is {E = ScriptCode} (y, content) w is) h
 
 -- what is read as a write is written as one
 put_is : (words : List (List ℕ)) (w : Cell × Content) → put_of words ≡ Ok w → IsWriteOf (codes "put" ∷ words) w
 unfolding put_of
 put_is words w h =
-    let a = bind_ok (cell_at words) _ w h in
-    let b = bind_ok (next_word Form a.0.1) _ w a.2 in
-    let c = bind_ok (content_of b.0.0) _ w b.2 in
-    let d = bind_ok (no_word Form b.0.1) _ w c.2 in
+    let a = then_ok (cell_at words) _ w h in
+    let b = then_ok (next_word Form a.0.1) _ w a.2 in
+    let c = then_ok (content_of b.0.0) _ w b.2 in
+    let d = then_ok (no_word Form b.0.1) _ w c.2 in
     let p = place_is words a.0 a.1 in
-    let last : a.0.1 ≡ b.0.0 ∷ [] = taken_is a.0.1 b.0 b.1 ∙ ap (λ (ws : List (List ℕ)). b.0.0 ∷ ws) (none_left b.0.1 d.0 d.1) in
+    let last : a.0.1 ≡ b.0.0 ∷ [] = next_is Form a.0.1 b.0 b.1 ∙ ap (λ (ws : List (List ℕ)). b.0.0 ∷ ws) (none_left Form b.0.1 d.0 d.1) in
     let whole : words ≡ decimal p.row.0 ∷ decimal p.column ∷ b.0.0 ∷ [] = p.written ∙ ap (λ (ws : List (List ℕ)). decimal p.row.0 ∷ decimal p.column ∷ ws) last in
     moved (codes "put" ∷ words) (Data p.row p.column) a.0.0 (Value c.0) w p.cell d.2
     (p.fits, b.0.0, digits_are b.0.0 c.0 c.1, ap (λ (ws : List (List ℕ)). join_with_byte 32 (codes "put" ∷ ws)) whole)
@@ -138,10 +111,10 @@ put_is words w h =
 del_is : (words : List (List ℕ)) (w : Cell × Content) → del_of words ≡ Ok w → IsWriteOf (codes "del" ∷ words) w
 unfolding del_of
 del_is words w h =
-    let a = bind_ok (cell_at words) _ w h in
-    let d = bind_ok (no_word Form a.0.1) _ w a.2 in
+    let a = then_ok (cell_at words) _ w h in
+    let d = then_ok (no_word Form a.0.1) _ w a.2 in
     let p = place_is words a.0 a.1 in
-    let whole : words ≡ decimal p.row.0 ∷ decimal p.column ∷ [] = p.written ∙ ap (λ (ws : List (List ℕ)). decimal p.row.0 ∷ decimal p.column ∷ ws) (none_left a.0.1 d.0 d.1) in
+    let whole : words ≡ decimal p.row.0 ∷ decimal p.column ∷ [] = p.written ∙ ap (λ (ws : List (List ℕ)). decimal p.row.0 ∷ decimal p.column ∷ ws) (none_left Form a.0.1 d.0 d.1) in
     moved (codes "del" ∷ words) (Data p.row p.column) a.0.0 Deleted w p.cell d.2
     (p.fits, ap (λ (ws : List (List ℕ)). join_with_byte 32 (codes "del" ∷ ws)) whole)
 
@@ -152,8 +125,8 @@ in_front words x verb w cut is h = subst (λ (ws : List (List ℕ)). IsWriteOf w
 write_is : (words : List (List ℕ)) (w : Cell × Content) → write_of words ≡ Ok w → IsWriteOf words w
 unfolding write_of
 write_is words w h =
-    let a = bind_ok (next_word Form words) _ w h in
-    let cut = taken_is words a.0 a.1 in
+    let a = then_ok (next_word Form words) _ w h in
+    let cut = next_is Form words a.0 a.1 in
     elim (chosen (bytes_eq a.0.0 (codes "put")) (put_of a.0.1) _ (Ok w) a.2) [
       | inl p ↦ in_front words a.0 (codes "put") w cut p.0 (put_is a.0.1 w p.1)
       | inr q ↦ elim (chosen (bytes_eq a.0.0 (codes "del")) (del_of a.0.1) _ (Ok w) q.1) [

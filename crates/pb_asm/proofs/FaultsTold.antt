@@ -1,8 +1,7 @@
 -- Of which lines and texts the codes of the first word, of the slots and of no instruction are told.
-use Rattle.std.proofs.Common.{◌≡◌, ◌≢◌, ℕ, suc, ◌+◌, ◌-◌, ◌^◌, ◌<◌, ◌⊎◌, ◌↔◌, ℤ, pos, neg_ℤ, Bool, true, false, cond, List, [], ◌∷◌, ◌++◌, map, take, Option, Some, None, Result, Ok, Err, refl, sym, ap, subst, ◌∙◌, arith, inl, inr}
-use Rattle.std.specs.Prelude.{◌==◌, nat_le, nat_lt, slice_index}
+use Rattle.std.proofs.Common.{◌≡◌, ◌≢◌, ℕ, suc, ◌+◌, ◌-◌, ◌^◌, ◌<◌, ◌⊎◌, ◌↔◌, ℤ, pos, neg_ℤ, Bool, true, false, cond, List, [], ◌∷◌, ◌++◌, take, Option, Some, None, Result, Ok, Err, refl, sym, ap, subst, ◌∙◌, arith, inl, inr}
+use Rattle.std.specs.Prelude.{◌==◌, nat_lt, slice_index}
 use Rattle.std.specs.List.{slice_split, before_first, position_or_len}
-use Rattle.std.specs.Str.Parse.{digits_value}
 use Rattle.std.proofs.lemmas.Bool.{ltb-true, lt-ltb}
 use Rattle.pb_isa.specs.declared.insn.Insn.{Insn}
 use Rattle.pb_isa.specs.declared.insn.Insn.TheVariants as insn
@@ -18,61 +17,45 @@ use Rattle.pb_asm.specs.declared.fault.AsmCode.TheVariants as code
 use Rattle.pb_asm.specs.declared.names.Word.{Word}
 use Rattle.pb_asm.specs.declared.names.Word.TheVariants as word
 use Rattle.pb_asm.specs.Names.{name, words, IsWordOf, sizes, word_in, word_named, reg_named}
-use Rattle.pb_base.specs.Reading.{◌>>=◌}
+use Rattle.pb_reading.specs.Reading.{◌>>=◌, shown_lines}
 use Rattle.std.specs.Prelude.{ok_or}
 use Rattle.pb_asm.specs.Cuts.{strip_prefix, strip_suffix, split_once}
-use Rattle.pb_base.specs.Reading.{is_numeral, numeral_upto, next_word, no_word}
+use Rattle.pb_reading.specs.Reading.{numeral_upto, next_word, no_word}
 use Rattle.pb_asm.specs.Operands.{minus, plus, signed_or, imm_of_text, plus_or_fault, offset_of_text, reg_of_text, operand_of_text, size_in, bits_of_text, base_and_offset, at_minus, at_plus, place_of_text, comma, last, alu_operands, mov_sx_operands, load_imm_operands, load_operands, store_imm_operands, store_operands, jump_if_operands, operands, insn_of_words, line_of}
 use Rattle.pb_asm.specs.Listing.{insn_text}
-use Rattle.pb_base.specs.Reading.{is_skipped, ◌>>=◌}
-use Rattle.pb_asm.specs.Texts.{instruction_lines, with_insn_line, some_of, program_of_text, IsFirstFault, HasNone}
+use Rattle.pb_reading.specs.Reading.{is_skipped, ◌>>=◌}
+use Rattle.pb_asm.specs.Texts.{with_insn_line, some_of, program_of_text, HasNone}
 use Rattle.pb_asm.proofs.NamesAndDigits.{word_back}
 use Rattle.pb_asm.proofs.ListingsReadBack.{line_back, insn_shown}
 use Rattle.pb_asm.proofs.FirstFault.{first}
-use Rattle.pb_asm.proofs.OnlyListings.{read, back}
+use Rattle.pb_asm.proofs.OnlyListings.{lines_are, lines_back}
+use Rattle.pb_reading.proofs.Readings.{err_is, FailsBy, then_fails, if_fails, there_fails, next_fails, end_fails, numeral_fails}
+use Rattle.pb_reading.specs.Faults.{StopsAt}
+use Rattle.pb_asm.specs.Codes.{asm_code}
 use Rattle.pb_asm.proofs.OneSpelling.{named_is, word_among, line_spelled}
 
 -- operands are told as of another form or out of range
+abbrev IsOperandFault : AsmCode → Type 0
+IsOperandFault code.Word = ⊥
+IsOperandFault code.Form = Unit {0}
+IsOperandFault code.Range = Unit {0}
+IsOperandFault code.TooLong = ⊥
+IsOperandFault code.Nothing = ⊥
+
 abbrev Tells : {A : Type 0} → Result A AsmCode → Type 0
-Tells (Ok x) = Unit {0}
-Tells (Err code.Memory) = ⊥
-Tells (Err code.Word) = ⊥
-Tells (Err code.Form) = Unit {0}
-Tells (Err code.Range) = Unit {0}
-Tells (Err code.TooLong) = ⊥
-Tells (Err code.Nothing) = ⊥
+Tells read = FailsBy IsOperandFault read
 
--- of two readings one after the other the fault is one of these where it is of each
-then_tells : {A B : Type 0} (r : Result A AsmCode) (f : A → Result B AsmCode) → Tells r → ((x : A) → Tells (f x)) → Tells (r >>= f)
-then_tells (Ok x) f h k = k x
-then_tells (Err code.Memory) f h k = h
-then_tells (Err code.Word) f h k = h
-then_tells (Err code.Form) f h k = h
-then_tells (Err code.Range) f h k = h
-then_tells (Err code.TooLong) f h k = h
-then_tells (Err code.Nothing) f h k = h
-
--- a test changes nothing of that
-if_tells : {A : Type 0} (b : Bool) (r s : Result A AsmCode) → Tells r → Tells s → Tells (cond b r s)
-if_tells true r s h k = h
-if_tells false r s h k = k
-
--- nor does a fault of these in place of what isn't there
-there_tells : {A : Type 0} (c : AsmCode) (o : Option A) → Tells {A = A} (Err c) → Tells (ok_or o c)
-there_tells c None h = h
-there_tells c (Some x) h = tt
-
--- a number is told as of another form or out of range, and so is all that is made of numbers below
+-- so is a number, and all that is made of numbers below
 number_tells : (greatest : ℕ) (text : List ℕ) → Tells (numeral_upto code.Form code.Range greatest text)
-number_tells greatest text = if_tells (is_numeral text) _ (Err code.Form) (if_tells (nat_le (digits_value 10 text) greatest) (Ok (digits_value 10 text)) (Err code.Range) tt tt) tt
+number_tells greatest text = numeral_fails IsOperandFault code.Form code.Range greatest text tt tt
 
 minus_tells : (greatest : ℕ) (text : List ℕ) → Tells (minus greatest text)
 unfolding minus
-minus_tells greatest text = then_tells (numeral_upto code.Form code.Range greatest text) _ (number_tells greatest text) (λ n. if_tells (n == 0) (Err _) (Ok (neg_ℤ (pos n))) tt tt)
+minus_tells greatest text = then_fails IsOperandFault (numeral_upto code.Form code.Range greatest text) _ (number_tells greatest text) (λ n. if_fails IsOperandFault (n == 0) (Err _) (Ok (neg_ℤ (pos n))) tt tt)
 
 plus_tells : (limit : ℕ) (text : List ℕ) → Tells (plus limit text)
 unfolding plus
-plus_tells limit text = then_tells (numeral_upto code.Form code.Range (limit - 1) text) _ (number_tells (limit - 1) text) (λ n. tt)
+plus_tells limit text = then_fails IsOperandFault (numeral_upto code.Form code.Range (limit - 1) text) _ (number_tells (limit - 1) text) (λ n. tt)
 
 signed_tells : (unsigned : Result ℤ AsmCode) (limit : ℕ) (o : Option (List ℕ)) → Tells unsigned → Tells (signed_or unsigned limit o)
 signed_tells unsigned limit None h = h
@@ -89,19 +72,19 @@ offset_tells : (text : List ℕ) → Tells (offset_of_text text)
 offset_tells text = signed_tells (plus_or_fault (strip_prefix 43 text)) (2 ^ 15) (strip_prefix 45 text) (sign_tells (strip_prefix 43 text))
 
 reg_tells : (text : List ℕ) → Tells (reg_of_text text)
-reg_tells text = there_tells _ (reg_named text) tt
+reg_tells text = there_fails IsOperandFault _ (reg_named text) tt
 
 operand_tells : (text : List ℕ) → Tells (operand_of_text text)
 unfolding operand_of_text
-operand_tells text = if_tells (slice_index text 0 == 114) _ _ (then_tells (reg_of_text text) _ (reg_tells text) (λ r. tt)) (then_tells (imm_of_text text) _ (imm_tells text) (λ k. tt))
+operand_tells text = if_fails IsOperandFault (slice_index text 0 == 114) _ _ (then_fails IsOperandFault (reg_of_text text) _ (reg_tells text) (λ r. tt)) (then_fails IsOperandFault (imm_of_text text) _ (imm_tells text) (λ k. tt))
 
 bits_tell : (w : Width) (text : List ℕ) → Tells (bits_of_text w text)
 unfolding bits_of_text
-bits_tell w text = then_tells (numeral_upto code.Form code.Range (2 ^ 64 - 1) text) _ (number_tells (2 ^ 64 - 1) text) (λ n. there_tells _ (size_in w n sizes) tt)
+bits_tell w text = then_fails IsOperandFault (numeral_upto code.Form code.Range (2 ^ 64 - 1) text) _ (number_tells (2 ^ 64 - 1) text) (λ n. there_fails IsOperandFault _ (size_in w n sizes) tt)
 
 based_tells : (register : List ℕ) (offset : Result ℤ AsmCode) → Tells offset → Tells (base_and_offset register offset)
 unfolding base_and_offset
-based_tells register offset h = then_tells (reg_of_text register) _ (reg_tells register) (λ r. then_tells offset _ h (λ o. tt))
+based_tells register offset h = then_fails IsOperandFault (reg_of_text register) _ (reg_tells register) (λ r. then_fails IsOperandFault offset _ h (λ o. tt))
 
 at_minus_tells : (o : Option (List ℕ × List ℕ)) → Tells (at_minus o)
 at_minus_tells None = tt
@@ -114,67 +97,59 @@ at_plus_tells text (Some sides) = based_tells sides.0 (plus (2 ^ 15) sides.1) (p
 -- a place is, too
 place_tells : (text : List ℕ) → Tells (place_of_text text)
 unfolding place_of_text
-place_tells text = then_tells (ok_or (strip_prefix 91 text) code.Form) _ (there_tells _ (strip_prefix 91 text) tt) (λ front. then_tells (ok_or (strip_suffix 93 front) code.Form) _ (there_tells _ (strip_suffix 93 front) tt) (λ inner. at_plus_tells inner (split_once 43 inner)))
-
-field_tells : (texts : List (List ℕ)) → Tells (next_word code.Form texts)
-field_tells [] = tt
-field_tells (text ∷ texts) = tt
-
-ended_tells : (texts : List (List ℕ)) → Tells (no_word code.Form texts)
-ended_tells [] = tt
-ended_tells (text ∷ texts) = tt
+place_tells text = then_fails IsOperandFault (ok_or (strip_prefix 91 text) code.Form) _ (there_fails IsOperandFault _ (strip_prefix 91 text) tt) (λ front. then_fails IsOperandFault (ok_or (strip_suffix 93 front) code.Form) _ (there_fails IsOperandFault _ (strip_suffix 93 front) tt) (λ inner. at_plus_tells inner (split_once 43 inner)))
 
 -- and a word that lacks its comma
 comma_tells : (texts : List (List ℕ)) → Tells (comma texts)
 unfolding comma
-comma_tells texts = then_tells (next_word code.Form texts) _ (field_tells texts) (λ first. then_tells (ok_or (strip_suffix 44 first.0) code.Form) _ (there_tells _ (strip_suffix 44 first.0) tt) (λ text. tt))
+comma_tells texts = then_fails IsOperandFault (next_word code.Form texts) _ (next_fails IsOperandFault code.Form texts tt) (λ first. then_fails IsOperandFault (ok_or (strip_suffix 44 first.0) code.Form) _ (there_fails IsOperandFault _ (strip_suffix 44 first.0) tt) (λ text. tt))
 
 -- a last word, where its reading is
 last_tells : {A : Type 0} (read : List ℕ → Result A AsmCode) (texts : List (List ℕ)) → ((text : List ℕ) → Tells (read text)) → Tells (last read texts)
 unfolding last
-last_tells read texts h = then_tells (next_word code.Form texts) _ (field_tells texts) (λ first. then_tells (read first.0) _ (h first.0) (λ x. then_tells (no_word code.Form first.1) _ (ended_tells first.1) (λ end. tt)))
+last_tells read texts h = then_fails IsOperandFault (next_word code.Form texts) _ (next_fails IsOperandFault code.Form texts tt) (λ first. then_fails IsOperandFault (read first.0) _ (h first.0) (λ x. then_fails IsOperandFault (no_word code.Form first.1) _ (end_fails IsOperandFault code.Form first.1 tt) (λ end. tt)))
 
 alu_tells : (make : Reg → Operand → Insn) (texts : List (List ℕ)) → Tells (alu_operands make texts)
 unfolding alu_operands
-alu_tells make texts = then_tells (comma texts) _ (comma_tells texts) (λ first. then_tells (reg_of_text first.0) _ (reg_tells first.0) (λ r. then_tells (last operand_of_text first.1) _ (last_tells operand_of_text first.1 operand_tells) (λ a. tt)))
+alu_tells make texts = then_fails IsOperandFault (comma texts) _ (comma_tells texts) (λ first. then_fails IsOperandFault (reg_of_text first.0) _ (reg_tells first.0) (λ r. then_fails IsOperandFault (last operand_of_text first.1) _ (last_tells operand_of_text first.1 operand_tells) (λ a. tt)))
 
 mov_sx_tells : (w : Width) (texts : List (List ℕ)) → Tells (mov_sx_operands w texts)
 unfolding mov_sx_operands
-mov_sx_tells w texts = then_tells (comma texts) _ (comma_tells texts) (λ first. then_tells (reg_of_text first.0) _ (reg_tells first.0) (λ d. then_tells (comma first.1) _ (comma_tells first.1) (λ second. then_tells (reg_of_text second.0) _ (reg_tells second.0) (λ s. then_tells (last (bits_of_text w) second.1) _ (last_tells (bits_of_text w) second.1 (bits_tell w)) (λ z. tt)))))
+mov_sx_tells w texts = then_fails IsOperandFault (comma texts) _ (comma_tells texts) (λ first. then_fails IsOperandFault (reg_of_text first.0) _ (reg_tells first.0) (λ d. then_fails IsOperandFault (comma first.1) _ (comma_tells first.1) (λ second. then_fails IsOperandFault (reg_of_text second.0) _ (reg_tells second.0) (λ s. then_fails IsOperandFault (last (bits_of_text w) second.1) _ (last_tells (bits_of_text w) second.1 (bits_tell w)) (λ z. tt)))))
 
 wide_tells : (texts : List (List ℕ)) → Tells (load_imm_operands texts)
 unfolding load_imm_operands
-wide_tells texts = then_tells (comma texts) _ (comma_tells texts) (λ first. then_tells (reg_of_text first.0) _ (reg_tells first.0) (λ r. then_tells (last (numeral_upto code.Form code.Range (2 ^ 64 - 1)) first.1) _ (last_tells (numeral_upto code.Form code.Range (2 ^ 64 - 1)) first.1 (number_tells (2 ^ 64 - 1))) (λ n. tt)))
+wide_tells texts = then_fails IsOperandFault (comma texts) _ (comma_tells texts) (λ first. then_fails IsOperandFault (reg_of_text first.0) _ (reg_tells first.0) (λ r. then_fails IsOperandFault (last (numeral_upto code.Form code.Range (2 ^ 64 - 1)) first.1) _ (last_tells (numeral_upto code.Form code.Range (2 ^ 64 - 1)) first.1 (number_tells (2 ^ 64 - 1))) (λ n. tt)))
 
 load_tells : (make : Reg → Reg → ℤ → Insn) (texts : List (List ℕ)) → Tells (load_operands make texts)
 unfolding load_operands
-load_tells make texts = then_tells (comma texts) _ (comma_tells texts) (λ first. then_tells (reg_of_text first.0) _ (reg_tells first.0) (λ r. then_tells (last place_of_text first.1) _ (last_tells place_of_text first.1 place_tells) (λ p. tt)))
+load_tells make texts = then_fails IsOperandFault (comma texts) _ (comma_tells texts) (λ first. then_fails IsOperandFault (reg_of_text first.0) _ (reg_tells first.0) (λ r. then_fails IsOperandFault (last place_of_text first.1) _ (last_tells place_of_text first.1 place_tells) (λ p. tt)))
 
 store_imm_tells : (make : Reg → ℤ → ℤ → Insn) (texts : List (List ℕ)) → Tells (store_imm_operands make texts)
 unfolding store_imm_operands
-store_imm_tells make texts = then_tells (comma texts) _ (comma_tells texts) (λ first. then_tells (place_of_text first.0) _ (place_tells first.0) (λ p. then_tells (last imm_of_text first.1) _ (last_tells imm_of_text first.1 imm_tells) (λ k. tt)))
+store_imm_tells make texts = then_fails IsOperandFault (comma texts) _ (comma_tells texts) (λ first. then_fails IsOperandFault (place_of_text first.0) _ (place_tells first.0) (λ p. then_fails IsOperandFault (last imm_of_text first.1) _ (last_tells imm_of_text first.1 imm_tells) (λ k. tt)))
 
 store_tells : (make : Reg → Reg → ℤ → Insn) (texts : List (List ℕ)) → Tells (store_operands make texts)
 unfolding store_operands
-store_tells make texts = then_tells (comma texts) _ (comma_tells texts) (λ first. then_tells (place_of_text first.0) _ (place_tells first.0) (λ p. then_tells (last reg_of_text first.1) _ (last_tells reg_of_text first.1 reg_tells) (λ r. tt)))
+store_tells make texts = then_fails IsOperandFault (comma texts) _ (comma_tells texts) (λ first. then_fails IsOperandFault (place_of_text first.0) _ (place_tells first.0) (λ p. then_fails IsOperandFault (last reg_of_text first.1) _ (last_tells reg_of_text first.1 reg_tells) (λ r. tt)))
 
 jump_if_tells : (make : Reg → Operand → ℤ → Insn) (texts : List (List ℕ)) → Tells (jump_if_operands make texts)
 unfolding jump_if_operands
-jump_if_tells make texts = then_tells (comma texts) _ (comma_tells texts) (λ first. then_tells (reg_of_text first.0) _ (reg_tells first.0) (λ r. then_tells (comma first.1) _ (comma_tells first.1) (λ second. then_tells (operand_of_text second.0) _ (operand_tells second.0) (λ a. then_tells (last offset_of_text second.1) _ (last_tells offset_of_text second.1 offset_tells) (λ o. tt)))))
+jump_if_tells make texts = then_fails IsOperandFault (comma texts) _ (comma_tells texts) (λ first. then_fails IsOperandFault (reg_of_text first.0) _ (reg_tells first.0) (λ r. then_fails IsOperandFault (comma first.1) _ (comma_tells first.1) (λ second. then_fails IsOperandFault (operand_of_text second.0) _ (operand_tells second.0) (λ a. then_fails IsOperandFault (last offset_of_text second.1) _ (last_tells offset_of_text second.1 offset_tells) (λ o. tt)))))
 
 -- so the operands of any word are told as of another form or out of range, and never as an unknown word
 operands_tell : (w : Word) (texts : List (List ℕ)) → Tells (operands w texts)
 operands_tell (word.Alu op w) texts = alu_tells (insn.Alu op w) texts
 operands_tell (word.MovSx w) texts = mov_sx_tells w texts
-operands_tell (word.Neg w) texts = then_tells (last reg_of_text texts) _ (last_tells reg_of_text texts reg_tells) (λ r. tt)
+operands_tell (word.Neg w) texts = then_fails IsOperandFault (last reg_of_text texts) _ (last_tells reg_of_text texts reg_tells) (λ r. tt)
 operands_tell word.LoadImm texts = wide_tells texts
 operands_tell (word.Load z x) texts = load_tells (insn.Load z x) texts
 operands_tell (word.StoreImm z) texts = store_imm_tells (insn.StoreImm z) texts
 operands_tell (word.Store z) texts = store_tells (insn.Store z) texts
-operands_tell word.Jump texts = then_tells (last offset_of_text texts) _ (last_tells offset_of_text texts offset_tells) (λ o. tt)
+operands_tell word.Jump texts = then_fails IsOperandFault (last offset_of_text texts) _ (last_tells offset_of_text texts offset_tells) (λ o. tt)
 operands_tell (word.JumpIf c w) texts = jump_if_tells (insn.JumpIf c w) texts
-operands_tell word.Call texts = then_tells (last imm_of_text texts) _ (last_tells imm_of_text texts imm_tells) (λ k. tt)
-operands_tell word.Exit texts = then_tells (no_word code.Form texts) _ (ended_tells texts) (λ end. tt)
+operands_tell word.Call texts = then_fails IsOperandFault (last imm_of_text texts) _ (last_tells imm_of_text texts imm_tells) (λ k. tt)
+operands_tell word.Exit texts = then_fails IsOperandFault (no_word code.Form texts) _ (end_fails IsOperandFault code.Form texts tt) (λ end. tt)
 
 -- ---- the first word
 
@@ -244,12 +219,9 @@ slots_past front p false h = absurd cc
 abbrev pub failed : (A : Type 0) → AsmCode → Result A AsmCode
 failed A c = Err c
 
-same_code : (A : Type 0) (c d : AsmCode) → failed A c ≡ failed A d → c ≡ d
-same_code A c d h = cc
-
 -- a fault is the same whatever the reading would have given
 pub moved : (A B : Type 0) (c d : AsmCode) → failed A c ≡ failed A d → failed B c ≡ failed B d
-moved A B c d h = ap (failed B) (same_code A c d h)
+moved A B c d h = ap (failed B) (err_is {A = A} c d h)
 
 read_past : (q : Profile) (front : List Insn) (line : List ℕ) (r : Result Insn AsmCode) → line_of q line ≡ r → (r >>= λ i. cond (nat_lt (max_slots q) (slots (front ++ i ∷ []))) (Err code.TooLong) (Ok (front ++ i ∷ []))) ≡ Err code.TooLong → PastEnd q front line
 read_past q front line (Err c) is h = absurd (line_short q (slice_split blank line) (is ∙ moved (List Insn) Insn c code.TooLong h))
@@ -274,7 +246,7 @@ too_long_told q front line = (shown_past q front line (is_skipped line), past_to
 -- ---- no other code of a line
 
 only_past : (p : List Insn) (c : AsmCode) (b : Bool) → cond b (Err code.TooLong) (Ok p) ≡ Err c → c ≡ code.TooLong
-only_past p c true h = sym (same_code (List Insn) code.TooLong c h)
+only_past p c true h = sym (err_is {A = List Insn} code.TooLong c h)
 only_past p c false h = absurd cc
 
 read_own : (q : Profile) (front : List Insn) (line : List ℕ) (c : AsmCode) (r : Result Insn AsmCode) → line_of q line ≡ r → (r >>= λ i. cond (nat_lt (max_slots q) (slots (front ++ i ∷ []))) (Err code.TooLong) (Ok (front ++ i ∷ []))) ≡ Err c → (c ≡ code.TooLong) ⊎ (line_of q line ≡ Err c)
@@ -292,7 +264,6 @@ own_told q front line c h = shown_own q front line c (is_skipped line) h
 
 -- what operands tell is 81 or 82
 told_so : (c : AsmCode) → Tells (failed Insn c) → (c ≡ code.Word) ⊎ (c ≡ code.Form) ⊎ (c ≡ code.Range)
-told_so code.Memory h = absurd h
 told_so code.Word h = absurd h
 told_so code.Form h = inr (inl refl)
 told_so code.Range h = inr (inr refl)
@@ -300,12 +271,12 @@ told_so code.TooLong h = absurd h
 told_so code.Nothing h = absurd h
 
 words_told : (texts : List (List ℕ)) (o : Option Word) (c : AsmCode) → (ok_or o code.Word >>= λ w. operands w texts) ≡ Err c → (c ≡ code.Word) ⊎ (c ≡ code.Form) ⊎ (c ≡ code.Range)
-words_told texts None c h = inl (sym (same_code Insn code.Word c h))
+words_told texts None c h = inl (sym (err_is {A = Insn} code.Word c h))
 words_told texts (Some w) c h = told_so c (subst Tells h (operands_tell w texts))
 
 fields_told : (q : Profile) (texts : List (List ℕ)) (c : AsmCode) → insn_of_words q texts ≡ Err c → (c ≡ code.Word) ⊎ (c ≡ code.Form) ⊎ (c ≡ code.Range)
 unfolding insn_of_words
-fields_told q [] c h = inr (inl (sym (same_code Insn code.Form c h)))
+fields_told q [] c h = inr (inl (sym (err_is {A = Insn} code.Form c h)))
 fields_told q (text ∷ texts) c h = words_told texts (word_named q text) c h
 
 -- a line by itself tells 80, 81 or 82
@@ -315,14 +286,14 @@ line_told q line c h = fields_told q (slice_split blank line) c h
 -- ---- no instruction
 
 -- where 84 is told, no line has an instruction, since a line's fault has a number from 1
-has_none : (q : Profile) (text : List ℕ) → IsFirstFault q text 0 84 ⊎ HasNone q text 0 84 → instruction_lines text ≡ []
+has_none : (q : Profile) (text : List ℕ) → StopsAt asm_code (with_insn_line q) [] text 0 84 ⊎ HasNone q text 0 84 → shown_lines text ≡ []
 has_none q text (inl f) = let k = f.number in let no : ⊥ = omega (arith, k) in absurd no
-has_none q text (inr f) = let r = read q 0 [] [] (slice_split (λ b. b == 10) text) f.read (omega arith) in r.lines ∙ ap (map insn_text) (sym r.whole)
+has_none q text (inr f) = (lines_are q text [] f.read).lines
 
 -- where no line has one, 84 is told
-none_told : (q : Profile) (text : List ℕ) → instruction_lines text ≡ [] → program_of_text q text ≡ Err (0, 84)
-none_told q text h = ap (λ (r : Result (List Insn) (ℕ × ℕ)). r >>= some_of q) (back q 0 (slice_split (λ b. b == 10) text) [] [] h tt tt (omega arith))
+none_told : (q : Profile) (text : List ℕ) → shown_lines text ≡ [] → program_of_text q text ≡ Err (0, 84)
+none_told q text h = ap (λ (r : Result (List Insn) (ℕ × ℕ)). r >>= some_of q) (lines_back q text [] (record { lines = h; fits = tt; of_profile = tt; most = omega arith }))
 
 -- 84 is told exactly where each line is empty or a remark
-pub nothing_told : (q : Profile) (text : List ℕ) → (program_of_text q text ≡ Err (0, 84)) ↔ (instruction_lines text ≡ [])
+pub nothing_told : (q : Profile) (text : List ℕ) → (program_of_text q text ≡ Err (0, 84)) ↔ (shown_lines text ≡ [])
 nothing_told q text = (λ h. has_none q text (first q text 0 84 h), none_told q text)

@@ -1,4 +1,3 @@
-mod Numerals
 pub mod SlotCounts
 mod TextCuts
 mod NamesAndDigits

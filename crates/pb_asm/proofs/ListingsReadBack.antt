@@ -1,13 +1,11 @@
 -- A listing is read as its program.
-use Rattle.std.proofs.Common.{◌≡◌, ℕ, suc, ◌+◌, ◌-◌, ◌^◌, ◌<◌, ◌≤◌, ℤ, pos, negsuc, Bool, true, false, cond, List, [], ◌∷◌, ◌++◌, length, map, Option, Some, None, Result, Ok, refl, sym, ap, subst, ◌∙◌, append_assoc, arith}
+use Rattle.std.proofs.Common.{◌≡◌, ℕ, suc, ◌+◌, ◌-◌, ◌^◌, ◌<◌, ◌≤◌, ℤ, pos, negsuc, Bool, true, false, cond, List, [], ◌∷◌, ◌++◌, length, map, Option, Some, None, Result, Ok, refl, sym, ap, ◌∙◌, append_assoc, arith}
 use Rattle.std.specs.Prelude.{◌==◌, nat_le, codes, slice_index, FitsSigned}
 use Rattle.std.specs.Int.{w16, w32}
 use Rattle.std.specs.List.{slice_split, AllByRecursion}
 use Rattle.std.specs.Fmt.{decimal, signed_decimal}
-use Rattle.std.specs.Str.Parse.{digits_value}
-use Rattle.std.proofs.lemmas.Bool.{le-leb, le-ltb, leb-true}
-use Rattle.std.proofs.lemmas.Fmt.{digits_value-decimal}
-use Rattle.std.proofs.lemmas.List.{length-append, append-nil}
+use Rattle.std.proofs.lemmas.Bool.{leb-true}
+use Rattle.std.proofs.lemmas.List.{length-append}
 use Rattle.pb_isa.specs.declared.insn.Insn.{Insn}
 use Rattle.pb_isa.specs.declared.insn.Insn.TheVariants as insn
 use Rattle.pb_isa.specs.declared.insn.Operand.{Operand}
@@ -24,34 +22,29 @@ use Rattle.pb_isa.specs.declared.insn.Reg.{Reg}
 use Rattle.pb_isa.specs.declared.insn.Reg.TheVariants.{R0, R1, R2, R3, R4, R5, R6, R7, R8, R9, R10}
 use Rattle.pb_isa.specs.Bounds.{OperandFits, Fits}
 use Rattle.pb_isa.specs.Slots.{places_of, layout, slots}
-use Rattle.pb_isa.specs.Programs.{ProgramOf, IsProgram}
-use Rattle.pb_isa.specs.Profiles.{is_narrower, max_slots, IsOf}
+use Rattle.pb_isa.specs.Profiles.{is_narrower, IsOf}
 use Rattle.pb_asm.specs.declared.fault.AsmCode.{AsmCode}
 use Rattle.pb_asm.specs.declared.fault.AsmCode.TheVariants as code
 use Rattle.pb_asm.specs.declared.names.Word.{Word}
 use Rattle.pb_asm.specs.declared.names.Word.TheVariants as word
 use Rattle.pb_asm.specs.Names.{name, words, IsWordOf, sizes, size_bits, reg_name, word_in}
-use Rattle.pb_base.specs.Reading.{◌>>=◌}
+use Rattle.pb_reading.specs.Reading.{◌>>=◌}
 use Rattle.std.specs.Prelude.{ok_or}
 use Rattle.pb_asm.specs.Cuts.{strip_prefix, strip_suffix, split_once}
-use Rattle.pb_base.specs.Reading.{numeral_upto}
+use Rattle.pb_reading.specs.Reading.{numeral_upto}
 use Rattle.pb_asm.specs.Operands.{minus, plus, imm_of_text, offset_of_text, reg_of_text, operand_of_text, size_in, bits_of_text, base_and_offset, at_minus, at_plus, place_of_text, comma, last, alu_operands, mov_sx_operands, load_imm_operands, load_operands, store_imm_operands, store_operands, jump_if_operands, operands, insn_of_words, line_of}
 use Rattle.pb_asm.specs.Listing.{operand_text, offset_text, place_text, insn_text, listing}
-use Rattle.pb_base.specs.Reading.{is_skipped, ◌>>=◌, numbered}
-use Rattle.pb_asm.specs.Codes.{asm_code}
-use Rattle.pb_asm.specs.Texts.{with_insn_line, insns_of_lines, some_of, program_of_text}
+use Rattle.pb_reading.specs.Reading.{is_skipped, ◌>>=◌}
+use Rattle.pb_asm.specs.Texts.{some_of}
 use Rattle.pb_asm.proofs.TextCuts.{before_there}
 use Rattle.pb_asm.proofs.NamesAndDigits.{above, above_append, above_less, cut_there, cut_none, around_there, around_none, reg_above, name_above, word_back, reg_back, decimal_above, first_is_digit, word_there}
-use Rattle.pb_base.proofs.Numerals.{numeral_of as number_is, own}
+use Rattle.pb_reading.proofs.NumeralValues.{numeral_back}
 
 -- ---- numbers
 
 -- a number is read from its decimal
 pub number_back : (greatest n : ℕ) → n ≤ greatest → n < 2 ^ 64 → numeral_upto code.Form code.Range greatest (decimal n) ≡ Ok n
-number_back greatest n le lt =
-    let v : digits_value 10 (decimal n) ≡ n = digits_value-decimal own n lt in
-    let e : nat_le (digits_value 10 (decimal n)) greatest ≡ true = le-leb _ _ (omega (arith, v, le)) in
-    rw (number_is n lt, e) (ap Ok v)
+number_back greatest n le lt = numeral_back code.Form code.Range greatest n lt le
 
 -- a negative number is read from its digits, and one that isn't from its own
 minus_back : (greatest n : ℕ) → suc n ≤ greatest → suc n < 2 ^ 64 → minus greatest (decimal (suc n)) ≡ Ok (negsuc n)
@@ -387,11 +380,11 @@ insn_above (insn.Call k) fits = with_name word.Call (signed_decimal k) (less (si
 insn_above insn.Exit fits = above_less 32 48 (name word.Exit) (omega arith) (name_above word.Exit)
 
 -- a text's lines
-abbrev newlines : List ℕ → List (List ℕ)
+abbrev pub newlines : List ℕ → List (List ℕ)
 newlines text = slice_split (λ b. b == 10) text
 
 -- the lines of a listing are those of its instructions, and an empty one behind the last newline
-lines_cut : (p : List Insn) → AllByRecursion Fits p → newlines (listing p) ≡ map insn_text p ++ [] ∷ []
+pub lines_cut : (p : List Insn) → AllByRecursion Fits p → newlines (listing p) ≡ map insn_text p ++ [] ∷ []
 lines_cut [] fits = refl
 lines_cut (i ∷ p) fits =
     ap newlines (append_assoc (insn_text i) (10 ∷ []) (listing p)) ∙ cut_there 10 32 (insn_text i) (listing p) (omega arith) (insn_above i fits.0)
@@ -406,30 +399,7 @@ slots_append (i ∷ p) q =
     let a = length-append (places_of i) (layout (p ++ q)) in let b = length-append (places_of i) (layout p) in let h = slots_append p q in
     omega (arith, a, b, h)
 
--- the line of one more instruction is read, where the slots suffice
-pub added : (q : Profile) (before : List Insn) (i : Insn) → Fits i → IsOf q i → slots (before ++ i ∷ []) ≤ max_slots q → with_insn_line q before (insn_text i) ≡ Ok (before ++ i ∷ [])
-unfolding with_insn_line
-added q before i fits is most = rw (insn_shown i, line_back q i fits is, le-ltb (max_slots q) (slots (before ++ i ∷ [])) most) refl
-
--- and so are the lines of several, one after the other
-read_on : (q : Profile) (n : ℕ) (before p : List Insn) → AllByRecursion Fits p → AllByRecursion (IsOf q) p → slots (before ++ p) ≤ max_slots q → insns_of_lines q n before (map insn_text p ++ [] ∷ []) ≡ Ok (before ++ p)
-unfolding with_insn_line
-read_on q n before [] fits is most = ap Ok (sym (append-nil before))
-read_on q n before (i ∷ p) fits is most =
-    let grouped : (before ++ i ∷ []) ++ p ≡ before ++ i ∷ p = append_assoc before (i ∷ []) p in
-    let a = slots_append (before ++ i ∷ []) p in
-    let whole : slots ((before ++ i ∷ []) ++ p) ≤ max_slots q = subst (λ (is : List Insn). slots is ≤ max_slots q) (sym grouped) most in
-    let one_more : slots (before ++ i ∷ []) ≤ max_slots q = omega (arith, a, whole) in
-    ap (λ (r : Result (List Insn) AsmCode). (numbered asm_code n r >>= λ is. insns_of_lines q (n + 1) is (map insn_text p ++ [] ∷ []))) (added q before i fits.0 is.0 one_more)
-    ∙ read_on q (n + 1) (before ++ i ∷ []) p fits.1 is.1 whole ∙ ap Ok grouped
-
 -- instructions that take some slots are a program
 pub some_there : (q : Profile) (is : List Insn) → 0 < slots is → some_of q is ≡ Ok (record { profile = q; insns = is })
 some_there q [] some = let no : ⊥ = omega (arith, some) in absurd no
 some_there q (i ∷ p) some = refl
-
--- a listing is read as its program
-pub listing_back : (p : ProgramOf) → IsProgram p → AllByRecursion Fits p.insns → program_of_text p.profile (listing p.insns) ≡ Ok p
-listing_back p is fits =
-    ap (λ (ls : List (List ℕ)). insns_of_lines p.profile 0 [] ls >>= some_of p.profile) (lines_cut p.insns fits)
-    ∙ ap (λ (r : Result (List Insn) (ℕ × ℕ)). r >>= some_of p.profile) (read_on p.profile 0 [] p.insns fits is.of_profile is.most) ∙ some_there p.profile p.insns is.some

@@ -4,14 +4,14 @@ use Rattle.std.specs.Prelude.{◌==◌, ◌&&◌, nat_le, codes, slice_index, ok
 use Rattle.std.specs.Char.{is_ascii_digit}
 use Rattle.std.specs.List.{list_all}
 use Rattle.std.specs.Str.Parse.{digits_value}
-use Rattle.std.proofs.lemmas.Bool.{eqb-true, lt-leb, and_parts}
+use Rattle.std.proofs.lemmas.Bool.{eqb-true, and_parts}
 use Rattle.std.proofs.lemmas.Bool.Decides.{nat_tests}
 use Rattle.pb_isa.specs.declared.insn.Reg.{Reg}
 use Rattle.pb_isa.specs.declared.insn.Width.{Width}
 use Rattle.pb_isa.specs.declared.insn.Size.{Size}
 use Rattle.pb_isa.specs.declared.profile.Profile.{Profile}
 use Rattle.pb_isa.specs.Profiles.{is_narrower}
-use Rattle.pb_base.specs.Reading.{◌>>=◌, is_numeral, numeral_upto, is_skipped, numbered}
+use Rattle.pb_reading.specs.Reading.{◌>>=◌, is_numeral, numeral_upto, is_skipped, numbered}
 use Rattle.pb_isa.specs.declared.insn.Insn.{Insn}
 use Rattle.pb_asm.specs.Codes.{asm_code}
 use Rattle.pb_asm.specs.Texts.{with_insn_line}
@@ -27,7 +27,7 @@ use Rattle.pb_asm.specs.OutOfRange.{IsAbove, IsImmBeyond, IsOffsetBeyond, IsUnli
 use Rattle.pb_asm.proofs.TextCuts.{before_there}
 use Rattle.pb_asm.proofs.NamesAndDigits.{above, above_append, above_less, cut_there, around_there, around_none, reg_above}
 use Rattle.pb_asm.proofs.ListingsReadBack.{no_front, reg_read, reg_line, operand_line, operand_back, place_line, place_back, blanks, comma_cut, name_cut, last_cut, first_read, comma_read, name_shown}
-use Rattle.pb_base.proofs.Numerals.{digits_in}
+use Rattle.pb_reading.proofs.NumeralValues.{digits_in, numeral_over}
 
 -- ---- numbers
 
@@ -50,20 +50,13 @@ first_not_r (d ∷ ds) h =
     let high : nat_le d 57 ≡ true = (and_parts (nat_le 48 d) (nat_le d 57) p.0).1 in
     grind (arith, nat_tests)
 
--- a numeral above the greatest number is out of range
-numeral_over : (most : ℕ) (text : List ℕ) → IsAbove most text → numeral_upto code.Form code.Range most text ≡ Err code.Range
-numeral_over most text h =
-    let n = h.numeral in
-    let over : nat_le (digits_value 10 text) most ≡ false = lt-leb (digits_value 10 text) most h.above in
-    rw (n, over) refl
-
 minus_over : (most : ℕ) (digits : List ℕ) → IsAbove most digits → minus most digits ≡ Err code.Range
 unfolding minus
-minus_over most digits h = rw (numeral_over most digits h) refl
+minus_over most digits h = rw (numeral_over code.Form code.Range most digits h.numeral h.above) refl
 
 plus_over : (limit : ℕ) (digits : List ℕ) → IsAbove (limit - 1) digits → plus limit digits ≡ Err code.Range
 unfolding plus
-plus_over limit digits h = rw (numeral_over (limit - 1) digits h) refl
+plus_over limit digits h = rw (numeral_over code.Form code.Range (limit - 1) digits h.numeral h.above) refl
 
 -- an immediate beyond its field is out of range
 imm_over : (text : List ℕ) → IsImmBeyond text → imm_of_text text ≡ Err code.Range
@@ -190,7 +183,7 @@ range_told q (MovSxBits w d s) number rest has fits beyond ends =
 range_told q (LoadImmImm d) number rest has fits beyond ends =
     let c = word_cut number rest (above_less 33 48 number (omega arith) (number_above (2 ^ 64 - 1) number beyond)) ends in
     after_name q word.LoadImm (reg_name d ++ (codes ", " ++ (number ++ rest))) _ has (then_cut (reg_name d) (number ++ rest) _ (reg_line d) c.1)
-    ∙ rw (comma_read (reg_name d) (number ∷ c.0), reg_read d, last_over (numeral_upto code.Form code.Range (2 ^ 64 - 1)) number c.0 (numeral_over (2 ^ 64 - 1) number beyond)) refl
+    ∙ rw (comma_read (reg_name d) (number ∷ c.0), reg_read d, last_over (numeral_upto code.Form code.Range (2 ^ 64 - 1)) number c.0 (numeral_over code.Form code.Range (2 ^ 64 - 1) number beyond.numeral beyond.above)) refl
 range_told q (LoadOffset z x d s) number rest has fits beyond ends =
     let c = word_cut (place_with s number) rest (bracketed_line s number beyond) ends in
     after_name q (word.Load z x) (reg_name d ++ (codes ", " ++ (place_with s number ++ rest))) _ has (then_cut (reg_name d) (place_with s number ++ rest) _ (reg_line d) c.1)

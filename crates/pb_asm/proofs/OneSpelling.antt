@@ -1,13 +1,11 @@
 -- What is read as an operand, a line or a text is written as the listing writes it.
 use Rattle.std.proofs.Common.{◌≡◌, ℕ, zero, suc, ◌-◌, ◌^◌, ◌<◌, ◌≤◌, ◌↔◌, ℤ, pos, negsuc, neg_ℤ, Bool, true, false, cond, List, [], ◌∷◌, ◌++◌, length, Option, Some, None, Result, Ok, Err, refl, sym, ap, subst, ◌∙◌, append_assoc, arith}
-use Rattle.std.specs.Prelude.{◌==◌, ◌&&◌, nat_le, nat_lt, codes, slice_index, FitsSigned, IfOk}
+use Rattle.std.specs.Prelude.{◌==◌, ◌&&◌, nat_lt, codes, slice_index, FitsSigned, IfOk}
 use Rattle.std.specs.Int.{w16, w32}
 use Rattle.std.specs.List.{slice_split, join_with_byte, position_or_len, before_first, after_first}
 use Rattle.std.specs.Fmt.{decimal, signed_decimal}
 use Rattle.std.specs.Str.{bytes_eq}
-use Rattle.std.specs.Str.Parse.{digits_value}
-use Rattle.std.proofs.lemmas.Bool.{eqb-true, and_parts, leb-true, ltb-true}
-use Rattle.std.proofs.lemmas.Fmt.{decimal-digits_value}
+use Rattle.std.proofs.lemmas.Bool.{eqb-true, and_parts, ltb-true}
 use Rattle.std.proofs.lemmas.List.Sums.{split_at_first, passes_at_first}
 use Rattle.std.proofs.lemmas.List.Splits.{join_with_byte-slice_split}
 use Rattle.std.proofs.lemmas.Slice.Eq.{bytes_eq-Decides}
@@ -31,41 +29,21 @@ use Rattle.pb_asm.specs.declared.fault.AsmCode.TheVariants as code
 use Rattle.pb_asm.specs.declared.names.Word.{Word}
 use Rattle.pb_asm.specs.declared.names.Word.TheVariants as word
 use Rattle.pb_asm.specs.Names.{name, words, IsWordOf, is_word_of, sizes, size_bits, registers, word_in, if_word_of, word_named, reg_name, reg_spelled, reg_named}
-use Rattle.pb_base.specs.Reading.{◌>>=◌}
+use Rattle.pb_reading.specs.Reading.{◌>>=◌}
 use Rattle.std.specs.Prelude.{ok_or}
 use Rattle.pb_asm.specs.Cuts.{strip_prefix, strip_suffix, split_once}
-use Rattle.pb_base.specs.Reading.{Gives, is_numeral, numeral_upto, no_word}
+use Rattle.pb_reading.specs.Reading.{Gives, numeral_upto, no_word}
 use Rattle.pb_asm.specs.Operands.{minus, plus, signed_or, imm_of_text, plus_or_fault, offset_of_text, reg_of_text, operand_of_text, size_in, bits_of_text, base_and_offset, at_minus, at_plus, place_of_text, comma, last, alu_operands, mov_sx_operands, load_imm_operands, load_operands, store_imm_operands, store_operands, jump_if_operands, map_insn, operands, insn_of_words, line_of}
 use Rattle.pb_asm.specs.Listing.{operand_text, offset_text, place_text, insn_text}
 use Rattle.pb_asm.proofs.TextCuts.{split_end}
 use Rattle.pb_asm.proofs.ListingsReadBack.{line_back}
-use Rattle.pb_base.proofs.Numerals.{zero_alone, own, digits_in}
+use Rattle.pb_reading.proofs.NumeralValues.{numeral_is}
+use Rattle.pb_reading.proofs.Readings.{then_ok, ok_is, else_ok, there_ok}
 
 -- ---- what a reading that ended well has read
 
--- where two readings one after the other end well, each has
-pub then_ok : {A B : Type 0} (r : Result A AsmCode) (f : A → Result B AsmCode) (y : B) → r >>= f ≡ Ok y → (x : A) × (r ≡ Ok x) × (f x ≡ Ok y)
-then_ok (Ok x) f y h = (x, refl, h)
-then_ok (Err e) f y h = absurd cc
-
-pub ok_is : {A : Type 0} (x y : A) (r : Result A AsmCode) → r ≡ Ok x → r ≡ Ok y → x ≡ y
-ok_is x y r g h = cc
-
 some_is : {A : Type 0} (x y : A) (o : Option A) → o ≡ Some x → o ≡ Some y → x ≡ y
 some_is x y o g h = cc
-
--- a test whose reading ended well held; and so where the fault is the other way
-pub if_ok : {A : Type 0} (b : Bool) (r : Result A AsmCode) (e : AsmCode) (x : A) → cond b r (Err e) ≡ Ok x → (b ≡ true) × (r ≡ Ok x)
-if_ok true r e x h = (refl, h)
-if_ok false r e x h = absurd cc
-
-pub else_ok : {A : Type 0} (b : Bool) (r : Result A AsmCode) (e : AsmCode) (x : A) → cond b (Err e) r ≡ Ok x → (b ≡ false) × (r ≡ Ok x)
-else_ok true r e x h = absurd cc
-else_ok false r e x h = (refl, h)
-
-pub there_ok : {A : Type 0} (o : Option A) (e : AsmCode) (x : A) → ok_or o e ≡ Ok x → o ≡ Some x
-there_ok None e x h = absurd cc
-there_ok (Some y) e x h = ap Some (ok_is y x (Ok y) refl h)
 
 if_some : {A : Type 0} (b : Bool) (x y : A) → cond b (Some x) None ≡ Some y → (b ≡ true) × (x ≡ y)
 if_some true x y h = (refl, some_is x y (Some x) refl h)
@@ -99,23 +77,12 @@ around_whole c text sides h =
 
 -- ---- numbers
 
--- what is read as a number is its decimal
-number_is : (greatest n : ℕ) (text : List ℕ) → greatest < 2 ^ 64 → numeral_upto code.Form code.Range greatest text ≡ Ok n → (text ≡ decimal n) × (n ≤ greatest)
-number_is greatest n text lt h =
-    let p = if_ok (is_numeral text) _ code.Form n h in
-    let q = if_ok (nat_le (digits_value 10 text) greatest) (Ok (digits_value 10 text)) code.Range n p.1 in
-    let d = digits_in text p.0 in
-    let e : digits_value 10 text ≡ n = ok_is _ n (Ok (digits_value 10 text)) refl q.1 in
-    let le : digits_value 10 text ≤ greatest = leb-true _ _ q.0 in
-    let s : decimal (digits_value 10 text) ≡ text = decimal-digits_value own text d.0 d.2 (zero_alone (slice_index text 0) (length text) d.1 d.2) (omega (arith, le, lt)) in
-    (sym s ∙ ap decimal e, omega (arith, le, e))
-
 -- what is read behind a minus is a negative number's digits, and zero isn't
 minus_is : (greatest : ℕ) (text : List ℕ) (z : ℤ) → greatest < 2 ^ 64 → minus greatest text ≡ Ok z → (n : ℕ) × (z ≡ negsuc n) × (text ≡ decimal (suc n)) × (n < greatest)
 unfolding minus
 minus_is greatest text z lt h =
     let p = then_ok (numeral_upto code.Form code.Range greatest text) _ z h in
-    let q = number_is greatest p.0 text lt p.1 in
+    let q = numeral_is code.Form code.Range greatest p.0 text lt p.1 in
     below greatest p.0 text z _ q p.2
   where
     below : (greatest m : ℕ) (text : List ℕ) (z : ℤ) (c : AsmCode) → (text ≡ decimal m) × (m ≤ greatest) → cond (m == 0) (Err c) (Ok (neg_ℤ (pos m))) ≡ Ok z → (n : ℕ) × (z ≡ negsuc n) × (text ≡ decimal (suc n)) × (n < greatest)
@@ -123,14 +90,14 @@ minus_is greatest text z lt h =
     below greatest (suc n) text z c q h =
         let p = else_ok (suc n == 0) (Ok (negsuc n)) c z h in
         let le = q.1 in
-        (n, sym (ok_is (negsuc n) z (Ok (negsuc n)) refl p.1), q.0, omega (arith, le))
+        (n, sym (ok_is (negsuc n) z p.1), q.0, omega (arith, le))
 
 plus_is : (limit : ℕ) (text : List ℕ) (z : ℤ) → limit < 2 ^ 64 → plus limit text ≡ Ok z → (n : ℕ) × (z ≡ pos n) × (text ≡ decimal n) × (n ≤ limit - 1)
 unfolding plus
 plus_is limit text z lt h =
     let p = then_ok (numeral_upto code.Form code.Range (limit - 1) text) _ z h in
-    let q = number_is (limit - 1) p.0 text (omega (arith, lt)) p.1 in
-    (p.0, sym (ok_is (pos p.0) z (Ok (pos p.0)) refl p.2), q.0, q.1)
+    let q = numeral_is code.Form code.Range (limit - 1) p.0 text (omega (arith, lt)) p.1 in
+    (p.0, sym (ok_is (pos p.0) z p.2), q.0, q.1)
 
 -- ---- signed numbers
 
@@ -237,7 +204,7 @@ bits_are : (w : Width) (text : List ℕ) (z : Size) → bits_of_text w text ≡ 
 unfolding bits_of_text
 bits_are w text z h =
     let a = then_ok (numeral_upto code.Form code.Range (2 ^ 64 - 1) text) _ z h in
-    let n = number_is (2 ^ 64 - 1) a.0 text (omega arith) a.1 in
+    let n = numeral_is code.Form code.Range (2 ^ 64 - 1) a.0 text (omega arith) a.1 in
     let s = size_is w a.0 sizes z (there_ok (size_in w a.0 sizes) code.Range z a.2) in
     (n.0 ∙ ap decimal s.0, s.1)
 
@@ -255,10 +222,10 @@ operand_is text a h = sort (slice_index text 0 == 114) h
     sort : (b : Bool) → cond b (reg_of_text text >>= λ r. Ok (operand.Reg r)) (imm_of_text text >>= λ k. Ok (operand.Imm k)) ≡ Ok a → Either text a
     sort true h =
         let p = then_ok (reg_of_text text) (λ r. Ok (operand.Reg r)) a h in
-        subst (Either text) (ok_is (operand.Reg p.0) a (Ok (operand.Reg p.0)) refl p.2) (reg_is text p.0 p.1, tt)
+        subst (Either text) (ok_is (operand.Reg p.0) a p.2) (reg_is text p.0 p.1, tt)
     sort false h =
         let p = then_ok (imm_of_text text) (λ k. Ok (operand.Imm k)) a h in
-        subst (Either text) (ok_is (operand.Imm p.0) a (Ok (operand.Imm p.0)) refl p.2) (imm_is text p.0 p.1)
+        subst (Either text) (ok_is (operand.Imm p.0) a p.2) (imm_is text p.0 p.1)
 
 -- the text between brackets is the place's
 abbrev Place : List ℕ → Reg × ℤ → Type 0
@@ -270,7 +237,7 @@ based_is register digits c offset p h read =
     let a = then_ok (reg_of_text register) _ p h in
     let b = then_ok offset _ p a.2 in
     let o = read b.0 b.1 in
-    subst (Place (register ++ c ∷ digits)) (ok_is (a.0, b.0) p (Ok (a.0, b.0)) refl b.2)
+    subst (Place (register ++ c ∷ digits)) (ok_is (a.0, b.0) p b.2)
     (ap (λ (t : List ℕ). t ++ c ∷ digits) (reg_is register a.0 a.1) ∙ ap (λ (t : List ℕ). reg_name a.0 ++ t) o.0, o.1)
 
 minus_cases : (text : List ℕ) (p : Reg × ℤ) (o : Option (List ℕ × List ℕ)) → split_once 45 text ≡ o → at_minus o ≡ Ok p → Place text p
@@ -302,7 +269,7 @@ comma_is [] p h = absurd cc
 comma_is (text ∷ texts) p h =
     let a = then_ok (ok_or (strip_suffix 44 text) code.Form) _ p h in
     ap (λ (t : List ℕ). t ∷ texts) (before_whole 44 text a.0 (omega arith) (there_ok _ code.Form a.0 a.1))
-    ∙ ap (λ (q : List ℕ × List (List ℕ)). (q.0 ++ 44 ∷ []) ∷ q.1) (ok_is (a.0, texts) p (Ok (a.0, texts)) refl a.2)
+    ∙ ap (λ (q : List ℕ × List (List ℕ)). (q.0 ++ 44 ∷ []) ∷ q.1) (ok_is (a.0, texts) p a.2)
 
 -- where a last word was read, no word stood behind it
 last_is : {A : Type 0} (read : List ℕ → Result A AsmCode) (texts : List (List ℕ)) (x : A) → last read texts ≡ Ok x → (text : List ℕ) × (texts ≡ text ∷ []) × (read text ≡ Ok x)
@@ -354,7 +321,7 @@ alu_is op w texts i h =
     let c = then_ok (last operand_of_text a.0.1) _ i b.2 in
     let d = last_is operand_of_text a.0.1 c.0 c.1 in
     let e = operand_is d.0 c.0 d.2 in
-    subst (Written (word.Alu op w) texts) (ok_is (insn.Alu op w b.0 c.0) i (Ok (insn.Alu op w b.0 c.0)) refl c.2)
+    subst (Written (word.Alu op w) texts) (ok_is (insn.Alu op w b.0 c.0) i c.2)
     (two_there (word.Alu op w) texts a.0 d.0 (reg_name b.0) (operand_text c.0) a.1 d.1 (reg_is a.0.0 b.0 b.1) e.0, e.1, of_any (word.Alu op w) (insn.Alu op w b.0 c.0) refl refl)
 
 moved_of : (w : Width) (z : Size) (d s : Reg) → is_narrower z w ≡ true → OfWord (word.MovSx w) (insn.MovSx w z d s)
@@ -371,7 +338,7 @@ mov_sx_is w texts i h =
     let m = then_ok (last (bits_of_text w) k.0.1) _ i l.2 in
     let d = last_is (bits_of_text w) k.0.1 m.0 m.1 in
     let z = bits_are w d.0 m.0 d.2 in
-    subst (Written (word.MovSx w) texts) (ok_is (insn.MovSx w m.0 b.0 l.0) i (Ok (insn.MovSx w m.0 b.0 l.0)) refl m.2)
+    subst (Written (word.MovSx w) texts) (ok_is (insn.MovSx w m.0 b.0 l.0) i m.2)
     (three_there (word.MovSx w) texts a.0 k.0 d.0 (reg_name b.0) (reg_name l.0) (decimal (size_bits m.0)) a.1 k.1 d.1 (reg_is a.0.0 b.0 b.1) (reg_is k.0.0 l.0 l.1) z.0, tt, moved_of w m.0 b.0 l.0 z.1)
 
 wide_is : (texts : List (List ℕ)) (i : Insn) → load_imm_operands texts ≡ Ok i → Written word.LoadImm texts i
@@ -381,9 +348,9 @@ wide_is texts i h =
     let b = then_ok (reg_of_text a.0.0) _ i a.2 in
     let c = then_ok (last (numeral_upto code.Form code.Range (2 ^ 64 - 1)) a.0.1) _ i b.2 in
     let d = last_is (numeral_upto code.Form code.Range (2 ^ 64 - 1)) a.0.1 c.0 c.1 in
-    let e = number_is (2 ^ 64 - 1) c.0 d.0 (omega arith) d.2 in
+    let e = numeral_is code.Form code.Range (2 ^ 64 - 1) c.0 d.0 (omega arith) d.2 in
     let le = e.1 in
-    subst (Written word.LoadImm texts) (ok_is (insn.LoadImm b.0 c.0) i (Ok (insn.LoadImm b.0 c.0)) refl c.2)
+    subst (Written word.LoadImm texts) (ok_is (insn.LoadImm b.0 c.0) i c.2)
     (two_there word.LoadImm texts a.0 d.0 (reg_name b.0) (decimal c.0) a.1 d.1 (reg_is a.0.0 b.0 b.1) e.0, omega (arith, le), of_any word.LoadImm (insn.LoadImm b.0 c.0) refl refl)
 
 loaded_of : (z : Size) (x : Extension) (d b : Reg) (o : ℤ) → OfWord (word.Load z x) (insn.Load z x d b o)
@@ -400,7 +367,7 @@ load_is z x texts i h =
     let c = then_ok (last place_of_text a.0.1) _ i b.2 in
     let d = last_is place_of_text a.0.1 c.0 c.1 in
     let e = place_is d.0 c.0 d.2 in
-    subst (Written (word.Load z x) texts) (ok_is (insn.Load z x b.0 c.0.0 c.0.1) i (Ok (insn.Load z x b.0 c.0.0 c.0.1)) refl c.2)
+    subst (Written (word.Load z x) texts) (ok_is (insn.Load z x b.0 c.0.0 c.0.1) i c.2)
     (two_there (word.Load z x) texts a.0 d.0 (reg_name b.0) (place_text c.0.0 c.0.1) a.1 d.1 (reg_is a.0.0 b.0 b.1) e.0, e.1, loaded_of z x b.0 c.0.0 c.0.1)
 
 store_imm_is : (z : Size) (texts : List (List ℕ)) (i : Insn) → store_imm_operands (insn.StoreImm z) texts ≡ Ok i → Written (word.StoreImm z) texts i
@@ -412,7 +379,7 @@ store_imm_is z texts i h =
     let d = last_is imm_of_text a.0.1 c.0 c.1 in
     let p = place_is a.0.0 b.0 b.1 in
     let e = imm_is d.0 c.0 d.2 in
-    subst (Written (word.StoreImm z) texts) (ok_is (insn.StoreImm z b.0.0 b.0.1 c.0) i (Ok (insn.StoreImm z b.0.0 b.0.1 c.0)) refl c.2)
+    subst (Written (word.StoreImm z) texts) (ok_is (insn.StoreImm z b.0.0 b.0.1 c.0) i c.2)
     (two_there (word.StoreImm z) texts a.0 d.0 (place_text b.0.0 b.0.1) (signed_decimal c.0) a.1 d.1 p.0 e.0, (p.1, e.1), of_any (word.StoreImm z) (insn.StoreImm z b.0.0 b.0.1 c.0) refl refl)
 
 store_is : (z : Size) (texts : List (List ℕ)) (i : Insn) → store_operands (insn.Store z) texts ≡ Ok i → Written (word.Store z) texts i
@@ -423,7 +390,7 @@ store_is z texts i h =
     let c = then_ok (last reg_of_text a.0.1) _ i b.2 in
     let d = last_is reg_of_text a.0.1 c.0 c.1 in
     let p = place_is a.0.0 b.0 b.1 in
-    subst (Written (word.Store z) texts) (ok_is (insn.Store z b.0.0 c.0 b.0.1) i (Ok (insn.Store z b.0.0 c.0 b.0.1)) refl c.2)
+    subst (Written (word.Store z) texts) (ok_is (insn.Store z b.0.0 c.0 b.0.1) i c.2)
     (two_there (word.Store z) texts a.0 d.0 (place_text b.0.0 b.0.1) (reg_name c.0) a.1 d.1 p.0 (reg_is d.0 c.0 d.2), p.1, of_any (word.Store z) (insn.Store z b.0.0 c.0 b.0.1) refl refl)
 
 jump_if_is : (c : Cmp) (w : Width) (texts : List (List ℕ)) (i : Insn) → jump_if_operands (insn.JumpIf c w) texts ≡ Ok i → Written (word.JumpIf c w) texts i
@@ -437,14 +404,14 @@ jump_if_is c w texts i h =
     let d = last_is offset_of_text k.0.1 m.0 m.1 in
     let e = operand_is k.0.0 l.0 l.1 in
     let o = offset_is d.0 m.0 d.2 in
-    subst (Written (word.JumpIf c w) texts) (ok_is (insn.JumpIf c w b.0 l.0 m.0) i (Ok (insn.JumpIf c w b.0 l.0 m.0)) refl m.2)
+    subst (Written (word.JumpIf c w) texts) (ok_is (insn.JumpIf c w b.0 l.0 m.0) i m.2)
     (three_there (word.JumpIf c w) texts a.0 k.0 d.0 (reg_name b.0) (operand_text l.0) (offset_text m.0) a.1 k.1 d.1 (reg_is a.0.0 b.0 b.1) e.0 o.0, (e.1, o.1), of_any (word.JumpIf c w) (insn.JumpIf c w b.0 l.0 m.0) refl refl)
 
 neg_is : (w : Width) (texts : List (List ℕ)) (i : Insn) → map_insn (insn.Neg w) (last reg_of_text texts) ≡ Ok i → Written (word.Neg w) texts i
 neg_is w texts i h =
     let a = then_ok (last reg_of_text texts) _ i h in
     let d = last_is reg_of_text texts a.0 a.1 in
-    subst (Written (word.Neg w) texts) (ok_is (insn.Neg w a.0) i (Ok (insn.Neg w a.0)) refl a.2)
+    subst (Written (word.Neg w) texts) (ok_is (insn.Neg w a.0) i a.2)
     (one_there (word.Neg w) texts d.0 (reg_name a.0) d.1 (reg_is d.0 a.0 d.2), tt, of_any (word.Neg w) (insn.Neg w a.0) refl refl)
 
 jump_is : (texts : List (List ℕ)) (i : Insn) → map_insn insn.Jump (last offset_of_text texts) ≡ Ok i → Written word.Jump texts i
@@ -452,7 +419,7 @@ jump_is texts i h =
     let a = then_ok (last offset_of_text texts) _ i h in
     let d = last_is offset_of_text texts a.0 a.1 in
     let o = offset_is d.0 a.0 d.2 in
-    subst (Written word.Jump texts) (ok_is (insn.Jump a.0) i (Ok (insn.Jump a.0)) refl a.2)
+    subst (Written word.Jump texts) (ok_is (insn.Jump a.0) i a.2)
     (one_there word.Jump texts d.0 (offset_text a.0) d.1 o.0, o.1, of_any word.Jump (insn.Jump a.0) refl refl)
 
 call_is : (texts : List (List ℕ)) (i : Insn) → map_insn insn.Call (last imm_of_text texts) ≡ Ok i → Written word.Call texts i
@@ -460,11 +427,11 @@ call_is texts i h =
     let a = then_ok (last imm_of_text texts) _ i h in
     let d = last_is imm_of_text texts a.0 a.1 in
     let k = imm_is d.0 a.0 d.2 in
-    subst (Written word.Call texts) (ok_is (insn.Call a.0) i (Ok (insn.Call a.0)) refl a.2)
+    subst (Written word.Call texts) (ok_is (insn.Call a.0) i a.2)
     (one_there word.Call texts d.0 (signed_decimal a.0) d.1 k.0, k.1, of_any word.Call (insn.Call a.0) refl refl)
 
 exit_is : (texts : List (List ℕ)) (i : Insn) → map_insn (λ _. insn.Exit) (no_word code.Form texts) ≡ Ok i → Written word.Exit texts i
-exit_is [] i h = subst (Written word.Exit []) (ok_is insn.Exit i (Ok insn.Exit) refl h) (refl, tt, of_any word.Exit insn.Exit refl refl)
+exit_is [] i h = subst (Written word.Exit []) (ok_is insn.Exit i h) (refl, tt, of_any word.Exit insn.Exit refl refl)
 exit_is (text ∷ texts) i h = absurd cc
 
 -- so whatever the first word is, the line is the instruction's

@@ -1,8 +1,8 @@
 -- A text is read as a program exactly where its lines of instructions are the program's.
-use Rattle.std.proofs.Common.{◌≡◌, ℕ, ◌+◌, ◌<◌, ◌≤◌, ◌↔◌, Bool, true, false, cond, not, List, [], ◌∷◌, ◌++◌, map, Result, Ok, Err, refl, sym, ap, subst, ◌∙◌, append_assoc, append-nil, arith}
-use Rattle.std.specs.Prelude.{◌==◌, nat_lt}
-use Rattle.std.specs.List.{slice_split, filter, AllByRecursion}
-use Rattle.std.proofs.lemmas.Bool.{ltb-false}
+use Rattle.std.proofs.Common.{◌≡◌, ℕ, ◌<◌, ◌≤◌, ◌↔◌, Bool, true, false, cond, List, [], ◌∷◌, ◌++◌, map, Result, Ok, Err, refl, sym, ap, subst, ◌∙◌, arith}
+use Rattle.std.specs.Prelude.{nat_lt}
+use Rattle.std.specs.List.{flat_map, AllByRecursion}
+use Rattle.std.proofs.lemmas.Bool.{le-ltb, ltb-false}
 use Rattle.std.proofs.lemmas.List.{length-append}
 use Rattle.pb_isa.specs.declared.insn.Insn.{Insn}
 use Rattle.pb_isa.specs.Bounds.{Fits}
@@ -12,16 +12,18 @@ use Rattle.pb_isa.specs.declared.profile.Profile.{Profile}
 use Rattle.pb_isa.specs.Profiles.{max_slots, IsOf}
 use Rattle.pb_asm.specs.declared.fault.AsmCode.{AsmCode}
 use Rattle.pb_asm.specs.declared.fault.AsmCode.TheVariants as code
-use Rattle.pb_base.specs.Reading.{◌>>=◌}
+use Rattle.pb_reading.specs.Reading.{◌>>=◌, shown_lines}
 use Rattle.pb_asm.specs.Operands.{line_of}
-use Rattle.pb_asm.specs.Listing.{insn_text}
-use Rattle.pb_base.specs.Reading.{is_skipped, numbered}
+use Rattle.pb_asm.specs.Listing.{insn_text, listing}
+use Rattle.pb_reading.specs.Reading.{is_skipped, lines_of}
 use Rattle.pb_asm.specs.Codes.{asm_code}
-use Rattle.pb_asm.specs.Texts.{instruction_lines, with_insn_line, insns_of_lines, some_of, program_of_text}
-use Rattle.pb_asm.proofs.OneSpelling.{then_ok, ok_is, else_ok, line_spelled}
-use Rattle.pb_asm.proofs.ListingsReadBack.{added, slots_append, some_there}
+use Rattle.pb_asm.specs.Texts.{with_insn_line, insns_of_lines, some_of, program_of_text}
+use Rattle.pb_reading.proofs.Readings.{then_ok, ok_is, else_ok}
+use Rattle.pb_reading.proofs.LinesInTurn.{Adds, TakesLines, heads, read, back}
+use Rattle.pb_asm.proofs.OneSpelling.{line_spelled}
+use Rattle.pb_asm.proofs.ListingsReadBack.{insn_shown, line_back, lines_cut, slots_append, some_there}
 use Rattle.pb_isa.proofs.Instructions.{some_place}
-use Rattle.pb_base.proofs.SkippedLines.{kept, kept_not, kept_one}
+use Rattle.pb_reading.proofs.SkippedLines.{kept, kept_one}
 
 -- ---- what has been read
 
@@ -30,63 +32,79 @@ skip_line : (k : Profile) (before : List Insn) (l : List ℕ) → is_skipped l �
 unfolding with_insn_line
 skip_line k before l is = rw is refl
 
--- a line that gave one more instruction: it is its line, and the slots suffice
-record Taken (k : Profile) (before q : List Insn) (l : List ℕ) : Type 0 where
-  one : Insn
-  text : l ≡ insn_text one
-  fits : Fits one
-  of_profile : IsOf k one
-  most : slots (before ++ one ∷ []) ≤ max_slots k
-  whole : before ++ one ∷ [] ≡ q
+-- a line that isn't skipped and is read adds its instruction, where the slots suffice
+abbrev Room : Profile → List Insn → Type 0
+Room k is = slots is ≤ max_slots k
 
-short_line : (k : Profile) (before q : List Insn) (l : List ℕ) (i : Insn) → line_of k l ≡ Ok i → cond (nat_lt (max_slots k) (slots (before ++ i ∷ []))) (Err code.TooLong) (Ok (before ++ i ∷ [])) ≡ Ok q → Taken k before q l
-short_line k before q l i is h =
-    let s = line_spelled k l i is in
-    let p = else_ok (nat_lt (max_slots k) (slots (before ++ i ∷ []))) (Ok (before ++ i ∷ [])) code.TooLong q h in
-    record { one = i; text = s.0; fits = s.1; of_profile = s.2; most = ltb-false _ _ p.0; whole = ok_is (before ++ i ∷ []) q (Ok (before ++ i ∷ [])) refl p.1 }
+abbrev one : Insn → List Insn
+one i = i ∷ []
 
--- a line that isn't skipped and is read gave one
-take_line : (k : Profile) (before q : List Insn) (l : List ℕ) → is_skipped l ≡ false → with_insn_line k before l ≡ Ok q → Taken k before q l
+take_line : (k : Profile) (before q : List Insn) (l : List ℕ) → is_skipped l ≡ false → with_insn_line k before l ≡ Ok q → Adds (line_of k) one (Room k) before q l
 unfolding with_insn_line
 take_line k before q l is h =
     let g = ap (λ (b : Bool). cond b (Ok before) (line_of k l >>= λ i. cond (nat_lt (max_slots k) (slots (before ++ i ∷ []))) (Err code.TooLong) (Ok (before ++ i ∷ [])))) (sym is) ∙ h in
     let a = then_ok (line_of k l) _ q g in
-    short_line k before q l a.0 a.1 a.2
+    let p = else_ok (nat_lt (max_slots k) (slots (before ++ a.0 ∷ []))) (Ok (before ++ a.0 ∷ [])) code.TooLong q a.2 in
+    let whole = ok_is (before ++ a.0 ∷ []) q p.1 in
+    record { thing = a.0; says = a.1; whole = whole; room = subst (Room k) whole (ltb-false _ _ p.0) }
 
--- what lines have given: the instructions of those that aren't skipped, behind those before
-pub record Reading (k : Profile) (before q : List Insn) (ls : List (List ℕ)) : Type 0 where
-  pub rest : List Insn
-  pub whole : q ≡ before ++ rest
-  pub lines : kept ls ≡ map insn_text rest
-  pub fits : AllByRecursion Fits rest
-  pub of_profile : AllByRecursion (IsOf k) rest
-  pub most : slots q ≤ max_slots k
+add_line : (k : Profile) (before : List Insn) (l : List ℕ) (i : Insn) → is_skipped l ≡ false → line_of k l ≡ Ok i → Room k (before ++ i ∷ []) → with_insn_line k before l ≡ Ok (before ++ i ∷ [])
+unfolding with_insn_line
+add_line k before l i is says most = rw (is, says, le-ltb (max_slots k) (slots (before ++ i ∷ [])) most) refl
 
--- one more line in front
-one_more : (k : Profile) (before p q : List Insn) (l : List ℕ) (ls : List (List ℕ)) (b : Bool) → is_skipped l ≡ b → with_insn_line k before l ≡ Ok p → slots before ≤ max_slots k → (slots p ≤ max_slots k → Reading k p q ls) → Reading k before q (l ∷ ls)
-one_more k before p q l ls true is h most others =
-    let same : before ≡ p = ok_is before p (with_insn_line k before l) (skip_line k before l is) h in
-    let f = others (subst (λ (x : List Insn). slots x ≤ max_slots k) same most) in
-    record { rest = f.rest; whole = f.whole ∙ ap (λ (x : List Insn). x ++ f.rest) (sym same); lines = kept_not l ls is ∙ f.lines; fits = f.fits; of_profile = f.of_profile; most = f.most }
-one_more k before p q l ls false is h most others =
-    let t = take_line k before p l is h in
-    let f = others (subst (λ (x : List Insn). slots x ≤ max_slots k) t.whole t.most) in
-    record { rest = t.one ∷ f.rest; whole = f.whole ∙ ap (λ (x : List Insn). x ++ f.rest) (sym t.whole) ∙ append_assoc before (t.one ∷ []) f.rest; lines = kept_one l ls is ∙ ap (λ (xs : List (List ℕ)). l ∷ xs) f.lines ∙ ap (λ (x : List ℕ). x ∷ map insn_text f.rest) t.text; fits = (t.fits, f.fits); of_profile = (t.of_profile, f.of_profile); most = f.most }
+fewer : (k : Profile) (before more : List Insn) → Room k (before ++ more) → Room k before
+fewer k before more room = let a = slots_append before more in omega (arith, a, room)
 
-step : (k : Profile) (n : ℕ) (before q : List Insn) (l : List ℕ) (ls : List (List ℕ)) (r : Result (List Insn) AsmCode) → with_insn_line k before l ≡ r → ((numbered asm_code n r) >>= (λ p. insns_of_lines k (n + 1) p ls)) ≡ Ok q → slots before ≤ max_slots k
-    → ((p : List Insn) → insns_of_lines k (n + 1) p ls ≡ Ok q → slots p ≤ max_slots k → Reading k p q ls) → Reading k before q (l ∷ ls)
-step k n before q l ls (Err e) is h most others = absurd cc
-step k n before q l ls (Ok p) is h most others = one_more k before p q l ls (is_skipped l) refl is most (others p h)
+-- so a text's lines add their instructions
+takes : (k : Profile) → TakesLines (with_insn_line k) (line_of k) one (Room k)
+takes k = record { skips = skip_line k; adds = take_line k; takes = add_line k; fewer = fewer k }
+
+singles : (is : List Insn) → flat_map one is ≡ is
+singles [] = refl
+singles (i ∷ is) = ap (λ (js : List Insn). i ∷ js) (singles is)
+
+-- ---- lines and their instructions
+
+-- the lines are the listing of these instructions, which fit and are of the profile
+pub record AreListed (k : Profile) (ls : List (List ℕ)) (is : List Insn) : Type 0 where
+  pub lines : ls ≡ map insn_text is
+  pub fits : AllByRecursion Fits is
+  pub of_profile : AllByRecursion (IsOf k) is
+  pub most : Room k is
+
+-- all but the room for them
+abbrev Listed : Profile → List (List ℕ) → List Insn → Type 0
+Listed k ls is = (ls ≡ map insn_text is) × AllByRecursion Fits is × AllByRecursion (IsOf k) is
+
+listed : (k : Profile) (ls : List (List ℕ)) (is : List Insn) → map (line_of k) ls ≡ map (λ i. Ok i) is → Listed k ls is
+listed k [] [] h = (refl, tt, tt)
+listed k [] (i ∷ is) h = absurd cc
+listed k (l ∷ ls) [] h = absurd cc
+listed k (l ∷ ls) (i ∷ is) h =
+    let p = heads (line_of k l) (Ok i) (map (line_of k) ls) (map (λ j. Ok j) is) h in
+    let s = line_spelled k l i p.0 in
+    let f = listed k ls is p.1 in
+    (ap (λ (x : List ℕ). x ∷ ls) s.0 ∙ ap (λ (xs : List (List ℕ)). insn_text i ∷ xs) f.0, (s.1, f.1), (s.2, f.2))
+
+said : (k : Profile) (is : List Insn) → AllByRecursion Fits is → AllByRecursion (IsOf k) is → map (line_of k) (map insn_text is) ≡ map (λ i. Ok i) is
+said k [] fits have = refl
+said k (i ∷ is) fits have = ap (λ (r : Result Insn AsmCode). r ∷ map (line_of k) (map insn_text is)) (line_back k i fits.0 have.0) ∙ ap (λ (rs : List (Result Insn AsmCode)). Ok i ∷ rs) (said k is fits.1 have.1)
 
 -- lines that are read are those of their instructions
-pub read : (k : Profile) (n : ℕ) (before q : List Insn) (ls : List (List ℕ)) → insns_of_lines k n before ls ≡ Ok q → slots before ≤ max_slots k → Reading k before q ls
-read k n before q [] h most =
-    let same : before ≡ q = lines_same before q h in
-    record { rest = []; whole = sym same ∙ sym (append-nil before); lines = refl; fits = tt; of_profile = tt; most = subst (λ (x : List Insn). slots x ≤ max_slots k) same most }
-  where
-    lines_same : (p q : List Insn) → insns_of_lines k 0 p [] ≡ Ok q → p ≡ q
-    lines_same p q h = cc
-read k n before q (l ∷ ls) h most = step k n before q l ls (with_insn_line k before l) refl h most (λ p g. read k (n + 1) p q ls g)
+pub lines_are : (k : Profile) (text : List ℕ) (q : List Insn) → insns_of_lines k 0 [] (lines_of text) ≡ Ok q → AreListed k (shown_lines text) q
+lines_are k text q h =
+    let f = read asm_code (with_insn_line k) (line_of k) one (Room k) (takes k) 0 [] q (lines_of text) h (omega arith) in
+    let p = listed k (kept (lines_of text)) f.things f.says in
+    let same : q ≡ f.things = f.whole ∙ singles f.things in
+    record { lines = p.0 ∙ ap (map insn_text) (sym same); fits = subst (AllByRecursion Fits) (sym same) p.1; of_profile = subst (AllByRecursion (IsOf k)) (sym same) p.2; most = f.room }
+
+-- and lines whose kept ones are a listing are read as it
+pub lines_back : (k : Profile) (text : List ℕ) (p : List Insn) → AreListed k (shown_lines text) p → insns_of_lines k 0 [] (lines_of text) ≡ Ok p
+lines_back k text p a =
+    back asm_code (with_insn_line k) (line_of k) one (Room k) (takes k) 0 (lines_of text) [] p (ap (map (line_of k)) a.lines ∙ said k p a.fits a.of_profile) (subst (Room k) (sym (singles p)) a.most)
+    ∙ ap Ok (singles p)
+
+-- ---- programs
 
 -- a program's instructions take some slots
 some_slots : (k : Profile) (is : List Insn) (p : ProgramOf) → some_of k is ≡ Ok p → 0 < slots is
@@ -105,53 +123,30 @@ some_same k (i ∷ is) p h = program_is (record { profile = k; insns = i ∷ is 
 
 -- the program's lines, and that it is one of this profile
 abbrev Whole : Profile → List ℕ → ProgramOf → Type 0
-Whole k text p = (instruction_lines text ≡ map insn_text p.insns) × (p.profile ≡ k) × IsProgram p × AllByRecursion Fits p.insns
+Whole k text p = (shown_lines text ≡ map insn_text p.insns) × (p.profile ≡ k) × IsProgram p × AllByRecursion Fits p.insns
 
 -- a text that is read is a listing with empty lines and remarks in it
-read_whole : (k : Profile) (text : List ℕ) (p : ProgramOf) (r : Result (List Insn) (ℕ × ℕ)) → insns_of_lines k 0 [] (slice_split (λ b. b == 10) text) ≡ r → (r >>= some_of k) ≡ Ok p → Whole k text p
+read_whole : (k : Profile) (text : List ℕ) (p : ProgramOf) (r : Result (List Insn) (ℕ × ℕ)) → insns_of_lines k 0 [] (lines_of text) ≡ r → (r >>= some_of k) ≡ Ok p → Whole k text p
 read_whole k text p (Err e) is h = absurd cc
 read_whole k text p (Ok q) is h =
-    let f = read k 0 [] q (slice_split (λ b. b == 10) text) is (omega arith) in
-    let same = f.whole in
-    subst (Whole k text) (some_same k q p h)
-    (f.lines ∙ ap (map insn_text) (sym same), refl, record { some = some_slots k q p h; most = f.most; of_profile = subst (AllByRecursion (IsOf k)) (sym same) f.of_profile }, subst (AllByRecursion Fits) (sym same) f.fits)
+    let a = lines_are k text q is in
+    subst (Whole k text) (some_same k q p h) (a.lines, refl, record { some = some_slots k q p h; most = a.most; of_profile = a.of_profile }, a.fits)
 
--- ---- and what will be
-
-heads : (l : List ℕ) (ls : List (List ℕ)) (k : List ℕ) (ks : List (List ℕ)) → l ∷ ls ≡ k ∷ ks → (l ≡ k) × (ls ≡ ks)
-heads l ls k ks h = (cc, cc)
-
--- from what the lines before it leave, a list of lines is read on
-abbrev ReadOn : Profile → ℕ → List (List ℕ) → Type 0
-ReadOn k n ls = (before p : List Insn) → kept ls ≡ map insn_text p → AllByRecursion Fits p → AllByRecursion (IsOf k) p → slots (before ++ p) ≤ max_slots k → insns_of_lines k n before ls ≡ Ok (before ++ p)
-
-go_on : (k : Profile) (n : ℕ) (before p q : List Insn) (l : List ℕ) (ls : List (List ℕ)) → with_insn_line k before l ≡ Ok p → insns_of_lines k (n + 1) p ls ≡ Ok q → insns_of_lines k n before (l ∷ ls) ≡ Ok q
-go_on k n before p q l ls is h = ap (λ (r : Result (List Insn) AsmCode). numbered asm_code n r >>= λ x. insns_of_lines k (n + 1) x ls) is ∙ h
-
--- one more line in front is read, if it is skipped or an instruction's
-back_line : (k : Profile) (n : ℕ) (before p : List Insn) (l : List ℕ) (ls : List (List ℕ)) (b : Bool) → is_skipped l ≡ b → kept (l ∷ ls) ≡ map insn_text p → AllByRecursion Fits p → AllByRecursion (IsOf k) p → slots (before ++ p) ≤ max_slots k → ReadOn k (n + 1) ls → insns_of_lines k n before (l ∷ ls) ≡ Ok (before ++ p)
-back_line k n before p l ls true is lines fits have most others = go_on k n before before (before ++ p) l ls (skip_line k before l is) (others before p (sym (kept_not l ls is) ∙ lines) fits have most)
-back_line k n before [] l ls false is lines fits have most others = let no : l ∷ kept ls ≡ [] = sym (kept_one l ls is) ∙ lines in absurd cc
-back_line k n before (i ∷ p) l ls false is lines fits have most others =
-    let h = heads l (kept ls) (insn_text i) (map insn_text p) (sym (kept_one l ls is) ∙ lines) in
-    let grouped : (before ++ i ∷ []) ++ p ≡ before ++ i ∷ p = append_assoc before (i ∷ []) p in
-    let a = slots_append (before ++ i ∷ []) p in
-    let whole : slots ((before ++ i ∷ []) ++ p) ≤ max_slots k = subst (λ (q : List Insn). slots q ≤ max_slots k) (sym grouped) most in
-    go_on k n before (before ++ i ∷ []) (before ++ i ∷ p) l ls (ap (with_insn_line k before) h.0 ∙ added k before i fits.0 have.0 (omega (arith, a, whole)))
-    (others (before ++ i ∷ []) p h.1 fits.1 have.1 whole ∙ ap Ok grouped)
-
--- lines whose kept ones are a listing are read as it
-pub back : (k : Profile) (n : ℕ) (ls : List (List ℕ)) → ReadOn k n ls
-back k n [] before [] lines fits have most = ap Ok (sym (append-nil before))
-back k n [] before (i ∷ p) lines fits have most = absurd cc
-back k n (l ∷ ls) before p lines fits have most = back_line k n before p l ls (is_skipped l) refl lines fits have most (back k (n + 1) ls)
-
-read_back : (text : List ℕ) (p : ProgramOf) → (instruction_lines text ≡ map insn_text p.insns) × IsProgram p × AllByRecursion Fits p.insns → program_of_text p.profile text ≡ Ok p
-read_back text p h = ap (λ (r : Result (List Insn) (ℕ × ℕ)). r >>= some_of p.profile) (back p.profile 0 (slice_split (λ b. b == 10) text) [] p.insns h.0 h.2 h.1.of_profile h.1.most) ∙ some_there p.profile p.insns h.1.some
+-- and such a listing is read
+read_back : (text : List ℕ) (p : ProgramOf) → shown_lines text ≡ map insn_text p.insns → IsProgram p → AllByRecursion Fits p.insns → program_of_text p.profile text ≡ Ok p
+read_back text p lines is fits =
+    ap (λ (r : Result (List Insn) (ℕ × ℕ)). r >>= some_of p.profile) (lines_back p.profile text p.insns (record { lines = lines; fits = fits; of_profile = is.of_profile; most = is.most }))
+    ∙ some_there p.profile p.insns is.some
 
 -- a text is read as a program exactly where its kept lines are the program's listing
 pub text_is : (k : Profile) (text : List ℕ) (p : ProgramOf) → (program_of_text k text ≡ Ok p) ↔ Whole k text p
-text_is k text p = (read_whole k text p (insns_of_lines k 0 [] (slice_split (λ b. b == 10) text)) refl, whole)
-  where
-    whole : Whole k text p → program_of_text k text ≡ Ok p
-    whole h = subst (λ (q : Profile). program_of_text q text ≡ Ok p) h.1 (read_back text p (h.0, h.2, h.3))
+text_is k text p = (read_whole k text p (insns_of_lines k 0 [] (lines_of text)) refl, λ h. subst (λ (q : Profile). program_of_text q text ≡ Ok p) h.1 (read_back text p h.0 h.2 h.3))
+
+-- a listing's lines are all instructions', but for the empty one behind the last newline
+kept_listing : (p : List Insn) → kept (map insn_text p ++ [] ∷ []) ≡ map insn_text p
+kept_listing [] = refl
+kept_listing (i ∷ p) = kept_one (insn_text i) (map insn_text p ++ [] ∷ []) (insn_shown i) ∙ ap (λ (ls : List (List ℕ)). insn_text i ∷ ls) (kept_listing p)
+
+-- so a listing is read as its program
+pub listing_back : (p : ProgramOf) → IsProgram p → AllByRecursion Fits p.insns → program_of_text p.profile (listing p.insns) ≡ Ok p
+listing_back p is fits = read_back (listing p.insns) p (ap kept (lines_cut p.insns fits) ∙ kept_listing p.insns) is fits

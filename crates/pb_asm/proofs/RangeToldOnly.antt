@@ -16,7 +16,7 @@ use Rattle.pb_isa.specs.declared.insn.Size.{Size}
 use Rattle.pb_isa.specs.declared.insn.Extension.{Extension}
 use Rattle.pb_isa.specs.declared.profile.Profile.{Profile}
 use Rattle.pb_isa.specs.Profiles.{is_narrower}
-use Rattle.pb_base.specs.Reading.{◌>>=◌, is_numeral, numeral_upto, no_word, numbered}
+use Rattle.pb_reading.specs.Reading.{◌>>=◌, is_numeral, numeral_upto, no_word, numbered}
 use Rattle.pb_asm.specs.declared.fault.AsmCode.{AsmCode}
 use Rattle.pb_asm.specs.declared.fault.AsmCode.TheVariants as code
 use Rattle.pb_asm.specs.declared.names.Word.{Word}
@@ -29,7 +29,8 @@ use Rattle.pb_asm.specs.OutOfRange.{IsAbove, IsImmBeyond, IsOffsetBeyond, IsUnli
 use Rattle.pb_asm.specs.Codes.{asm_code}
 use Rattle.pb_asm.specs.Texts.{with_insn_line}
 use Rattle.pb_asm.proofs.ListingsReadBack.{size_there, few_bits}
-use Rattle.pb_asm.proofs.OneSpelling.{ok_is, if_ok, there_ok, behind_whole, before_whole, around_whole, reg_is, word_is, operand_is, place_is, comma_is}
+use Rattle.pb_reading.proofs.Readings.{ok_is, if_ok, there_ok}
+use Rattle.pb_asm.proofs.OneSpelling.{behind_whole, before_whole, around_whole, reg_is, word_is, operand_is, place_is, comma_is}
 use Rattle.pb_asm.proofs.FaultsTold.{failed, moved, own_told}
 use Rattle.pb_asm.proofs.NumbersBeyond.{range_told}
 
@@ -134,7 +135,7 @@ numeral_read : (most n : ℕ) (text : List ℕ) → numeral_upto code.Form code.
 numeral_read most n text h =
     let p = if_ok (is_numeral text) _ code.Form n h in
     let q = if_ok (nat_le (digits_value 10 text) most) (Ok (digits_value 10 text)) code.Range n p.1 in
-    (p.0, sym (ok_is _ n (Ok (digits_value 10 text)) refl q.1))
+    (p.0, sym (ok_is _ n q.1))
 
 many_beyond : (w : Width) (text : List ℕ) → IsAbove (2 ^ 64 - 1) text → IsUnlisted w text
 many_beyond w text h = record { numeral = h.numeral; unlisted = too_many w (digits_value 10 text) h.above }
@@ -399,7 +400,6 @@ range_is q line = (line_beyond q line, λ h. ap (line_of q) h.parts ∙ range_to
 
 -- no other code has the number 82
 range_number : (c : AsmCode) → asm_code c ≡ 82 → c ≡ code.Range
-range_number code.Memory h = let no : ⊥ = omega (arith, h) in absurd no
 range_number code.Word h = let no : ⊥ = omega (arith, h) in absurd no
 range_number code.Form h = let no : ⊥ = omega (arith, h) in absurd no
 range_number code.Range h = refl

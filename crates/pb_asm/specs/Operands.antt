@@ -15,7 +15,7 @@ use Rattle.pb_asm.specs.declared.names.Word.{Word}
 use Rattle.pb_asm.specs.declared.fault.AsmCode.{AsmCode}
 use Rattle.pb_asm.specs.declared.fault.AsmCode.TheVariants as code
 use Rattle.pb_asm.specs.Names.{sizes, size_bits, word_named, reg_named}
-use Rattle.pb_base.specs.Reading.{◌>>=◌, words_of, next_word, no_word, numeral_upto}
+use Rattle.pb_reading.specs.Reading.{◌>>=◌, words_of, next_word, no_word, numeral_upto}
 use Rattle.pb_asm.specs.Cuts.{strip_prefix, strip_suffix, split_once}
 
 -- the digits behind a minus: at most this, and not zero, so that 0 has one spelling

@@ -4,7 +4,7 @@
 use Rattle.std.specs.Prelude.{◌≡◌, ◌≢◌, ◌⊎◌, ◌<◌, ℕ, ◌-◌, ◌^◌, ℤ, List, [], ◌∷◌, ◌++◌, codes, true, IsTrue, FitsSigned}
 use Rattle.std.specs.Int.{w16}
 use Rattle.std.specs.Str.Parse.{digits_value}
-use Rattle.pb_base.specs.Reading.{is_numeral}
+use Rattle.pb_reading.specs.Reading.{is_numeral}
 use Rattle.pb_isa.specs.declared.insn.AluOp.{AluOp}
 use Rattle.pb_isa.specs.declared.insn.Cmp.{Cmp}
 use Rattle.pb_isa.specs.declared.insn.Width.{Width}

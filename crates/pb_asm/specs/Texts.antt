@@ -1,7 +1,6 @@
 -- A text of lines, each an instruction. It is the whole reading, with line numbers, as contracts of `assemble_in` and
 -- the laws cite it.
-use Rattle.std.specs.Prelude.{◌≡◌, ◌⊎◌, ℕ, ◌+◌, not, nat_lt, if◌then◌else◌, List, [], ◌∷◌, ◌++◌, length, Result, Ok, Err}
-use Rattle.std.specs.List.{filter}
+use Rattle.std.specs.Prelude.{◌≡◌, ℕ, nat_lt, if◌then◌else◌, List, [], ◌∷◌, ◌++◌, Result, Ok, Err}
 use Rattle.pb_isa.specs.declared.insn.Insn.{Insn}
 use Rattle.pb_isa.specs.declared.profile.Profile.{Profile}
 use Rattle.pb_isa.specs.Profiles.{max_slots}
@@ -9,15 +8,10 @@ use Rattle.pb_isa.specs.Slots.{slots}
 use Rattle.pb_isa.specs.Programs.{ProgramOf}
 use Rattle.pb_asm.specs.declared.fault.AsmCode.{AsmCode}
 use Rattle.pb_asm.specs.declared.fault.AsmCode.TheVariants.{TooLong, Nothing}
-use Rattle.pb_asm.specs.declared.fault.AsmFault.{AsmFault}
-use Rattle.pb_asm.specs.declared.lines.Lines.{Lines}
-use Rattle.pb_base.specs.Reading.{◌>>=◌, lines_of, is_skipped, in_turn, numbered}
+use Rattle.pb_reading.specs.Reading.{◌>>=◌, lines_of, is_skipped}
+use Rattle.pb_reading.specs.Faults.{in_lines}
 use Rattle.pb_asm.specs.Codes.{asm_code}
 use Rattle.pb_asm.specs.Operands.{line_of}
-
--- the lines that are not skipped
-abbrev pub instruction_lines : List ℕ → List (List ℕ)
-instruction_lines text = filter (λ line. not (is_skipped line)) (lines_of text)
 
 -- The instructions so far, with the one of one more line. That it ends past the profile's last slot is told
 -- last of its line's faults.
@@ -28,7 +22,7 @@ with_insn_line p before line = if is_skipped line then Ok before else do
 
 -- the lines one after the other, from what those before them made; the first fault ends it
 abbrev pub insns_of_lines : Profile → ℕ → List Insn → List (List ℕ) → Result (List Insn) (ℕ × ℕ)
-insns_of_lines p n before lines = in_turn (λ m is line. numbered asm_code m (with_insn_line p is line)) n before lines
+insns_of_lines p n before lines = in_lines asm_code (with_insn_line p) n before lines
 
 -- the program of these instructions, if there are some
 abbrev pub some_of : Profile → List Insn → Result ProgramOf (ℕ × ℕ)
@@ -38,33 +32,6 @@ some_of p (i ∷ is) = Ok (record { profile = p; insns = i ∷ is })
 -- the program of a text in a profile, or the line (from 1) and the code of its fault
 abbrev pub program_of_text : Profile → List ℕ → Result ProgramOf (ℕ × ℕ)
 program_of_text p text = insns_of_lines p 0 [] (lines_of text) >>= some_of p
-
--- how want of memory is told: of no line
-abbrev pub no_memory_fault : AsmFault
-no_memory_fault = record { line = 0; code = 1 }
-
--- what was returned is what reading gives, unless memory ran out
-abbrev pub ReadsProgram : Result ProgramOf AsmFault → Result ProgramOf (ℕ × ℕ) → Type 0
-ReadsProgram (Ok p) read = read ≡ Ok p
-ReadsProgram (Err f) read = (f ≡ no_memory_fault) ⊎ (read ≡ Err (f.line, f.code))
-
--- what was returned are the instructions that the lines give, unless memory ran out; there may be none
-abbrev pub ReadsLines : Result Lines AsmFault → Result (List Insn) (ℕ × ℕ) → Type 0
-ReadsLines (Ok l) read = read ≡ Ok l.insns.items
-ReadsLines (Err f) read = (f ≡ no_memory_fault) ⊎ (read ≡ Err (f.line, f.code))
-
--- the lines in front are read, and after them the line of this number is at fault
-pub record IsFirstFault (p : Profile) (text : List ℕ) (line told : ℕ) : Type 0 where
-  pub front : List (List ℕ)
-  pub here : List ℕ
-  pub after : List (List ℕ)
-  pub before : List Insn
-  pub cause : AsmCode
-  pub parts : lines_of text ≡ front ++ here ∷ after
-  pub read : insns_of_lines p 0 [] front ≡ Ok before
-  pub fault : with_insn_line p before here ≡ Err cause
-  pub number : line ≡ length front + 1
-  pub code : told ≡ asm_code cause
 
 -- all lines are read, and there is no instruction
 pub record HasNone (p : Profile) (text : List ℕ) (line told : ℕ) : Type 0 where

@@ -1,9 +1,6 @@
 //! Registers, numbers and places, each a text of its own.
 ghost use Rattle.std.specs.Prelude.{◌≡◌, ◌≤◌, ◌<◌, ◌^◌, ◌-◌, ◌-ℤ◌, ◌≤ℤ◌, pos, neg_ℤ, IfOk, ℤ, false};
-ghost use Rattle.std.specs.Char.{is_ascii_digit};
-ghost use Rattle.std.specs.List.{list_all};
-ghost use Rattle.pb_base.specs.Reading.{Gives, is_numeral, numeral_upto};
-ghost use Rattle.pb_asm.specs.declared.fault.AsmCode.TheVariants as code;
+ghost use Rattle.pb_reading.specs.Reading.{Gives};
 ghost use Rattle.pb_asm.specs.Operands.{minus, plus, imm_of_text, offset_of_text, reg_of_text, operand_of_text, size_in, bits_of_text, base_and_offset, place_of_text};
 ghost use Rattle.pb_asm.specs.Names.{sizes};
 
@@ -11,47 +8,7 @@ use crate::cuts::{split_once, strip_prefix, strip_suffix};
 use crate::fault::AsmCode;
 use crate::names::reg_named;
 use pb_isa::{Operand, Reg, Size, Width};
-
-// Whether it is digits alone; so is an empty text.
-fn all_digits(digits: &[u8]) -> bool
-    ensures { result ≡ list_all is_ascii_digit digits.now }
-{
-    digits.iter().all(|b| b.is_ascii_digit())
-}
-
-// Digits without a leading zero, so that each number has one spelling.
-fn is_numeral(text: &str) -> bool
-    ensures { result ≡ is_numeral text.now }
-{
-    let digits = text.as_bytes();
-    if digits.is_empty() {
-        return false;
-    }
-    if digits[0] == b'0' && digits.len() > 1 {
-        return false;
-    }
-    all_digits(digits)
-}
-
-/// A number, at most this. Its form is tested first, and then its range.
-pub fn numeral_upto(greatest: u64, text: &str) -> Result<u64, AsmCode>
-    ensures value { Gives (λ _. false) (λ n. n) result
-        (numeral_upto code.Form code.Range greatest text.now) }
-    ensures bound { IfOk result (λ n. n ≤ greatest) }
-{
-    if !is_numeral(text) {
-        return Err(AsmCode::Form);
-    }
-    // What has the form and can't be parsed is beyond 64 bits, so that it is out of range whatever may stand there.
-    let Ok(number) = text.parse::<u64>() else {
-        return Err(AsmCode::Range);
-    };
-    if number <= greatest {
-        Ok(number)
-    } else {
-        Err(AsmCode::Range)
-    }
-}
+use pb_reading::numeral_upto;
 
 // The digits behind a minus: at most this, and not zero, since `-0` would be a second spelling of `0`.
 #[tactic(auto, unfolding(crate::specs::Operands::minus))]
@@ -60,7 +17,7 @@ fn minus(greatest: u32, text: &str) -> Result<i64, AsmCode>
     ensures low { IfOk result (λ z. neg_ℤ (pos greatest) ≤ℤ z) }
     ensures high { IfOk result (λ z. z ≤ℤ pos 0) }
 {
-    let number = numeral_upto(u64::from(greatest), text)?;
+    let number = numeral_upto(AsmCode::Form, AsmCode::Range, u64::from(greatest), text)?;
     if number == 0 {
         return Err(AsmCode::Form);
     }
@@ -76,7 +33,7 @@ fn plus(limit: u32, text: &str) -> Result<i64, AsmCode>
     ensures low { IfOk result (λ z. pos 0 ≤ℤ z) }
     ensures high { IfOk result (λ z. z ≤ℤ pos (limit - 1)) }
 {
-    let number = numeral_upto(u64::from(limit - 1), text)?;
+    let number = numeral_upto(AsmCode::Form, AsmCode::Range, u64::from(limit - 1), text)?;
     Ok(number as i64)
 }
 
@@ -146,7 +103,7 @@ fn narrower_size(width: Width, bits: u64) -> Option<Size>
 pub fn bits_of(width: Width, text: &str) -> Result<Size, AsmCode>
     ensures { Gives (λ _. false) (λ z. z) result (bits_of_text width text.now) }
 {
-    let bits = numeral_upto(u64::MAX, text)?;
+    let bits = numeral_upto(AsmCode::Form, AsmCode::Range, u64::MAX, text)?;
     match narrower_size(width, bits) {
         Some(size) => Ok(size),
         None => Err(AsmCode::Range),

@@ -12,36 +12,30 @@ ghost use Rattle.pb_asm.specs.declared.fault.AsmCode.{AsmCode};
 ghost use Rattle.pb_asm.specs.declared.fault.AsmCode.TheVariants as code;
 ghost use Rattle.pb_asm.specs.declared.names.Word.{Word};
 ghost use Rattle.pb_asm.specs.Names.{name, IsWordOf};
-ghost use Rattle.pb_base.specs.Reading.{Gives, texts_of, lines_of, is_skipped, numbered};
-ghost use Rattle.pb_asm.specs.Codes.{asm_code, is_memory};
+ghost use Rattle.pb_reading.specs.Reading.{lines_of, numbered, shown_lines};
+ghost use Rattle.pb_reading.specs.Faults.{ReadsLine, ReadsText, StopsAt};
+ghost use Rattle.pb_asm.specs.Codes.{asm_code};
 ghost use Rattle.pb_asm.specs.Listing.{insn_text, listing};
 ghost use Rattle.pb_asm.specs.Operands.{line_of};
 ghost use Rattle.pb_asm.specs.OutOfRange.{NumberPlace, line_with, FitsBefore, place_word, IsBeyond, EndsWord, IsOutOfRange};
-ghost use Rattle.pb_asm.specs.Texts.{instruction_lines, with_insn_line, insns_of_lines, program_of_text, ReadsProgram, ReadsLines, IsFirstFault, HasNone};
+ghost use Rattle.pb_asm.specs.Texts.{with_insn_line, insns_of_lines, program_of_text, HasNone};
 
-use crate::fault::{AsmCode, AsmFault};
+use crate::fault::AsmCode;
 use crate::line::line_of;
 use crate::lines::Lines;
 use pb_isa::{Insn, NoProgram, Profile, Program};
-use std::alloc::{AllocError, Global};
-
-// Empty, or a remark. It is counted as a line all the same, so that a fault is told at the line that an editor shows.
-fn is_skipped(line: &str) -> bool
-    ensures { result ≡ is_skipped line.now }
-{
-    let bytes = line.as_bytes();
-    bytes.is_empty() || bytes[0] == b'#'
-}
+use pb_reading::{LineFault, TextFault as AsmFault, first_line, is_skipped};
+use std::alloc::Global;
 
 impl Lines {
     // Adds what one line says in a profile. That it ends past the last slot is told last, since 83 is told where a line
     // has no other fault.
     #[tactic(auto, using(crate::proofs::SlotCounts::slots_push, crate::proofs::SlotCounts::fit_push, crate::proofs::SlotCounts::of_push), unfolding(crate::specs::Texts::with_insn_line))]
-    fn add(&mut self, alloc: Global, profile: Profile, line: &str) -> Result<(), AsmCode>
+    fn add(&mut self, profile: Profile, line: &str) -> Result<(), LineFault<AsmCode>>
         requires most { self.old.taken ≤ max_slots profile }
         requires fits { AllByRecursion Fits self.old.insns.items }
         requires of_profile { AllByRecursion (IsOf profile) self.old.insns.items }
-        ensures read { Gives is_memory (λ _. self.new.insns.items) result
+        ensures read { ReadsLine (λ _. self.new.insns.items) result
             (with_insn_line profile self.old.insns.items line.now) }
         ensures most { self.new.taken ≤ max_slots profile }
         ensures fits { AllByRecursion Fits self.new.insns.items }
@@ -50,11 +44,11 @@ impl Lines {
         if is_skipped(line) {
             return Ok(());
         }
-        let insn = line_of(alloc, profile, line)?;
+        let insn = line_of(profile, line).map_err(LineFault::Code)?;
         let most = profile.max_slots();
         let slots = self.taken + slots_of(insn);
         if slots > most {
-            return Err(AsmCode::TooLong);
+            return Err(LineFault::Code(AsmCode::TooLong));
         }
         // After the test, so that the instructions are within the profile's slots after every line.
         self.insns.push(insn)?;
@@ -75,38 +69,36 @@ fn slots_of(insn: Insn) -> usize
     }
 }
 
-// The lines of a text; the one behind a last newline is empty, and skipped.
-fn lines_of(alloc: Global, text: &str) -> Result<Vec<&str>, AllocError>
-    ensures { IfOk result (λ v. texts_of v.items ≡ lines_of text.now) }
-{
-    text.split('\n').collect(alloc)
-}
-
 // The instructions of all lines, up to the first fault. Later lines aren't looked at, since the first is told.
 fn lines_in(alloc: Global, profile: Profile, text: &str) -> Result<Lines, AsmFault>
-    ensures read { ReadsLines result (insns_of_lines profile 0 [] (lines_of text.now)) }
+    ensures read { ReadsText (λ l. l.insns.items) result
+        (insns_of_lines profile 0 [] (lines_of text.now)) }
     ensures most { IfOk result (λ l. l.taken ≤ max_slots profile) }
     ensures fits { IfOk result (λ l. AllByRecursion Fits l.insns.items) }
     ensures of_profile { IfOk result (λ l. AllByRecursion (IsOf profile) l.insns.items) }
 {
-    let Ok(lines) = lines_of(alloc, text) else {
-        return Err(AsmFault { line: 0, code: 1 });
-    };
     let mut read = Lines {
         insns: Vec::new(alloc),
         taken: 0,
     };
-    for (index, line) in lines.iter().enumerate() {
-        if let Err(code) = read.add(alloc, profile, line) {
-            return Err(AsmFault::at(index, code));
+    let mut index = 0;
+    let mut left = Some(text);
+    while let Some(lines) = left {
+        let (line, after) = first_line(lines);
+        match read.add(profile, line) {
+            Ok(()) => {}
+            Err(LineFault::NoMemory) => return Err(AsmFault::no_memory()),
+            Err(LineFault::Code(code)) => return Err(AsmFault::at(index, code.code())),
         }
+        index += 1;
+        left = after;
     }
     Ok(read)
 }
 
 /// The program of a text of profile 1, one instruction a line. Empty lines and lines that begin with `#` are skipped.
 pub fn assemble(alloc: Global, text: &str) -> Result<Program, AsmFault>
-    ensures read { ReadsProgram result (program_of_text One text.now) }
+    ensures read { ReadsText (λ p. p) result (program_of_text One text.now) }
     ensures profile { IfOk result (λ p. p.profile ≡ One) }
     ensures program { IfOk result IsProgram }
     ensures fits { IfOk result (λ p. AllByRecursion Fits p.insns) }
@@ -115,8 +107,12 @@ pub fn assemble(alloc: Global, text: &str) -> Result<Program, AsmFault>
 }
 
 /// The program of a text, one instruction of the profile a line. Empty lines and lines that begin with `#` are skipped.
+/// Of another text the first line at fault is told: 80 a first word that is none of the profile's instructions', 81
+/// operands that are not of the form, 82 a number out of range or none of those that may stand there, 83 an instruction
+/// that ends past the last slot that a program of the profile may have; or 84 no instruction at all, which has line 0,
+/// since it is no line's. Where memory ran out it is line 0 with code 1, whichever line was read.
 pub fn assemble_in(alloc: Global, profile: Profile, text: &str) -> Result<Program, AsmFault>
-    ensures read { ReadsProgram result (program_of_text profile text.now) }
+    ensures read { ReadsText (λ p. p) result (program_of_text profile text.now) }
     ensures profile { IfOk result (λ p. p.profile ≡ profile) }
     ensures program { IfOk result IsProgram }
     ensures fits { IfOk result (λ p. AllByRecursion Fits p.insns) }
@@ -128,7 +124,7 @@ pub fn assemble_in(alloc: Global, profile: Profile, text: &str) -> Result<Progra
     }
     match Program::new(alloc, profile, lines.insns) {
         Ok(program) => Ok(program),
-        Err(NoProgram::NoMemory) => Err(AsmFault { line: 0, code: 1 }),
+        Err(NoProgram::NoMemory) => Err(AsmFault::no_memory()),
         // There is an instruction, and each line was tested, so that they take some slots and no more than the profile
         // has.
         Err(NoProgram::NotInRange(_)) => unreachable!(),
@@ -152,7 +148,7 @@ pub fn one_spelling()
 /// listing line by line, and it is a program of that profile.
 pub fn only_listings_are_read()
     ensures { (q : Profile) (text : List ℕ) (p : ProgramOf) → (program_of_text q text ≡ Ok p)
-        ↔ ((instruction_lines text ≡ map insn_text p.insns) × (p.profile ≡ q) × IsProgram p
+        ↔ ((shown_lines text ≡ map insn_text p.insns) × (p.profile ≡ q) × IsProgram p
         × AllByRecursion Fits p.insns) }
 {}
 
@@ -160,7 +156,7 @@ pub fn only_listings_are_read()
 pub fn fault_is_first()
     ensures { (p : Profile) (text : List ℕ) (line told : ℕ)
         → program_of_text p text ≡ Err (line, told)
-        → IsFirstFault p text line told ⊎ HasNone p text line told }
+        → StopsAt asm_code (with_insn_line p) [] text line told ⊎ HasNone p text line told }
 {}
 
 /// An unknown word is told exactly where what stands before the first blank, or the whole line where there is none, is
@@ -176,7 +172,7 @@ pub fn faults_are_told_where_they_are()
         ↔ ((i : Insn) × (line ≡ insn_text i) × Fits i × IsOf p i
         × (max_slots p < slots (before ++ i ∷ []))) }
     ensures nothing { (p : Profile) (text : List ℕ) → (program_of_text p text ≡ Err (0, 84))
-        ↔ (instruction_lines text ≡ []) }
+        ↔ (shown_lines text ≡ []) }
     ensures line { (p : Profile) (line : List ℕ) (c : AsmCode) → line_of p line ≡ Err c
         → (c ≡ code.Word) ⊎ (c ≡ code.Form) ⊎ (c ≡ code.Range) }
     ensures own { (p : Profile) (before : List Insn) (line : List ℕ) (c : AsmCode)

@@ -29,7 +29,7 @@ use Rattle.pb_decode.specs.declared.fault.DecodeCode.TheVariants.{Opcode, Regist
 use Rattle.pb_decode.specs.Opcodes.{opcode, IsFormOf, form_of}
 use Rattle.pb_decode.specs.Fields.{slot_bytes, slot_of_bytes}
 use Rattle.pb_decode.specs.Encoding.{bits_of, first_slot, second_slot, second_bytes, insn_bytes}
-use Rattle.pb_base.specs.Reading.{◌>>=◌}
+use Rattle.pb_reading.specs.Reading.{◌>>=◌}
 use Rattle.pb_decode.specs.Reading.{is_alu_offset, is_clean, is_second, pair_of, size_of_bits, insn_of_form, clean_or_code, first_with, first_of}
 use Rattle.pb_decode.specs.Faults.{AreBytes}
 use Rattle.pb_decode.proofs.SlotBytes.{IsSlot, front_slot, is_slot, rest_bytes, same_slot, slot_back}

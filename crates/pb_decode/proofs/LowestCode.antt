@@ -15,7 +15,7 @@ use Rattle.pb_decode.specs.declared.fault.DecodeCode.{DecodeCode}
 use Rattle.pb_decode.specs.declared.fault.DecodeCode.TheVariants.{Length, TooLong, Opcode, Register, Unused, CutOff, SecondSlot}
 use Rattle.pb_decode.specs.Opcodes.{opcode, IsFormOf, form_of}
 use Rattle.pb_decode.specs.Fields.{slot_of_bytes}
-use Rattle.pb_base.specs.Reading.{◌>>=◌}
+use Rattle.pb_reading.specs.Reading.{◌>>=◌}
 use Rattle.pb_decode.specs.Reading.{is_clean, is_second, insn_of_form, clean_or_code, first_with, first_of}
 use Rattle.pb_decode.specs.Faults.{decode_code, Applies, IsLowest}
 use Rattle.pb_decode.specs.Encoding.{insn_bytes}

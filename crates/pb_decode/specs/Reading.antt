@@ -2,7 +2,7 @@
 -- said by it; that it finds what Encoding and Faults say is proved.
 use Rattle.std.specs.Prelude.{ℕ, ℤ, ◌+◌, ◌*◌, ◌^◌, Bool, ◌&&◌, ◌||◌, ◌==◌, nat_lt, if◌then◌else◌, List, length, drop, ok_or, Result, Ok, Err}
 use Rattle.std.specs.Int.{w16, w32, cast_signed}
-use Rattle.pb_base.specs.Reading.{◌>>=◌}
+use Rattle.pb_reading.specs.Reading.{◌>>=◌}
 use Rattle.pb_isa.specs.declared.insn.Insn.{Insn}
 use Rattle.pb_isa.specs.declared.insn.Insn.TheVariants.{Alu, MovSx, Neg, LoadImm, Load, StoreImm, Store, Jump, JumpIf, Call, Exit}
 use Rattle.pb_isa.specs.declared.insn.AluOp.{AluOp}

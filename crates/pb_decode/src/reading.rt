@@ -1,6 +1,6 @@
 //! Bytes to programs: slot by slot from the front, up to the first at fault.
 ghost use Rattle.std.specs.Prelude.{◌≡◌, ◌≤◌, ◌*◌, ◌%◌, ◌⊎◌, ◌++◌, ℕ, List, length, false, ok_or, IfOk, IfErr};
-ghost use Rattle.pb_base.specs.Reading.{Gives};
+ghost use Rattle.pb_reading.specs.Reading.{Gives};
 ghost use Rattle.pb_isa.specs.declared.insn.Insn.{Insn};
 ghost use Rattle.pb_isa.specs.Programs.{ProgramOf};
 ghost use Rattle.pb_isa.specs.Bounds.{Fits};

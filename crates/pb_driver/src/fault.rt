@@ -2,7 +2,7 @@
 ghost use Rattle.std.specs.Prelude.{◌≡◌};
 ghost use Rattle.pb_driver.specs.Texts.{of_report};
 
-use pb_parse::{ScheduleFault, ScriptFault};
+use pb_parse::ScriptFault;
 use pb_registry::RegistryFault;
 use pb_script::ReportFault;
 use pb_world::WorldFault;
@@ -15,7 +15,7 @@ pub enum RunFault {
     /// The script was refused, for another cause than memory.
     Script(ScriptFault),
     /// The schedule was refused, for another cause than memory.
-    Schedule(ScheduleFault),
+    Schedule(ScriptFault),
     /// An event was at fault.
     Event(WorldFault),
     /// What the workers' seats were told isn't what the journal has of them: refusal 48 of [`pb_worker::finish`].

@@ -15,56 +15,49 @@ use Rattle.pb_base.specs.declared.content.Content.TheVariants.{Value, Deleted}
 use Rattle.pb_base.specs.Batch.{Writes, content_in, is_unstamped, is_data_write, are_distinct, is_batch}
 use Rattle.pb_parse.specs.declared.script.code.ScriptCode.{ScriptCode}
 use Rattle.pb_parse.specs.declared.script.code.ScriptCode.TheVariants.{Form, Twice, Seventeenth}
-use Rattle.pb_base.specs.Reading.{◌>>=◌, in_turn, next_word, no_word}
+use Rattle.pb_reading.specs.Reading.{◌>>=◌, in_turn, next_word, no_word}
 use Rattle.pb_base.specs.declared.limits.TheConstants.{MAX_CELLS}
 use Rattle.pb_parse.specs.ScriptWords.{put_of, del_of, write_of, operation, cell_at, number_upto, content_of}
 use Rattle.pb_parse.specs.ScriptLines.{cut, with_operation, batch_of}
 use Rattle.pb_parse.specs.Operations.{Say}
+use Rattle.pb_reading.proofs.Readings.{ok_is, then_ok}
 use Rattle.pb_base.proofs.Logic.{none_is as not_some, chosen}
-
--- where two readings in turn succeed, the first does, and the second with what it read
-pub bind_ok : {A B : Type 0} (r : Result A ScriptCode) (f : A → Result B ScriptCode) (y : B) → (r >>= f) ≡ Ok y → (x : A) × (r ≡ Ok x) × (f x ≡ Ok y)
-bind_ok (Ok x) f y h = (x, refl, h)
-bind_ok (Err e) f y h = absurd cc
-
-pub ok_same : {A E : Type 0} (x y : A) → ◌≡◌ {A = Result A E} (Ok x) (Ok y) → x ≡ y
-ok_same x y h = cc
 
 -- the cells of a script are data cells, since no word of it names another
 cell_is_data : (words : List (List ℕ)) (c : Cell × List (List ℕ)) → cell_at words ≡ Ok c → is_data c.0 ≡ true
 unfolding cell_at
 cell_is_data words c h =
-    let a = bind_ok (next_word Form words) _ c h in
-    let b = bind_ok (number_upto (2 ^ 64 - 1) a.0.0) _ c a.2 in
-    let d = bind_ok (next_word Form a.0.1) _ c b.2 in
-    let e = bind_ok (number_upto 15 d.0.0) _ c d.2 in
-    sym (ap (λ (p : Cell × List (List ℕ)). is_data p.0) (ok_same {E = ScriptCode} (Data (record { 0 = b.0 }) e.0, d.0.1) c e.2))
+    let a = then_ok (next_word Form words) _ c h in
+    let b = then_ok (number_upto (2 ^ 64 - 1) a.0.0) _ c a.2 in
+    let d = then_ok (next_word Form a.0.1) _ c b.2 in
+    let e = then_ok (number_upto 15 d.0.0) _ c d.2 in
+    sym (ap (λ (p : Cell × List (List ℕ)). is_data p.0) (ok_is {E = ScriptCode} (Data (record { 0 = b.0 }) e.0, d.0.1) c e.2))
 
 -- a value or a deletion of a data cell is what a batch may have
 is_written : (x : Cell) (k : Content) (w : Cell × Content) → is_data x ≡ true → is_unstamped k ≡ true → ◌≡◌ {A = Result (Cell × Content) ScriptCode} (Ok (x, k)) (Ok w) → is_data_write w ≡ true
-is_written x k w place plain h = sym (ap is_data_write (ok_same {E = ScriptCode} (x, k) w h)) ∙ (rw (place, plain) refl)
+is_written x k w place plain h = sym (ap is_data_write (ok_is {E = ScriptCode} (x, k) w h)) ∙ (rw (place, plain) refl)
 
 -- so `put` writes what a batch may have
 plain_put : (words : List (List ℕ)) (w : Cell × Content) → put_of words ≡ Ok w → is_data_write w ≡ true
 unfolding put_of
 plain_put words w h =
-    let a = bind_ok (cell_at words) _ w h in
-    let b = bind_ok (next_word Form a.0.1) _ w a.2 in
-    let c = bind_ok (content_of b.0.0) _ w b.2 in
-    let d = bind_ok (no_word Form b.0.1) _ w c.2 in
+    let a = then_ok (cell_at words) _ w h in
+    let b = then_ok (next_word Form a.0.1) _ w a.2 in
+    let c = then_ok (content_of b.0.0) _ w b.2 in
+    let d = then_ok (no_word Form b.0.1) _ w c.2 in
     is_written a.0.0 (Value c.0) w (cell_is_data words a.0 a.1) refl d.2
 
 plain_del : (words : List (List ℕ)) (w : Cell × Content) → del_of words ≡ Ok w → is_data_write w ≡ true
 unfolding del_of
 plain_del words w h =
-    let a = bind_ok (cell_at words) _ w h in
-    let d = bind_ok (no_word Form a.0.1) _ w a.2 in
+    let a = then_ok (cell_at words) _ w h in
+    let d = then_ok (no_word Form a.0.1) _ w a.2 in
     is_written a.0.0 Deleted w (cell_is_data words a.0 a.1) refl d.2
 
 plain_write : (words : List (List ℕ)) (w : Cell × Content) → write_of words ≡ Ok w → is_data_write w ≡ true
 unfolding write_of
 plain_write words w h =
-    let a = bind_ok (next_word Form words) _ w h in
+    let a = then_ok (next_word Form words) _ w h in
     elim (chosen (bytes_eq a.0.0 (codes "put")) (put_of a.0.1) _ (Ok w) a.2) [
       | inl p ↦ plain_put a.0.1 w p.1
       | inr q ↦ elim (chosen (bytes_eq a.0.0 (codes "del")) (del_of a.0.1) _ (Ok w) q.1) [
@@ -122,7 +115,7 @@ pub record IsAdded (before after : Writes) (text : List ℕ) : Type 0 where
 added : (before after : Writes) (text : List ℕ) → with_operation before text ≡ Ok after → IsAdded before after text
 unfolding with_operation
 added before after text h =
-    let a = bind_ok (operation text) _ after h in
+    let a = then_ok (operation text) _ after h in
     elim (chosen (is_some (content_in before a.0.0)) (Err Twice) _ (Ok after) a.2) [
       | inl twice ↦ let no = twice.1 in absurd cc
       | inr new ↦ elim (chosen (nat_le MAX_CELLS (length before)) (Err Seventeenth) (Ok (before ++ a.0 ∷ [])) (Ok after) new.1) [
@@ -132,7 +125,7 @@ added before after text h =
           read = a.1;
           new = not_some (content_in before a.0.0) new.0;
           room = leb-false _ _ room.0;
-          all = ok_same {E = ScriptCode} (before ++ a.0 ∷ []) after room.1;
+          all = ok_is {E = ScriptCode} (before ++ a.0 ∷ []) after room.1;
         }
       ]
     ]
@@ -160,7 +153,7 @@ turn_open texts after (Err e) more f h = absurd cc
 
 -- operations in turn after others
 pub all_open : (n : ℕ) (front : List (List ℕ)) (before after : Writes) (texts : List (List ℕ)) → IsOpen front before → in_turn (λ _. with_operation) n before texts ≡ Ok after → IsOpen (front ++ texts) after
-all_open n front before after [] o h = rw append-nil (subst (IsOpen front) (ok_same {E = ScriptCode} before after h) o)
+all_open n front before after [] o h = rw append-nil (subst (IsOpen front) (ok_is {E = ScriptCode} before after h) o)
 all_open n front before after (t ∷ ts) o h =
     turn_open (front ++ t ∷ ts) after (with_operation before t) (λ s. in_turn (λ _. with_operation) (n + 1) s ts)
     (λ s is k. subst (λ (texts : List (List ℕ)). IsOpen texts after) (append_assoc front (t ∷ []) ts) (all_open (n + 1) (front ++ t ∷ []) s after ts (grown front before s t o (added before s t is)) k)) h

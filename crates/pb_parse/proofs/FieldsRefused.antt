@@ -8,62 +8,43 @@ use Rattle.std.proofs.lemmas.Bool.{leb-false, ltb-false, ltb-true}
 use Rattle.pb_base.specs.declared.limits.TheConstants.{COLUMNS, MAX_CHANGES, MAX_EVENTS, MAX_SEATS}
 use Rattle.pb_base.specs.declared.cell.Cell.{Cell}
 use Rattle.pb_base.specs.declared.names.Row.{Row}
-use Rattle.pb_base.specs.Reading.{◌>>=◌, is_numeral, next_word, no_word, numeral_upto, words_of}
+use Rattle.pb_reading.specs.Reading.{◌>>=◌, is_numeral, next_word, no_word, numeral_upto, words_of}
 use Rattle.pb_verify.specs.Observers.{ObserverOf, acknowledgment}
 use Rattle.pb_parse.specs.declared.event.Job.{Job}
 use Rattle.pb_parse.specs.declared.event.Job.TheVariants.{Run}
 use Rattle.pb_parse.specs.declared.event.Event.{Event}
 use Rattle.pb_parse.specs.declared.event.Event.TheVariants.{Launch, Crash, Settle, Clear, Sweep}
 use Rattle.pb_parse.specs.declared.schedule.words.Order.{Order}
-use Rattle.pb_parse.specs.declared.schedule.fault.ScheduleCode.{ScheduleCode}
-use Rattle.pb_parse.specs.declared.schedule.fault.ScheduleCode.TheVariants.{Form, Range, NoObserver}
+use Rattle.pb_parse.specs.declared.schedule.code.ScheduleCode.{ScheduleCode}
+use Rattle.pb_parse.specs.declared.schedule.code.ScheduleCode.TheVariants.{Form, Range, NoObserver}
 use Rattle.pb_parse.specs.ScheduleWords.{number_between, next_number, next_actor, next_row, first_named, observer_named, next_observer, next_change, next_run, next_job, once, launch_of, times_of, step_of, crash_of, next_data_cell, next_acknowledgment, next_cell, once_on, order_by, order_of_words, order_of}
 use Rattle.pb_parse.specs.EventLines.{name_of, IsActor, IsRow, IsNamed}
 use Rattle.pb_parse.specs.ScheduleFaults.{LaunchActor, ChangeNumber, RunName, RunRow, StepActor, StepTimes, CrashActor, SettleRow, SettleColumn, SettleName, SettleAckRow, ClearRow, ClearColumn, ClearName, ClearAckRow, SweepRow, SweepColumn, IsOutside, IsNoRow, IsNoColumn, IsNobody, StopsAtField}
-use Rattle.pb_parse.proofs.Blanks.{AreWords, words_are}
-use Rattle.pb_parse.proofs.Steps.{same_text, next_is, next_row_is, next_observer_is, some_named}
+use Rattle.pb_reading.proofs.Parts.{AreParts, parts_are}
+use Rattle.pb_reading.proofs.Readings.{err_is, ok_is, then_err, next_fault, end_fault, next_is}
+use Rattle.pb_parse.proofs.NextWords.{same_text, next_row_is, next_observer_is, some_named}
 use Rattle.pb_parse.proofs.OrdersWritten.{actor_is}
 use Rattle.pb_base.proofs.Logic.{chosen}
-
--- a fault of one reading after another is the first's, or the second's after what the first read
-pub bind_err : {A B : Type 0} (r : Result A ScheduleCode) (f : A → Result B ScheduleCode) (e : ScheduleCode) → (r >>= f) ≡ Err e → (r ≡ Err e) ⊎ ((x : A) × (r ≡ Ok x) × (f x ≡ Err e))
-bind_err (Ok x) f e h = inr (x, refl, h)
-bind_err {A} {B} (Err d) f e h = inl (ap Err (err_is {A = B} d e h))
-  where
-    err_is : {A : Type 0} (d e : ScheduleCode) → ◌≡◌ {A = Result A ScheduleCode} (Err d) (Err e) → d ≡ e
-    err_is d e h = cc
-
-err_same : {A : Type 0} (d e : ScheduleCode) → ◌≡◌ {A = Result A ScheduleCode} (Err d) (Err e) → e ≡ d
-err_same d e h = cc
-
--- a word that is missing is a fault of the form
-next_fault : (words : List (List ℕ)) (cause : ScheduleCode) → next_word Form words ≡ Err cause → cause ≡ Form
-next_fault [] cause h = err_same {A = List ℕ × List (List ℕ)} Form cause h
-next_fault (w ∷ ws) cause h = absurd cc
-
-end_fault : (words : List (List ℕ)) (cause : ScheduleCode) → no_word Form words ≡ Err cause → cause ≡ Form
-end_fault [] cause h = absurd cc
-end_fault (w ∷ ws) cause h = err_same {A = Unit {0}} Form cause h
 
 -- ---- numbers
 
 -- a number is refused for its form, or as digits out of its range
 number_fault : (least greatest : ℕ) (word : List ℕ) (cause : ScheduleCode) → number_between least greatest word ≡ Err cause → (cause ≡ Form) ⊎ IsOutside least greatest word cause
 number_fault least greatest word cause h =
-    elim (bind_err (numeral_upto Form Range greatest word) _ cause h) [
+    elim (then_err (numeral_upto Form Range greatest word) _ cause h) [
       | inl own ↦ elim (chosen (is_numeral word) _ (Err Form) (Err cause) own) [
         | inl digits ↦ elim (chosen (nat_le (digits_value 10 word) greatest) (Ok (digits_value 10 word)) (Err Range) (Err cause) digits.1) [
           | inl small ↦ let e = small.1 in absurd cc
-          | inr big ↦ inr (record { numeral = digits.0; outside = inr (leb-false _ _ big.0); told = err_same {A = ℕ} Range cause big.1 })
+          | inr big ↦ inr (record { numeral = digits.0; outside = inr (leb-false _ _ big.0); told = sym (err_is {A = ℕ} Range cause big.1) })
         ]
-        | inr form ↦ inl (err_same {A = ℕ} Form cause form.1)
+        | inr form ↦ inl (sym (err_is {A = ℕ} Form cause form.1))
       ]
       | inr low ↦ elim (chosen (is_numeral word) _ (Err Form) (Ok low.0) low.1) [
         | inl digits ↦ elim (chosen (nat_le (digits_value 10 word) greatest) (Ok (digits_value 10 word)) (Err Range) (Ok low.0) digits.1) [
           | inl small ↦ elim (chosen (nat_lt low.0 least) (Err Range) (Ok low.0) (Err cause) low.2) [
-            | inl less ↦ let value : digits_value 10 word ≡ low.0 = ok_same (digits_value 10 word) low.0 small.1 in
+            | inl less ↦ let value : digits_value 10 word ≡ low.0 = ok_is {E = ScheduleCode} (digits_value 10 word) low.0 small.1 in
                 let lt : low.0 < least = ltb-true _ _ less.0 in
-                inr (record { numeral = digits.0; outside = inl (omega (arith, value, lt)); told = err_same {A = ℕ} Range cause less.1 })
+                inr (record { numeral = digits.0; outside = inl (omega (arith, value, lt)); told = sym (err_is {A = ℕ} Range cause less.1) })
             | inr more ↦ let e = more.1 in absurd cc
           ]
           | inr big ↦ let e = big.1 in absurd cc
@@ -71,9 +52,6 @@ number_fault least greatest word cause h =
         | inr form ↦ let e = form.1 in absurd cc
       ]
     ]
-  where
-    ok_same : (x y : ℕ) → ◌≡◌ {A = Result ℕ ScheduleCode} (Ok x) (Ok y) → x ≡ y
-    ok_same x y h = cc
 
 -- the first word is digits out of this range
 record BadNumber (least greatest : ℕ) (words : List (List ℕ)) (cause : ScheduleCode) : Type 0 where
@@ -85,12 +63,12 @@ record BadNumber (least greatest : ℕ) (words : List (List ℕ)) (cause : Sched
 next_number_fault : (least greatest : ℕ) (words : List (List ℕ)) (cause : ScheduleCode) → next_number least greatest words ≡ Err cause → (cause ≡ Form) ⊎ BadNumber least greatest words cause
 unfolding next_number
 next_number_fault least greatest words cause h =
-    elim (bind_err (next_word Form words) _ cause h) [
-      | inl none ↦ inl (next_fault words cause none)
-      | inr a ↦ elim (bind_err (number_between least greatest a.0.0) _ cause a.2) [
+    elim (then_err (next_word Form words) _ cause h) [
+      | inl none ↦ inl (next_fault Form words cause none)
+      | inr a ↦ elim (then_err (number_between least greatest a.0.0) _ cause a.2) [
         | inl own ↦ elim (number_fault least greatest a.0.0 cause own) [
           | inl form ↦ inl form
-          | inr out ↦ inr (record { word = a.0.0; rest = a.0.1; cut = next_is words a.0 a.1; outside = out })
+          | inr out ↦ inr (record { word = a.0.0; rest = a.0.1; cut = next_is Form words a.0 a.1; outside = out })
         ]
         | inr b ↦ let e = b.2 in absurd cc
       ]
@@ -99,7 +77,7 @@ next_number_fault least greatest words cause h =
 next_row_fault : (words : List (List ℕ)) (cause : ScheduleCode) → next_row words ≡ Err cause → (cause ≡ Form) ⊎ BadNumber 0 (2 ^ 64 - 1) words cause
 unfolding next_row
 next_row_fault words cause h =
-    elim (bind_err (next_number 0 (2 ^ 64 - 1) words) _ cause h) [
+    elim (then_err (next_number 0 (2 ^ 64 - 1) words) _ cause h) [
       | inl own ↦ next_number_fault 0 (2 ^ 64 - 1) words cause own
       | inr a ↦ let e = a.2 in absurd cc
     ]
@@ -120,17 +98,17 @@ named_fault observers name cause h =
       | inl some ↦ let e = some.1 in absurd cc
       | inr none ↦ record {
         nobody = λ o lt is. let most : length observers ≤ first_named observers name = ltb-false _ _ none.0 in let least = some_named observers name o lt is in absurd (omega (arith, most, least));
-        told = err_same {A = ℕ} NoObserver cause none.1;
+        told = sym (err_is {A = ℕ} NoObserver cause none.1);
       }
     ]
 
 next_observer_fault : (observers : List ObserverOf) (words : List (List ℕ)) (cause : ScheduleCode) → next_observer observers words ≡ Err cause → (cause ≡ Form) ⊎ BadName observers words cause
 unfolding next_observer
 next_observer_fault observers words cause h =
-    elim (bind_err (next_word Form words) _ cause h) [
-      | inl none ↦ inl (next_fault words cause none)
-      | inr a ↦ elim (bind_err (observer_named observers a.0.0) _ cause a.2) [
-        | inl own ↦ inr (record { word = a.0.0; rest = a.0.1; cut = next_is words a.0 a.1; nobody = named_fault observers a.0.0 cause own })
+    elim (then_err (next_word Form words) _ cause h) [
+      | inl none ↦ inl (next_fault Form words cause none)
+      | inr a ↦ elim (then_err (observer_named observers a.0.0) _ cause a.2) [
+        | inl own ↦ inr (record { word = a.0.0; rest = a.0.1; cut = next_is Form words a.0 a.1; nobody = named_fault observers a.0.0 cause own })
         | inr b ↦ let e = b.2 in absurd cc
       ]
     ]
@@ -153,15 +131,15 @@ named_row make observers words = do
   row ← next_row observer.1
   Ok (make observer.0 row.0, row.1)
 
-name_and_row : {A : Type 0} (observers : List ObserverOf) (words : List (List ℕ)) (cause : ScheduleCode) (make : ℕ → Row → A) → AreWords words → named_row make observers words ≡ Err cause → NameAndRow observers words cause
+name_and_row : {A : Type 0} (observers : List ObserverOf) (words : List (List ℕ)) (cause : ScheduleCode) (make : ℕ → Row → A) → AreParts 32 words → named_row make observers words ≡ Err cause → NameAndRow observers words cause
 name_and_row observers words cause make some h =
-    elim (bind_err (next_observer observers words) _ cause h) [
+    elim (then_err (next_observer observers words) _ cause h) [
       | inl own ↦ elim (next_observer_fault observers words cause own) [
         | inl form ↦ inl form
         | inr name ↦ inr (inl name)
       ]
       | inr a ↦ let n = next_observer_is observers words a.0 some a.1 in
-          elim (bind_err (next_row a.0.1) _ cause a.2) [
+          elim (then_err (next_row a.0.1) _ cause a.2) [
             | inl own ↦ elim (next_row_fault a.0.1 cause own) [
               | inl form ↦ inl form
               | inr row ↦ inr (inr (record { observer = a.0.0; behind = a.0.1; named = n.named; written = n.written; row = row }))
@@ -191,12 +169,12 @@ BadJob observers words cause = (cause ≡ Form) ⊎ (BadChange words cause ⊎ B
 change_fault : (words : List (List ℕ)) (cause : ScheduleCode) → next_change words ≡ Err cause → (cause ≡ Form) ⊎ BadNumber 1 MAX_CHANGES words cause
 unfolding next_change
 change_fault words cause h =
-    elim (bind_err (next_number 1 MAX_CHANGES words) _ cause h) [
+    elim (then_err (next_number 1 MAX_CHANGES words) _ cause h) [
       | inl own ↦ next_number_fault 1 MAX_CHANGES words cause own
       | inr a ↦ let e = a.2 in absurd cc
     ]
 
-run_fault : (observers : List ObserverOf) (words : List (List ℕ)) (cause : ScheduleCode) → AreWords words → next_run observers words ≡ Err cause → NameAndRow observers words cause
+run_fault : (observers : List ObserverOf) (words : List (List ℕ)) (cause : ScheduleCode) → AreParts 32 words → next_run observers words ≡ Err cause → NameAndRow observers words cause
 unfolding next_run
 run_fault observers words cause some h = name_and_row observers words cause Run some h
 
@@ -204,13 +182,13 @@ in_front : (words : List (List ℕ)) (x : List ℕ × List (List ℕ)) (word : L
 in_front words x word cut is = cut ∙ ap (λ (w : List ℕ). w ∷ x.1) (same_text x.0 word is)
 
 -- a job that isn't read is at fault for one of these
-job_fault : (observers : List ObserverOf) (words : List (List ℕ)) (cause : ScheduleCode) → AreWords words → next_job observers words ≡ Err cause → BadJob observers words cause
+job_fault : (observers : List ObserverOf) (words : List (List ℕ)) (cause : ScheduleCode) → AreParts 32 words → next_job observers words ≡ Err cause → BadJob observers words cause
 unfolding next_job
 job_fault observers words cause some h =
-    elim (bind_err (next_word Form words) _ cause h) [
-      | inl none ↦ inl (next_fault words cause none)
-      | inr a ↦ let cut = next_is words a.0 a.1 in
-          let parts = subst AreWords cut some in
+    elim (then_err (next_word Form words) _ cause h) [
+      | inl none ↦ inl (next_fault Form words cause none)
+      | inr a ↦ let cut = next_is Form words a.0 a.1 in
+          let parts = subst (AreParts 32) cut some in
           elim (chosen (bytes_eq a.0.0 (codes "change")) (next_change a.0.1) _ (Err cause) a.2) [
             | inl p ↦ elim (change_fault a.0.1 cause p.1) [
               | inl form ↦ inl form
@@ -221,7 +199,7 @@ job_fault observers words cause some h =
                 | inl form ↦ inl form
                 | inr field ↦ inr (inr (record { behind = a.0.1; written = in_front words a.0 (codes "run") cut p.0; field = field }))
               ]
-              | inr r ↦ inl (err_same {A = Job × List (List ℕ)} Form cause r.1)
+              | inr r ↦ inl (sym (err_is {A = Job × List (List ℕ)} Form cause r.1))
             ]
           ]
     ]
@@ -242,13 +220,13 @@ BadDataCell words cause = (cause ≡ Form) ⊎ (BadNumber 0 (2 ^ 64 - 1) words c
 data_fault : (words : List (List ℕ)) (cause : ScheduleCode) → next_data_cell words ≡ Err cause → BadDataCell words cause
 unfolding next_data_cell
 data_fault words cause h =
-    elim (bind_err (next_row words) _ cause h) [
+    elim (then_err (next_row words) _ cause h) [
       | inl own ↦ elim (next_row_fault words cause own) [
         | inl form ↦ inl form
         | inr row ↦ inr (inl row)
       ]
       | inr a ↦ let r = next_row_is words a.0 a.1 in
-          elim (bind_err (next_number 0 (COLUMNS - 1) a.0.1) _ cause a.2) [
+          elim (then_err (next_number 0 (COLUMNS - 1) a.0.1) _ cause a.2) [
             | inl own ↦ elim (next_number_fault 0 (COLUMNS - 1) a.0.1 cause own) [
               | inl form ↦ inl form
               | inr column ↦ inr (inr (record { row = a.0.0; behind = a.0.1; fits = r.1; written = r.0; column = column }))
@@ -257,7 +235,7 @@ data_fault words cause h =
           ]
     ]
 
-acknowledgment_fault : (observers : List ObserverOf) (words : List (List ℕ)) (cause : ScheduleCode) → AreWords words → next_acknowledgment observers words ≡ Err cause → NameAndRow observers words cause
+acknowledgment_fault : (observers : List ObserverOf) (words : List (List ℕ)) (cause : ScheduleCode) → AreParts 32 words → next_acknowledgment observers words ≡ Err cause → NameAndRow observers words cause
 unfolding next_acknowledgment
 acknowledgment_fault observers words cause some h = name_and_row observers words cause (acknowledgment observers) some h
 
@@ -270,8 +248,8 @@ abbrev BadCell : List ObserverOf → List (List ℕ) → ScheduleCode → Type 0
 BadCell observers words cause = BadDataCell words cause ⊎ BadAcknowledgment observers words cause
 
 -- a cell that isn't read is at fault for its form, or for one of its fields
-cell_fault : (observers : List ObserverOf) (words : List (List ℕ)) (cause : ScheduleCode) → AreWords words → next_cell observers words ≡ Err cause → BadCell observers words cause
-cell_fault observers [] cause some h = inl (inl (err_same {A = Cell × List (List ℕ)} Form cause h))
+cell_fault : (observers : List ObserverOf) (words : List (List ℕ)) (cause : ScheduleCode) → AreParts 32 words → next_cell observers words ≡ Err cause → BadCell observers words cause
+cell_fault observers [] cause some h = inl (inl (sym (err_is {A = Cell × List (List ℕ)} Form cause h)))
 cell_fault observers (word ∷ words) cause some h = elim (chosen (bytes_eq word (codes "ack")) (next_acknowledgment observers words) _ (Err cause) h) [
   | inl p ↦ elim (acknowledgment_fault observers words cause some.1 p.1) [
     | inl form ↦ inl (inl form)
@@ -290,8 +268,8 @@ Blames observers words cause = (cause ≡ Form) ⊎ StopsAtField observers words
 once_fault : (event : Event) (words : List (List ℕ)) (cause : ScheduleCode) → once event words ≡ Err cause → cause ≡ Form
 unfolding once
 once_fault event words cause h =
-    elim (bind_err (no_word Form words) _ cause h) [
-      | inl own ↦ end_fault words cause own
+    elim (then_err (no_word Form words) _ cause h) [
+      | inl own ↦ end_fault Form words cause own
       | inr a ↦ let e = a.2 in absurd cc
     ]
 
@@ -309,17 +287,17 @@ launch_job observers actor words rest cause may is (inr (inr run)) =
     ]
 
 -- a launch that isn't read is at fault for its form or for a field, and so with each verb below
-launch_fault : (observers : List ObserverOf) (words : List (List ℕ)) (cause : ScheduleCode) → AreWords words → launch_of observers words ≡ Err cause → Blames observers (codes "launch" ∷ words) cause
+launch_fault : (observers : List ObserverOf) (words : List (List ℕ)) (cause : ScheduleCode) → AreParts 32 words → launch_of observers words ≡ Err cause → Blames observers (codes "launch" ∷ words) cause
 unfolding launch_of
 launch_fault observers words cause some h =
-    elim (bind_err (next_actor words) _ cause h) [
+    elim (then_err (next_actor words) _ cause h) [
       | inl own ↦ elim (next_number_fault 1 (MAX_SEATS - 1) words cause own) [
         | inl form ↦ inl form
         | inr n ↦ inr (record { field = LaunchActor; word = n.word; rest = n.rest; cut = ap (λ (ws : List (List ℕ)). codes "launch" ∷ ws) n.cut; fits = tt; refused = n.outside })
       ]
       | inr a ↦ let n = actor_is words a.0 a.1 in
-          let parts = subst AreWords n.written some in
-          elim (bind_err (next_job observers a.0.1) _ cause a.2) [
+          let parts = subst (AreParts 32) n.written some in
+          elim (then_err (next_job observers a.0.1) _ cause a.2) [
             | inl own ↦ launch_job observers a.0.0 words a.0.1 cause n.fits n.written (job_fault observers a.0.1 cause parts.1 own)
             | inr b ↦ inl (once_fault (Launch a.0.0 b.0.0) b.0.1 cause b.2)
           ]
@@ -329,13 +307,13 @@ times_fault : (words : List (List ℕ)) (cause : ScheduleCode) → times_of word
 unfolding times_of
 times_fault [] cause h = absurd cc
 times_fault (word ∷ words) cause h =
-    elim (bind_err (number_between 1 MAX_EVENTS word) _ cause h) [
+    elim (then_err (number_between 1 MAX_EVENTS word) _ cause h) [
       | inl own ↦ elim (number_fault 1 MAX_EVENTS word cause own) [
         | inl form ↦ inl form
         | inr out ↦ inr (record { word = word; rest = words; cut = refl; outside = out })
       ]
-      | inr a ↦ elim (bind_err (no_word Form words) _ cause a.2) [
-        | inl own ↦ inl (end_fault words cause own)
+      | inr a ↦ elim (then_err (no_word Form words) _ cause a.2) [
+        | inl own ↦ inl (end_fault Form words cause own)
         | inr b ↦ let e = b.2 in absurd cc
       ]
     ]
@@ -343,13 +321,13 @@ times_fault (word ∷ words) cause h =
 step_fault : (observers : List ObserverOf) (words : List (List ℕ)) (cause : ScheduleCode) → step_of words ≡ Err cause → Blames observers (codes "step" ∷ words) cause
 unfolding step_of
 step_fault observers words cause h =
-    elim (bind_err (next_actor words) _ cause h) [
+    elim (then_err (next_actor words) _ cause h) [
       | inl own ↦ elim (next_number_fault 1 (MAX_SEATS - 1) words cause own) [
         | inl form ↦ inl form
         | inr n ↦ inr (record { field = StepActor; word = n.word; rest = n.rest; cut = ap (λ (ws : List (List ℕ)). codes "step" ∷ ws) n.cut; fits = tt; refused = n.outside })
       ]
       | inr a ↦ let k = actor_is words a.0 a.1 in
-          elim (bind_err (times_of a.0.1) _ cause a.2) [
+          elim (then_err (times_of a.0.1) _ cause a.2) [
             | inl own ↦ elim (times_fault a.0.1 cause own) [
               | inl form ↦ inl form
               | inr n ↦ inr (record { field = StepTimes a.0.0; word = n.word; rest = n.rest; cut = ap (λ (ws : List (List ℕ)). codes "step" ∷ ws) (k.written ∙ ap (λ (ws : List (List ℕ)). decimal a.0.0 ∷ ws) n.cut); fits = k.fits; refused = n.outside })
@@ -361,7 +339,7 @@ step_fault observers words cause h =
 crash_fault : (observers : List ObserverOf) (words : List (List ℕ)) (cause : ScheduleCode) → crash_of words ≡ Err cause → Blames observers (codes "crash" ∷ words) cause
 unfolding crash_of
 crash_fault observers words cause h =
-    elim (bind_err (next_actor words) _ cause h) [
+    elim (then_err (next_actor words) _ cause h) [
       | inl own ↦ elim (next_number_fault 1 (MAX_SEATS - 1) words cause own) [
         | inl form ↦ inl form
         | inr n ↦ inr (record { field = CrashActor; word = n.word; rest = n.rest; cut = ap (λ (ws : List (List ℕ)). codes "crash" ∷ ws) n.cut; fits = tt; refused = n.outside })
@@ -372,7 +350,7 @@ crash_fault observers words cause h =
 on_fault : (make : Cell → Event) (r : Result (Cell × List (List ℕ)) ScheduleCode) (cause : ScheduleCode) → once_on make r ≡ Err cause → (cause ≡ Form) ⊎ (r ≡ Err cause)
 unfolding once_on
 on_fault make r cause h =
-    elim (bind_err r _ cause h) [
+    elim (then_err r _ cause h) [
       | inl own ↦ inr own
       | inr a ↦ inl (once_fault (make a.0.0) a.0.1 cause a.2)
     ]
@@ -414,7 +392,7 @@ bad_cell observers verb words cause f (inr a) =
     ]
 
 -- `settle` and `clear` have the same fields, so one lemma serves both
-any_cell_fault : (observers : List ObserverOf) (verb : List ℕ) (make : Cell → Event) (words : List (List ℕ)) (cause : ScheduleCode) → AreWords words → CellFields observers verb → once_on make (next_cell observers words) ≡ Err cause → Blames observers (verb ∷ words) cause
+any_cell_fault : (observers : List ObserverOf) (verb : List ℕ) (make : Cell → Event) (words : List (List ℕ)) (cause : ScheduleCode) → AreParts 32 words → CellFields observers verb → once_on make (next_cell observers words) ≡ Err cause → Blames observers (verb ∷ words) cause
 any_cell_fault observers verb make words cause some f h =
     elim (on_fault make (next_cell observers words) cause h) [
       | inl form ↦ inl form
@@ -442,7 +420,7 @@ verb_fault verb this r others cause P h mine rest = elim (chosen (bytes_eq verb 
   | inr q ↦ rest q.1
 ]
 
-by_verb : (observers : List ObserverOf) (verb : List ℕ) (words : List (List ℕ)) (cause : ScheduleCode) → AreWords words → order_by observers verb words ≡ Err cause → Blames observers (verb ∷ words) cause
+by_verb : (observers : List ObserverOf) (verb : List ℕ) (words : List (List ℕ)) (cause : ScheduleCode) → AreParts 32 words → order_by observers verb words ≡ Err cause → Blames observers (verb ∷ words) cause
 by_verb observers verb words cause some h =
     let P = λ (v : List ℕ). Blames observers (v ∷ words) cause in
     verb_fault verb (codes "launch") _ _ cause P h (launch_fault observers words cause some)
@@ -450,14 +428,14 @@ by_verb observers verb words cause some h =
     (λ h. verb_fault verb (codes "crash") _ _ cause P h (crash_fault observers words cause)
     (λ h. verb_fault verb (codes "settle") _ _ cause P h (any_cell_fault observers (codes "settle") Settle words cause some (settle_fields observers))
     (λ h. verb_fault verb (codes "clear") _ _ cause P h (any_cell_fault observers (codes "clear") Clear words cause some (clear_fields observers))
-    (λ h. verb_fault verb (codes "sweep") _ _ cause P h (sweep_fault observers words cause) (λ h. inl (err_same {A = Order} Form cause h)))))))
+    (λ h. verb_fault verb (codes "sweep") _ _ cause P h (sweep_fault observers words cause) (λ h. inl (sym (err_is {A = Order} Form cause h))))))))
 
 -- whatever a line's words begin with, its fault is its form or a field's
-words_blamed : (observers : List ObserverOf) (words : List (List ℕ)) (cause : ScheduleCode) → AreWords words → order_of_words observers words ≡ Err cause → Blames observers words cause
+words_blamed : (observers : List ObserverOf) (words : List (List ℕ)) (cause : ScheduleCode) → AreParts 32 words → order_of_words observers words ≡ Err cause → Blames observers words cause
 unfolding order_of_words
-words_blamed observers [] cause some h = inl (err_same {A = Order} Form cause h)
+words_blamed observers [] cause some h = inl (sym (err_is {A = Order} Form cause h))
 words_blamed observers (verb ∷ words) cause some h = by_verb observers verb words cause some.1 h
 
 -- so a line that isn't of a wrong form stops at a field
 pub blamed : (observers : List ObserverOf) (line : List ℕ) (cause : ScheduleCode) → order_of observers line ≡ Err cause → (cause ≡ Form) ⊎ StopsAtField observers (words_of line) cause
-blamed observers line cause h = words_blamed observers (words_of line) cause (words_are line) h
+blamed observers line cause h = words_blamed observers (words_of line) cause (parts_are 32 line) h

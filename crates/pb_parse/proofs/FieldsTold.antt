@@ -8,16 +8,16 @@ use Rattle.std.proofs.lemmas.Bool.{cases_lt, le-leb, lt-leb, lt-ltb, ltb-true}
 use Rattle.pb_base.specs.declared.limits.TheConstants.{COLUMNS, MAX_CHANGES, MAX_EVENTS, MAX_SEATS}
 use Rattle.pb_base.specs.declared.cell.Cell.{Cell}
 use Rattle.pb_base.specs.declared.names.Row.{Row}
-use Rattle.pb_base.specs.Reading.{is_numeral, words_of}
+use Rattle.pb_reading.specs.Reading.{is_numeral, words_of}
 use Rattle.pb_verify.specs.Observers.{ObserverOf}
 use Rattle.pb_parse.specs.declared.event.Event.{Event}
 use Rattle.pb_parse.specs.declared.event.Event.TheVariants.{Settle, Clear, Sweep}
-use Rattle.pb_parse.specs.declared.schedule.fault.ScheduleCode.{ScheduleCode}
-use Rattle.pb_parse.specs.declared.schedule.fault.ScheduleCode.TheVariants.{Range, NoObserver}
+use Rattle.pb_parse.specs.declared.schedule.code.ScheduleCode.{ScheduleCode}
+use Rattle.pb_parse.specs.declared.schedule.code.ScheduleCode.TheVariants.{Range, NoObserver}
 use Rattle.pb_parse.specs.ScheduleWords.{number_between, next_number, next_row, first_named, next_observer, next_change, next_run, next_job, launch_of, times_of, step_of, crash_of, next_data_cell, next_acknowledgment, next_cell, once_on, order_of_words, order_of}
 use Rattle.pb_parse.specs.EventLines.{name_of, IsActor, IsRow, IsNamed}
 use Rattle.pb_parse.specs.ScheduleFaults.{Field, LaunchActor, ChangeNumber, RunName, RunRow, StepActor, StepTimes, CrashActor, SettleRow, SettleColumn, SettleName, SettleAckRow, ClearRow, ClearColumn, ClearName, ClearAckRow, SweepRow, SweepColumn, words_in_front, FitsInFront, IsOutside, IsNoRow, IsNoColumn, IsNobody, IsRefusedAt, StopsAtField}
-use Rattle.pb_parse.proofs.Steps.{same_text, next_row_back, next_observer_back, first_is}
+use Rattle.pb_parse.proofs.NextWords.{same_text, next_row_back, next_observer_back, first_is}
 use Rattle.pb_parse.proofs.OrdersRead.{actor_back, not_ack}
 
 refused : {A : Type 0} (e : ScheduleCode) (cause : ScheduleCode) → cause ≡ e → ◌≡◌ {A = Result A ScheduleCode} (Err e) (Err cause)

@@ -1,31 +1,25 @@
 -- The fault of a line is that of its first operation at fault.
-use Rattle.std.proofs.Common.{◌≡◌, ℕ, ◌≤◌, List, [], length, Result, Ok, Err, refl, ap, subst, arith, inl, inr}
-use Rattle.std.specs.Prelude.{◌⊎◌, is_some, nat_le}
+use Rattle.std.proofs.Common.{◌≡◌, ℕ, ◌≤◌, List, [], length, Err, subst, arith, inl, inr}
+use Rattle.std.specs.Prelude.{is_some, nat_le}
 use Rattle.pb_base.specs.declared.limits.TheConstants.{MAX_CELLS}
 use Rattle.std.proofs.lemmas.Bool.{leb-true}
 use Rattle.pb_base.specs.Batch.{Writes, content_in}
-use Rattle.pb_base.specs.Reading.{◌>>=◌}
 use Rattle.pb_parse.specs.declared.script.code.ScriptCode.{ScriptCode}
-use Rattle.pb_parse.specs.declared.script.code.ScriptCode.TheVariants.{Memory, Form, Range, Hex, Twice, Seventeenth, TooMany}
+use Rattle.pb_parse.specs.declared.script.code.ScriptCode.TheVariants.{Form, Range, Hex, Twice, Seventeenth, TooMany}
 use Rattle.pb_parse.specs.ScriptWords.{operation}
 use Rattle.pb_parse.specs.ScriptLines.{cut, with_operation, batch_of}
 use Rattle.pb_parse.specs.Operations.{IsFaultAfter, StopsWith}
-use Rattle.pb_parse.proofs.FirstFault.{first_fault}
-use Rattle.pb_parse.proofs.OwnFaults.{IsOwn, err_same, own_fault}
+use Rattle.pb_reading.proofs.FirstFault.{first_fault}
+use Rattle.pb_reading.proofs.Readings.{err_is, then_err}
+use Rattle.pb_parse.proofs.OwnFaults.{IsOwn, own_fault}
 use Rattle.pb_parse.proofs.Batches.{nothing_open, all_open}
 use Rattle.pb_base.proofs.Logic.{chosen}
-
--- a fault of one reading after another is the first's, or the second's after what the first read
-pub bind_err : {A B : Type 0} (r : Result A ScriptCode) (f : A → Result B ScriptCode) (e : ScriptCode) → (r >>= f) ≡ Err e → (r ≡ Err e) ⊎ ((x : A) × (r ≡ Ok x) × (f x ≡ Err e))
-bind_err (Ok x) f e h = inr (x, refl, h)
-bind_err {A} {B} (Err d) f e h = inl (ap Err (err_same {A = B} d e h))
 
 -- an operation's own fault is the line's, whatever stands before it
 own_after : (before : Writes) (text : List ℕ) (cause : ScriptCode) → IsOwn cause → operation text ≡ Err cause → IsFaultAfter before text cause
 own_after before text Form own h = h
 own_after before text Range own h = h
 own_after before text Hex own h = h
-own_after before text Memory own h = absurd own
 own_after before text Twice own h = absurd own
 own_after before text Seventeenth own h = absurd own
 own_after before text TooMany own h = absurd own
@@ -34,12 +28,12 @@ own_after before text TooMany own h = absurd own
 fault_after : (before : Writes) (here : List ℕ) (cause : ScriptCode) → length before ≤ MAX_CELLS → with_operation before here ≡ Err cause → IsFaultAfter before here cause
 unfolding with_operation
 fault_after before here cause few h =
-    elim (bind_err (operation here) _ cause h) [
+    elim (then_err (operation here) _ cause h) [
       | inl own ↦ own_after before here cause (own_fault here cause own) own
       | inr a ↦ elim (chosen (is_some (content_in before a.0.0)) (Err Twice) _ (Err cause) a.2) [
-        | inl twice ↦ subst (IsFaultAfter before here) (err_same Twice cause twice.1) (a.0, a.1, twice.0)
+        | inl twice ↦ subst (IsFaultAfter before here) (err_is {A = Writes} Twice cause twice.1) (a.0, a.1, twice.0)
         | inr new ↦ elim (chosen (nat_le MAX_CELLS (length before)) (Err Seventeenth) _ (Err cause) new.1) [
-          | inl full ↦ let many = leb-true _ _ full.0 in subst (IsFaultAfter before here) (err_same Seventeenth cause full.1) (a.0, a.1, new.0, omega arith)
+          | inl full ↦ let many = leb-true _ _ full.0 in subst (IsFaultAfter before here) (err_is {A = Writes} Seventeenth cause full.1) (a.0, a.1, new.0, omega arith)
           | inr room ↦ let no = room.1 in absurd cc
         ]
       ]

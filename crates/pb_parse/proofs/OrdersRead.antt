@@ -8,19 +8,19 @@ use Rattle.pb_base.specs.declared.limits.TheConstants.{COLUMNS, MAX_CHANGES, MAX
 use Rattle.pb_base.specs.declared.cell.Cell.{Cell}
 use Rattle.pb_base.specs.declared.cell.Cell.TheVariants.{Data, Ack}
 use Rattle.pb_base.specs.declared.names.Row.{Row}
-use Rattle.pb_base.specs.Reading.{is_numeral, words_of}
+use Rattle.pb_reading.specs.Reading.{is_numeral, words_of}
 use Rattle.pb_verify.specs.Observers.{ObserverOf, acknowledgment}
 use Rattle.pb_parse.specs.declared.event.Job.{Job}
 use Rattle.pb_parse.specs.declared.event.Job.TheVariants.{Change, Run}
 use Rattle.pb_parse.specs.declared.event.Event.{Event}
 use Rattle.pb_parse.specs.declared.event.Event.TheVariants.{Launch, Step, Crash, Settle, Clear, Sweep}
 use Rattle.pb_parse.specs.declared.schedule.words.Order.{Order}
-use Rattle.pb_parse.specs.declared.schedule.fault.ScheduleCode.{ScheduleCode}
+use Rattle.pb_parse.specs.declared.schedule.code.ScheduleCode.{ScheduleCode}
 use Rattle.pb_parse.specs.ScheduleWords.{next_actor, next_change, next_run, next_job, once, launch_of, times_of, step_of, crash_of, next_data_cell, next_acknowledgment, next_cell, once_on, order_of_words, order_of}
 use Rattle.pb_parse.specs.EventLines.{name_of, cell_words, job_words, event_words, IsActor, IsRow, IsNamed, FitsJob, FitsCell, IsRowCell, FitsEvent, IsStep, IsLineOf}
-use Rattle.pb_parse.proofs.Blanks.{IsWord, AreWords, joined_words, decimal_word}
-use Rattle.pb_parse.proofs.Steps.{same_text, number_back, next_number_back, next_row_back, next_observer_back}
-use Rattle.pb_base.proofs.Numerals.{numeral_of}
+use Rattle.pb_reading.proofs.Parts.{Lacks, AreParts, lacks_if, joined_parts, blank_no_digit, decimal_lacks}
+use Rattle.pb_parse.proofs.NextWords.{same_text, number_back, next_number_back, next_row_back, next_observer_back}
+use Rattle.pb_reading.proofs.NumeralValues.{numeral_of}
 
 -- each actor is read from the spelling of its number
 pub actor_back : (actor : ℕ) (rest : List (List ℕ)) → IsActor actor → next_actor (decimal actor ∷ rest) ≡ Ok (actor, rest)
@@ -102,29 +102,29 @@ steps_back observers actor n fits low high = rw (actor_back actor (decimal n ∷
 
 -- ---- and their lines
 
-row_word : (row : Row) → IsRow row → IsWord (decimal row.0)
-row_word row fits = decimal_word row.0 fits
+row_word : (row : Row) → IsRow row → Lacks 32 (decimal row.0)
+row_word row fits = decimal_lacks 32 row.0 blank_no_digit fits
 
-actor_word : (actor : ℕ) → IsActor actor → IsWord (decimal actor)
-actor_word actor fits = let high = fits.1 in decimal_word actor (omega (arith, high))
+actor_word : (actor : ℕ) → IsActor actor → Lacks 32 (decimal actor)
+actor_word actor fits = let high = fits.1 in decimal_lacks 32 actor blank_no_digit (omega (arith, high))
 
-job_are : (observers : List ObserverOf) (job : Job) → FitsJob observers job → AreWords (job_words observers job)
-job_are observers (Change number) fits = let high = fits.1 in (refl, (decimal_word number (omega (arith, high)), tt))
-job_are observers (Run o row) fits = (refl, (fits.0.word, (row_word row fits.1, tt)))
+job_are : (observers : List ObserverOf) (job : Job) → FitsJob observers job → AreParts 32 (job_words observers job)
+job_are observers (Change number) fits = let high = fits.1 in (lacks_if 32 (codes "change") refl, (decimal_lacks 32 number blank_no_digit (omega (arith, high)), tt))
+job_are observers (Run o row) fits = (lacks_if 32 (codes "run") refl, (lacks_if 32 (name_of observers o) fits.0.word, (row_word row fits.1, tt)))
 
 -- the words of a cell have no blanks, so they are cut apart as they were joined
-cell_are : (observers : List ObserverOf) (x : Cell) → FitsCell observers x → AreWords (cell_words observers x)
-cell_are observers (Data row column) fits = let lt = fits.1 in (row_word row fits.0, (decimal_word column (omega (arith, lt)), tt))
-cell_are observers (Ack o row column) fits = (refl, (fits.0.word, (row_word row fits.1, tt)))
+cell_are : (observers : List ObserverOf) (x : Cell) → FitsCell observers x → AreParts 32 (cell_words observers x)
+cell_are observers (Data row column) fits = let lt = fits.1 in (row_word row fits.0, (decimal_lacks 32 column blank_no_digit (omega (arith, lt)), tt))
+cell_are observers (Ack o row column) fits = (lacks_if 32 (codes "ack") refl, (lacks_if 32 (name_of observers o) fits.0.word, (row_word row fits.1, tt)))
 
 -- an event's line is cut into its words
 event_cut : (observers : List ObserverOf) (e : Event) → FitsEvent observers e → words_of (join_with_byte 32 (event_words observers e)) ≡ event_words observers e
-event_cut observers (Launch actor job) fits = joined_words (codes "launch") (decimal actor ∷ job_words observers job) refl (actor_word actor fits.0, job_are observers job fits.1)
-event_cut observers (Step actor) fits = joined_words (codes "step") (decimal actor ∷ []) refl (actor_word actor fits, tt)
-event_cut observers (Crash actor) fits = joined_words (codes "crash") (decimal actor ∷ []) refl (actor_word actor fits, tt)
-event_cut observers (Settle x) fits = joined_words (codes "settle") (cell_words observers x) refl (cell_are observers x fits)
-event_cut observers (Clear x) fits = joined_words (codes "clear") (cell_words observers x) refl (cell_are observers x fits)
-event_cut observers (Sweep x) fits = joined_words (codes "sweep") (cell_words observers x) refl (cell_are observers x fits.1)
+event_cut observers (Launch actor job) fits = joined_parts 32 (codes "launch") (decimal actor ∷ job_words observers job) (lacks_if 32 (codes "launch") refl) (actor_word actor fits.0, job_are observers job fits.1)
+event_cut observers (Step actor) fits = joined_parts 32 (codes "step") (decimal actor ∷ []) (lacks_if 32 (codes "step") refl) (actor_word actor fits, tt)
+event_cut observers (Crash actor) fits = joined_parts 32 (codes "crash") (decimal actor ∷ []) (lacks_if 32 (codes "crash") refl) (actor_word actor fits, tt)
+event_cut observers (Settle x) fits = joined_parts 32 (codes "settle") (cell_words observers x) (lacks_if 32 (codes "settle") refl) (cell_are observers x fits)
+event_cut observers (Clear x) fits = joined_parts 32 (codes "clear") (cell_words observers x) (lacks_if 32 (codes "clear") refl) (cell_are observers x fits)
+event_cut observers (Sweep x) fits = joined_parts 32 (codes "sweep") (cell_words observers x) (lacks_if 32 (codes "sweep") refl) (cell_are observers x fits.1)
 
 once_line : (observers : List ObserverOf) (e : Event) (n : ℕ) (line : List ℕ) (words : List (List ℕ)) → FitsEvent observers e → n ≡ 1 → words ≡ event_words observers e → line ≡ join_with_byte 32 words → order_of observers line ≡ Ok (record { event = e; times = n })
 once_line observers e n line words fits one are is =
@@ -133,7 +133,7 @@ once_line observers e n line words fits one are is =
 steps_line : (observers : List ObserverOf) (e : Event) (n : ℕ) (line : List ℕ) (words : List (List ℕ)) → FitsEvent observers e → IsStep e → 1 ≤ n → n ≤ MAX_EVENTS → words ≡ event_words observers e ++ decimal n ∷ [] → line ≡ join_with_byte 32 words → order_of observers line ≡ Ok (record { event = e; times = n })
 steps_line observers (Step actor) n line words fits step low high are is =
     ap (order_of observers) (is ∙ ap (join_with_byte 32) are)
-    ∙ ap (order_of_words observers) (joined_words (codes "step") (decimal actor ∷ decimal n ∷ []) refl (actor_word actor fits, (decimal_word n (omega (arith, high)), tt)))
+    ∙ ap (order_of_words observers) (joined_parts 32 (codes "step") (decimal actor ∷ decimal n ∷ []) (lacks_if 32 (codes "step") refl) (actor_word actor fits, (decimal_lacks 32 n blank_no_digit (omega (arith, high)), tt)))
     ∙ steps_back observers actor n fits low high
 steps_line observers (Launch actor job) n line words fits step low high are is = absurd step
 steps_line observers (Crash actor) n line words fits step low high are is = absurd step

@@ -8,19 +8,20 @@ use Rattle.std.proofs.lemmas.List.Splits.{join_with_byte-slice_split}
 use Rattle.pb_base.specs.declared.limits.TheConstants.{COLUMNS, MAX_CHANGES, MAX_EVENTS, MAX_SEATS}
 use Rattle.pb_base.specs.declared.cell.Cell.{Cell}
 use Rattle.pb_base.specs.declared.cell.Cell.TheVariants.{Data}
-use Rattle.pb_base.specs.Reading.{next_word, no_word, words_of}
+use Rattle.pb_reading.specs.Reading.{next_word, no_word, words_of}
 use Rattle.pb_verify.specs.Observers.{ObserverOf, acknowledgment}
 use Rattle.pb_parse.specs.declared.event.Job.{Job}
 use Rattle.pb_parse.specs.declared.event.Job.TheVariants.{Change, Run}
 use Rattle.pb_parse.specs.declared.event.Event.{Event}
 use Rattle.pb_parse.specs.declared.event.Event.TheVariants.{Launch, Step, Crash, Settle, Clear, Sweep}
 use Rattle.pb_parse.specs.declared.schedule.words.Order.{Order}
-use Rattle.pb_parse.specs.declared.schedule.fault.ScheduleCode.{ScheduleCode}
-use Rattle.pb_parse.specs.declared.schedule.fault.ScheduleCode.TheVariants.{Form}
+use Rattle.pb_parse.specs.declared.schedule.code.ScheduleCode.{ScheduleCode}
+use Rattle.pb_parse.specs.declared.schedule.code.ScheduleCode.TheVariants.{Form}
 use Rattle.pb_parse.specs.ScheduleWords.{number_between, next_number, next_actor, next_row, next_observer, next_change, next_run, next_job, once, launch_of, times_of, step_of, crash_of, next_data_cell, next_acknowledgment, next_cell, once_on, order_by, order_of_words, order_of}
 use Rattle.pb_parse.specs.EventLines.{name_of, cell_words, job_words, event_words, IsActor, FitsJob, FitsCell, IsRowCell, FitsEvent, AreWordsOf, IsLineOf}
-use Rattle.pb_parse.proofs.Blanks.{AreWords, words_are}
-use Rattle.pb_parse.proofs.Steps.{then_ok, ok_is, same_text, next_is, none_left, once_is, number_is, next_number_is, next_row_is, next_observer_is}
+use Rattle.pb_reading.proofs.Parts.{AreParts, parts_are}
+use Rattle.pb_reading.proofs.Readings.{then_ok, ok_is, next_is, none_left}
+use Rattle.pb_parse.proofs.NextWords.{same_text, once_is, number_is, next_number_is, next_row_is, next_observer_is}
 use Rattle.pb_base.proofs.Logic.{chosen}
 
 -- the first word is the spelling of an actor's number
@@ -52,7 +53,7 @@ change_is observers words x h =
     (record { written = ap (λ (ws : List (List ℕ)). codes "change" ∷ ws) n.written; fits = (n.low, n.high) })
 
 -- a run is read from its words alone
-run_is : (observers : List ObserverOf) (words : List (List ℕ)) (x : Job × List (List ℕ)) → AreWords words → next_run observers words ≡ Ok x → TakesJob observers x.0 (codes "run" ∷ words) x.1
+run_is : (observers : List ObserverOf) (words : List (List ℕ)) (x : Job × List (List ℕ)) → AreParts 32 words → next_run observers words ≡ Ok x → TakesJob observers x.0 (codes "run" ∷ words) x.1
 unfolding next_run
 run_is observers words x some h =
     let a = then_ok (next_observer observers words) _ x h in
@@ -66,12 +67,12 @@ run_is observers words x some h =
 in_front : (P : List (List ℕ) → Type 0) (words : List (List ℕ)) (x : List ℕ × List (List ℕ)) (word : List ℕ) → words ≡ x.0 ∷ x.1 → bytes_eq x.0 word ≡ true → P (word ∷ x.1) → P words
 in_front P words x word cut is h = subst P (sym (cut ∙ ap (λ (w : List ℕ). w ∷ x.1) (same_text x.0 word is))) h
 
-job_is : (observers : List ObserverOf) (words : List (List ℕ)) (x : Job × List (List ℕ)) → AreWords words → next_job observers words ≡ Ok x → TakesJob observers x.0 words x.1
+job_is : (observers : List ObserverOf) (words : List (List ℕ)) (x : Job × List (List ℕ)) → AreParts 32 words → next_job observers words ≡ Ok x → TakesJob observers x.0 words x.1
 unfolding next_job
 job_is observers words x some h =
     let a = then_ok (next_word Form words) _ x h in
-    let cut = next_is words a.0 a.1 in
-    let parts = subst AreWords cut some in
+    let cut = next_is Form words a.0 a.1 in
+    let parts = subst (AreParts 32) cut some in
     elim (chosen (bytes_eq a.0.0 (codes "change")) (next_change a.0.1) _ (Ok x) a.2) [
       | inl p ↦ in_front (λ ws. TakesJob observers x.0 ws x.1) words a.0 (codes "change") cut p.0 (change_is observers a.0.1 x p.1)
       | inr q ↦ elim (chosen (bytes_eq a.0.0 (codes "run")) (next_run observers a.0.1) _ (Ok x) q.1) [
@@ -103,7 +104,7 @@ data_is observers words x h =
     subst (λ (y : Cell × List (List ℕ)). TakesDataCell observers y.0 words y.1) (ok_is (Data a.0.0 b.0.0, b.0.1) x b.2)
     (record { cell = record { written = r.0 ∙ ap (λ (ws : List (List ℕ)). decimal a.0.0.0 ∷ ws) n.written; fits = (r.1, omega (arith, high)) }; data_cell = tt })
 
-acknowledgment_is : (observers : List ObserverOf) (words : List (List ℕ)) (x : Cell × List (List ℕ)) → AreWords words → next_acknowledgment observers words ≡ Ok x → TakesCell observers x.0 (codes "ack" ∷ words) x.1
+acknowledgment_is : (observers : List ObserverOf) (words : List (List ℕ)) (x : Cell × List (List ℕ)) → AreParts 32 words → next_acknowledgment observers words ≡ Ok x → TakesCell observers x.0 (codes "ack" ∷ words) x.1
 unfolding next_acknowledgment
 acknowledgment_is observers words x some h =
     let a = then_ok (next_observer observers words) _ x h in
@@ -114,7 +115,7 @@ acknowledgment_is observers words x some h =
     (record { written = ap (λ (ws : List (List ℕ)). codes "ack" ∷ ws) (n.written ∙ ap (λ (ws : List (List ℕ)). name_of observers a.0.0 ∷ ws) r.0); fits = (n.named, r.1, refl) })
 
 -- a cell is read from its words alone, whichever of two forms it has
-cell_is : (observers : List ObserverOf) (words : List (List ℕ)) (x : Cell × List (List ℕ)) → AreWords words → next_cell observers words ≡ Ok x → TakesCell observers x.0 words x.1
+cell_is : (observers : List ObserverOf) (words : List (List ℕ)) (x : Cell × List (List ℕ)) → AreParts 32 words → next_cell observers words ≡ Ok x → TakesCell observers x.0 words x.1
 cell_is observers [] x some h = absurd cc
 cell_is observers (word ∷ words) x some h = elim (chosen (bytes_eq word (codes "ack")) (next_acknowledgment observers words) _ (Ok x) h) [
   | inl p ↦ in_front (λ ws. TakesCell observers x.0 ws x.1) (word ∷ words) (word, words) (codes "ack") refl p.0 (acknowledgment_is observers words x some.1 p.1)
@@ -135,13 +136,13 @@ once_written observers event words rest order h is fits =
     subst (λ (other : Order). IsWritten observers other words) o.1
     (record { written = inl (refl, is ∙ ap (λ (ws : List (List ℕ)). event_words observers event ++ ws) o.0 ∙ append-nil (event_words observers event)); fits = fits })
 
-launch_is : (observers : List ObserverOf) (words : List (List ℕ)) (order : Order) → AreWords words → launch_of observers words ≡ Ok order → IsWritten observers order (codes "launch" ∷ words)
+launch_is : (observers : List ObserverOf) (words : List (List ℕ)) (order : Order) → AreParts 32 words → launch_of observers words ≡ Ok order → IsWritten observers order (codes "launch" ∷ words)
 unfolding launch_of
 launch_is observers words order some h =
     let a = then_ok (next_actor words) _ order h in
     let n = actor_is words a.0 a.1 in
     let b = then_ok (next_job observers a.0.1) _ order a.2 in
-    let parts = subst AreWords n.written some in
+    let parts = subst (AreParts 32) n.written some in
     let j = job_is observers a.0.1 b.0 parts.1 b.1 in
     once_written observers (Launch a.0.0 b.0.0) (codes "launch" ∷ words) b.0.1 order b.2
     (ap (λ (ws : List (List ℕ)). codes "launch" ∷ ws) (n.written ∙ ap (λ (ws : List (List ℕ)). decimal a.0.0 ∷ ws) j.written)) (n.fits, j.fits)
@@ -156,7 +157,7 @@ times_is (word ∷ words) n h =
     let same : a.0 ≡ n = ok_is a.0 n b.2 in
     let k = number_is 1 MAX_EVENTS a.0 word (omega arith) a.1 in
     let low = k.low in let high = k.high in
-    inr (omega (arith, low, same), omega (arith, high, same), ap (λ (ws : List (List ℕ)). word ∷ ws) (none_left words b.0 b.1) ∙ ap (λ (w : List ℕ). w ∷ []) (k.written ∙ ap decimal same))
+    inr (omega (arith, low, same), omega (arith, high, same), ap (λ (ws : List (List ℕ)). word ∷ ws) (none_left Form words b.0 b.1) ∙ ap (λ (w : List ℕ). w ∷ []) (k.written ∙ ap decimal same))
 
 step_is : (observers : List ObserverOf) (words : List (List ℕ)) (order : Order) → step_of words ≡ Ok order → IsWritten observers order (codes "step" ∷ words)
 unfolding step_of
@@ -179,14 +180,14 @@ crash_is observers words order h =
     let n = actor_is words a.0 a.1 in
     once_written observers (Crash a.0.0) (codes "crash" ∷ words) a.0.1 order a.2 (ap (λ (ws : List (List ℕ)). codes "crash" ∷ ws) n.written) n.fits
 
-settle_is : (observers : List ObserverOf) (words : List (List ℕ)) (order : Order) → AreWords words → once_on Settle (next_cell observers words) ≡ Ok order → IsWritten observers order (codes "settle" ∷ words)
+settle_is : (observers : List ObserverOf) (words : List (List ℕ)) (order : Order) → AreParts 32 words → once_on Settle (next_cell observers words) ≡ Ok order → IsWritten observers order (codes "settle" ∷ words)
 unfolding once_on
 settle_is observers words order some h =
     let a = then_ok (next_cell observers words) _ order h in
     let x = cell_is observers words a.0 some a.1 in
     once_written observers (Settle a.0.0) (codes "settle" ∷ words) a.0.1 order a.2 (ap (λ (ws : List (List ℕ)). codes "settle" ∷ ws) x.written) x.fits
 
-clear_is : (observers : List ObserverOf) (words : List (List ℕ)) (order : Order) → AreWords words → once_on Clear (next_cell observers words) ≡ Ok order → IsWritten observers order (codes "clear" ∷ words)
+clear_is : (observers : List ObserverOf) (words : List (List ℕ)) (order : Order) → AreParts 32 words → once_on Clear (next_cell observers words) ≡ Ok order → IsWritten observers order (codes "clear" ∷ words)
 unfolding once_on
 clear_is observers words order some h =
     let a = then_ok (next_cell observers words) _ order h in
@@ -208,7 +209,7 @@ verb_is verb this r others order P h mine rest = elim (chosen (bytes_eq verb thi
 ]
 
 -- an order is read from its words alone, whichever verb they begin with
-by_verb : (observers : List ObserverOf) (verb : List ℕ) (words : List (List ℕ)) (order : Order) → AreWords words → order_by observers verb words ≡ Ok order → IsWritten observers order (verb ∷ words)
+by_verb : (observers : List ObserverOf) (verb : List ℕ) (words : List (List ℕ)) (order : Order) → AreParts 32 words → order_by observers verb words ≡ Ok order → IsWritten observers order (verb ∷ words)
 by_verb observers verb words order some h =
     let P = λ (v : List ℕ). IsWritten observers order (v ∷ words) in
     verb_is verb (codes "launch") _ _ order P h (launch_is observers words order some)
@@ -218,7 +219,7 @@ by_verb observers verb words order some h =
     (λ h. verb_is verb (codes "clear") _ _ order P h (clear_is observers words order some)
     (λ h. verb_is verb (codes "sweep") _ _ order P h (sweep_is observers words order) (λ h. absurd cc))))))
 
-words_written : (observers : List ObserverOf) (words : List (List ℕ)) (order : Order) → AreWords words → order_of_words observers words ≡ Ok order → IsWritten observers order words
+words_written : (observers : List ObserverOf) (words : List (List ℕ)) (order : Order) → AreParts 32 words → order_of_words observers words ≡ Ok order → IsWritten observers order words
 unfolding order_of_words
 words_written observers [] order some h = absurd cc
 words_written observers (verb ∷ words) order some h = by_verb observers verb words order some.1 h
@@ -226,5 +227,5 @@ words_written observers (verb ∷ words) order some h = by_verb observers verb w
 -- a line that is read is the order's, joined by single blanks, since joining undoes the cut
 pub line_written : (observers : List ObserverOf) (line : List ℕ) (order : Order) → order_of observers line ≡ Ok order → IsLineOf observers order line
 line_written observers line order h =
-    let w = words_written observers (words_of line) order (words_are line) h in
+    let w = words_written observers (words_of line) order (parts_are 32 line) h in
     (words_of line, w.written, w.fits, sym (join_with_byte-slice_split 32 line))

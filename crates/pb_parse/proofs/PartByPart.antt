@@ -1,8 +1,11 @@
 -- A line read part by part, each with what its operations wrote so far.
-use Rattle.std.proofs.Common.{◌≡◌, ℕ, ◌+◌, ◌≤◌, Bool, true, false, List, [], ◌∷◌, length, Result, Ok, Err, refl, sym, ap, ◌∙◌}
+use Rattle.std.proofs.Common.{◌≡◌, ℕ, ◌+◌, ◌≤◌, List, [], ◌∷◌, length, Result, Ok, Err, refl, sym, ap, ◌∙◌}
 use Rattle.std.specs.Str.Pattern.{LacksTextAt, FindsText, SplitsAroundMatch}
 use Rattle.pb_base.specs.Batch.{Writes}
-use Rattle.pb_base.specs.Reading.{◌>>=◌, Fails, in_turn}
+use Rattle.pb_reading.specs.Reading.{◌>>=◌, in_turn}
+use Rattle.pb_reading.specs.Faults.{Ends}
+use Rattle.pb_reading.specs.declared.fault.LineFault.{LineFault}
+use Rattle.pb_reading.specs.declared.fault.LineFault.TheVariants.{NoMemory, Code}
 use Rattle.pb_parse.specs.declared.script.code.ScriptCode.{ScriptCode}
 use Rattle.pb_parse.specs.ScriptLines.{cut, with_operation}
 use Rattle.pb_parse.proofs.Cuts.{joint, cut_none, cut_some}
@@ -32,9 +35,9 @@ pub goes_on : (w v : Writes) (rest first after : List ℕ) (total : Result Write
 goes_on w v rest first after total split one before = sym (first_part w rest first after (Ok v) split one) ∙ before
 
 -- a part is at fault
-pub stops : (w : Writes) (rest first after : List ℕ) (total : Result Writes ScriptCode) (b : Bool) (code : ScriptCode) → SplitsAroundMatch (FindsText joint) rest first after → Fails b code (with_operation w first) → from_here w rest ≡ total → Fails b code total
-stops w rest first after total true code split fault before = tt
-stops w rest first after total false code split fault before = sym before ∙ first_part w rest first after (Err code) split fault
+pub stops : (w : Writes) (rest first after : List ℕ) (total : Result Writes ScriptCode) (fault : LineFault ScriptCode) → SplitsAroundMatch (FindsText joint) rest first after → Ends fault (with_operation w first) → from_here w rest ≡ total → Ends fault total
+stops w rest first after total NoMemory split ends before = tt
+stops w rest first after total (Code code) split ends before = sym before ∙ first_part w rest first after (Err code) split ends
 
 -- ---- the last part
 

@@ -11,7 +11,7 @@ use Rattle.pb_base.specs.declared.cell.Cell.{Cell}
 use Rattle.pb_base.specs.declared.content.Content.{Content}
 use Rattle.pb_base.specs.Cell.{cell_cmp, cell_cmp_total}
 use Rattle.pb_base.specs.Batch.{Writes, content_in, is_data_write, are_distinct, is_batch}
-use Rattle.pb_base.specs.Reading.{in_turn}
+use Rattle.pb_reading.specs.Reading.{in_turn}
 use Rattle.pb_parse.specs.ScriptWords.{operation}
 use Rattle.pb_parse.specs.ScriptLines.{cut, with_operation, batch_of}
 use Rattle.pb_parse.specs.Operations.{Say}

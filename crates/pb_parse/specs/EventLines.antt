@@ -2,12 +2,12 @@
 -- here, so that a reader and a definition that are loose in one way are refused by `event_lines_are_read_as_written`.
 use Rattle.std.specs.Prelude.{◌≡◌, ◌≢◌, ◌⊎◌, ℕ, ◌^◌, ◌<◌, ◌≤◌, ◌==◌, not, true, List, [], ◌∷◌, ◌++◌, length, map, codes, Option, Some, None, slice_get, Ok, replicate}
 use Rattle.std.specs.Fmt.{decimal}
-use Rattle.std.specs.List.{filter, flat_map, join_with_byte, list_all}
+use Rattle.std.specs.List.{flat_map, join_with_byte, list_all}
 use Rattle.pb_base.specs.declared.limits.TheConstants.{COLUMNS, MAX_CHANGES, MAX_EVENTS, MAX_SEATS}
 use Rattle.pb_base.specs.declared.names.Row.{Row}
 use Rattle.pb_base.specs.declared.cell.Cell.{Cell}
 use Rattle.pb_base.specs.declared.cell.Cell.TheVariants.{Data, Ack}
-use Rattle.pb_base.specs.Reading.{is_skipped, lines_of}
+use Rattle.pb_reading.specs.Reading.{shown_lines}
 use Rattle.pb_verify.specs.Observers.{ObserverOf, observed_column}
 use Rattle.pb_parse.specs.declared.event.Job.{Job}
 use Rattle.pb_parse.specs.declared.event.Job.TheVariants.{Change, Run}
@@ -109,10 +109,6 @@ IsLineOf observers order line = (words : List (List ℕ)) × AreWordsOf observer
 
 -- ---- texts
 
--- the lines that are not skipped
-abbrev pub event_lines : List ℕ → List (List ℕ)
-event_lines text = filter (λ line. not (is_skipped line)) (lines_of text)
-
 -- each of the lines is read, as the order in its place
 abbrev pub AreOrders : List ObserverOf → List (List ℕ) → List Order → Type 0
 AreOrders observers lines orders = map (order_of observers) lines ≡ map (λ order. Ok order) orders
@@ -124,6 +120,6 @@ events_of orders = flat_map (λ order. replicate order.times order.event) orders
 -- the text's lines ask for these events, which are no more than a schedule may have
 pub record IsSchedule (observers : List ObserverOf) (text : List ℕ) (events : List Event) : Type 0 where
   pub orders : List Order
-  pub lines : AreOrders observers (event_lines text) orders
+  pub lines : AreOrders observers (shown_lines text) orders
   pub whole : events ≡ events_of orders
   pub few : length events ≤ MAX_EVENTS

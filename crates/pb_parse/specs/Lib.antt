@@ -1,10 +1,8 @@
 pub mod Codes
-pub mod Left
 pub mod ScriptWords
 pub mod ScriptLines
 pub mod Operations
 pub mod Scripts
-pub mod Numerals
 pub mod ScheduleCodes
 pub mod ScheduleWords
 pub mod Schedules

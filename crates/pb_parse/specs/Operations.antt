@@ -6,7 +6,7 @@ use Rattle.pb_base.specs.declared.cell.Cell.{Cell}
 use Rattle.pb_base.specs.declared.content.Content.{Content}
 use Rattle.pb_base.specs.Batch.{Writes, content_in, are_distinct}
 use Rattle.pb_parse.specs.declared.script.code.ScriptCode.{ScriptCode}
-use Rattle.pb_parse.specs.declared.script.code.ScriptCode.TheVariants.{Memory, Form, Range, Hex, Twice, Seventeenth, TooMany}
+use Rattle.pb_parse.specs.declared.script.code.ScriptCode.TheVariants.{Form, Range, Hex, Twice, Seventeenth, TooMany}
 use Rattle.pb_parse.specs.ScriptWords.{operation}
 use Rattle.pb_parse.specs.ScriptLines.{cut}
 
@@ -22,7 +22,6 @@ IsFaultAfter before text Hex = operation text ≡ Err Hex
 IsFaultAfter before text Twice = (w : Cell × Content) × (operation text ≡ Ok w) × (is_some (content_in before w.0) ≡ true)
 IsFaultAfter before text Seventeenth = (w : Cell × Content) × (operation text ≡ Ok w) × (is_some (content_in before w.0) ≡ false) × (length before ≡ MAX_CELLS)
 IsFaultAfter before text TooMany = ⊥
-IsFaultAfter before text Memory = ⊥
 
 -- the operations in front are read, of distinct cells and no more than a transaction may have, and the next is at fault after them
 pub record StopsWith (line : List ℕ) (cause : ScriptCode) : Type 0 where

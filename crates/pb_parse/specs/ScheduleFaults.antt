@@ -1,34 +1,18 @@
 -- Where a schedule is at fault, said by the words of a line up to one that can't stand there, and not by what a reader
 -- meets first. The laws of schedules cite it.
-use Rattle.std.specs.Prelude.{◌≡◌, ◌≢◌, ◌⊎◌, ℕ, ◌-◌, ◌^◌, ◌<◌, ◌+◌, true, false, List, [], ◌∷◌, ◌++◌, length, codes, Ok, Err}
+use Rattle.std.specs.Prelude.{◌≡◌, ◌≢◌, ◌⊎◌, ℕ, ◌-◌, ◌^◌, ◌<◌, ◌+◌, true, false, List, [], ◌∷◌, ◌++◌, length, codes, Ok}
 use Rattle.std.specs.Fmt.{decimal}
 use Rattle.std.specs.Str.Parse.{digits_value}
 use Rattle.pb_base.specs.declared.limits.TheConstants.{COLUMNS, MAX_CHANGES, MAX_EVENTS, MAX_SEATS}
 use Rattle.pb_base.specs.declared.names.Row.{Row}
-use Rattle.pb_base.specs.Reading.{is_numeral, is_skipped, lines_of}
+use Rattle.pb_reading.specs.Reading.{is_numeral, is_skipped}
 use Rattle.pb_verify.specs.Observers.{ObserverOf}
 use Rattle.pb_parse.specs.declared.event.Event.{Event}
 use Rattle.pb_parse.specs.declared.schedule.words.Order.{Order}
-use Rattle.pb_parse.specs.declared.schedule.fault.ScheduleCode.{ScheduleCode}
-use Rattle.pb_parse.specs.declared.schedule.fault.ScheduleCode.TheVariants.{Memory, Range, NoObserver}
-use Rattle.pb_parse.specs.ScheduleCodes.{schedule_code}
+use Rattle.pb_parse.specs.declared.schedule.code.ScheduleCode.{ScheduleCode}
+use Rattle.pb_parse.specs.declared.schedule.code.ScheduleCode.TheVariants.{Range, NoObserver}
 use Rattle.pb_parse.specs.ScheduleWords.{order_of}
-use Rattle.pb_parse.specs.Schedules.{with_event_line, events_of_lines}
 use Rattle.pb_parse.specs.EventLines.{name_of, IsActor, IsRow, IsNamed}
-
--- the lines in front are a schedule of their own, and after it the line of this number is at fault, by its text
-pub record ScheduleStopsAt (observers : List ObserverOf) (text : List ℕ) (line code : ℕ) : Type 0 where
-  pub front : List (List ℕ)
-  pub here : List ℕ
-  pub after : List (List ℕ)
-  pub before : List Event
-  pub cause : ScheduleCode
-  pub parts : lines_of text ≡ front ++ here ∷ after
-  pub read : events_of_lines observers 0 [] front ≡ Ok before
-  pub fault : with_event_line observers before here ≡ Err cause
-  pub number : line ≡ length front + 1
-  pub told : code ≡ schedule_code cause
-  pub by_text : cause ≢ Memory
 
 -- ---- fields
 

@@ -1,5 +1,5 @@
--- The words of a schedule's line, each read from left to right: what is read, and the words after it. Each method of
--- the cursor `Words` cites the one of its name; what they read together is said without an order in EventLines.
+-- The words of a schedule's line, each read from left to right: what is read, and the words after it. Each function of
+-- src/schedule/words.rt cites the one of its name; what they read together is said without an order in EventLines.
 use Rattle.std.specs.Prelude.{ℕ, ◌-◌, ◌^◌, nat_lt, if◌then◌else◌, List, [], ◌∷◌, length, codes, Result, Ok, Err}
 use Rattle.std.specs.List.{position_or_len}
 use Rattle.std.specs.Str.{bytes_eq}
@@ -7,15 +7,15 @@ use Rattle.pb_base.specs.declared.limits.TheConstants.{COLUMNS, MAX_CHANGES, MAX
 use Rattle.pb_base.specs.declared.names.Row.{Row}
 use Rattle.pb_base.specs.declared.cell.Cell.{Cell}
 use Rattle.pb_base.specs.declared.cell.Cell.TheVariants.{Data}
-use Rattle.pb_base.specs.Reading.{◌>>=◌, next_word, no_word, numeral_upto, words_of}
+use Rattle.pb_reading.specs.Reading.{◌>>=◌, next_word, no_word, numeral_upto, words_of}
 use Rattle.pb_verify.specs.Observers.{ObserverOf, acknowledgment}
 use Rattle.pb_parse.specs.declared.event.Job.{Job}
 use Rattle.pb_parse.specs.declared.event.Job.TheVariants.{Change, Run}
 use Rattle.pb_parse.specs.declared.event.Event.{Event}
 use Rattle.pb_parse.specs.declared.event.Event.TheVariants.{Launch, Step, Crash, Settle, Clear, Sweep}
 use Rattle.pb_parse.specs.declared.schedule.words.Order.{Order}
-use Rattle.pb_parse.specs.declared.schedule.fault.ScheduleCode.{ScheduleCode}
-use Rattle.pb_parse.specs.declared.schedule.fault.ScheduleCode.TheVariants.{Form, Range, NoObserver}
+use Rattle.pb_parse.specs.declared.schedule.code.ScheduleCode.{ScheduleCode}
+use Rattle.pb_parse.specs.declared.schedule.code.ScheduleCode.TheVariants.{Form, Range, NoObserver}
 
 -- a number of any length, in this range
 abbrev pub number_between : ℕ → ℕ → List ℕ → Result ℕ ScheduleCode

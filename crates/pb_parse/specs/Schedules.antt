@@ -1,15 +1,14 @@
 -- A text of lines, each an event or several, and the first line at fault. `parse_schedule` promises it; the same is
 -- said of all lines at once in EventLines, by a law.
-use Rattle.std.specs.Prelude.{◌≡◌, ◌⊎◌, ℕ, ◌+◌, nat_lt, replicate, if◌then◌else◌, List, [], ◌++◌, length, Result, Ok, Err}
-use Rattle.std.specs.Global.{Vec}
+use Rattle.std.specs.Prelude.{ℕ, ◌+◌, nat_lt, replicate, if◌then◌else◌, List, [], ◌++◌, length, Result, Ok, Err}
 use Rattle.pb_base.specs.declared.limits.TheConstants.{MAX_EVENTS}
-use Rattle.pb_base.specs.Reading.{◌>>=◌, in_turn, is_skipped, lines_of, numbered}
+use Rattle.pb_reading.specs.Reading.{◌>>=◌, is_skipped, lines_of}
+use Rattle.pb_reading.specs.Faults.{in_lines}
 use Rattle.pb_verify.specs.Observers.{ObserverOf}
 use Rattle.pb_parse.specs.declared.event.Event.{Event}
 use Rattle.pb_parse.specs.declared.schedule.words.Order.{Order}
-use Rattle.pb_parse.specs.declared.schedule.fault.ScheduleCode.{ScheduleCode}
-use Rattle.pb_parse.specs.declared.schedule.fault.ScheduleCode.TheVariants.{TooMany}
-use Rattle.pb_parse.specs.declared.schedule.fault.ScheduleFault.{ScheduleFault}
+use Rattle.pb_parse.specs.declared.schedule.code.ScheduleCode.{ScheduleCode}
+use Rattle.pb_parse.specs.declared.schedule.code.ScheduleCode.TheVariants.{TooMany}
 use Rattle.pb_parse.specs.ScheduleCodes.{schedule_code}
 use Rattle.pb_parse.specs.ScheduleWords.{order_of}
 
@@ -23,17 +22,8 @@ with_event_line observers before line = if is_skipped line then Ok before else (
 
 -- the lines one after the other; the first fault ends it
 abbrev pub events_of_lines : List ObserverOf → ℕ → List Event → List (List ℕ) → Result (List Event) (ℕ × ℕ)
-events_of_lines observers n before lines = in_turn (λ m events line. numbered schedule_code m (with_event_line observers events line)) n before lines
+events_of_lines observers n before lines = in_lines schedule_code (with_event_line observers) n before lines
 
 -- the events of a text, or the line and the code of its fault
 abbrev pub schedule_of : List ObserverOf → List ℕ → Result (List Event) (ℕ × ℕ)
 schedule_of observers text = events_of_lines observers 0 [] (lines_of text)
-
--- the fault of want of memory: no line has number 0, so it is taken for no other
-abbrev pub no_memory_told : ScheduleFault
-no_memory_told = record { line = 0; code = 1 }
-
--- what was returned is what reading gives, unless memory ran out
-abbrev pub ReadsSchedule : Result (Vec Event) ScheduleFault → Result (List Event) (ℕ × ℕ) → Type 0
-ReadsSchedule (Ok v) read = read ≡ Ok v.items
-ReadsSchedule (Err f) read = (f ≡ no_memory_told) ⊎ (read ≡ Err (f.line, f.code))

@@ -7,7 +7,8 @@ use Rattle.pb_base.specs.Batch.{Writes, content_in}
 use Rattle.pb_parse.specs.declared.script.code.ScriptCode.{ScriptCode}
 use Rattle.pb_parse.specs.declared.script.code.ScriptCode.TheVariants.{Twice, Seventeenth, TooMany}
 use Rattle.pb_parse.specs.Codes.{script_code}
-use Rattle.pb_base.specs.Reading.{◌>>=◌, in_turn, is_skipped, lines_of, numbered}
+use Rattle.pb_reading.specs.Reading.{◌>>=◌, in_turn, is_skipped, lines_of}
+use Rattle.pb_reading.specs.Faults.{in_lines}
 use Rattle.pb_parse.specs.ScriptWords.{operation}
 
 -- what stands between joints, each of them `; `
@@ -36,10 +37,7 @@ with_line before line = if is_skipped line then Ok before else do
   batch ← batch_of line
   if nat_le MAX_CHANGES (length before) then Err TooMany else Ok (before ++ batch ∷ [])
 
--- the transactions of these lines; skipped ones are counted too, since a fault is told by the line's number
-abbrev pub lines_read : List (List ℕ) → Result Batches (ℕ × ℕ)
-lines_read ls = in_turn (λ n before line. numbered script_code n (with_line before line)) 0 [] ls
-
--- the transactions of a text, or the line and the code of its fault
+-- the transactions of a text, or the line and the code of its fault; skipped lines are counted too, since a fault is told
+-- by the line's number
 abbrev pub script_of : List ℕ → Result Batches (ℕ × ℕ)
-script_of text = lines_read (lines_of text)
+script_of text = in_lines script_code with_line 0 [] (lines_of text)

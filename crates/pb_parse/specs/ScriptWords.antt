@@ -11,7 +11,7 @@ use Rattle.pb_base.specs.declared.content.Content.{Content}
 use Rattle.pb_base.specs.declared.content.Content.TheVariants.{Value, Deleted}
 use Rattle.pb_parse.specs.declared.script.code.ScriptCode.{ScriptCode}
 use Rattle.pb_parse.specs.declared.script.code.ScriptCode.TheVariants.{Form, Range, Hex}
-use Rattle.pb_base.specs.Reading.{◌>>=◌, next_word, no_word, numeral_upto, words_of}
+use Rattle.pb_reading.specs.Reading.{◌>>=◌, next_word, no_word, numeral_upto, words_of}
 
 -- a number of any length, at most this
 abbrev pub number_upto : ℕ → List ℕ → Result ℕ ScriptCode

@@ -4,6 +4,5 @@ mod lines;
 mod words;
 
 pub use lines::{
-    ScriptFault, fault_is_first, operation_fault_is_first, parse_script, reads_batches,
-    reads_operations,
+    fault_is_first, operation_fault_is_first, parse_script, reads_batches, reads_operations,
 };

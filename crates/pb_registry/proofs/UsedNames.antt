@@ -1,6 +1,6 @@
 -- The names of the observers in a map are its keys.
 use Rattle.std.proofs.Common.{◌≡◌, ℕ, Bool, true, false, cond, Option, Some, None, Result, Ok, Err, is_ok, List, [], ◌∷◌, is_some, String, Global, refl, sym, ap, ◌∙◌, true≢false}
-use Rattle.pb_base.specs.Reading.{◌>>=◌}
+use Rattle.pb_reading.specs.Reading.{◌>>=◌}
 use Rattle.std.specs.Prelude.{◌||◌, if◌then◌else◌, string_bytes, codes}
 use Rattle.std.specs.List.{IsDistinct, AllByRecursion, list_any}
 use Rattle.std.specs.Map.{lookup, keys_of}

@@ -8,7 +8,7 @@ use Rattle.serde_json.specs.Data.{Data, Items, no_items, item, Members, no_membe
 use Rattle.serde_json.specs.Find.{get, as_number, as_str, as_array, as_object, as_u64}
 use Rattle.serde_json.specs.Read.{read}
 use Rattle.pb_base.specs.declared.limits.TheConstants.{COLUMNS, MAX_OBSERVERS}
-use Rattle.pb_base.specs.Reading.{◌>>=◌}
+use Rattle.pb_reading.specs.Reading.{◌>>=◌}
 use Rattle.pb_isa.specs.declared.profile.Profile.{Profile}
 use Rattle.pb_isa.specs.declared.profile.Profile.TheVariants.{One, Two}
 use Rattle.pb_isa.specs.Helpers.{HelperSet}

@@ -5,7 +5,7 @@ ghost use Rattle.serde_json.specs.Read.{read};
 ghost use Rattle.serde_json.specs.View.{view};
 ghost use Rattle.pb_registry.specs.Manifests.{member_count, number_at, elements_at, text_at, has_text, has_numbers, is_json_number, has_members, has_record, is_observer, profile_of, ManifestOf, manifest_in, whole_in};
 ghost use Rattle.pb_registry.specs.Views.{manifest_view};
-ghost use Rattle.pb_base.specs.Reading.{Gives};
+ghost use Rattle.pb_reading.specs.Reading.{Gives};
 ghost use Rattle.pb_registry.specs.Codes.{is_memory};
 ghost use Rattle.pb_registry.specs.declared.code.ManifestCode.TheVariants.{Memory, Text};
 

@@ -9,7 +9,7 @@ ghost use Rattle.pb_registry.specs.Helpers.{helpers_of};
 ghost use Rattle.pb_registry.specs.Accepting.{IsAcceptedCode};
 ghost use Rattle.pb_registry.specs.Judging.{IsProgramFault, IsOwnFault, IsObserver};
 ghost use Rattle.pb_registry.specs.Observers.{written_of};
-ghost use Rattle.pb_base.specs.Reading.{Gives};
+ghost use Rattle.pb_reading.specs.Reading.{Gives};
 ghost use Rattle.pb_registry.specs.Codes.{is_memory};
 
 use crate::accepting::accept_in;

@@ -15,7 +15,7 @@ mod tallies;
 pub use fault::ReportFault;
 pub use output::report;
 pub use pb_parse::{
-    Event, Job, ScheduleFault, ScriptFault, event_lines_are_read_as_written, fault_is_first,
+    Event, Job, ScriptFault, event_lines_are_read_as_written, fault_is_first,
     operation_fault_is_first, parse_schedule, parse_script, reads_batches, reads_operations,
     schedule_fault_is_first, schedule_faults_are_told_where_they_are, schedules_are_their_lines,
 };

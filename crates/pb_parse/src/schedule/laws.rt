@@ -1,16 +1,18 @@
 //! What a schedule is read as, and where it is at fault, in the words of its format. Reader and definition go from
 //! left to right alike, so that a looseness could stand in both; these laws say the same without an order of reading.
-ghost use Rattle.std.specs.Prelude.{◌≡◌, ◌⊎◌, ◌↔◌, ℕ, List, Ok, Err};
-ghost use Rattle.pb_base.specs.Reading.{words_of};
+ghost use Rattle.std.specs.Prelude.{◌≡◌, ◌⊎◌, ◌↔◌, ℕ, List, [], Ok, Err};
+ghost use Rattle.pb_reading.specs.Reading.{words_of};
+ghost use Rattle.pb_reading.specs.Faults.{StopsAt};
+ghost use Rattle.pb_parse.specs.ScheduleCodes.{schedule_code};
 ghost use Rattle.pb_verify.specs.Observers.{ObserverOf};
 ghost use Rattle.pb_parse.specs.declared.event.Event.{Event};
 ghost use Rattle.pb_parse.specs.declared.schedule.words.Order.{Order};
-ghost use Rattle.pb_parse.specs.declared.schedule.fault.ScheduleCode.{ScheduleCode};
-ghost use Rattle.pb_parse.specs.declared.schedule.fault.ScheduleCode.TheVariants as code;
+ghost use Rattle.pb_parse.specs.declared.schedule.code.ScheduleCode.{ScheduleCode};
+ghost use Rattle.pb_parse.specs.declared.schedule.code.ScheduleCode.TheVariants as code;
 ghost use Rattle.pb_parse.specs.ScheduleWords.{order_of};
 ghost use Rattle.pb_parse.specs.Schedules.{with_event_line, schedule_of};
 ghost use Rattle.pb_parse.specs.EventLines.{IsLineOf, IsSchedule};
-ghost use Rattle.pb_parse.specs.ScheduleFaults.{ScheduleStopsAt, StopsAtField, GoesPast};
+ghost use Rattle.pb_parse.specs.ScheduleFaults.{StopsAtField, GoesPast};
 
 /// A line is read as an event, so many times, exactly where it is the event's words with one blank between them, character
 /// for character; a step's may have one more, which says how often. What the words name may stand there: actors from 1 to
@@ -32,7 +34,8 @@ pub fn schedules_are_their_lines()
 /// The fault of a schedule is that of its first line at fault: the lines before it are a schedule of their own.
 pub fn schedule_fault_is_first()
     ensures { (observers : List ObserverOf) (text : List ℕ) (line code : ℕ)
-        → schedule_of observers text ≡ Err (line, code) → ScheduleStopsAt observers text line code }
+        → schedule_of observers text ≡ Err (line, code)
+        → StopsAt schedule_code (with_event_line observers) [] text line code }
 {}
 
 /// A line that isn't read, and isn't at fault for its form, stops at its first field at fault: up to there its words are

@@ -1,15 +1,10 @@
-//! Why a script could not be read: a code inside, of which `ScriptFault` tells the number.
+//! What is wrong with a line of a script, and its number.
 ghost use Rattle.std.specs.Prelude.{◌≡◌};
 ghost use Rattle.pb_parse.specs.Codes.{script_code};
-ghost use Rattle.pb_parse.specs.declared.script.code.ScriptCode.TheVariants.{Memory};
-
-use std::alloc::{AllocError, AllocFailed};
 
 /// What is wrong with a line.
 #[derive(Clone, Copy, Debug, PartialEq, Eq, Drop)]
 pub enum ScriptCode {
-    /// No memory.
-    Memory,
     /// Not of the form.
     Form,
     /// Row or column out of range.
@@ -30,7 +25,6 @@ impl ScriptCode {
         ensures { result ≡ script_code self }
     {
         match self {
-            ScriptCode::Memory => 1,
             ScriptCode::Form => 70,
             ScriptCode::Range => 71,
             ScriptCode::Hex => 72,
@@ -38,21 +32,5 @@ impl ScriptCode {
             ScriptCode::Seventeenth => 74,
             ScriptCode::TooMany => 75,
         }
-    }
-}
-
-impl From<AllocError> for ScriptCode {
-    ghost from_gives = { λ _ e. e ≡ Memory };
-
-    fn from(_e: AllocError) -> ScriptCode {
-        ScriptCode::Memory
-    }
-}
-
-impl<T: Drop> From<AllocFailed<T>> for ScriptCode {
-    ghost from_gives = { λ _ e. e ≡ Memory };
-
-    fn from(_e: AllocFailed<T>) -> ScriptCode {
-        ScriptCode::Memory
     }
 }

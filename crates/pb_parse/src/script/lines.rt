@@ -1,22 +1,17 @@
 //! A line of operations, which is one transaction, and a text of lines, with the laws of what they are read as.
-ghost use Rattle.std.specs.Prelude.{◌≡◌, ◌≢◌, ◌==◌, ◌+◌, ◌<◌, ◌↔◌, IfOk, true, is_some, ℕ, List, Ok, Err};
+ghost use Rattle.std.specs.Prelude.{◌≡◌, ◌==◌, ◌↔◌, true, is_some, ℕ, List, [], Ok, Err};
 ghost use Rattle.pb_base.specs.Batch.{Writes, writes_of, content_in, is_batch};
+ghost use Rattle.pb_reading.specs.Faults.{ReadsLine, ReadsText, StopsAt};
 ghost use Rattle.pb_parse.specs.Codes.{script_code};
-ghost use Rattle.pb_base.specs.Reading.{Gives};
-ghost use Rattle.pb_parse.specs.Codes.{is_memory};
-ghost use Rattle.pb_base.specs.Reading.{texts_of};
 ghost use Rattle.pb_parse.specs.ScriptLines.{Batches, cut, with_operation, batch_of, with_line, script_of};
-ghost use Rattle.pb_base.specs.Reading.{is_skipped};
 ghost use Rattle.pb_parse.specs.Operations.{Say, StopsWith};
-ghost use Rattle.pb_parse.specs.Scripts.{Reads, StopsAt, AreBatches};
-ghost use Rattle.pb_parse.specs.declared.script.code.ScriptCode.TheVariants.{Memory};
+ghost use Rattle.pb_parse.specs.Scripts.{AreBatches};
 
-use crate::reading::{first_line, is_skipped};
 use crate::script::code::ScriptCode;
 use crate::script::words::{Change, operation};
 use pb_base::{Batch, Cell, MAX_CELLS, MAX_CHANGES};
-use std::alloc::{AllocError, Global};
-use thiserror::Error;
+use pb_reading::{LineFault, TextFault as ScriptFault, first_line, is_skipped};
+use std::alloc::Global;
 
 // Whether an operation before names the cell.
 fn names(writes: &[Change], cell: Cell) -> bool
@@ -32,25 +27,25 @@ fn names(writes: &[Change], cell: Cell) -> bool
 
 // Takes one more operation of a line.
 #[tactic(auto, unfolding(crate::specs::ScriptLines::with_operation))]
-fn add(writes: &mut Vec<Change>, text: &str) -> Result<(), ScriptCode>
-    ensures { Gives is_memory (λ _. writes_of writes.new.items) result
+fn add(writes: &mut Vec<Change>, text: &str) -> Result<(), LineFault<ScriptCode>>
+    ensures { ReadsLine (λ _. writes_of writes.new.items) result
         (with_operation (writes_of writes.old.items) text.now) }
 {
-    let write = operation(text)?;
+    let write = operation(text).map_err(LineFault::Code)?;
     // Before the count, so that a 17th operation that names a cell of the line again is 73 and not 74.
     if names(writes, Cell::Data(write.0, write.1)) {
-        return Err(ScriptCode::Twice);
+        return Err(LineFault::Code(ScriptCode::Twice));
     }
     if writes.len() >= MAX_CELLS {
-        return Err(ScriptCode::Seventeenth);
+        return Err(LineFault::Code(ScriptCode::Seventeenth));
     }
     writes.push(write)?;
     Ok(())
 }
 
 // What its operations write, which are joined by `; `. Room is made for one, since most lines have no more.
-fn writes_in(alloc: Global, line: &str) -> Result<Vec<Change>, ScriptCode>
-    ensures { Gives is_memory (λ v. writes_of v.items) result (batch_of line.now) }
+fn writes_in(alloc: Global, line: &str) -> Result<Vec<Change>, LineFault<ScriptCode>>
+    ensures { ReadsLine (λ v. writes_of v.items) result (batch_of line.now) }
 {
     let mut writes = Vec::with_capacity(alloc, 1)?;
     let mut rest = line;
@@ -62,8 +57,8 @@ fn writes_in(alloc: Global, line: &str) -> Result<Vec<Change>, ScriptCode>
     Ok(writes)
 }
 
-fn batch_of(alloc: Global, line: &str) -> Result<Batch, ScriptCode>
-    ensures { Gives is_memory (λ b. b) result (batch_of line.now) }
+fn batch_of(alloc: Global, line: &str) -> Result<Batch, LineFault<ScriptCode>>
+    ensures { ReadsLine (λ b. b) result (batch_of line.now) }
 {
     match Batch::new(writes_in(alloc, line)?) {
         Ok(batch) => Ok(batch),
@@ -74,8 +69,12 @@ fn batch_of(alloc: Global, line: &str) -> Result<Batch, ScriptCode>
 
 // Adds what one line says.
 #[tactic(auto, unfolding(crate::specs::ScriptLines::with_line))]
-fn add_line(alloc: Global, batches: &mut Vec<Batch>, line: &str) -> Result<(), ScriptCode>
-    ensures { Gives is_memory (λ _. batches.new.items) result
+fn add_line(
+    alloc: Global,
+    batches: &mut Vec<Batch>,
+    line: &str,
+) -> Result<(), LineFault<ScriptCode>>
+    ensures { ReadsLine (λ _. batches.new.items) result
         (with_line batches.old.items line.now) }
 {
     if is_skipped(line) {
@@ -84,54 +83,28 @@ fn add_line(alloc: Global, batches: &mut Vec<Batch>, line: &str) -> Result<(), S
     let batch = batch_of(alloc, line)?;
     // After the line is read, since 75 comes last of its faults.
     if batches.len() >= MAX_CHANGES {
-        return Err(ScriptCode::TooMany);
+        return Err(LineFault::Code(ScriptCode::TooMany));
     }
     batches.push(batch)?;
     Ok(())
 }
 
-/// The line at which a script is at fault, from 1, and the code: 70 not of the form, 71 row or column out of range,
-/// 72 not 2 to 64 lower-case hexadecimal digits, even in number, 73 a cell named before in the line, 74 a 17th cell,
-/// 75 over 10,000 changes. Where memory ran out it is line 0 with code 1.
-#[derive(Clone, Copy, Debug, PartialEq, Eq, Drop, Error)]
-#[error("line {line} code {code}")]
-pub struct ScriptFault {
-    pub line: usize,
-    pub code: u8,
-}
-
-impl ScriptFault {
-    // The fault of the line of this index, which counts from 0.
-    fn at(index: usize, code: ScriptCode) -> ScriptFault
-        requires { index < usize.MAX }
-        ensures memory { code ≡ Memory → result ≡ record { line = 0; code = 1 } }
-        ensures other { code ≢ Memory → result
-            ≡ record { line = index + 1; code = script_code code } }
-    {
-        // Want of memory is told at no line, since none is at fault.
-        let line = match code {
-            ScriptCode::Memory => 0,
-            _ => index + 1,
-        };
-        ScriptFault {
-            line,
-            code: code.code(),
-        }
-    }
-}
-
-/// The transactions of a script, one a line: operations joined by `; `, each `put ROW COL HEX` or `del ROW COL`. Of another
-/// text the first line at fault is told, with its code, or want of memory at line 0 with code 1.
+/// The transactions of a script, one a line: operations joined by `; `, each `put ROW COL HEX` or `del ROW COL`. Of
+/// another text the first line at fault is told, from 1, with its code: 70 not of the form, 71 row or column out of
+/// range, 72 not 2 to 64 lower-case hexadecimal digits, even in number, 73 a cell named before in the line, 74 a 17th
+/// cell, 75 over 10,000 changes. Where memory ran out it is line 0 with code 1.
 pub fn parse_script(alloc: Global, text: &str) -> Result<Vec<Batch>, ScriptFault>
-    ensures { Reads result (script_of text.now) }
+    ensures { ReadsText (λ v. v.items) result (script_of text.now) }
 {
     let mut batches = Vec::new(alloc);
     let mut index = 0;
     let mut left = Some(text);
     while let Some(lines) = left {
         let (line, after) = first_line(lines);
-        if let Err(code) = add_line(alloc, &mut batches, line) {
-            return Err(ScriptFault::at(index, code));
+        match add_line(alloc, &mut batches, line) {
+            Ok(()) => {}
+            Err(LineFault::NoMemory) => return Err(ScriptFault::no_memory()),
+            Err(LineFault::Code(code)) => return Err(ScriptFault::at(index, code.code())),
         }
         index += 1;
         left = after;
@@ -142,7 +115,7 @@ pub fn parse_script(alloc: Global, text: &str) -> Result<Vec<Batch>, ScriptFault
 /// The fault that is told is that of the first line at fault: the lines before it are a script of their own.
 pub fn fault_is_first()
     ensures { (text : List ℕ) (line code : ℕ) → script_of text ≡ Err (line, code)
-        → StopsAt text line code }
+        → StopsAt script_code with_line [] text line code }
 {}
 
 /// What a script is read as is at most 10,000 transactions, each of them a batch: 1 to 16 distinct cells.

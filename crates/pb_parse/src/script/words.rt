@@ -1,23 +1,19 @@
-//! The words of one operation, from left to right. What is left goes from call to call, so that nothing is collected.
-ghost use Rattle.std.specs.Prelude.{◌≡◌, ◌<◌, ◌≤◌, IfOk};
+//! The words of one operation, from left to right.
+ghost use Rattle.std.specs.Prelude.{◌≡◌, ◌<◌, IfOk, false};
 ghost use Rattle.std.specs.Char.{is_ascii_uppercase};
 ghost use Rattle.std.specs.List.{list_any};
 ghost use Rattle.pb_base.specs.declared.cell.Cell.TheVariants.{Data};
-ghost use Rattle.pb_base.specs.Reading.{Gives, next_word, no_word};
-ghost use Rattle.pb_parse.specs.declared.script.code.ScriptCode.TheVariants as code;
-ghost use Rattle.pb_parse.specs.Codes.{is_memory};
-ghost use Rattle.pb_parse.specs.Left.{words_left};
-ghost use Rattle.pb_parse.specs.ScriptWords.{number_upto, content_of, cell_at, put_of, del_of, write_of, operation};
+ghost use Rattle.pb_reading.specs.Reading.{Gives, words_left};
+ghost use Rattle.pb_parse.specs.ScriptWords.{content_of, cell_at, put_of, del_of, write_of, operation};
 
-use crate::reading::{first_word, is_numeral};
 use crate::script::code::ScriptCode;
 use pb_base::{Column, Content, Row, Value};
+use pb_reading::{LineWords, numeral_upto};
 
 /// What an operation writes.
 pub type Change = (Row, Column, Content);
 
-// The numbers of a cell, and not its names: a `Column` has a model, and the borrow checker doesn't cover a pair of what
-// has one and the words left.
+// The numbers of a cell, until its line is known to have no word more.
 #[derive(Clone, Copy, Drop)]
 struct CellNumbers {
     row: u64,
@@ -37,24 +33,6 @@ impl CellNumbers {
     }
 }
 
-// A number, at most this.
-fn number_upto(greatest: u64, word: &str) -> Result<u64, ScriptCode>
-    ensures value { Gives is_memory (λ n. n) result (number_upto greatest word.now) }
-    ensures bound { IfOk result (λ n. n ≤ greatest) }
-{
-    if !is_numeral(word) {
-        return Err(ScriptCode::Form);
-    }
-    let Ok(number) = word.parse::<u64>() else {
-        return Err(ScriptCode::Range);
-    };
-    if number <= greatest {
-        Ok(number)
-    } else {
-        Err(ScriptCode::Range)
-    }
-}
-
 // Whether a letter is upper-case.
 fn has_upper(digits: &[u8]) -> bool
     ensures { result ≡ list_any is_ascii_uppercase digits.now }
@@ -65,7 +43,7 @@ fn has_upper(digits: &[u8]) -> bool
 // Up to 32 bytes in lower-case hexadecimal digits, followed by zeros. Capitals are looked for here, since `hex` reads
 // them too; an odd number of digits it refuses by itself.
 fn content_of(word: &str) -> Result<Value, ScriptCode>
-    ensures { Gives is_memory (λ b. b) result (content_of word.now) }
+    ensures { Gives (λ _. false) (λ b. b) result (content_of word.now) }
 {
     let digits = word.as_bytes();
     if digits.is_empty() || digits.len() > 64 || has_upper(digits) {
@@ -80,72 +58,52 @@ fn content_of(word: &str) -> Result<Value, ScriptCode>
     }
 }
 
-// The next word, and what is left after it, if anything: words end at blanks.
-fn next_word(words: Option<&str>) -> Result<(&str, Option<&str>), ScriptCode>
-    ensures { Gives is_memory (λ x. (x.0.now, words_left x.1)) result
-        (next_word code.Form (words_left words.entry)) }
-{
-    match words {
-        Some(text) => Ok(first_word(text)),
-        None => Err(ScriptCode::Form),
-    }
-}
-
-// A row and a column, and the words after them.
+// A row and a column.
 #[tactic(auto, unfolding(crate::specs::ScriptWords::cell_at))]
-fn cell_at(words: Option<&str>) -> Result<(CellNumbers, Option<&str>), ScriptCode>
-    ensures value { Gives is_memory
-        (λ x. (Data (record { 0 = x.0.row }) x.0.column, words_left x.1)) result
-        (cell_at (words_left words.entry)) }
-    ensures bound { IfOk result (λ x. x.0.column < 16) }
+fn cell_at(words: &mut LineWords) -> Result<CellNumbers, ScriptCode>
+    ensures value { Gives (λ _. false)
+        (λ x. (Data (record { 0 = x.row }) x.column, words_left words.new.rest)) result
+        (cell_at (words_left words.old.rest)) }
+    ensures bound { IfOk result (λ x. x.column < 16) }
 {
-    let (word, words) = next_word(words)?;
-    let row = number_upto(u64::MAX, word)?;
-    let (word, words) = next_word(words)?;
-    let column = number_upto(15, word)? as u8;
-    Ok((CellNumbers { row, column }, words))
-}
-
-// No word is left.
-fn no_word(words: Option<&str>) -> Result<(), ScriptCode>
-    ensures { Gives is_memory (λ x. x) result (no_word code.Form (words_left words.entry)) }
-{
-    if words.is_none() {
-        Ok(())
-    } else {
-        Err(ScriptCode::Form)
-    }
+    let word = words.next_word(ScriptCode::Form)?;
+    let row = numeral_upto(ScriptCode::Form, ScriptCode::Range, u64::MAX, word)?;
+    let word = words.next_word(ScriptCode::Form)?;
+    let column = numeral_upto(ScriptCode::Form, ScriptCode::Range, 15, word)? as u8;
+    Ok(CellNumbers { row, column })
 }
 
 #[tactic(auto, unfolding(crate::specs::ScriptWords::put_of))]
-fn put_of(words: Option<&str>) -> Result<Change, ScriptCode>
-    ensures { Gives is_memory (λ w. (Data w.0 w.1, w.2)) result (put_of (words_left words.entry)) }
+fn put_of(words: &mut LineWords) -> Result<Change, ScriptCode>
+    ensures { Gives (λ _. false) (λ w. (Data w.0 w.1, w.2)) result
+        (put_of (words_left words.old.rest)) }
 {
-    let (place, words) = cell_at(words)?;
-    let (word, words) = next_word(words)?;
+    let place = cell_at(words)?;
+    let word = words.next_word(ScriptCode::Form)?;
     let content = content_of(word)?;
-    no_word(words)?;
+    words.no_word(ScriptCode::Form)?;
     Ok(place.with(Content::Value(content)))
 }
 
 #[tactic(auto, unfolding(crate::specs::ScriptWords::del_of))]
-fn del_of(words: Option<&str>) -> Result<Change, ScriptCode>
-    ensures { Gives is_memory (λ w. (Data w.0 w.1, w.2)) result (del_of (words_left words.entry)) }
+fn del_of(words: &mut LineWords) -> Result<Change, ScriptCode>
+    ensures { Gives (λ _. false) (λ w. (Data w.0 w.1, w.2)) result
+        (del_of (words_left words.old.rest)) }
 {
-    let (place, words) = cell_at(words)?;
-    no_word(words)?;
+    let place = cell_at(words)?;
+    words.no_word(ScriptCode::Form)?;
     Ok(place.with(Content::Deleted))
 }
 
 /// One operation, `put ROW COL HEX` or `del ROW COL`, by its first field at fault where it is none.
 #[tactic(auto, unfolding(crate::specs::ScriptWords::write_of))]
 pub fn operation(text: &str) -> Result<Change, ScriptCode>
-    ensures { Gives is_memory (λ w. (Data w.0 w.1, w.2)) result (operation text.now) }
+    ensures { Gives (λ _. false) (λ w. (Data w.0 w.1, w.2)) result (operation text.now) }
 {
-    let (verb, words) = next_word(Some(text))?;
-    match verb {
-        "put" => put_of(words),
-        "del" => del_of(words),
+    let mut words = LineWords { rest: Some(text) };
+    match words.next_word(ScriptCode::Form)? {
+        "put" => put_of(&mut words),
+        "del" => del_of(&mut words),
         _ => Err(ScriptCode::Form),
     }
 }

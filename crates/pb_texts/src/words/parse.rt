@@ -1,7 +1,7 @@
 //! A command line, read with `clap`.
 ghost use Rattle.std.specs.Prelude.{◌≡◌, ℕ, List, true, IfOk, Some, [], false, option_map, codes};
 ghost use Rattle.clap.specs.Words.{FailsBy, app_of, new_app, fault_of, first_of, found_of, kind_of, one_of, rows_of, rule_of, subcommand_of, subcommand_rows_of};
-ghost use Rattle.pb_base.specs.Reading.{texts_of};
+ghost use Rattle.pb_reading.specs.Reading.{texts_of};
 ghost use Rattle.pb_texts.specs.CommandLines.{required_rule, number_rule, run_app, clock_rule, profile_rule, profile_numbered, profile_of, record_rule, version_numbered, version_of, replay_app, asm_app, dis_app, check_app, texts_app, program_app, is_within, count_of, workers_of, run_in, clock_of, replay_in, asm_in, dis_in, check_in, command_in, command_of, words_fault, request_of, IsInRange, is_plain_word, is_workers, is_swaps, count_number, is_clock, clock_number, run_words, workers_words, swaps_words, replay_words, clock_words, asm_words, dis_words, check_words, Run, Replay, Asm, Dis, Check, AskFor, HaveBadValue, TakeProfiles, RefuseOtherProfiles, TakeVersions, RefuseOtherVersions};
 ghost use Rattle.pb_isa.specs.declared.profile.Profile.TheVariants.{One};
 ghost use Rattle.pb_helpers.specs.declared.change.Version.TheVariants.{First};

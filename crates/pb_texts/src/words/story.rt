@@ -2,7 +2,7 @@
 ghost use Rattle.std.specs.Prelude.{◌≡◌, IfOk, Some, false, option_map};
 ghost use Rattle.clap.specs.Words.{FailsBy, app_of, fault_of, found_of, kind_of, rows_of, subcommand_of, subcommand_rows_of};
 ghost use Rattle.clap.specs.declared.builder.command.Command.TheViews.{out-Command as fields_of};
-ghost use Rattle.pb_base.specs.Reading.{texts_of};
+ghost use Rattle.pb_reading.specs.Reading.{texts_of};
 ghost use Rattle.pb_texts.specs.CommandLines.{replay_app, replay_in, check_in};
 ghost use Rattle.pb_texts.specs.StoryLines.{frames_app, story_app, story_in, story_of, story_fault, story_request};
 

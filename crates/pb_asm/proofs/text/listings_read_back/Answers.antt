@@ -1,4 +1,4 @@
-use Rattle.pb_asm.proofs.ListingsReadBack.{listing_back}
+use Rattle.pb_asm.proofs.OnlyListings.{listing_back}
 use Rattle.pb_asm.proofs.text.listings_read_back.Goals as goal
 
 pub returns : goal.returns

@@ -1,6 +1,6 @@
 use Rattle.pb_parse.proofs.FieldsRefused.{blamed}
 use Rattle.pb_parse.proofs.FieldsTold.{told}
-use Rattle.pb_parse.proofs.FirstLineAtFault.{told_too_many}
+use Rattle.pb_parse.proofs.TooManyEvents.{told_too_many}
 use Rattle.pb_parse.proofs.schedule.laws.schedule_faults_are_told_where_they_are.Goals as goal
 
 pub returns-clause-field : goal.returns-clause-field

@@ -1,12 +1,10 @@
 use Rattle.std.proofs.Common.{refl, arith}
-use Rattle.std.specs.Prelude.{◌==◌}
-use Rattle.std.proofs.lemmas.List.Splits.{length-slice_split}
-use Rattle.std.proofs.lemmas.List.Sums.{count_by-le-length}
+use Rattle.pb_reading.proofs.FirstPart.{few_lines}
 use Rattle.pb_parse.proofs.schedule.lines.parse_schedule.Goals as goal
 
 pub loop-left-init : goal.loop-left-init
 loop-left-init c = record {
   so_far = rw c.new-events.ensures.items refl;
   few = rw c.new-events.ensures.items (omega arith);
-  counted = omega (arith, length-slice_split (λ b. b == 10) c.args.text.now, count_by-le-length (λ b. b == 10) c.args.text.now);
+  counted = omega (arith, few_lines c.args.text.now);
 }

@@ -1,13 +1,13 @@
 use Rattle.std.proofs.Common.{◌≡◌, ◌+◌, ◌≤◌, length}
-use Rattle.pb_base.specs.Reading.{in_turn, numbered}
+use Rattle.pb_reading.specs.Faults.{in_lines}
 use Rattle.pb_parse.specs.Codes.{script_code}
-use Rattle.pb_parse.specs.Left.{lines_left}
+use Rattle.pb_reading.specs.Reading.{lines_left}
 use Rattle.pb_parse.specs.ScriptLines.{with_line, script_of}
 use Rattle.pb_parse.proofs.script.lines.parse_script.Given as goal
 
 abbrev pub invariant-loop-left : goal.invariant-loop-left
 invariant-loop-left l = record {
-  so_far : in_turn (λ n before line. numbered script_code n (with_line before line)) l.index l.batches.items (lines_left l.left) ≡ script_of l.text;
+  so_far : in_lines script_code with_line l.index l.batches.items (lines_left l.left) ≡ script_of l.text;
   counted : l.index + length (lines_left l.left) ≤ length l.text + 1;
 }
 

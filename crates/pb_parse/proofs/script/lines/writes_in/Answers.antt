@@ -11,7 +11,7 @@ loop-first-preserved c = (search rules, goes_on (writes_of c.loop-first.writes.i
 pub returns-in_err-add : goal.returns-in_err-add
 returns-in_err-add c =
     let p = err_from_is_err_and c.from_residual-in_err-add.result c.from_residual-in_err-add.ensures.1 in
-    rw (p.1, p.2) (stops (writes_of c.loop-first.writes.items) c.loop-first.rest.now c.in-Some.first.now c.in-Some.after.now (batch_of c.args.line.now) _ _ c.in-Some.ensures.cases c.in_err-add.ensures c.loop-first.invariant.1)
+    rw (p.1, p.2) (stops (writes_of c.loop-first.writes.items) c.loop-first.rest.now c.in-Some.first.now c.in-Some.after.now (batch_of c.args.line.now) _ c.in-Some.ensures.cases c.in_err-add.ensures c.loop-first.invariant.1)
 
 pub returns-in_err-add-2 : goal.returns-in_err-add-2
 returns-in_err-add-2 c =

@@ -1,7 +1,7 @@
 use Rattle.std.proofs.Common.{ap, subst, ◌∙◌}
 use Rattle.std.proofs.lemmas.Result.{IfOk-weaker}
 use Rattle.clap.specs.Words.{App, FailsBy, fault_of, is_simple, is_simple_and_free, subcommand_of}
-use Rattle.pb_base.specs.Reading.{texts_of}
+use Rattle.pb_reading.specs.Reading.{texts_of}
 use Rattle.pb_texts.proofs.words.story.story_matches.Goals as goal
 
 pub returns-clause-kinds : goal.returns-clause-kinds

@@ -2,7 +2,7 @@ use Rattle.std.proofs.Common.{ap, sym, ◌∙◌, subst, inr}
 use Rattle.clap.specs.Words.{IsAmong}
 use Rattle.clap.specs.declared.error.kind.ErrorKind.{ErrorKind}
 use Rattle.clap.proofs.KindLemmas.{fails_by_from}
-use Rattle.pb_base.specs.Reading.{texts_of}
+use Rattle.pb_reading.specs.Reading.{texts_of}
 use Rattle.pb_texts.specs.StoryLines.{story_in, story_fault}
 use Rattle.pb_texts.proofs.Faults.{has_kind_still}
 use Rattle.pb_texts.proofs.StoryFaults.{asked_faultless, unasked_fault}

@@ -1,6 +1,0 @@
-use Rattle.std.proofs.Common.{sym, ◌∙◌}
-use Rattle.pb_asm.proofs.Numerals.{none_fits}
-use Rattle.pb_asm.proofs.operands.numeral_upto.Goals as goal
-
-pub returns-in_default-clause-value : goal.returns-in_default-clause-value
-returns-in_default-clause-value c = none_fits _ c.args.greatest c.args.text.now c.in_default.field-0 c.ranges.greatest.fits (sym c.is_numeral.ensures ∙ c.if-not-is_numeral.false) c.in_default.ensures.value.0

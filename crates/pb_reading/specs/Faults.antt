@@ -1,0 +1,45 @@
+-- Which fault is told of a text: that of its first line at fault, by the line's number and the code's. Readers of
+-- programs' texts, scripts and schedules promise it by these words, and so do their laws.
+use Rattle.std.specs.Prelude.{◌≡◌, ◌⊎◌, ℕ, ◌+◌, List, ◌∷◌, ◌++◌, length, Result, Ok, Err}
+use Rattle.pb_reading.specs.declared.fault.LineFault.{LineFault}
+use Rattle.pb_reading.specs.declared.fault.LineFault.TheVariants.{NoMemory, Code}
+use Rattle.pb_reading.specs.declared.fault.TextFault.{TextFault}
+use Rattle.pb_reading.specs.Reading.{lines_of, in_turn, numbered}
+
+-- what reading gives where a line wasn't taken for this: that fault. Of want of memory nothing follows, since no contract
+-- can say when there is any
+abbrev pub Ends : {Y C : Type 0} → LineFault C → Result Y C → Type 0
+Ends NoMemory read = Unit {0}
+Ends (Code c) read = read ≡ Err c
+
+-- what was returned of a line, seen by view, is what reading gives, unless memory ran out
+abbrev pub ReadsLine : {X Y C : Type 0} → (X → Y) → Result X (LineFault C) → Result Y C → Type 0
+ReadsLine view (Ok x) read = read ≡ Ok (view x)
+ReadsLine view (Err fault) read = Ends fault read
+
+-- how want of memory is told: no line has number 0, so that it is taken for no other
+abbrev pub no_memory_told : TextFault
+no_memory_told = record { line = 0; code = 1 }
+
+-- what was returned of a text, seen by view, is what reading gives, unless memory ran out
+abbrev pub ReadsText : {X Y : Type 0} → (X → Y) → Result X TextFault → Result Y (ℕ × ℕ) → Type 0
+ReadsText view (Ok x) read = read ≡ Ok (view x)
+ReadsText view (Err f) read = (f ≡ no_memory_told) ⊎ (read ≡ Err (f.line, f.code))
+
+-- the lines one after the other, each after what those before it made; the first fault ends it, and is told by the
+-- number of its line, to which skipped lines count, and by that of its code
+abbrev pub in_lines : {S C : Type 0} → (C → ℕ) → (S → List ℕ → Result S C) → ℕ → S → List (List ℕ) → Result S (ℕ × ℕ)
+in_lines code with_line n before lines = in_turn (λ m s line. numbered code m (with_line s line)) n before lines
+
+-- the lines in front are read, as a text of their own, and after them the line of this number is at fault
+pub record StopsAt {S C : Type 0} (code : C → ℕ) (with_line : S → List ℕ → Result S C) (start : S) (text : List ℕ) (line told : ℕ) : Type 0 where
+  pub front : List (List ℕ)
+  pub here : List ℕ
+  pub after : List (List ℕ)
+  pub before : S
+  pub cause : C
+  pub parts : lines_of text ≡ front ++ here ∷ after
+  pub read : in_lines code with_line 0 start front ≡ Ok before
+  pub fault : with_line before here ≡ Err cause
+  pub number : line ≡ length front + 1
+  pub told_by : told ≡ code cause
