@@ -1,6 +1,4 @@
 mod SameBatches
 pub mod Parts
 pub mod Logic
-pub mod Numerals
 pub mod SameCells
-pub mod SkippedLines

@@ -3,4 +3,4 @@ pub mod Sink
 pub mod Batch
 pub mod Same
 pub mod Reasons
-pub mod Reading
+pub mod Taking

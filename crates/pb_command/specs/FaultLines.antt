@@ -4,7 +4,7 @@ use Rattle.std.specs.List.{enumerate_from, flat_map}
 use Rattle.std.specs.Fmt.{decimal}
 use Rattle.pb_base.specs.declared.refusal.Refusal.{Refusal}
 use Rattle.pb_registry.specs.FaultTexts.{fault_text}
-use Rattle.pb_script.specs.Taking.{Taking, TookAll, TookPart}
+use Rattle.pb_base.specs.Taking.{Taking, TookAll, TookPart}
 use Rattle.pb_driver.specs.declared.fault.RunFault.{RunFault}
 use Rattle.pb_driver.specs.declared.fault.RunFault.TheVariants as runs
 use Rattle.pb_driver.specs.declared.run.Ran.{Ran}

@@ -13,7 +13,7 @@ use Rattle.pb_decode.specs.Faults.{AreRefusedAs}
 use Rattle.pb_asm.specs.declared.fault.AsmFault.{AsmFault}
 use Rattle.pb_asm.specs.Listing.{listing}
 use Rattle.pb_asm.specs.Texts.{program_of_text}
-use Rattle.pb_script.specs.Taking.{Taking, TookAll, TookPart, TookNothing}
+use Rattle.pb_base.specs.Taking.{Taking, TookAll, TookPart, TookNothing}
 use Rattle.pb_command.specs.declared.answer.Verdict.{Verdict}
 use Rattle.pb_command.specs.declared.answer.Verdict.TheVariants.{Accepted, Refused}
 use Rattle.pb_command.specs.declared.fault.Fault.{Fault}

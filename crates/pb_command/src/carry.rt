@@ -4,7 +4,7 @@ ghost use Rattle.pb_base.specs.declared.limits.TheConstants.{MAX_SEATS};
 ghost use Rattle.pb_store.specs.Contents.{nothing};
 ghost use Rattle.pb_texts.specs.CommandLines.{IsInRange, swaps_asked};
 ghost use Rattle.pb_worker.specs.Swaps.{spares_of};
-ghost use Rattle.pb_script.specs.Taking.{taking};
+ghost use Rattle.pb_base.specs.Taking.{taking};
 ghost use Rattle.pb_command.specs.Files.{filing};
 ghost use Rattle.pb_command.specs.Commands.{IsAllDone, RunLeaves, ReplayLeaves, IsToldAs, IsSequential, Commands};
 

@@ -1,6 +1,6 @@
 //! Why a command failed, and the lines that tell it, each made whole before it is written.
 ghost use Rattle.std.specs.Prelude.{◌≡◌, ◌+◌, false, IfOk, string_bytes};
-ghost use Rattle.pb_script.specs.Taking.{taking};
+ghost use Rattle.pb_base.specs.Taking.{taking};
 ghost use Rattle.pb_command.specs.FaultLines.{place_line, script_line, schedule_line, event_line, run_fault_line, worker_line, worker_lines, change_line, change_lines, undone_lines, fault_lines, Tells};
 ghost use Rattle.pb_command.specs.declared.fault.Fault.TheVariants as faults;
 

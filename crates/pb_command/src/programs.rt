@@ -1,6 +1,6 @@
 //! Programs assembled, listed and checked. A file's bytes are judged, and the text made, before any of it is written.
 ghost use Rattle.std.specs.Prelude.{◌≡◌, false, IfOk, IfErr, string_bytes};
-ghost use Rattle.pb_script.specs.Taking.{taking, TookAll, TookPart};
+ghost use Rattle.pb_base.specs.Taking.{taking, TookAll, TookPart};
 ghost use Rattle.pb_command.specs.declared.fault.Fault.TheVariants as faults;
 ghost use Rattle.pb_command.specs.Files.{filing};
 ghost use Rattle.pb_command.specs.PathFaults.{IsUnreadAt};

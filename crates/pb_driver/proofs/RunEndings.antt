@@ -10,7 +10,7 @@ use Rattle.pb_worker.specs.Swaps.{Spare}
 use Rattle.pb_worker.specs.Work.{KeepsOpening}
 use Rattle.pb_script.specs.declared.fault.ReportFault.{ReportFault}
 use Rattle.pb_script.specs.declared.fault.ReportFault.TheVariants as ends
-use Rattle.pb_script.specs.Taking.{Taking}
+use Rattle.pb_base.specs.Taking.{Taking}
 use Rattle.pb_script.specs.TableReports.{Reports}
 use Rattle.pb_driver.specs.declared.fault.RunFault.{RunFault}
 use Rattle.pb_driver.specs.declared.fault.RunFault.TheVariants as faults

@@ -12,7 +12,7 @@ use Rattle.pb_worker.specs.Agrees.{Agree}
 use Rattle.pb_worker.specs.Laws.{MakesChanges}
 use Rattle.pb_worker.specs.Swaps.{Spare}
 use Rattle.pb_worker.specs.Work.{WorkedOn, KeepsOpening}
-use Rattle.pb_script.specs.Taking.{Taking, TookNothing}
+use Rattle.pb_base.specs.Taking.{Taking, TookNothing}
 use Rattle.pb_script.specs.TableReports.{Wrote, Began}
 use Rattle.pb_driver.specs.declared.fault.RunFault.{RunFault}
 use Rattle.pb_driver.specs.declared.fault.RunFault.TheVariants as faults

@@ -2,7 +2,7 @@
 ghost use Rattle.std.specs.Prelude.{◌≡◌, false};
 ghost use Rattle.pb_store.specs.Contents.{nothing};
 ghost use Rattle.pb_core.specs.Calls.{AreSeats};
-ghost use Rattle.pb_script.specs.Taking.{taking};
+ghost use Rattle.pb_base.specs.Taking.{taking};
 ghost use Rattle.pb_driver.specs.Replays.{Replays, EventsEnd, ReplaysTexts};
 
 use crate::fault::RunFault;

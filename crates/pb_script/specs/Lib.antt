@@ -3,5 +3,4 @@ pub mod Reports
 pub mod Committed
 pub mod Puts
 pub mod Tallies
-pub mod Taking
 pub mod TableReports

@@ -3,7 +3,7 @@ use Rattle.std.specs.Prelude.{ℕ, List, Result, Ok, Err}
 use Rattle.std.specs.FinMap as finite
 use Rattle.pb_steps.specs.Readings.{lock_count}
 use Rattle.pb_core.specs.Calls.{SharedOf}
-use Rattle.pb_script.specs.Taking.{Taking, TookAll, TookPart, TookNothing}
+use Rattle.pb_base.specs.Taking.{Taking, TookAll, TookPart, TookNothing}
 use Rattle.pb_script.specs.declared.fault.ReportFault.{ReportFault}
 use Rattle.pb_script.specs.declared.fault.ReportFault.TheVariants as ends
 use Rattle.pb_script.specs.ReportLines.{Tallies}

@@ -5,7 +5,7 @@ ghost use Rattle.pb_script.specs.Committed.{AreSeen, HasNewest};
 ghost use Rattle.pb_script.specs.Reports.{AreNewest};
 ghost use Rattle.pb_script.specs.declared.reports.newest.Put.{Put};
 ghost use Rattle.pb_script.specs.TableReports.{IsReportIn, Reports};
-ghost use Rattle.pb_script.specs.Taking.{taking};
+ghost use Rattle.pb_base.specs.Taking.{taking};
 
 use crate::fault::ReportFault;
 use crate::reports::{Newest, Put, note, report_of};

@@ -8,7 +8,7 @@ use Rattle.std.proofs.lemmas.Option.{slice_get_within, get_or_from_slice_get}
 use Rattle.pb_parse.specs.declared.event.Event.{Event}
 use Rattle.pb_world.specs.Events.{WorldOf}
 use Rattle.pb_script.specs.declared.fault.ReportFault.TheVariants as ends
-use Rattle.pb_script.specs.Taking.{Taking, TookAll, TookPart}
+use Rattle.pb_base.specs.Taking.{Taking, TookAll, TookPart}
 use Rattle.pb_script.specs.TableReports.{Reports}
 use Rattle.pb_story.specs.declared.fault.StoryFault.{StoryFault}
 use Rattle.pb_story.specs.declared.fault.StoryFault.TheVariants as faults

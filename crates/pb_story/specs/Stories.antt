@@ -7,7 +7,7 @@ use Rattle.pb_world.specs.declared.fault.WorldFault.{WorldFault}
 use Rattle.pb_world.specs.declared.note.Note.{Note}
 use Rattle.pb_world.specs.Faults.{fault_code}
 use Rattle.pb_world.specs.Events.{WorldOf, fault_of, Happens}
-use Rattle.pb_script.specs.Taking.{Taking, TookAll, TookPart, TookNothing}
+use Rattle.pb_base.specs.Taking.{Taking, TookAll, TookPart, TookNothing}
 use Rattle.pb_script.specs.TableReports.{IsReportIn}
 use Rattle.pb_story.specs.declared.fault.StoryFault.{StoryFault}
 use Rattle.pb_story.specs.declared.fault.StoryFault.TheVariants as faults

@@ -2,7 +2,7 @@
 //! that a replay makes, so that there is no second way for events to happen.
 ghost use Rattle.std.specs.Prelude.{◌≡◌, false, IfOk, IfErr};
 ghost use Rattle.pb_world.specs.Events.{Happens};
-ghost use Rattle.pb_script.specs.Taking.{taking};
+ghost use Rattle.pb_base.specs.Taking.{taking};
 ghost use Rattle.pb_story.specs.Stories.{IsEventFault, EventEnds, LinesEnd, StoryEnds};
 
 use crate::fault::StoryFault;

@@ -12,7 +12,7 @@ use Rattle.pb_driver.specs.Replays.{opened_world}
 use Rattle.pb_world.specs.Events.{WorldOf}
 use Rattle.pb_story.specs.declared.fault.StoryFault.{StoryFault}
 use Rattle.pb_story.specs.declared.fault.StoryFault.TheVariants as ends
-use Rattle.pb_script.specs.Taking.{Taking, TookNothing}
+use Rattle.pb_base.specs.Taking.{Taking, TookNothing}
 use Rattle.pb_story.specs.Stories.{AreTold, StoryEnds}
 use Rattle.percobpf_story.specs.Replays.{StoryEndsFrom, ToldOn}
 

@@ -7,7 +7,7 @@ use Rattle.pb_command.specs.declared.answer.Verdict.{Verdict}
 use Rattle.pb_command.specs.declared.answer.Verdict.TheVariants.{Accepted, Refused}
 use Rattle.pb_command.specs.declared.fault.Fault.{Fault}
 use Rattle.pb_command.specs.declared.fault.Fault.TheVariants as faults
-use Rattle.pb_script.specs.Taking.{Taking, TookNothing}
+use Rattle.pb_base.specs.Taking.{Taking, TookNothing}
 use Rattle.pb_command.specs.Files.{Text, Held, Filing, KeepsFiles, IsKnownAs}
 use Rattle.pb_command.specs.PathFaults.{IsFileFault}
 use Rattle.pb_command.specs.Programs.{AnswerLeaves}

@@ -11,7 +11,7 @@ use Rattle.pb_driver.specs.declared.fault.RunFault.{RunFault}
 use Rattle.pb_driver.specs.declared.fault.RunFault.TheVariants as faults
 use Rattle.pb_driver.specs.Texts.{IsReplayRead, IsReplayUnread, fresh}
 use Rattle.pb_driver.specs.Replays.{opened_world}
-use Rattle.pb_script.specs.Taking.{Taking, TookNothing}
+use Rattle.pb_base.specs.Taking.{Taking, TookNothing}
 use Rattle.pb_story.specs.declared.fault.StoryFault.{StoryFault}
 use Rattle.pb_story.specs.declared.fault.StoryFault.TheVariants as ends
 use Rattle.pb_story.specs.Stories.{StoryEnds}

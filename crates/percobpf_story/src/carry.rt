@@ -2,7 +2,7 @@
 //! that return.
 ghost use Rattle.std.specs.Prelude.{◌≡◌, false};
 ghost use Rattle.pb_store.specs.Contents.{nothing};
-ghost use Rattle.pb_script.specs.Taking.{taking};
+ghost use Rattle.pb_base.specs.Taking.{taking};
 ghost use Rattle.pb_command.specs.Files.{filing};
 ghost use Rattle.percobpf_story.specs.Commands.{TellLeaves, StoryCommands};
 

@@ -1,6 +1,6 @@
 //! What is known before each slot of a file's program, told as `dis` and `check` tell theirs: a verdict and its text.
 ghost use Rattle.std.specs.Prelude.{◌≡◌, false, IfOk, IfErr, string_bytes};
-ghost use Rattle.pb_script.specs.Taking.{taking};
+ghost use Rattle.pb_base.specs.Taking.{taking};
 ghost use Rattle.pb_command.specs.Programs.{IsMemoryFault, AnswerLeaves};
 ghost use Rattle.percobpf_story.specs.Frames.{KnowsFrames};
 

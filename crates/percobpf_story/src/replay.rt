@@ -3,7 +3,7 @@
 ghost use Rattle.std.specs.Prelude.{◌≡◌, false};
 ghost use Rattle.pb_store.specs.Contents.{nothing};
 ghost use Rattle.pb_core.specs.Calls.{AreSeats};
-ghost use Rattle.pb_script.specs.Taking.{taking};
+ghost use Rattle.pb_base.specs.Taking.{taking};
 ghost use Rattle.pb_driver.specs.Replays.{opened_world};
 ghost use Rattle.percobpf_story.specs.Replays.{of_story, StoryEndsFrom, TellsTexts};
 

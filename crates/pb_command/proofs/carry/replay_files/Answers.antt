@@ -1,5 +1,5 @@
 use Rattle.std.proofs.Common.{refl}
-use Rattle.pb_script.specs.Taking.{taking}
+use Rattle.pb_base.specs.Taking.{taking}
 use Rattle.pb_command.proofs.FileFaults.{file_fails}
 use Rattle.pb_command.proofs.carry.replay_files.Goals as goal
 

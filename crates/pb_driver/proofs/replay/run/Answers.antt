@@ -1,5 +1,5 @@
 use Rattle.std.proofs.Common.{Ok, Err, refl, subst}
-use Rattle.pb_script.specs.Taking.{taking}
+use Rattle.pb_base.specs.Taking.{taking}
 use Rattle.pb_script.specs.TableReports.{Reports}
 use Rattle.pb_driver.proofs.ReplayEndings.{reported, cut, stopped}
 use Rattle.pb_driver.proofs.replay.run.Goals as goal

@@ -1,5 +1,5 @@
 use Rattle.std.proofs.Common.{rules, refl}
-use Rattle.pb_script.specs.Taking.{taking}
+use Rattle.pb_base.specs.Taking.{taking}
 use Rattle.pb_driver.specs.Replays.{opened_world}
 use Rattle.percobpf_story.proofs.StoryEndings.{none_told}
 use Rattle.percobpf_story.proofs.replay.tell_on.Goals as goal

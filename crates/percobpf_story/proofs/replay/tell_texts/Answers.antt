@@ -3,7 +3,7 @@ use Rattle.pb_base.specs.declared.limits.TheConstants.{MAX_SEATS}
 use Rattle.pb_core.specs.Calls.{AreSeats}
 use Rattle.pb_driver.specs.Texts.{fresh}
 use Rattle.pb_driver.specs.Replays.{opened_world}
-use Rattle.pb_script.specs.Taking.{taking}
+use Rattle.pb_base.specs.Taking.{taking}
 use Rattle.percobpf_story.specs.Replays.{StoryEndsFrom}
 use Rattle.percobpf_story.proofs.StoryEndings.{told_on}
 use Rattle.percobpf_story.proofs.replay.tell_texts.Goals as goal
