@@ -56,7 +56,8 @@ fn run_on<T: Tablet, S: Sink>(
 ) -> Result<(), RunFault>
     requires seated { AreSeats shared seats.items }
     requires unfailed { S.failed sink.old ≡ false }
-    ensures { Replays shared seats.items batches.items events.now (taking S.taken S.failed sink.old sink.new) result }
+    ensures { Replays shared seats.items batches.items events.now
+        (taking S.taken S.failed sink.old sink.new) result }
 {
     match World::open(alloc, shared, seats, batches) {
         Ok(world) => {
@@ -89,7 +90,8 @@ pub fn replay_texts<T: Tablet, S: Sink>(
 ) -> Result<(), RunFault>
     requires empty { table.contents ≡ nothing }
     requires unfailed { S.failed sink.old ≡ false }
-    ensures { ReplaysTexts manifest.now script.now schedule.now last.0 (taking S.taken S.failed sink.old sink.new) result }
+    ensures { ReplaysTexts manifest.now script.now schedule.now last.0
+        (taking S.taken S.failed sink.old sink.new) result }
 {
     let (observers, batches, events) = match read_replay(alloc, manifest, script, schedule) {
         Ok(texts) => texts,

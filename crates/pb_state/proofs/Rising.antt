@@ -1,10 +1,13 @@
 -- Look-ups and changes in pairs that rise by their numbers.
-use Rattle.std.proofs.Common.{◌≡◌, ◌≢◌, ℕ, ◌+◌, ◌<◌, ◌≤◌, inl, inr, Bool, true, false, cond, zero, suc, List, [], ◌∷◌, ◌++◌, length, length-set, get_or, set, Option, Some, None, refl, sym, ap, subst, ◌∙◌, arith}
+use Rattle.std.proofs.Common.{◌≡◌, ◌≢◌, ℕ, ◌+◌, ◌<◌, ◌≤◌, T, inl, inr, Bool, true, false, cond, zero, suc, List, [], ◌∷◌, ◌++◌, length, length-set, get_or, set, Option, Some, None, slice_get, refl, sym, ap, subst, ◌∙◌, arith}
+use Rattle.std.specs.declared.cmp.Ordering.TheVariants.{Less}
 use Rattle.std.specs.Ordering.{nat_cmp, eq_by_cmp}
-use Rattle.std.specs.Cmp.{unsigned_tied, nat_cmp_total}
+use Rattle.std.specs.Cmp.{unsigned_tied, nat_cmp_total, nat_cmp_is}
 use Rattle.std.specs.FinMap as map
 use Rattle.std.proofs.lemmas.Bool.{eqb-true, eq-eqb, ne_eqb, cases_lt}
+use Rattle.std.proofs.lemmas.Option.{slice_get_within, get_or_from_slice_get, slice_get_read}
 use Rattle.std.proofs.lemmas.List.{get_or_default, get_or_append_left, length_push, get_or_push}
+use Rattle.pb_base.proofs.Logic.{first_holds, both_hold, less_holds}
 use Rattle.pb_state.specs.Starts.{StartsRise, IsStartAt, IsNoStart}
 
 other_number : (q k : ℕ) → q ≢ k → eq_by_cmp nat_cmp q k ≡ false
@@ -120,17 +123,66 @@ module _ {X : Type 0} where
 
   -- ---- the same of the map that they are
 
-  pub held : (es : List (ℕ × X)) (m : map.FinMap nat_cmp X) (k i : ℕ) (e : ℕ × X) → StartsRise es → map.from_entries es ≡ m → IsStartAt es k i → e ≡ get_or es i e → map.get m k ≡ Some e.1
-  held es m k i e r is at here =
-      ap (λ n. map.get n k) (sym is) ∙ map.get-from_entries nat_cmp_total es k ∙ find_at es k i e r at ∙ ap (λ (p : ℕ × X). Some p.1) (sym here)
+  sorted_over : (p : ℕ × X) (es : List (ℕ × X)) → ((i : ℕ) (d : ℕ × X) → i < length es → p.0 < (get_or es i d).0) → StartsRise es → T (map.is_sorted nat_cmp (p ∷ es))
+  sorted_over p [] over r = tt
+  sorted_over p (e ∷ es) over r =
+      let rest = tail_rises e es r in
+      both_hold _ _ (both_hold _ _ (less_holds _ (sym (nat_cmp_is p.0 e.0 Less (over 0 e (omega arith))))) (first_holds _ _ (sorted_over p es (λ i d lt. over (suc i) d (omega arith)) rest)))
+      (sorted_over e es (λ i d lt. r.at 0 (suc i) d (omega arith) (omega arith)) rest)
+
+  sorted : (es : List (ℕ × X)) → StartsRise es → T (map.is_sorted nat_cmp es)
+  sorted [] r = tt
+  sorted (e ∷ es) r = sorted_over e es (λ i d lt. r.at 0 (suc i) d (omega arith) (omega arith)) (tail_rises e es r)
+
+  -- pairs that rise are the entries of the map that they are
+  entries_are : (es : List (ℕ × X)) (m : map.FinMap nat_cmp X) → StartsRise es → map.from_entries es ≡ m → map.entries m ≡ es
+  entries_are es m r is =
+      let s = sorted es r in
+      ap map.entries (sym is ∙ map.same_map nat_cmp_total map.nat_cmp-IsAntisymmetric _ _ (λ q. map.get-from_entries nat_cmp_total es q ∙ sym (map.get-from_sorted nat_cmp es q s)))
+      ∙ map.entries-from_sorted nat_cmp es s
+
+  module _ (es : List (ℕ × X)) (m : map.FinMap nat_cmp X) (k i : ℕ) (r : StartsRise es) (is : map.from_entries es ≡ m) where
+    -- what was found in the list stands at that place of the map
+    pub found : (e : ℕ × X) → IsStartAt es k i → e ≡ get_or es i e → (map.get m k ≡ Some e.1) × (slice_get (map.entries m) i ≡ Some (k, e.1))
+    found e at here =
+        let number : e.0 ≡ k = ap (λ (p : ℕ × X). p.0) here ∙ at.here e in (
+          ap (λ n. map.get n k) (sym is) ∙ map.get-from_entries nat_cmp_total es k ∙ find_at es k i e r at ∙ ap (λ (p : ℕ × X). Some p.1) (sym here),
+          ap (λ ps. slice_get ps i) (entries_are es m r is) ∙ slice_get_read es _ i e refl at.within here ∙ ap (λ n. Some (n, e.1)) number,
+        )
+
+    -- and the other way round
+    pub start_at : (t : X) → slice_get (map.entries m) i ≡ Some (k, t) → IsStartAt es k i
+    start_at t there =
+        let here = ap (λ ps. slice_get ps i) (sym (entries_are es m r is)) ∙ there in
+        record { within = slice_get_within es i (k, t) here; here = λ d. ap (λ (p : ℕ × X). p.0) (get_or_from_slice_get es i (k, t) d here) }
+
+    -- another value there is put under its number
+    pub changed : (e : ℕ × X) (w : X) → IsStartAt es k i → e ≡ get_or es i e → map.from_entries {R = nat_cmp} (set es i (e.0, w)) ≡ map.insert m k w
+    changed e w at here =
+        let number : e.0 ≡ k = ap (λ (p : ℕ × X). p.0) here ∙ at.here e in
+        ap (λ n. map.from_entries {R = nat_cmp} (set es i (n, w))) number ∙ inserted es k i w r at ∙ ap (λ n. map.insert n k w) is
+
+  set_number : (es : List (ℕ × X)) (i : ℕ) (v : ℕ × X) → ((d : ℕ × X) → (get_or es i d).0 ≡ v.0) → (j : ℕ) (d : ℕ × X) → (get_or (set es i v) j d).0 ≡ (get_or es j d).0
+  set_number [] i v h j d = refl
+  set_number (e ∷ es) zero v h zero d = sym (h d)
+  set_number (e ∷ es) zero v h (suc j) d = refl
+  set_number (e ∷ es) (suc i) v h zero d = refl
+  set_number (e ∷ es) (suc i) v h (suc j) d = set_number es i v h j d
+
+  -- and the numbers rise as before
+  pub set_rises : (es : List (ℕ × X)) (k i : ℕ) (e : ℕ × X) (w : X) → StartsRise es → IsStartAt es k i → e ≡ get_or es i e → StartsRise (set es i (e.0, w))
+  set_rises es k i e w r at here = record {
+    at = λ j l d lt within.
+        let low = r.at j l d lt (subst (λ n. l < n) (length-set es i _) within) in
+        let number : e.0 ≡ k = ap (λ (p : ℕ × X). p.0) here ∙ at.here e in
+        let same = set_number es i (e.0, w) (λ f. at.here f ∙ sym number) in
+        let a = same j d in
+        let b = same l d in
+        omega (arith, low, a, b);
+  }
 
   pub not_held : (es : List (ℕ × X)) (m : map.FinMap nat_cmp X) (k : ℕ) → map.from_entries es ≡ m → IsNoStart es k → map.get m k ≡ None
   not_held es m k is none = ap (λ n. map.get n k) (sym is) ∙ map.get-from_entries nat_cmp_total es k ∙ find_nowhere es k none
-
-  pub changed : (es : List (ℕ × X)) (m : map.FinMap nat_cmp X) (k i : ℕ) (e : ℕ × X) (v w : X) → StartsRise es → map.from_entries es ≡ m → IsStartAt es k i → e ≡ get_or es i e → v ≡ w → map.from_entries {R = nat_cmp} (set es i (e.0, v)) ≡ map.insert m k w
-  changed es m k i e v w r is at here same =
-      let number : e.0 ≡ k = ap (λ (p : ℕ × X). p.0) here ∙ at.here e in
-      (λ j. map.from_entries {R = nat_cmp} (set es i (number j, same j))) ∙ inserted es k i w r at ∙ ap (λ n. map.insert n k w) is
 
   pub added : (es : List (ℕ × X)) (m : map.FinMap nat_cmp X) (k : ℕ) (v : X) → StartsRise es → map.from_entries es ≡ m → ((q : ℕ) (x : X) → map.get m q ≡ Some x → q < k) → map.from_entries {R = nat_cmp} (es ++ (k, v) ∷ []) ≡ map.insert m k v
   added es m k v r is low =
@@ -139,3 +191,13 @@ module _ {X : Type 0} where
 
   pub added_rises : (es : List (ℕ × X)) (m : map.FinMap nat_cmp X) (k : ℕ) (v : X) → StartsRise es → map.from_entries es ≡ m → ((q : ℕ) (x : X) → map.get m q ≡ Some x → q < k) → StartsRise (es ++ (k, v) ∷ [])
   added_rises es m k v r is low = push_rises es (k, v) r (all_below es k r (λ q x g. low q x (ap (λ n. map.get n q) (sym is) ∙ g)))
+
+  same_if : (b : Bool) (o p : Option X) → (b ≡ true → p ≡ o) → cond b o p ≡ p
+  same_if true o p h = sym (h refl)
+  same_if false o p h = refl
+
+  -- what stands there put once more
+  pub put_again : (m : map.FinMap nat_cmp X) (k : ℕ) (v : X) → map.get m k ≡ Some v → map.insert m k v ≡ m
+  put_again m k v there = map.same_map nat_cmp_total map.nat_cmp-IsAntisymmetric _ _ (λ q.
+      map.get-insert nat_cmp_total m k v q
+      ∙ same_if (eq_by_cmp nat_cmp q k) (Some v) (map.get m q) (λ e. ap (λ n. map.get m n) (eqb-true q k (sym (unsigned_tied q k) ∙ e)) ∙ there))
