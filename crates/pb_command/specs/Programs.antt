@@ -10,7 +10,7 @@ use Rattle.pb_helpers.specs.Table.{all_helpers}
 use Rattle.pb_registry.specs.Accepting.{IsAcceptedCode, IsRefusedCode}
 use Rattle.pb_decode.specs.Encoding.{Encodes}
 use Rattle.pb_decode.specs.Faults.{AreRefusedAs}
-use Rattle.pb_asm.specs.declared.fault.AsmFault.{AsmFault}
+use Rattle.pb_reading.specs.declared.fault.TextFault.{TextFault}
 use Rattle.pb_asm.specs.Listing.{listing}
 use Rattle.pb_asm.specs.Texts.{program_of_text}
 use Rattle.pb_base.specs.Taking.{Taking, TookAll, TookPart, TookNothing}
@@ -121,7 +121,7 @@ AnswerLeaves judges held path out (Ok verdict) = Answered judges held out verdic
 AnswerLeaves judges held path out (Err f) = AnswerFails judges held path out f
 
 -- the fault is one of a text that was read
-abbrev pub IsTextFault : AsmFault → Fault → Type 0
+abbrev pub IsTextFault : TextFault → Fault → Type 0
 IsTextFault f (faults.Text g) = (g ≡ f) × (f.code ≢ 1)
 IsTextFault f faults.NoMemory = Unit {0}
 IsTextFault f _ = ⊥

@@ -7,7 +7,7 @@ ghost use Rattle.pb_command.specs.declared.fault.Fault.TheVariants as faults;
 use pb_asm::AsmFault;
 use pb_base::{NoMemory, Refusal, Sink};
 use pb_driver::{Ran, RunFault};
-use pb_parse::{ScheduleFault, ScriptFault};
+use pb_parse::ScriptFault;
 use pb_world::WorldFault;
 use std::alloc::{AllocError, Global};
 
@@ -59,10 +59,10 @@ fn script_line(alloc: Global, fault: &ScriptFault) -> Result<String, AllocError>
 }
 
 // The line that tells the fault of a schedule.
-fn schedule_line(alloc: Global, fault: &ScheduleFault) -> Result<String, AllocError>
+fn schedule_line(alloc: Global, fault: &ScriptFault) -> Result<String, AllocError>
     ensures { IfOk result (λ s. string_bytes s ≡ schedule_line fault.now.line fault.now.code) }
 {
-    let ScheduleFault { line, code } = *fault;
+    let ScriptFault { line, code } = *fault;
     format!(in alloc; "schedule: line {line} code {code}\n")
 }
 
