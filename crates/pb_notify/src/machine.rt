@@ -76,6 +76,7 @@ impl Machine {
     }
 
     /// Does one instruction, and tells what it did.
+    #[inline(always)]
     pub fn local(&mut self) -> Moved
         requires { self.old.phase ≡ Going }
         ensures { MovesOn self.old result self.new }
