@@ -51,9 +51,36 @@ WITHOUT_FORM = [
     ("a1a0f8ff00000000", 12),
 ]
 
+# a number in register 1, and what a move makes of it
+MOVES = [
+    ("b701000080000000", "bf10080000000000", 0xFFFF_FFFF_FFFF_FF80),
+    ("b701000080000000", "bc10080000000000", 0xFFFF_FF80),
+    ("b70100007f000000", "bf10080000000000", 0x7F),
+    ("b701000000800000", "bf10100000000000", 0xFFFF_FFFF_FFFF_8000),
+    ("b701000000800000", "bc10100000000000", 0xFFFF_8000),
+    ("b7010000ff7f0000", "bc10100000000000", 0x7FFF),
+    ("b401000000000080", "bf10200000000000", 0xFFFF_FFFF_8000_0000),
+    ("b7010000ffffff7f", "bf10200000000000", 0x7FFF_FFFF),
+]
+
+# a byte, two or four on the stack, and what is loaded of them
+LOADS = [
+    ("720affff80000000", "91a0ffff00000000", 0xFFFF_FFFF_FFFF_FF80),
+    ("720affff7f000000", "91a0ffff00000000", 0x7F),
+    ("6a0afeff00800000", "89a0feff00000000", 0xFFFF_FFFF_FFFF_8000),
+    ("6a0afeffff7f0000", "89a0feff00000000", 0x7FFF),
+    ("620afcff00000080", "81a0fcff00000000", 0xFFFF_FFFF_8000_0000),
+    ("620afcffffffff7f", "81a0fcff00000000", 0x7FFF_FFFF),
+]
+
 
 def first_refused(digits: str, number: int) -> Row:
     return dis_refused(bytes.fromhex(digits), 0, number)
+
+
+def in_first(digits: str, number: int) -> int:
+    """The same number in profile 1, but where the opcode alone is of profile 2, which is told first."""
+    return 12 if digits[:2] in ("81", "89", "91") else number
 
 
 LISTED = [
@@ -61,8 +88,7 @@ LISTED = [
     *(first_refused(digits, number) for _, digits, number in NEW),
     *(in_profile(1, first_refused(digits, number)) for _, digits, number in NEW),
     *(in_profile(2, first_refused(digits, number)) for digits, number in WITHOUT_FORM),
-    # where the opcode alone is of profile 2, it is told first
-    *(in_profile(1, first_refused(digits, 12 if digits[:2] in ("81", "89", "91") else number)) for digits, number in WITHOUT_FORM),
+    *(in_profile(1, first_refused(digits, in_first(digits, number))) for digits, number in WITHOUT_FORM),
     # with offset 0 both are moves as before
     *(in_profile(2, dis(encoded(text), f"{text}\n")) for text in ("mov64 r0, r1", "mov32 r0, r1", "ldxw r0, [r1+0]")),
     in_profile(2, dis(MOV * 4_096, "mov64 r0, 0\n" * 4_096)),
@@ -151,6 +177,13 @@ CHECKED = [
     in_profile(2, refused(MOV * 4_096 + EXIT, 0, 11)),
     in_profile(1, refused(MOV * 512 + EXIT, 0, 11)),
     in_profile(2, refused(MOV * 4_096, 4_095, 36)),
+    *(in_profile(profile, accepted(MOV * 511 + EXIT, 512)) for profile in (1, 2)),
+    in_profile(2, accepted(MOV * 512 + EXIT, 513)),
+    *(in_profile(1, refused(MOV * count + EXIT, 0, 11)) for count in (4_095, 4_096)),
+    *(in_profile(1, refused(bytes.fromhex(first + second) + EXIT, 1, 14)) for first, second, _ in MOVES),
+    *(in_profile(1, refused(bytes.fromhex(first + second) + EXIT, 1, 12)) for first, second, _ in LOADS),
+    *(in_profile(2, refused(bytes.fromhex(digits) + EXIT, 0, number)) for digits, number in WITHOUT_FORM),
+    *(in_profile(1, refused(bytes.fromhex(digits) + EXIT, 0, in_first(digits, number))) for digits, number in WITHOUT_FORM),
     # a jump over as many slots as an offset and a program allow
     in_profile(2, accepted(
         encoded("mov64 r0, 0; jeq64 r0, 0, +4093") + MOV * 4_093 + EXIT, 4_096)),

@@ -11,6 +11,8 @@ mod checks;
 #[cfg(test)]
 mod choices;
 #[cfg(test)]
+mod faults;
+#[cfg(test)]
 mod programs;
 #[cfg(test)]
 mod replays;

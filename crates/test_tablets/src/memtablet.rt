@@ -4,7 +4,7 @@ ghost use Rattle.pb_base.specs.Cell.{row_of};
 ghost use Rattle.pb_store.specs.Contents.{IsOfSort};
 
 use pb_base::{Cell, Column, Content, NoMemory, Row, Ts};
-use pb_memtablet::ListTablet;
+use pb_memtablet::{ListTablet, SlabTablet};
 use pb_store::{Edit, Item, Slot, Sort, Table, Tablet};
 use std::test::Fail;
 
@@ -89,6 +89,7 @@ fn marks_go_on_from_chunk_to_chunk(rt: HostRuntime) -> Result<(), Fail> {
 
 #[derive(Drop)]
 struct Seen {
+    swapped: bool,
     get: Option<Item>,
     newest: Option<(Ts, Item)>,
     mark: Option<Cell>,
@@ -107,14 +108,35 @@ pub fn end_all<T: Tablet>(mut parts: Vec<(Row, T)>) {
     parts.destroy_empty();
 }
 
-// What a table over the tablets answers once the item is put into the slot and its cell marked.
-fn answers<T: Tablet>(parts: Vec<(Row, T)>, slot: &Slot, item: &Item) -> Result<Seen, NoMemory>
+// Whether a table takes the spare at its second place, and an empty tablet comes back.
+fn is_swapped<T: Tablet>(table: &mut Table<T>, spare: T) -> bool {
+    match table.swap(1, spare) {
+        Ok(old) => {
+            let is_empty = old.is_empty() && old.len() == 0;
+            old.end();
+            is_empty
+        }
+        Err((spare, _)) => {
+            spare.end();
+            false
+        }
+    }
+}
+
+// What a table over the tablets answers once the item is put into the slot, its cell marked, and the spare swapped in.
+fn answers<T: Tablet>(
+    parts: Vec<(Row, T)>,
+    spare: T,
+    slot: &Slot,
+    item: &Item,
+) -> Result<Seen, NoMemory>
     requires { IsOfSort slot.now.sort item.now }
 {
     match Table::new(parts) {
         Ok(mut table) => {
             let done = table.apply(&[Edit::Put(*slot, *item), Edit::Mark(slot.cell)]);
             let seen = Seen {
+                swapped: is_swapped(&mut table, spare),
                 get: table.get(*slot),
                 newest: table.newest(slot.cell, slot.sort, Ts(u64::MAX)),
                 mark: table.next_mark(None),
@@ -130,6 +152,9 @@ fn answers<T: Tablet>(parts: Vec<(Row, T)>, slot: &Slot, item: &Item) -> Result<
         Err(refused) => {
             let (parts, _) = refused;
             end_all(parts);
+            let mut spare = spare;
+            spare.clear();
+            spare.end();
             Err(NoMemory)
         }
     }
@@ -140,7 +165,9 @@ fn boxes_make_a_table(rt: HostRuntime) -> Result<(), Fail> {
     let mut parts: Vec<(Row, Box<dyn Tablet + Send + Drop>)> = Vec::new(rt.alloc());
     parts.push((Row(0), Box::new(rt.alloc(), ListTablet::new(rt.alloc()))?))?;
     parts.push((Row(3), Box::new(rt.alloc(), ListTablet::new(rt.alloc()))?))?;
-    let seen = answers(parts, &slot(Sort::Lock, 1), &Item::Lock(cell()))?;
+    let spare: Box<dyn Tablet + Send + Drop> = Box::new(rt.alloc(), SlabTablet::new(rt.alloc()))?;
+    let seen = answers(parts, spare, &slot(Sort::Lock, 1), &Item::Lock(cell()))?;
+    assert!(rt; seen.swapped);
     assert_eq!(rt; seen.get, Some(Item::Lock(cell())));
     assert_eq!(rt; seen.newest, Some((Ts(1), Item::Lock(cell()))));
     assert_eq!(rt; seen.mark, Some(cell()));

@@ -1,0 +1,14 @@
+//! What the faults of a report are told as.
+use pb_script::ReportFault;
+use std::alloc::AllocError;
+use std::rt::HostRuntime;
+
+#[test]
+fn reports_tell_faults_as_text(rt: HostRuntime) -> Result<(), AllocError> {
+    let alloc = rt.alloc();
+    let output = ReportFault::Output;
+    assert!(rt; format!(in alloc; "{output}")?.as_str() == "cannot write the output");
+    let memory = ReportFault::NoMemory;
+    assert!(rt; format!(in alloc; "{memory}")?.as_str() == "no memory");
+    Ok(())
+}

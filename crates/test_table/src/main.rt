@@ -1,0 +1,149 @@
+//! Takes steps of a shared table, for the rows of checks/tables/steps.py.
+//!
+//! With `TABLETS LAST LIMIT MANIFEST STEP..` the table has these tablets, each named by its first row and its sort (`l`, a list, or
+//! `s`, a slab), the observers of a manifest, and three seats; `LAST` is the last timestamp given out before, and the journal has
+//! room for `LIMIT` entries. A step is the number of the seat that asks and what it asks, as `pb_story` writes it. Only what a run
+//! declares is made here: behind the name of its observer stand that of the observer whose program runs, the run's start, the cell,
+//! the version's start, commit and content, the acknowledged timestamp, what the cell held there, and what the program is told of
+//! each cell that it asks for.
+//!
+//! It prints each step with its answer, or with the number that it is refused with, and then how many marks and locks are left; or
+//! the number that the tablets are refused with, and the first rows of those that are handed back. With `--help` it names its
+//! words. It ends with status 1 where it has no such words or no memory.
+#![tactic(auto)]
+
+mod run;
+mod step;
+mod tablets;
+mod words;
+
+use pb_base::{MAX_ENTRIES, Ts};
+use pb_core::{Seat, Shared};
+use pb_memtablet::EitherTablet;
+use pb_steps::Step;
+use pb_store::{Table, Tablet};
+use pb_story::{add_answer, add_step};
+use std::alloc::{AllocError, Global};
+use std::env;
+use std::process::ExitCode;
+use step::step_of;
+use tablets::{add_entries, add_refused, add_swap, parts_in};
+use test_fixtures::{observers_of, opened_over};
+use words::Words;
+
+const WORDS: &str = "TABLETS LAST LIMIT MANIFEST STEP..";
+
+// Adds the answer of a step, or the number that it is refused with, and where journal or seat has more then, that besides.
+fn add_end<T: Tablet>(
+    text: &mut String,
+    shared: &mut Shared<T>,
+    seat: &mut Seat,
+    step: &Step,
+) -> Result<(), AllocError> {
+    let entries = shared.journal().len();
+    let received = seat.received().len();
+    match shared.call(seat, step) {
+        Ok(answer) => add_answer(text, shared.observers(), &answer),
+        Err(refusal) => {
+            write!(text, "refused {}", refusal.0)?;
+            if shared.journal().len() == entries && seat.received().len() == received {
+                return Ok(());
+            }
+            text.push_str(" and kept")
+        }
+    }
+}
+
+// Adds the step of a seat, and how it ends.
+fn add_step_of<T: Tablet>(
+    alloc: Global,
+    text: &mut String,
+    shared: &mut Shared<T>,
+    seats: &mut Vec<Seat>,
+    asked: &str,
+) -> Option<()> {
+    let mut words = Words::of(asked);
+    let number = words.next().parse::<usize>().ok()?;
+    let step = step_of(alloc, shared.observers(), &mut words)?;
+    let seat = seats.get_mut(number)?;
+    write!(text, "{number} ").ok()?;
+    add_step(text, shared.observers(), &step).ok()?;
+    text.push_str(" -> ").ok()?;
+    add_end(text, shared, seat, &step).ok()
+}
+
+// Adds the line of a step, of a swap or of the entries.
+fn add_line(
+    alloc: Global,
+    text: &mut String,
+    shared: &mut Shared<EitherTablet>,
+    seats: &mut Vec<Seat>,
+    asked: &str,
+) -> Option<()> {
+    if asked == "entries" {
+        add_entries(text, shared.table()).ok()?;
+    } else if let Some(words) = asked.strip_prefix("swap ") {
+        write!(text, "{asked} -> ").ok()?;
+        add_swap(alloc, text, shared, &mut Words::of(words))?;
+    } else {
+        add_step_of(alloc, text, shared, seats, asked)?;
+    }
+    text.push_str("\n").ok()
+}
+
+// Adds a line of each step, and one of the marks and locks that stand.
+fn add_lines(
+    alloc: Global,
+    text: &mut String,
+    shared: &mut Shared<EitherTablet>,
+    seats: &mut Vec<Seat>,
+    steps: &[String],
+) -> Option<()> {
+    for asked in steps {
+        add_line(alloc, text, shared, seats, asked.as_str())?;
+    }
+    writeln!(text, "marks {} locks {}", shared.marks(), shared.locks()).ok()
+}
+
+// What the words ask for.
+fn told_by(alloc: Global, words: &[String]) -> Option<String> {
+    let parts = parts_in(alloc, words.get(1)?.as_str())?;
+    let last = words.get(2)?.as_str().parse::<u64>().ok()?;
+    let limit = words.get(3)?.as_str().parse::<usize>().ok()?;
+    let observers = observers_of(alloc, words.get(4)?.as_str()).ok()?;
+    let steps = words.get(5..)?;
+    if limit > MAX_ENTRIES {
+        return None;
+    }
+    let mut text = String::new(alloc);
+    let told = match Table::new(parts) {
+        Ok(table) => {
+            let opened = opened_over(alloc, table, observers, 3, Ts(last), limit);
+            let (mut shared, mut seats) = opened.ok()?;
+            let told = add_lines(alloc, &mut text, &mut shared, &mut seats, steps);
+            shared.close();
+            told
+        }
+        Err((parts, refusal)) => add_refused(&mut text, &parts, refusal).ok(),
+    };
+    told?;
+    Some(text)
+}
+
+fn is_told(rt: &HostRuntime) -> Option<bool> {
+    let args = env::args(rt).ok()?;
+    let words: Vec<String> = args.collect(rt.alloc()).ok()?;
+    if words.get(1)?.as_str() == "--help" {
+        return Some(println!(rt; "{WORDS}").is_ok());
+    }
+    let text = told_by(rt.alloc(), &words)?;
+    Some(print!(rt; "{text}").is_ok())
+}
+
+fn main(rt: HostRuntime) -> ExitCode {
+    if is_told(&rt) == Some(true) {
+        ExitCode::SUCCESS
+    } else {
+        ExitCode::FAILURE
+    }
+}

@@ -1,0 +1,132 @@
+//! Lets events happen in a world, for the rows of checks/tables/worlds.py.
+//!
+//! With `SEATS LIMIT MANIFEST SCRIPT EVENTS..` the table of the world has so many seats, the observers of a manifest, and room for
+//! so many entries in its journal; its actors launch the changes of a script. Events stand in a list, with a semicolon between two,
+//! as in a schedule, but for observers, which are named by their numbers: so one can name actors, changes and observers that aren't
+//! there.
+//!
+//! It runs the lists one after another, and prints the note of each event, or the event at fault and its code, and then the report.
+//! With `--help` it names its words. It ends with status 1 where it has no such words or no memory.
+#![tactic(auto)]
+
+ghost use Rattle.pb_core.specs.Calls.{AreSeats};
+
+mod events;
+
+use events::events_in;
+use pb_base::{Batch, MAX_ENTRIES, MAX_SEATS, Out, Ts};
+use pb_core::{Seat, Shared};
+use pb_memtablet::ListTablet;
+use pb_parse::Event;
+use pb_script::report;
+use pb_story::add_answer;
+use pb_verify::Observer;
+use pb_world::{Note, World};
+use std::alloc::{AllocError, Global};
+use std::env;
+use std::process::ExitCode;
+use test_fixtures::{batches_of, observers_of, opened};
+
+const WORDS: &str = "SEATS LIMIT MANIFEST SCRIPT EVENTS..";
+
+// Adds a line of what an event did.
+fn add_note(text: &mut String, observers: &[Observer], note: &Note) -> Result<(), AllocError> {
+    match note {
+        Note::Launched => text.push_str("launched")?,
+        Note::Called(answer) => add_answer(text, observers, answer)?,
+        Note::Refused(code) => write!(text, "refused {code}")?,
+        Note::Instruction => text.push_str("instruction")?,
+        Note::Crashed => text.push_str("crashed")?,
+        Note::Idle => text.push_str("idle")?,
+    }
+    text.push_str("\n")
+}
+
+// Runs a list of events, and adds the note of each, or the fault.
+fn add_events(
+    alloc: Global,
+    text: &mut String,
+    world: &mut World<ListTablet>,
+    events: &[Event],
+) -> Result<(), AllocError> {
+    match world.run(alloc, events) {
+        Ok(notes) => {
+            for note in &notes {
+                add_note(text, world.shared().observers(), note)?;
+            }
+            Ok(())
+        }
+        Err(fault) => writeln!(text, "event {} code {}", fault.event, fault.code),
+    }
+}
+
+// Runs the lists that texts name.
+fn add_lists(
+    alloc: Global,
+    text: &mut String,
+    world: &mut World<ListTablet>,
+    lists: &[String],
+) -> Option<()> {
+    for list in lists {
+        let events = events_in(alloc, list.as_str())?;
+        add_events(alloc, text, world, &events).ok()?;
+    }
+    Some(())
+}
+
+// Runs the lists in a world over a table, and tells the report of what they left.
+fn is_run(
+    rt: &HostRuntime,
+    shared: Shared<ListTablet>,
+    seats: Vec<Seat>,
+    batches: Vec<Batch>,
+    lists: &[String],
+) -> bool
+    requires { AreSeats shared seats.items }
+{
+    let mut text = String::new(rt.alloc());
+    match World::open(rt.alloc(), shared, seats, batches) {
+        Ok(world) => {
+            let mut world = world;
+            let told = add_lists(rt.alloc(), &mut text, &mut world, lists);
+            let (shared, _seats) = world.close();
+            let mut out = Out::new(rt.stdout());
+            let is_told = told.is_some()
+                && print!(rt; "{text}").is_ok()
+                && report(rt.alloc(), &mut out, &shared).is_ok();
+            shared.close();
+            is_told
+        }
+        Err((shared, _seats, _batches)) => {
+            shared.close();
+            false
+        }
+    }
+}
+
+fn is_told(rt: &HostRuntime) -> Option<bool> {
+    let alloc = rt.alloc();
+    let args = env::args(rt).ok()?;
+    let words: Vec<String> = args.collect(alloc).ok()?;
+    if words.get(1)?.as_str() == "--help" {
+        return Some(println!(rt; "{WORDS}").is_ok());
+    }
+    let seats = words.get(1)?.as_str().parse::<u32>().ok()?;
+    let limit = words.get(2)?.as_str().parse::<usize>().ok()?;
+    let observers = observers_of(alloc, words.get(3)?.as_str()).ok()?;
+    let batches = batches_of(alloc, words.get(4)?.as_str()).ok()?;
+    let lists = words.get(5..)?;
+    if seats < 1 || seats > MAX_SEATS || limit > MAX_ENTRIES {
+        return None;
+    }
+    let (shared, seats) = opened(alloc, observers, seats, Ts(0), limit).ok()?;
+    Some(is_run(rt, shared, seats, batches, lists))
+}
+
+fn main(rt: HostRuntime) -> ExitCode {
+    if is_told(&rt) == Some(true) {
+        ExitCode::SUCCESS
+    } else {
+        ExitCode::FAILURE
+    }
+}
