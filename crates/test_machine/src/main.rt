@@ -6,8 +6,8 @@
 //! ask or the end; and a reply to an ask, as a content is written.
 //!
 //! It prints for each move what it did, where the machine stands then, and how many instructions it has done; and of one that has
-//! ended what it left, and in which profiles its digits are its program's. With `--help` it names its words. It ends with status 1 where it has no such words or no memory, and where a
-//! move can't be made.
+//! ended what it left, and in which profiles its digits are its program's. With `--help` it names its words. It ends with status 1
+//! where it has no such words or no memory, and where a move can't be made.
 #![tactic(auto)]
 
 mod left;
