@@ -130,7 +130,6 @@ impl ObserverJob {
     /// its plan. Refused for memory, which these two alone can be, it is as before, and goes on when it is called
     /// again. It is one instruction at every placement, of the run on the record of what was seen and from its start;
     /// and what is declared at the exit is what the program means by what it was given and told.
-    // It is inlined, though `follow` calls it too, since it is little more than the call of the machine.
     #[inline(always)]
     pub fn local(&mut self, alloc: Global) -> Result<(), NoMemory>
         requires { need_of self.old ≡ Local }
@@ -138,6 +137,7 @@ impl ObserverJob {
         ensures same { OnErr result (self.new ≡ self.old) }
         ensures grows { OnErr result (GrowsNext self.old) }
     {
+        // It is inlined, though `follow` calls it too, since it is little more than the call of the machine.
         match &mut self.place {
             RunPlace::Computing(_, machine) => match machine.local() {
                 // It stands where it stood, and so does the job.
