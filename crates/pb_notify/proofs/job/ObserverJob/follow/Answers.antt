@@ -29,6 +29,12 @@ joined : (j k l : RunOf) → ComputesOn j k → ComputesOn k l → ComputesOn j 
 joined j k l on at_first = on
 joined j k l on (one_more m n to is_next last) = one_more m n (joined j k m on to) is_next last
 
+-- from a job that came so far, and is this one with its machine here, the machine's instructions lead on
+goes_on : (k m j : RunOf) (place : RunPlace) (s : Ts) (v w : Position) → ComputesOn k m → job_at j place ≡ m → place ≡ Computing s v → Proceeds v w → ComputesOn k (job_at j (Computing s w))
+goes_on k m j place s v w so_far is at p =
+    let here : ComputesOn k (job_at j place) = subst (λ (i : RunOf). ComputesOn k i) (sym is) so_far in
+    joined k _ _ (subst (λ q. ComputesOn k (job_at j q)) at here) (on_computing j s v w p)
+
 -- where another instruction is next, a machine was left that goes on
 went_local : (o : ℕ) (s : Ts) (v : Position) (place : RunPlace) → Comes o s v place → need_at place ≡ Local → (t : Ts) × (w : Position) × (place ≡ Computing t w)
 went_local o s v place (goes w st) e = (s, w, refl)
@@ -67,8 +73,7 @@ returns-in_err-leave-clause-on c =
       | in_default w ↦ rw w.self-is at_first
     ] in
     let j : RunOf = record { observer = i.observer; judged = i.accepted.value; row = i.row; column = i.column; locked = i.locked; place = i.place } in
-    let started : ComputesOn c.args.self.now (job_at j (Computing c.in-Computing.field-0 c.in-Computing.machine)) = subst (λ p. ComputesOn c.args.self.now (job_at j p)) c.in-Computing.is (subst (λ (k : RunOf). ComputesOn c.args.self.now k) (sym c.self-2.view_is) so_far) in
-    let here = joined c.args.self.now _ _ started (on_computing j c.in-Computing.field-0 c.in-Computing.machine f.last f.proceeds) in
+    let here = goes_on c.args.self.now _ j i.place c.in-Computing.field-0 c.in-Computing.machine f.last so_far c.self-2.view_is c.in-Computing.is f.proceeds in
     let back = c.in_err-leave.ensures.same c.in-Computing.field-0 f.last (c.follow-moved.new.self, refl, f.moves) in
     subst (λ p. ComputesOn c.args.self.now (job_at j p)) (sym back.0) here
 
@@ -96,8 +101,7 @@ returns-in_ok-leave-clause-on c =
       | in_default w ↦ rw w.self-is at_first
     ] in
     let j : RunOf = record { observer = i.observer; judged = i.accepted.value; row = i.row; column = i.column; locked = i.locked; place = i.place } in
-    let started : ComputesOn c.args.self.now (job_at j (Computing c.in-Computing.field-0 c.in-Computing.machine)) = subst (λ p. ComputesOn c.args.self.now (job_at j p)) c.in-Computing.is (subst (λ (k : RunOf). ComputesOn c.args.self.now k) (sym c.self-2.view_is) so_far) in
-    let here = joined c.args.self.now _ _ started (on_computing j c.in-Computing.field-0 c.in-Computing.machine f.last f.proceeds) in
+    let here = goes_on c.args.self.now _ j i.place c.in-Computing.field-0 c.in-Computing.machine f.last so_far c.self-2.view_is c.in-Computing.is f.proceeds in
     let comes = c.in_ok-leave.ensures.ok c.in-Computing.field-0 f.last (c.follow-moved.new.self, refl, f.moves) in
     one_more (job_at j (Computing c.in-Computing.field-0 f.last)) (job_at j c.leave.new.place) here refl (record { comes = comes; same = refl })
 
