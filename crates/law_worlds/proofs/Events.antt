@@ -19,7 +19,7 @@ use Rattle.pb_world.specs.declared.note.Note.{Note}
 use Rattle.pb_world.specs.declared.note.Note.TheVariants.{Called, Refused}
 use Rattle.pb_world.specs.Actors.{ActorSteps, launched, crashed, crash_note}
 use Rattle.pb_world.specs.Events.{WorldOf, job_for, with_actor, Launches, StepsActor, CrashesActor, OwnAnswers, OwnCalls, Does}
-use Rattle.pb_world.specs.Sound.{Came, IsSound}
+use Rattle.pb_world.specs.Sound.{Came, IsSoundWorld}
 use Rattle.law_worlds.specs.Outcomes.{AreOneEvent, EventsHaveOneOutcome}
 use Rattle.law_worlds.proofs.Jobs.{AreOneStep, calls_once, actor_steps_once}
 use Rattle.pb_base.proofs.Logic.{one_value}
@@ -38,7 +38,7 @@ module _ (w : WorldOf) (n : Note) (v : WorldOf) (m : Note) (u : WorldOf) where
       let actor : x.actor ≡ y.actor = one_value (slice_get w.actors k) x.actor y.actor x.its_actor y.its_actor in
       record { note = x.note ∙ (ap (λ (a : Actor). crash_note a.job) actor ∙ sym y.note); world = x.after ∙ (ap (λ a. with_actor w k (crashed a)) actor ∙ sym y.after) }
 
-  module _ (step : StepsHaveOneOutcome) (journals : JournalsAreSound) (sound : IsSound w) where
+  module _ (step : StepsHaveOneOutcome) (journals : JournalsAreSound) (sound : IsSoundWorld w) where
     table : IsSoundTable w.shared.state
     table = (journals w.shared.state.observers w.shared.state.seats w.shared.opened w.shared.journal w.shared.state sound.legal).sound
 

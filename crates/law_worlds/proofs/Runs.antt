@@ -1,7 +1,7 @@
 -- A list of events of a sound world has one outcome.
 use Rattle.std.proofs.Common.{[], ◌∷◌, refl, sym, ◌∙◌, subst}
 use Rattle.pb_world.specs.Events.{RunsTo}
-use Rattle.pb_world.specs.Sound.{IsSound, EventsKeepSound}
+use Rattle.pb_world.specs.Sound.{IsSoundWorld, EventsKeepSound}
 use Rattle.law_worlds.specs.Outcomes.{EventsHaveOneOutcome, RunsHaveOneOutcome}
 
 -- event by event, each from the world that the one before it left
@@ -9,7 +9,7 @@ pub runs_once : EventsHaveOneOutcome → EventsKeepSound → RunsHaveOneOutcome
 runs_once one keep w [] [] v [] u s x y = record { notes = refl; world = x ∙ sym y }
 runs_once one keep w (e ∷ es) (n ∷ ns) v (m ∷ ms) u s x y =
     let first = one w e n x.0 m y.0 s x.1 y.1 in
-    let sound : IsSound x.0 = keep w (e ∷ []) (n ∷ []) x.0 s (x.0, x.1, refl) in
+    let sound : IsSoundWorld x.0 = keep w (e ∷ []) (n ∷ []) x.0 s (x.0, x.1, refl) in
     let rest = runs_once one keep x.0 es ns v ms u sound x.2 (subst (λ z. RunsTo z es ms u) (sym first.world) y.2) in
     record { notes = λ i. first.note i ∷ rest.notes i; world = rest.world }
 runs_once one keep w [] (n ∷ ns) v ms u s x y = absurd x

@@ -8,7 +8,7 @@ use Rattle.pb_world.specs.declared.fault.EventFault.TheVariants.{NoMemory}
 use Rattle.pb_world.specs.declared.note.Note.{Note}
 use Rattle.pb_world.specs.Faults.{fault_code}
 use Rattle.pb_world.specs.Events.{WorldOf, fault_of, RunsTo, StopsAtEvent}
-use Rattle.pb_world.specs.Sound.{IsSound, EventsKeepSound}
+use Rattle.pb_world.specs.Sound.{IsSoundWorld, EventsKeepSound}
 use Rattle.law_worlds.specs.Outcomes.{AreOneFault, EventsHaveOneOutcome, RunsHaveOneOutcome, FaultsHaveOnePlace, WholeRunsHaveNoFault}
 use Rattle.pb_base.proofs.Logic.{one_value}
 
@@ -35,7 +35,7 @@ fault_of_other : (w : WorldOf) (es : List Event) (at code : ℕ) (v : WorldOf) �
 fault_of_other w es at code v other s = elim (fault_in w es at code v s) [ inl memory ↦ absurd (other memory) | inr f ↦ f ]
 
 module _ (one : EventsHaveOneOutcome) (keep : EventsKeepSound) where
-  not_past : (w : WorldOf) (es : List Event) (at : ℕ) (ns : List Note) (v : WorldOf) (by : ℕ) (ms : List Note) (u : WorldOf) (e : Event) (f : EventFault) → IsSound w
+  not_past : (w : WorldOf) (es : List Event) (at : ℕ) (ns : List Note) (v : WorldOf) (by : ℕ) (ms : List Note) (u : WorldOf) (e : Event) (f : EventFault) → IsSoundWorld w
       → RunsTo w (take at es) ns v → slice_get es at ≡ Some e → fault_of v e ≡ Some f → by ≤ length es → RunsTo w (take by es) ms u → by ≤ at
   not_past w es at ns v zero ms u e f s x there can le y = omega arith
   not_past w [] at ns v (suc by) ms u e f s x there can le y = absurd (none-some e there)
@@ -49,7 +49,7 @@ module _ (one : EventsHaveOneOutcome) (keep : EventsKeepSound) where
   not_past w (d ∷ es) (suc at) (n ∷ ns) v (suc by) [] u e f s x there can le y = absurd y
   not_past w (d ∷ es) (suc at) (n ∷ ns) v (suc by) (m ∷ ms) u e f s x there can le y =
       let first = one w d n x.0 m y.0 s x.1 y.1 in
-      let sound : IsSound x.0 = keep w (d ∷ []) (n ∷ []) x.0 s (x.0, x.1, refl) in
+      let sound : IsSoundWorld x.0 = keep w (d ∷ []) (n ∷ []) x.0 s (x.0, x.1, refl) in
       let rest = not_past x.0 es at ns v by ms u e f sound x.2 there can (omega (arith, le)) (subst (λ z. RunsTo z (take by es) ms u) (sym first.world) y.2) in
       omega (arith, rest)
 

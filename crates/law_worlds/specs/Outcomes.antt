@@ -6,7 +6,7 @@ use Rattle.pb_world.specs.declared.fault.EventFault.TheVariants.{NoMemory}
 use Rattle.pb_world.specs.declared.note.Note.{Note}
 use Rattle.pb_world.specs.Faults.{fault_code}
 use Rattle.pb_world.specs.Events.{WorldOf, Happens, RunsTo, StopsAtEvent}
-use Rattle.pb_world.specs.Sound.{IsSound}
+use Rattle.pb_world.specs.Sound.{IsSoundWorld}
 use Rattle.pb_world.specs.Headline.{IsOpened}
 
 -- two notes, each with the world that is left, are the same
@@ -29,22 +29,22 @@ pub record AreOneFault (at code : ℕ) (v : WorldOf) (by number : ℕ) (u : Worl
 
 -- a world as it is opened, over any legal table
 abbrev pub OpenedWorldsAreSound : Type 0
-OpenedWorldsAreSound = (w : WorldOf) → IsOpened w → IsSound w
+OpenedWorldsAreSound = (w : WorldOf) → IsOpened w → IsSoundWorld w
 
 -- of any event of a sound world
 abbrev pub EventsHaveOneOutcome : Type 0
-EventsHaveOneOutcome = (w : WorldOf) (e : Event) (n : Note) (v : WorldOf) (m : Note) (u : WorldOf) → IsSound w → Happens w e n v → Happens w e m u → AreOneEvent n v m u
+EventsHaveOneOutcome = (w : WorldOf) (e : Event) (n : Note) (v : WorldOf) (m : Note) (u : WorldOf) → IsSoundWorld w → Happens w e n v → Happens w e m u → AreOneEvent n v m u
 
 -- of any list of events that happen to the last
 abbrev pub RunsHaveOneOutcome : Type 0
-RunsHaveOneOutcome = (w : WorldOf) (es : List Event) (ns : List Note) (v : WorldOf) (ms : List Note) (u : WorldOf) → IsSound w → RunsTo w es ns v → RunsTo w es ms u → AreOneRun ns v ms u
+RunsHaveOneOutcome = (w : WorldOf) (es : List Event) (ns : List Note) (v : WorldOf) (ms : List Note) (u : WorldOf) → IsSoundWorld w → RunsTo w es ns v → RunsTo w es ms u → AreOneRun ns v ms u
 
 -- where events stop for another reason than memory, it is at one event, with one number
 abbrev pub FaultsHaveOnePlace : Type 0
 FaultsHaveOnePlace =
-    (w : WorldOf) (es : List Event) (at code : ℕ) (v : WorldOf) (by number : ℕ) (u : WorldOf) → IsSound w → StopsAtEvent w es at code v → StopsAtEvent w es by number u
+    (w : WorldOf) (es : List Event) (at code : ℕ) (v : WorldOf) (by number : ℕ) (u : WorldOf) → IsSoundWorld w → StopsAtEvent w es at code v → StopsAtEvent w es by number u
     → code ≢ fault_code NoMemory → number ≢ fault_code NoMemory → AreOneFault at code v by number u
 
 -- events that happen to the last stop for memory alone
 abbrev pub WholeRunsHaveNoFault : Type 0
-WholeRunsHaveNoFault = (w : WorldOf) (es : List Event) (ns : List Note) (v : WorldOf) (at code : ℕ) (u : WorldOf) → IsSound w → RunsTo w es ns v → StopsAtEvent w es at code u → code ≡ fault_code NoMemory
+WholeRunsHaveNoFault = (w : WorldOf) (es : List Event) (ns : List Note) (v : WorldOf) (at code : ℕ) (u : WorldOf) → IsSoundWorld w → RunsTo w es ns v → StopsAtEvent w es at code u → code ≡ fault_code NoMemory

@@ -35,9 +35,9 @@ use Rattle.pb_txn.specs.declared.place.PlanPlace as order
 use Rattle.pb_txn.specs.Places as steps
 use Rattle.pb_txn.specs.Plans.{PlanOf}
 use Rattle.pb_txn.specs.Plans as plans
-use Rattle.pb_txn.specs.Talks.{told}
+use Rattle.pb_txn.specs.Conversations.{told}
 use Rattle.pb_txn.specs.Allowed.{IsInRange, IsTimely, PlansAreAllowed}
-use Rattle.pb_txn.specs.Forms.{PlansTalk, PlansEnd}
+use Rattle.pb_txn.specs.Forms.{PlansConverse, PlansEnd}
 use Rattle.pb_notify.specs.declared.look.Look.{Look}
 use Rattle.pb_notify.specs.declared.place.RunPlace.{RunPlace}
 use Rattle.pb_notify.specs.declared.place.RunPlace.TheVariants.{Beginning, Observing, Acknowledging, Recalling, Starting, Computing, Asking, Planning, Sweeping, Over}
@@ -45,7 +45,7 @@ use Rattle.pb_notify.specs.Forms.{IsAcknowledged}
 use Rattle.pb_notify.specs.Looks.{look_step}
 use Rattle.pb_notify.specs.Places.{step_at}
 use Rattle.pb_notify.specs.Allowed.{entries_by, HasRun, JobsAreAllowed}
-use Rattle.pb_notify.proofs.RunTalk as talk
+use Rattle.pb_notify.proofs.RunConversation as conversation
 use Rattle.pb_notify.proofs.RecordedReads.{after, after_is, after_append, has_append, with_reads, IsRecorded, HasRead, in_look, cell_begins, observed, acknowledged, has_read, is_newer}
 use Rattle.pb_notify.proofs.ItsRun.{its_run}
 use Rattle.pb_notify.proofs.PlanEntries.{has_said}
@@ -170,7 +170,7 @@ module _ (observers : List ObserverOf) (seats clock : ℕ) (journal : List Entry
 
       at_declaration : p.place ≡ orders.Declaring → Some (Declare i.s what) ≡ Some step → ⊥
       at_declaration is next =
-          let nothing = declaring_said_nothing (plans.fresh i.s.0 what) p i.plan is i.talks_are in
+          let nothing = declaring_said_nothing (plans.fresh i.s.0 what) p i.plan is i.converses_are in
           let own : IsOwn state seat i.s.0 u = record { there = got_is ∙ ap (λ l. after state.observers seat i.s l (Some u)) nothing; mine = refl } in
           declares_in_time state seat why seated i.s.0 u own i.s what refl refl its (subst (λ z. step_reason state seat z ≡ Some why) (sym (same_step (Declare i.s what) step next)) refused)
 
@@ -179,15 +179,15 @@ module _ (observers : List ObserverOf) (seats clock : ℕ) (journal : List Entry
 
       timely : plans.next_of p ≡ Some step → IsTimely why
       timely next =
-          let kept = plan_keeps state.observers seat i.s (plans.fresh i.s.0 what) p i.plan u i.talks_are in
+          let kept = plan_keeps state.observers seat i.s (plans.fresh i.s.0 what) p i.plan u i.converses_are in
           let said_by = subst (λ l. entries_naming i.s.0 journal ≡ entries_naming i.s.0 (entries_by seat l)) i.said_is (has i.s begun) in
           allowed observers seats clock journal state legal seat i.s.0 what i.plan p step why
-          (λ t h. in_range t (ap (λ (z : TransactionOf). z.work) (same_transaction _ t kept.0 h (got_is ∙ kept.1)) ∙ kept.2.work)) i.talks_are
+          (λ t h. in_range t (ap (λ (z : TransactionOf). z.work) (same_transaction _ t kept.0 h (got_is ∙ kept.1)) ∙ kept.2.work)) i.converses_are
           (has_said journal seat i.s i.base i.plan read.recorded.bare said_by) next refused
 
       later_on : (at : order.PlanPlace) → (at ≡ orders.Declaring → ⊥) → steps.step_at i.s.0 what at ≡ Some step → plans.next_of p ≡ Some step → why ≡ OutOfTimestamps
       later_on at later here next =
-          let kept = plan_keeps state.observers seat i.s (plans.fresh i.s.0 what) p i.plan u i.talks_are in
+          let kept = plan_keeps state.observers seat i.s (plans.fresh i.s.0 what) p i.plan u i.converses_are in
           goes_in_time state seat why seated i.s.0 kept.0 (record { there = got_is ∙ kept.1; mine = kept.2.seat }) at step later (plan_step i.s.0 what at step here) (timely next) refused
 
       by_place : (at : order.PlanPlace) → p.place ≡ at → steps.step_at i.s.0 what at ≡ Some step → plans.next_of p ≡ Some step → why ≡ OutOfTimestamps
@@ -196,7 +196,7 @@ module _ (observers : List ObserverOf) (seats clock : ℕ) (journal : List Entry
 
       at_plan : plans.next_of p ≡ Some step → why ≡ OutOfTimestamps
       at_plan next =
-          let ks = keeps (plans.fresh i.s.0 what) p i.plan i.talks_are in
+          let ks = keeps (plans.fresh i.s.0 what) p i.plan i.converses_are in
           by_place p.place refl ((λ j. steps.step_at (sym ks.0 j) (sym ks.1 j) p.place) ∙ next) next
 
     at_place : (n : ℕ) (place : RunPlace) → talk.SoFar o observer.program row observer.column n place said → step_at o row observer.column place ≡ Some step → why ≡ OutOfTimestamps
@@ -207,7 +207,7 @@ module _ (observers : List ObserverOf) (seats clock : ℕ) (journal : List Entry
         at_look s _ None look _ (in_look state.observers seat s o row (Ack o row observer.column) None so.0 so.1 look n said _ (observed state.observers seat s o row second observer.column found so.0 so.1 so.2) so.3) (omega arith) next
     at_place n (Recalling s seen look) so next =
         let recorded = acknowledged state.observers seat s o row second observer.column seen so.0 so.1 so.2 in
-        let from = talk.look_goes_on s (Data row observer.column) (Some seen.acknowledged) so.0 so.1 look n said so.5 in
+        let from = conversation.look_goes_on s (Data row observer.column) (Some seen.acknowledged) so.0 so.1 look n said so.5 in
         at_look s _ (Some seen.acknowledged) look _ (in_look state.observers seat s o row (Data row observer.column) (Some seen.acknowledged) so.0 so.1 look n said _ recorded so.5)
         (in_time s seen so.0 so.1 from.0 _ recorded from.1 so.2) next
     at_place n (Starting s seen) so next = absurd (none_some step next)
@@ -221,9 +221,9 @@ module _ (observers : List ObserverOf) (seats clock : ℕ) (journal : List Entry
     at_place n (Over end) so next = absurd (none_some step next)
 
 -- by where the job stands: looks, its declaration and the later steps of its plan each come at their time
-pub jobs_allowed : PlansTalk → PlansEnd → PlansAreAllowed → TransactionsAreTold → JournalsAreSound → AcknowledgedIsEarlier → JobsAreAllowed
+pub jobs_allowed : PlansConverse → PlansEnd → PlansAreAllowed → TransactionsAreTold → JournalsAreSound → AcknowledgedIsEarlier → JobsAreAllowed
 jobs_allowed pt pe allowed told_by sound earlier observers seats clock journal state legal seat o observer row said k step why seated there row_fits column_fits reaches has next refused =
-    let h = talk.holds o observer.program row observer.column pt pe said k reaches in
+    let h = conversation.holds o observer.program row observer.column pt pe said k reaches in
     let os_is = (sound observers seats clock journal state legal).observers_stay in
     let here : step_at o row observer.column k.place ≡ Some step = (λ i. step_at (sym h.observer i) (sym h.in_row i) (sym h.in_column i) k.place) ∙ next in
     at_place observers seats clock journal state legal allowed (told_by observers seats clock journal state legal) (earlier observers seats clock journal state legal) seat o row observer there (ap (λ os. slice_get os o) os_is ∙ there)

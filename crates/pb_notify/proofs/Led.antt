@@ -16,7 +16,7 @@ use Rattle.pb_vm.specs.Position.{Position}
 use Rattle.pb_vm.specs.Moves.{IsAtState, SameGiven, Went, AskedFor, AsksAt}
 use Rattle.pb_isa.specs.Machine.{act, Asks}
 use Rattle.pb_helpers.specs.Replies.{ask_of}
-use Rattle.pb_txn.specs.Talks as plan_talks
+use Rattle.pb_txn.specs.Conversations as plan_converses
 use Rattle.pb_steps.specs.declared.seen.Seen.{Seen}
 use Rattle.pb_steps.specs.declared.step.Answer.{Answer}
 use Rattle.pb_steps.specs.declared.step.Answer.TheVariants.{At, Absent}
@@ -26,7 +26,7 @@ use Rattle.pb_txn.specs.declared.place.Outcome.{Outcome}
 use Rattle.pb_txn.specs.declared.place.Outcome.TheVariants as outcomes
 use Rattle.pb_txn.specs.Plans.{PlanOf, outcome_of}
 use Rattle.pb_txn.specs.Plans as plans
-use Rattle.pb_txn.specs.Forms.{PlansTalk, PlansEnd}
+use Rattle.pb_txn.specs.Forms.{PlansConverse, PlansEnd}
 use Rattle.pb_notify.specs.declared.look.Looked.{Looked}
 use Rattle.pb_notify.specs.declared.look.Looked.TheVariants.{On, Tells, Blocks}
 use Rattle.pb_notify.specs.declared.need.JobEnd.TheVariants as ends
@@ -35,11 +35,11 @@ use Rattle.pb_notify.specs.declared.place.RunPlace.TheVariants.{Beginning, Obser
 use Rattle.pb_notify.specs.Looks.{look_after}
 use Rattle.pb_notify.specs.Places.{place_after, after_begin, if_found, after_cell, if_recalled, seen_so_far, after_acknowledgment, after_recall, after_ask, by_outcome, Comes, goes, waits, declares, ComesFrom, IsToldBy, IsToldAt}
 use Rattle.pb_notify.specs.Runs.{RunOf, fresh}
-use Rattle.pb_notify.specs.Talks.{Reaches, made, took, computed}
+use Rattle.pb_notify.specs.Conversations.{Reaches, made, took, computed}
 use Rattle.pb_notify.specs.Forms.{IsLooking}
 use Rattle.pb_notify.specs.Led.{MachineStandsAt, IsLed, IsMachineOf, MachinesAreLed, IsAskingAt, HasEnded, AsksAreOpen, EndedRunsMean}
-use Rattle.pb_notify.proofs.LookTalk as looks
-use Rattle.pb_notify.proofs.RunTalk as talk
+use Rattle.pb_notify.proofs.LookConversation as looks
+use Rattle.pb_notify.proofs.RunConversation as conversation
 
 -- ---- the machine alone
 
@@ -178,7 +178,7 @@ module _ (o : ℕ) (judged : JudgedOf) (row : Row) (column : ℕ) where
       (subst (λ (z : Ts). IsMachineOf o judged row column (Computing t w) z w said) stands.0
       (record { seen = so.0; program = so.1.program; bytes = so.1.bytes; began = so.1.began; met = n; base = said; asked = so.2; since = refl; size = led.1 ∙ ap (λ (j : JudgedOf). j.record_size) so.1.program; led = led.0 }))
   machine_at said n (Asking t w q look) s v stands so led =
-      let from = talk.look_goes_on t (Data q.row q.column) None so.1 so.2 look n said so.5 in
+      let from = conversation.look_goes_on t (Data q.row q.column) None so.1 so.2 look n said so.5 in
       let end = looks.ends t (Data q.row q.column) None so.1 so.2 look n said so.5 in
       let open_look : IsLooking t (Data q.row q.column) None so.1 so.2 said = record { since = from.0; said_is = from.1; next = end.next; rest = end.rest; n = n; answer = Absent; look = end.look } in
       subst (λ (z : Position). IsMachineOf o judged row column (Asking t w q look) s z said) stands.1
@@ -187,9 +187,9 @@ module _ (o : ℕ) (judged : JudgedOf) (row : Row) (column : ℕ) where
   machine_at said n _ s v stands so led = absurd stands
 
 -- with the conversation up to there, the record and the replies are what the job read
-pub machines_are_led : PlansTalk → PlansEnd → MachinesAreLed
+pub machines_are_led : PlansConverse → PlansEnd → MachinesAreLed
 machines_are_led pt pe o judged row column said k s v reaches stands =
-    let h = talk.holds o judged row column pt pe said k reaches in
+    let h = conversation.holds o judged row column pt pe said k reaches in
     machine_at o judged row column said k.locked k.place s v stands h.so (reached_led (fresh o judged row column) said k tt reaches)
 
 asking_led : (place : RunPlace) → AtLed place → IsAskingAt place
@@ -200,7 +200,7 @@ pub asks_are_open : AsksAreOpen
 asks_are_open o judged row column said k reaches = asking_led k.place (reached_led (fresh o judged row column) said k tt reaches)
 
 -- a plan declares what it was made for
-keeps_what : (p : PlanOf) (said : List Received) (q : PlanOf) → plan_talks.Talks p said q → q.what ≡ p.what
+keeps_what : (p : PlanOf) (said : List Received) (q : PlanOf) → plan_converses.Converses p said q → q.what ≡ p.what
 keeps_what p [] q t = ap (λ (z : PlanOf). z.what) t
 keeps_what p (r ∷ rs) q t = keeps_what (plans.answered p r.answer) rs q t.2
 
@@ -219,14 +219,14 @@ module _ (o : ℕ) (judged : JudgedOf) (row : Row) (column : ℕ) where
     run_on = so.run_on;
     meant = so.meant;
     result = so.result;
-    declares = keeps_what _ so.plan p so.talks_are;
-    followed = subst (λ w. plan_talks.Talks (plans.fresh so.s.0 w) so.plan p) (sym (keeps_what _ so.plan p so.talks_are)) so.talks_are;
+    declares = keeps_what _ so.plan p so.converses_are;
+    followed = subst (λ w. plan_converses.Converses (plans.fresh so.s.0 w) so.plan p) (sym (keeps_what _ so.plan p so.converses_are)) so.converses_are;
   }
   ended_at n (Sweeping end) said so = so
   ended_at n place said so = tt
 
 -- what a job declares was left by its machine, as the conversation at that place says
-pub ended_runs_mean : PlansTalk → PlansEnd → EndedRunsMean
+pub ended_runs_mean : PlansConverse → PlansEnd → EndedRunsMean
 ended_runs_mean pt pe o judged row column said k reaches =
-    let h = talk.holds o judged row column pt pe said k reaches in
+    let h = conversation.holds o judged row column pt pe said k reaches in
     ended_at o judged row column k.locked k.place said h.so

@@ -1,8 +1,8 @@
 pub mod Exits
 pub mod PlansFit
 pub mod Kept
-pub mod LookTalk
-pub mod RunTalk
+pub mod LookConversation
+pub mod RunConversation
 pub mod Led
 pub mod RecordedReads
 pub mod ItsRun

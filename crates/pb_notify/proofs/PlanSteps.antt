@@ -17,7 +17,7 @@ use Rattle.pb_txn.specs.declared.place.PlanPlace.{PlanPlace}
 use Rattle.pb_txn.specs.declared.place.PlanPlace.TheVariants.{Declaring, Prewriting, Stamping, CommittingPrimary, CommittingSecondary, Settling, Clearing, Over}
 use Rattle.pb_txn.specs.Places.{declared_cells, place_after, after_prewrite, after_stamp, after_primary, step_at}
 use Rattle.pb_txn.specs.Plans.{PlanOf, answered}
-use Rattle.pb_txn.specs.Talks.{Talks}
+use Rattle.pb_txn.specs.Conversations.{Converses}
 use Rattle.pb_notify.proofs.RecordedReads.{after}
 use Rattle.pb_base.proofs.Logic.{same_some as same_step}
 
@@ -55,12 +55,12 @@ later count (Settling k) a = by_test (nat_lt 1 k) (Clearing 1 k outcomes.Conflic
 later count (Clearing k end o) a = by_test (nat_lt (k + 1) end) (Clearing (k + 1) end o) (Over o) tt tt
 later count (Over o) a = tt
 
-stays_later : (p q : PlanOf) (said : List Received) → IsLater p.place → Talks p said q → IsLater q.place
+stays_later : (p q : PlanOf) (said : List Received) → IsLater p.place → Converses p said q → IsLater q.place
 stays_later p q [] i talk = subst (λ (z : PlanOf). IsLater z.place) (sym talk) i
 stays_later p q (r ∷ rs) i talk = stays_later (answered p r.answer) q rs (later (length (declared_cells p.what)) p.place r.answer) talk.2
 
 -- so a plan that still declares has said nothing
-pub declaring_said_nothing : (p q : PlanOf) (said : List Received) → q.place ≡ Declaring → Talks p said q → said ≡ []
+pub declaring_said_nothing : (p q : PlanOf) (said : List Received) → q.place ≡ Declaring → Converses p said q → said ≡ []
 declaring_said_nothing p q [] e talk = refl
 declaring_said_nothing p q (r ∷ rs) e talk = absurd (subst IsLater e (stays_later (answered p r.answer) q rs (later (length (declared_cells p.what)) p.place r.answer) talk.2))
 
@@ -127,7 +127,7 @@ module _ (observers : List ObserverOf) (seat : ℕ) where
   if_named true u o k = k
   if_named false u o k = (u, refl, record { seat = refl; work = refl })
 
-  pub plan_keeps : (s : Ts) (p q : PlanOf) (said : List Received) (u : TransactionOf) → Talks p said q → KeepsRun u (after observers seat s said (Some u))
+  pub plan_keeps : (s : Ts) (p q : PlanOf) (said : List Received) (u : TransactionOf) → Converses p said q → KeepsRun u (after observers seat s said (Some u))
   plan_keeps s p q [] u talk = (u, refl, record { seat = refl; work = refl })
   plan_keeps s p q (r ∷ rs) u talk =
       let n = no_begin p.start p.place r.step (plan_step p.start p.what p.place r.step talk.0) in

@@ -26,12 +26,12 @@ use Rattle.pb_history.specs.declared.entry.Received.{Received}
 use Rattle.pb_history.specs.History.{Has}
 use Rattle.pb_history.specs.TransactionsTold.{names_start, entries_naming, transaction_after, transaction_from}
 use Rattle.pb_txn.specs.Allowed.{names}
-use Rattle.pb_txn.specs.Talks.{told}
+use Rattle.pb_txn.specs.Conversations.{told}
 use Rattle.pb_notify.specs.declared.look.Look.{Look}
 use Rattle.pb_notify.specs.declared.look.Look.TheVariants.{Reading, Clearing, Settling, ClearingAgain}
 use Rattle.pb_notify.specs.Forms.{IsRound, cleared, settled, AreRounds, at_first, one_more, IsHeld, IsLooked, its_begin, IsObserved, IsAcknowledged, IsRecalled, AreAsked, dirty, asked as asked_more}
 use Rattle.pb_notify.specs.Allowed.{entries_by}
-use Rattle.pb_notify.proofs.LookTalk.{IsIn, InLook}
+use Rattle.pb_notify.proofs.LookConversation.{IsIn, InLook}
 use Rattle.pb_base.proofs.Logic.{same_number as itself}
 
 pub same_either : {A : Type 0} (b : Bool) (x : A) → cond b x x ≡ x

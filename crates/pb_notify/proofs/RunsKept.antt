@@ -13,7 +13,7 @@ use Rattle.pb_history.specs.Places.{entries_of}
 use Rattle.pb_history.specs.History.{Has}
 use Rattle.pb_history.specs.Laws.{TransactionsAreTold}
 use Rattle.pb_history.specs.TransactionsTold.{names_start, entries_naming, is_begin, BeginsOnce}
-use Rattle.pb_txn.specs.Talks.{told}
+use Rattle.pb_txn.specs.Conversations.{told}
 use Rattle.pb_notify.specs.Allowed.{entries_by, RunsAreKept}
 use Rattle.pb_history.proofs.Updates.{has_right as at_end}
 use Rattle.pb_notify.proofs.RecordedReads.{same_either}

@@ -19,9 +19,9 @@ use Rattle.pb_history.specs.Places.{entries_of}
 use Rattle.pb_history.specs.Journals.{IsLegal}
 use Rattle.pb_history.specs.History.{Has}
 use Rattle.pb_history.specs.TransactionsTold.{entries_naming}
-use Rattle.pb_txn.specs.Talks.{told}
+use Rattle.pb_txn.specs.Conversations.{told}
 use Rattle.pb_notify.specs.Runs.{RunOf, fresh, next_of}
-use Rattle.pb_notify.specs.Talks.{Reaches}
+use Rattle.pb_notify.specs.Conversations.{Reaches}
 
 -- a conversation as entries of this seat
 abbrev pub entries_by : ℕ → List Received → List Entry

@@ -23,7 +23,7 @@ use Rattle.pb_steps.specs.Reads.{version_in, acknowledged_in, asked_cell, value_
 use Rattle.pb_history.specs.declared.entry.Received.{Received}
 use Rattle.pb_txn.specs.declared.place.Outcome.TheVariants as outcomes
 use Rattle.pb_txn.specs.Places.{declared_cells}
-use Rattle.pb_txn.specs.Talks.{told}
+use Rattle.pb_txn.specs.Conversations.{told}
 use Rattle.pb_txn.specs.Forms.{IsWhole}
 use Rattle.pb_notify.specs.declared.look.TheConstants.{MAX_LOCKED}
 use Rattle.pb_notify.specs.declared.need.JobEnd.{JobEnd}
@@ -31,7 +31,7 @@ use Rattle.pb_notify.specs.declared.need.JobEnd.TheVariants as ends
 use Rattle.pb_steps.specs.Read.{read_step}
 use Rattle.pb_notify.specs.Runs.{RunOf, fresh, need_of}
 use Rattle.pb_notify.specs.declared.need.Need.TheVariants.{Over}
-use Rattle.pb_notify.specs.Talks.{Reaches}
+use Rattle.pb_notify.specs.Conversations.{Reaches}
 
 -- ---- looks
 
@@ -121,31 +121,31 @@ pub data LooksFrom (o : ℕ) (second : Bool) (row : Row) (column : ℕ) (s : Ts)
 -- ---- whole conversations, with their ends and the run that they declared
 
 -- a whole conversation, by how it ended: each but the last has met fewer locks than it may
-pub data IsRunTalk (o : ℕ) (judged : JudgedOf) (row : Row) (column : ℕ) : List Received → JobEnd → Option Meant → Type 0 where
+pub data IsRunConversation (o : ℕ) (judged : JudgedOf) (row : Row) (column : ℕ) : List Received → JobEnd → Option Meant → Type 0 where
   -- the cell was absent
   absent : (s : Ts) (n : ℕ) (said : List Received) (a w : Answer) → IsLooked s (Data row column) None 0 (its_begin o row s) n said a → version_in a ≡ None → n < MAX_LOCKED
-      → CanAnswer (Sweep (Data row column)) w → IsRunTalk o judged row column (said ++ told (Sweep (Data row column)) w ∷ []) ends.Clean None
+      → CanAnswer (Sweep (Data row column)) w → IsRunConversation o judged row column (said ++ told (Sweep (Data row column)) w ∷ []) ends.Clean None
   -- its version is acknowledged
   clean : (s : Ts) (seen : Seen) (n : ℕ) (said : List Received) (w : Answer) → IsAcknowledged o row column s seen n said → seen.version.commit.0 ≤ seen.acknowledged.0 → n < MAX_LOCKED
-      → CanAnswer (Sweep (Data row column)) w → IsRunTalk o judged row column (said ++ told (Sweep (Data row column)) w ∷ []) ends.Clean None
+      → CanAnswer (Sweep (Data row column)) w → IsRunConversation o judged row column (said ++ told (Sweep (Data row column)) w ∷ []) ends.Clean None
   -- the run was declared, and committed
   ran : (s : Ts) (seen : Seen) (talk : Talk) (n : ℕ) (said plan : List Received) (f : Meant) (c : Ts) (w : Answer) → AreAsked o (tells_old judged) row column s seen talk n said → n < MAX_LOCKED
       → IsRunOn judged row column s seen talk f → IsWhole s (declared.Run o f) (declared_cells (declared.Run o f)) plan (outcomes.Committed c)
-      → CanAnswer (Sweep (Data row column)) w → IsRunTalk o judged row column ((said ++ plan) ++ told (Sweep (Data row column)) w ∷ []) (ends.Ran f.result) (Some f)
+      → CanAnswer (Sweep (Data row column)) w → IsRunConversation o judged row column ((said ++ plan) ++ told (Sweep (Data row column)) w ∷ []) (ends.Ran f.result) (Some f)
   conflicted : (s : Ts) (seen : Seen) (talk : Talk) (n : ℕ) (said plan : List Received) (f : Meant) → AreAsked o (tells_old judged) row column s seen talk n said → n < MAX_LOCKED
       → IsRunOn judged row column s seen talk f → IsWhole s (declared.Run o f) (declared_cells (declared.Run o f)) plan outcomes.Conflicted
-      → IsRunTalk o judged row column (said ++ plan) ends.Conflicted (Some f)
+      → IsRunConversation o judged row column (said ++ plan) ends.Conflicted (Some f)
   lost : (s : Ts) (seen : Seen) (talk : Talk) (n : ℕ) (said plan : List Received) (f : Meant) → AreAsked o (tells_old judged) row column s seen talk n said → n < MAX_LOCKED
       → IsRunOn judged row column s seen talk f → IsWhole s (declared.Run o f) (declared_cells (declared.Run o f)) plan outcomes.Lost
-      → IsRunTalk o judged row column (said ++ plan) ends.Lost (Some f)
+      → IsRunConversation o judged row column (said ++ plan) ends.Lost (Some f)
   -- a look met the last lock that its reads may meet
   blocked : (s : Ts) (x : Cell) (at : Option Ts) (m : ℕ) (base : List Received) (n : ℕ) (said : List Received) (t : Ts) (primary : Cell) → LooksFrom o (tells_old judged) row column s x at m base
-      → AreRounds s x at m base n said → suc n ≡ MAX_LOCKED → IsRunTalk o judged row column (said ++ told (read_step s x at) (Locked t primary) ∷ []) ends.Blocked None
+      → AreRounds s x at m base n said → suc n ≡ MAX_LOCKED → IsRunConversation o judged row column (said ++ told (read_step s x at) (Locked t primary) ∷ []) ends.Blocked None
 
 -- what a job has asked so far is a beginning of such a conversation
-abbrev pub JobsTalk : Type 0
-JobsTalk = (o : ℕ) (judged : JudgedOf) (row : Row) (column : ℕ) (said : List Received) (k : RunOf) → Reaches (fresh o judged row column) said k
-    → (rest : List Received) × (end : JobEnd) × (run : Option Meant) × IsRunTalk o judged row column (said ++ rest) end run
+abbrev pub JobsConverse : Type 0
+JobsConverse = (o : ℕ) (judged : JudgedOf) (row : Row) (column : ℕ) (said : List Received) (k : RunOf) → Reaches (fresh o judged row column) said k
+    → (rest : List Received) × (end : JobEnd) × (run : Option Meant) × IsRunConversation o judged row column (said ++ rest) end run
 
 -- a run that was declared is what its program means
 abbrev pub WasMeant : Option Meant → Type 0
@@ -155,4 +155,4 @@ WasMeant (Some f) = IsMeant f
 -- and where it is over, a whole one with its end
 abbrev pub JobsEnd : Type 0
 JobsEnd = (o : ℕ) (judged : JudgedOf) (row : Row) (column : ℕ) (said : List Received) (k : RunOf) (end : JobEnd) → Reaches (fresh o judged row column) said k → need_of k ≡ Over end
-    → (run : Option Meant) × IsRunTalk o judged row column said end run × WasMeant run
+    → (run : Option Meant) × IsRunConversation o judged row column said end run × WasMeant run

@@ -17,15 +17,15 @@ use Rattle.pb_steps.specs.declared.step.Answer.{Answer}
 use Rattle.pb_steps.specs.Answers.{CanAnswer}
 use Rattle.pb_txn.specs.Plans.{PlanOf}
 use Rattle.pb_txn.specs.Plans as plans
-use Rattle.pb_txn.specs.Talks.{Talks, told}
+use Rattle.pb_txn.specs.Conversations.{Converses, told}
 use Rattle.pb_steps.specs.declared.seen.Seen.{Seen}
 use Rattle.pb_history.specs.declared.entry.Received.{Received}
 use Rattle.pb_notify.specs.declared.need.JobEnd.{JobEnd}
 use Rattle.pb_notify.specs.declared.place.RunPlace.{RunPlace}
 use Rattle.pb_notify.specs.declared.place.RunPlace.TheVariants.{Computing, Asking, Planning, Sweeping}
 use Rattle.pb_notify.specs.Runs.{RunOf, fresh}
-use Rattle.pb_notify.specs.Talks.{Reaches}
-use Rattle.pb_notify.specs.Forms.{IsLooking, AreAsked, IsRunOn, IsRunTalk, WasMeant}
+use Rattle.pb_notify.specs.Conversations.{Reaches}
+use Rattle.pb_notify.specs.Forms.{IsLooking, AreAsked, IsRunOn, IsRunConversation, WasMeant}
 
 -- the machine of a place stands at this position, begun at this start
 abbrev pub MachineStandsAt : RunPlace → Ts → Position → Type 0
@@ -78,14 +78,14 @@ pub record IsEndedRun (o : ℕ) (judged : JudgedOf) (row : Row) (column r : ℕ)
   pub meant : IsMeant run
   pub result : r ≡ run.result
   pub declares : p.what ≡ declared.Run o run
-  pub followed : Talks (plans.fresh s.0 p.what) since p
+  pub followed : Converses (plans.fresh s.0 p.what) since p
 
 -- before its sweep: with the sweep's answer what was said is a whole conversation, and if a run was declared in it,
 -- that is what its program means
 pub record IsBeforeSweep (o : ℕ) (judged : JudgedOf) (row : Row) (column : ℕ) (end : JobEnd) (said : List Received) : Type 0 where
   pub run : Option Meant
   pub meant : WasMeant run
-  pub ends : (w : Answer) → CanAnswer (Sweep (Data row column)) w → IsRunTalk o judged row column (said ++ told (Sweep (Data row column)) w ∷ []) end run
+  pub ends : (w : Answer) → CanAnswer (Sweep (Data row column)) w → IsRunConversation o judged row column (said ++ told (Sweep (Data row column)) w ∷ []) end run
 
 -- what is known once the machine has ended: of the plan, or of what comes before the sweep
 abbrev pub HasEnded : ℕ → JudgedOf → Row → ℕ → RunPlace → List Received → Type 0

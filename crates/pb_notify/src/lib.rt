@@ -18,6 +18,6 @@ mod need;
 mod place;
 
 pub use job::ObserverJob;
-pub use laws::{jobs_are_allowed, jobs_talk, machines_are_led};
+pub use laws::{jobs_are_allowed, jobs_converse, machines_are_led};
 pub use look::{MAX_LOCKED, locked_limit_is_this};
 pub use need::{JobEnd, Need};

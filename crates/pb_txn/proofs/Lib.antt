@@ -1,6 +1,6 @@
 pub mod CellsAt
-pub mod Talk
-pub mod ChangeTalk
+pub mod Conversation
+pub mod ChangeConversation
 pub mod DeclaredCells
 pub mod DistinctCells
 pub mod WithoutReads

@@ -23,7 +23,7 @@ use Rattle.pb_txn.specs.declared.place.PlanPlace.{PlanPlace}
 use Rattle.pb_txn.specs.declared.place.PlanPlace.TheVariants.{Declaring, Prewriting, Stamping, CommittingPrimary, CommittingSecondary, Settling, Clearing, Over}
 use Rattle.pb_txn.specs.Places.{declared_cells, place_after, after_prewrite, after_stamp, after_primary, prewrite_from, commit_from, clear_from, step_at}
 use Rattle.pb_txn.specs.Plans.{PlanOf, answered}
-use Rattle.pb_txn.specs.Talks.{Talks}
+use Rattle.pb_txn.specs.Conversations.{Converses}
 use Rattle.pb_txn.specs.Allowed.{names}
 use Rattle.pb_txn.proofs.DistinctCells.{take_one, take_all}
 use Rattle.pb_base.proofs.Logic.{same_some as same_step, same_some as same_transaction, same_number as itself}
@@ -147,7 +147,7 @@ module _ (observers : List ObserverOf) (seat s : ℕ) (what : Declared) where
 
   -- ---- all of them
 
-  pub stays : (p q : PlanOf) (said : List Received) (u t : TransactionOf) → p.start ≡ s → p.what ≡ what → IsAt cells p.place u → Talks p said q
+  pub stays : (p q : PlanOf) (said : List Received) (u t : TransactionOf) → p.start ≡ s → p.what ≡ what → IsAt cells p.place u → Converses p said q
       → transaction_from observers (Some u) (map (entry_of seat) (filter (λ r. names s r.step) said)) ≡ Some t → IsAt cells q.place t
   stays p q [] u t s-is w-is i talk told = subst (λ (z : PlanOf). IsAt cells z.place t) (sym talk) (subst (IsAt cells p.place) (same_transaction u t told) i)
   stays p q (r ∷ rs) u t s-is w-is i talk told =

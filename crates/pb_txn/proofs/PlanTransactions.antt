@@ -19,7 +19,7 @@ use Rattle.pb_txn.specs.declared.place.PlanPlace.{PlanPlace}
 use Rattle.pb_txn.specs.declared.place.PlanPlace.TheVariants.{Declaring}
 use Rattle.pb_txn.specs.Places.{declared_cells}
 use Rattle.pb_txn.specs.Plans.{PlanOf, fresh, answered}
-use Rattle.pb_txn.specs.Talks.{Talks}
+use Rattle.pb_txn.specs.Conversations.{Converses}
 use Rattle.pb_txn.specs.Allowed.{names, HasSaid, IsInRange}
 use Rattle.pb_txn.proofs.DeclaredCells.{cells_are}
 use Rattle.pb_txn.proofs.WithoutReads.{bare, named_in, follows}
@@ -27,7 +27,7 @@ use Rattle.pb_txn.proofs.PlanPlaces.{IsAt, entry_of, stays}
 use Rattle.pb_base.proofs.Logic.{one_value as same_transaction, same_some as same_step}
 
 -- a plan keeps its start and its declaration
-pub keeps : (p q : PlanOf) (said : List Received) → Talks p said q → (q.start ≡ p.start) × (q.what ≡ p.what)
+pub keeps : (p q : PlanOf) (said : List Received) → Converses p said q → (q.start ≡ p.start) × (q.what ≡ p.what)
 keeps p q [] talk = (ap (λ (z : PlanOf). z.start) talk, ap (λ (z : PlanOf). z.what) talk)
 keeps p q (r ∷ rs) talk = keeps (answered p r.answer) q rs talk.2
 
@@ -86,7 +86,7 @@ module _ (seat s : ℕ) (what : Declared) where
       }
 
   pub cells_by_now : (journal : List Entry) (state : StateOf) (said : List Received) (q : PlanOf) (t : TransactionOf) → TellsHistory journal state → finite.get state.transactions s ≡ Some t
-      → IsInRange state.observers t.work → Talks (fresh s what) said q → HasSaid journal seat s said → HasCellsAt q.place what t
+      → IsInRange state.observers t.work → Converses (fresh s what) said q → HasSaid journal seat s said → HasCellsAt q.place what t
   cells_by_now journal state [] q t tells there range talk has = subst (λ (z : PlanOf). HasCellsAt z.place what t) (sym talk) tt
   cells_by_now journal state (r ∷ rs) q t tells there range talk has =
       has_cells q.place what t (cells_at journal state t tells there range (is_declared journal r rs talk.0 talk.1 has))
@@ -95,7 +95,7 @@ module _ (seat s : ℕ) (what : Declared) where
 
 -- the table's transaction of this start has come to where the plan stands, its reads aside
 pub stands : (journal : List Entry) (state : StateOf) (seat s : ℕ) (what : Declared) (said : List Received) (q : PlanOf) (t : TransactionOf) → TellsTransactions journal state
-    → finite.get state.transactions s ≡ Some t → Talks (fresh s what) said q → HasSaid journal seat s said → IsAt (declared_cells what) q.place (bare t)
+    → finite.get state.transactions s ≡ Some t → Converses (fresh s what) said q → HasSaid journal seat s said → IsAt (declared_cells what) q.place (bare t)
 stands journal state seat s what said q t tells there talk has =
     let f = follows state.observers s journal t (tells.begins s) (sym (tells.each s) ∙ there) in
     let told = ap (transaction_from state.observers (Some (new_transaction f.seat f.work))) (sym has) ∙ f.is in

@@ -18,7 +18,7 @@ use Rattle.pb_history.specs.declared.entry.Entry.{Entry}
 use Rattle.pb_history.specs.declared.entry.Received.{Received}
 use Rattle.pb_history.specs.Journals.{IsLegal}
 use Rattle.pb_txn.specs.Plans.{PlanOf, fresh, next_of}
-use Rattle.pb_txn.specs.Talks.{Talks}
+use Rattle.pb_txn.specs.Conversations.{Converses}
 
 -- the step names the start, and is no read: reads are left aside, since a run reads before its plan begins
 abbrev pub names : ℕ → Step → Bool
@@ -51,5 +51,5 @@ abbrev pub PlansAreAllowed : Type 0
 PlansAreAllowed = (observers : List ObserverOf) (seats clock : ℕ) (journal : List Entry) (state : StateOf) → IsLegal observers seats clock journal state
     → (seat s : ℕ) (what : Declared) (said : List Received) (q : PlanOf) (step : Step) (why : Reason)
     → ((t : TransactionOf) → finite.get state.transactions s ≡ Some t → IsInRange observers t.work)
-    → Talks (fresh s what) said q → HasSaid journal seat s said → next_of q ≡ Some step
+    → Converses (fresh s what) said q → HasSaid journal seat s said → next_of q ≡ Some step
     → step_reason state seat step ≡ Some why → IsTimely why

@@ -17,7 +17,7 @@ use Rattle.pb_txn.specs.declared.place.Outcome.{Outcome}
 use Rattle.pb_txn.specs.Places.{declared_cells}
 use Rattle.pb_txn.specs.Plans.{PlanOf, fresh}
 use Rattle.pb_txn.specs.Plans as plans
-use Rattle.pb_txn.specs.Talks.{told}
+use Rattle.pb_txn.specs.Conversations.{told}
 use Rattle.pb_txn.specs.Forms.{IsWhole}
 
 -- what is written, and the plan once the transaction has begun
@@ -64,9 +64,9 @@ outcome_of j = outcome_in j.plan
 -- ---- conversations
 
 -- from one place to another, each of its next steps was answered with one of its answers
-abbrev pub Talks : ChangeOf → List Received → ChangeOf → Type 0
-Talks p [] q = q ≡ p
-Talks p (r ∷ rs) q = (next_of p ≡ Some r.step) × CanAnswer r.step r.answer × Talks (answered p r.answer) rs q
+abbrev pub Converses : ChangeOf → List Received → ChangeOf → Type 0
+Converses p [] q = q ≡ p
+Converses p (r ∷ rs) q = (next_of p ≡ Some r.step) × CanAnswer r.step r.answer × Converses (answered p r.answer) rs q
 
 -- it begins at this start, and the rest is that of a transaction of its cells
 pub record IsWholeChange (batch : Writes) (start : Ts) (said : List Received) (o : Outcome) : Type 0 where
@@ -75,13 +75,13 @@ pub record IsWholeChange (batch : Writes) (start : Ts) (said : List Received) (o
   pub whole : IsWhole start (declared.Script batch) (declared_cells (declared.Script batch)) rest o
 
 -- what a change of some cells has asked so far is a beginning of such a conversation
-abbrev pub ChangesTalk : Type 0
-ChangesTalk = (batch : Writes) (said : List Received) (q : ChangeOf) → batch ≢ [] → Talks (new_change batch) said q
+abbrev pub ChangesConverse : Type 0
+ChangesConverse = (batch : Writes) (said : List Received) (q : ChangeOf) → batch ≢ [] → Converses (new_change batch) said q
     → (start : Ts) × (rest : List Received) × (o : Outcome) × IsWholeChange batch start (said ++ rest) o
 
 -- and where it is over, a whole one, with the start of its plan and its outcome
 abbrev pub ChangesEnd : Type 0
-ChangesEnd = (batch : Writes) (said : List Received) (q : ChangeOf) (p : PlanOf) (o : Outcome) → batch ≢ [] → Talks (new_change batch) said q → q.plan ≡ Some p → plans.outcome_of p ≡ Some o
+ChangesEnd = (batch : Writes) (said : List Received) (q : ChangeOf) (p : PlanOf) (o : Outcome) → batch ≢ [] → Converses (new_change batch) said q → q.plan ≡ Some p → plans.outcome_of p ≡ Some o
     → IsWholeChange batch (record { 0 = p.start }) said o
 
 -- ---- how a change is kept

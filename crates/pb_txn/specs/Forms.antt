@@ -1,5 +1,5 @@
 -- The conversations of a transaction (OSDI 2010, section 2.2): four forms, in words of steps and answers alone, so
--- that who reads a journal needs to know nothing of plans. The law `plans_talk` says that plans keep to them.
+-- that who reads a journal needs to know nothing of plans. The law `plans_converse` says that plans keep to them.
 use Rattle.std.specs.Prelude.{◌≡◌, ℕ, List, [], ◌∷◌, ◌++◌, map, Some, None}
 use Rattle.pb_base.specs.declared.cell.Cell.{Cell}
 use Rattle.pb_base.specs.declared.names.Ts.{Ts}
@@ -13,7 +13,7 @@ use Rattle.pb_txn.specs.declared.place.Outcome.{Outcome}
 use Rattle.pb_txn.specs.declared.place.Outcome.TheVariants as outcomes
 use Rattle.pb_txn.specs.Places.{declared_cells}
 use Rattle.pb_txn.specs.Plans.{PlanOf, fresh, next_of, outcome_of}
-use Rattle.pb_txn.specs.Talks.{told, Talks}
+use Rattle.pb_txn.specs.Conversations.{told, Converses}
 
 -- each cell prewritten, without a conflict
 abbrev pub prewrites : Ts → List Cell → List Received
@@ -49,16 +49,16 @@ abbrev pub IsBeginning : Ts → Declared → List Received → Type 0
 IsBeginning s what said = (rest : List Received) × (o : Outcome) × IsWhole s what (declared_cells what) (said ++ rest) o
 
 -- what a plan of some cells has asked so far is a beginning of such a conversation
-abbrev pub PlansTalk : Type 0
-PlansTalk = (s : ℕ) (what : Declared) (x : Cell) (others : List Cell) (said : List Received) (q : PlanOf) → declared_cells what ≡ x ∷ others → Talks (fresh s what) said q
+abbrev pub PlansConverse : Type 0
+PlansConverse = (s : ℕ) (what : Declared) (x : Cell) (others : List Cell) (said : List Received) (q : PlanOf) → declared_cells what ≡ x ∷ others → Converses (fresh s what) said q
     → IsBeginning (record { 0 = s }) what said
 
 -- and where it is over, a whole one with its outcome
 abbrev pub PlansEnd : Type 0
-PlansEnd = (s : ℕ) (what : Declared) (x : Cell) (others : List Cell) (said : List Received) (q : PlanOf) (o : Outcome) → declared_cells what ≡ x ∷ others → Talks (fresh s what) said q
+PlansEnd = (s : ℕ) (what : Declared) (x : Cell) (others : List Cell) (said : List Received) (q : PlanOf) (o : Outcome) → declared_cells what ≡ x ∷ others → Converses (fresh s what) said q
     → outcome_of q ≡ Some o → IsWhole (record { 0 = s }) what (declared_cells what) said o
 
 -- a plan without a next step is over
 abbrev pub PlansStop : Type 0
-PlansStop = (s : ℕ) (what : Declared) (x : Cell) (others : List Cell) (said : List Received) (q : PlanOf) → declared_cells what ≡ x ∷ others → Talks (fresh s what) said q
+PlansStop = (s : ℕ) (what : Declared) (x : Cell) (others : List Cell) (said : List Received) (q : PlanOf) → declared_cells what ≡ x ∷ others → Converses (fresh s what) said q
     → next_of q ≡ None → (o : Outcome) × (outcome_of q ≡ Some o)

@@ -1,6 +1,6 @@
 //! What the steps of plans are, and that the table takes them.
-ghost use Rattle.pb_txn.specs.Forms.{PlansTalk, PlansEnd, PlansStop};
-ghost use Rattle.pb_txn.specs.Changes.{ChangesTalk, ChangesEnd};
+ghost use Rattle.pb_txn.specs.Forms.{PlansConverse, PlansEnd, PlansStop};
+ghost use Rattle.pb_txn.specs.Changes.{ChangesConverse, ChangesEnd};
 ghost use Rattle.pb_txn.specs.Allowed.{PlansAreAllowed};
 
 use pb_history::{histories_are_told, journals_are_sound, transactions_are_told};
@@ -9,15 +9,15 @@ use pb_history::{histories_are_told, journals_are_sound, transactions_are_told};
 /// step it is at its end. There are four: it declares, prewrites every cell, is stamped, and commits the primary and
 /// then the others; or it meets a conflict on the primary, and that is all; or one on a later cell, and settles its
 /// primary and clears the others that it prewrote; or it loses its primary, and clears the others.
-pub fn plans_talk()
-    ensures talks { PlansTalk }
+pub fn plans_converse()
+    ensures converses { PlansConverse }
     ensures ends { PlansEnd }
     ensures stops { PlansStop }
 {}
 
 /// What a change has asked is its begin, and then a beginning of a transaction's conversation; at its end a whole one.
-pub fn changes_talk()
-    ensures talks { ChangesTalk }
+pub fn changes_converse()
+    ensures converses { ChangesConverse }
     ensures ends { ChangesEnd }
 {}
 

@@ -15,6 +15,6 @@ mod place;
 mod plan;
 
 pub use change::ChangeJob;
-pub use laws::{changes_talk, plans_are_allowed, plans_talk};
+pub use laws::{changes_converse, plans_are_allowed, plans_converse};
 pub use place::Outcome;
 pub use plan::Plan;

@@ -4,7 +4,7 @@ use Rattle.std.specs.Prelude.{slice_get}
 use Rattle.pb_base.specs.declared.refusal.Refusal.{Refusal}
 use Rattle.pb_base.specs.Batch.{Writes}
 use Rattle.pb_core.specs.Calls.{SeatOf}
-use Rattle.pb_txn.specs.Changes.{new_change, ChangesTalk}
+use Rattle.pb_txn.specs.Changes.{new_change, ChangesConverse}
 use Rattle.pb_worker.specs.declared.tries.TheConstants.{MAX_TRIES}
 use Rattle.pb_worker.specs.Gains.{Gains, IsWant}
 use Rattle.pb_worker.specs.Tries.{IsTry, AreVain, at_first, one_more, AreTries, AreTried, before_all, tried, AreAllTried}
@@ -54,7 +54,7 @@ module _ (batches : List Writes) (n first : ℕ) (flags : List Bool) (a b : Seat
       gains_on a b c before (renumbered (λ m. TriesStop m batch committed r) b c b.number a.number before.number h)
       (λ said more t s. record { flags = flags; before = said; tried = t; batch = batch; next = at; committed = committed; part = more; stops = s; said_is = refl; done_is = is })
 
-  pub no_room : ChangesTalk → batch ≢ [] → (r : Refusal) → IsWant r → Gains (ChangesStop a.number batches n first flags r) a b
+  pub no_room : ChangesConverse → batch ≢ [] → (r : Refusal) → IsWant r → Gains (ChangesStop a.number batches n first flags r) a b
   no_room law some r want =
       changes_stop b false r flags (inr (refl, refl)) (gains_none b (record {
         count = 0;
@@ -62,7 +62,7 @@ module _ (batches : List Writes) (n first : ℕ) (flags : List Bool) (a b : Seat
         vain = [];
         tries = at_first;
         part = [];
-        stops = record { told = refl; job = new_change batch; talks = refl; begins = law batch [] (new_change batch) some refl; stop = inl want };
+        stops = record { told = refl; job = new_change batch; converses = refl; begins = law batch [] (new_change batch) some refl; stop = inl want };
         said_is = refl;
       }))
 

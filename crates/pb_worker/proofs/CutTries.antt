@@ -17,11 +17,11 @@ use Rattle.pb_history.specs.History.{Has}
 use Rattle.pb_txn.specs.declared.place.Outcome.{Outcome}
 use Rattle.pb_txn.specs.declared.place.PlanPlace.{PlanPlace}
 use Rattle.pb_txn.specs.Plans.{fresh}
-use Rattle.pb_txn.specs.Talks.{told}
+use Rattle.pb_txn.specs.Conversations.{told}
 use Rattle.pb_txn.specs.Forms.{IsWhole, AreCleared, committed, conflicted_first, conflicted_later, lost, prewrites, secondaries}
-use Rattle.pb_txn.specs.Changes.{ChangeOf, new_change, Talks}
-use Rattle.pb_txn.proofs.ChangeTalk.{HasBegun, begins as has_begun}
-use Rattle.pb_txn.proofs.Talk.{SoFar, declaring, prewriting, stamping, committing, finishing, settling, clearing, over, said_all, clears, are_cleared}
+use Rattle.pb_txn.specs.Changes.{ChangeOf, new_change, Converses}
+use Rattle.pb_txn.proofs.ChangeConversation.{HasBegun, begins as has_begun}
+use Rattle.pb_txn.proofs.Conversation.{SoFar, declaring, prewriting, stamping, committing, finishing, settling, clearing, over, said_all, clears, are_cleared}
 use Rattle.pb_worker.specs.Tries.{is_committed, is_commit, has_commit}
 use Rattle.pb_worker.proofs.Committing.{HasCommitted}
 use Rattle.std.proofs.lemmas.Bool.{or_from as both_false, or_right as true_right}
@@ -174,6 +174,6 @@ of_begun (w ∷ ws) r rest q some b e =
     (s, record { commit = k.0; begun = inl b.first; declared = inr k.1; stamped = inr k.2; committed = inr k.3 })
 
 -- so a try that was cut off behind its commit has committed its change
-pub cut_commits : (batch : Writes) (part : List Received) (q : ChangeOf) → batch ≢ [] → Talks (new_change batch) part q → has_commit part ≡ true → (start : Ts) × HasCommitted batch start part
+pub cut_commits : (batch : Writes) (part : List Received) (q : ChangeOf) → batch ≢ [] → Converses (new_change batch) part q → has_commit part ≡ true → (start : Ts) × HasCommitted batch start part
 cut_commits batch [] q some t e = cc
 cut_commits batch (r ∷ rest) q some t e = of_begun batch r rest q some (has_begun batch r rest q t) e

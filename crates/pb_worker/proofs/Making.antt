@@ -23,7 +23,7 @@ use Rattle.pb_history.specs.Laws.{TransactionsAreTold}
 use Rattle.pb_history.specs.TransactionsTold.{TellsTransactions}
 use Rattle.pb_core.specs.Calls.{SharedOf, SeatOf, AreSeats, AreSeatsFrom}
 use Rattle.pb_core.specs.Histories.{IsLegalTable}
-use Rattle.pb_txn.specs.Talks.{told}
+use Rattle.pb_txn.specs.Conversations.{told}
 use Rattle.pb_worker.specs.Gains.{Gains}
 use Rattle.pb_worker.specs.Swaps.{Spare}
 use Rattle.pb_worker.specs.Work.{IsWork, IsLastDrain, WorkedOn, is_done, undone_below}

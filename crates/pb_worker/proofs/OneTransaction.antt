@@ -23,12 +23,12 @@ use Rattle.pb_steps.specs.Reads.{asked_cell}
 use Rattle.pb_history.specs.declared.entry.Received.{Received}
 use Rattle.pb_history.specs.History.{Has}
 use Rattle.pb_txn.specs.declared.place.Outcome.{Outcome}
-use Rattle.pb_txn.specs.Talks.{told}
+use Rattle.pb_txn.specs.Conversations.{told}
 use Rattle.pb_txn.specs.Forms.{IsWhole, AreCleared, committed, conflicted_first, conflicted_later, lost, prewrites, secondaries}
 use Rattle.pb_txn.specs.Changes.{IsWholeChange}
 use Rattle.pb_notify.specs.declared.need.JobEnd.{JobEnd}
 use Rattle.pb_notify.specs.Forms.{IsRound, cleared, settled, AreRounds, at_first, one_more, IsLooked, its_begin, IsObserved, IsAcknowledged, IsRecalled, AreAsked, dirty, asked, LooksFrom, at_cell, at_acknowledgment, at_old, at_ask}
-use Rattle.pb_notify.specs.Forms.{IsRunTalk, absent, clean, ran, conflicted, lost as lost_run, blocked}
+use Rattle.pb_notify.specs.Forms.{IsRunConversation, absent, clean, ran, conflicted, lost as lost_run, blocked}
 use Rattle.pb_history.proofs.Updates.{has_which}
 
 -- ---- lists
@@ -166,7 +166,7 @@ module _ (o : ℕ) (row : Row) (column : ℕ) (s : Ts) where
   swept x w = only_one s (told (Sweep x) w) (λ u e. cc)
 
 -- a run begins one transaction, and commits no other, however many locks it clears
-pub of_run : (o : ℕ) (judged : JudgedOf) (row : Row) (column : ℕ) (said : List Received) (end : JobEnd) (run : Option Meant) → IsRunTalk o judged row column said end run → (s : Ts) × IsOneTransaction (works.Run o row) s said
+pub of_run : (o : ℕ) (judged : JudgedOf) (row : Row) (column : ℕ) (said : List Received) (end : JobEnd) (run : Option Meant) → IsRunConversation o judged row column said end run → (s : Ts) × IsOneTransaction (works.Run o row) s said
 of_run o judged row column all end run (absent s n said a w look none few can) =
     (s, goes_on (works.Run o row) s said (told (Sweep (Data row column)) w ∷ []) (with_look o row column s (Data row column) None 0 (its_begin o row s) n said a look (begins (works.Run o row) s)) (swept o row column s (Data row column) w))
 of_run o judged row column all end run (clean s seen n said w k newer few can) =

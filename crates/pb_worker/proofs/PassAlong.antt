@@ -10,7 +10,7 @@ use Rattle.pb_steps.specs.Answers.{CanAnswer}
 use Rattle.pb_verify.specs.Observers.{ObserverOf}
 use Rattle.pb_history.specs.declared.entry.Received.{Received}
 use Rattle.pb_core.specs.Calls.{SeatOf}
-use Rattle.pb_txn.specs.Talks.{told}
+use Rattle.pb_txn.specs.Conversations.{told}
 use Rattle.pb_worker.specs.declared.passes.TheConstants.{MAX_PASSES}
 use Rattle.pb_worker.specs.Gains.{Gains, Told, MayRefuse}
 use Rattle.pb_worker.specs.Passes.{IsRun, IsOfOther, AreRuns, before_all, runs as ran_then, passes_by, AreAllRuns, IsWalk, at_beginning, found as found_then, IsPass, IsPassThat, ArePasses, at_first, one_more, IsDrain}

@@ -8,13 +8,13 @@ use Rattle.pb_steps.specs.declared.step.Answer.{Answer}
 use Rattle.pb_steps.specs.Answers.{CanAnswer}
 use Rattle.pb_verify.specs.Observers.{ObserverOf}
 use Rattle.pb_core.specs.Calls.{SeatOf}
-use Rattle.pb_txn.specs.Talks.{told}
+use Rattle.pb_txn.specs.Conversations.{told}
 use Rattle.pb_notify.specs.declared.need.Need.{Need}
 use Rattle.pb_notify.specs.declared.need.Need.TheVariants.{Local, Call, Over}
 use Rattle.pb_notify.specs.declared.need.JobEnd.{JobEnd}
 use Rattle.pb_notify.specs.Runs.{RunOf, HasNext, next_of, need_of, answered, HearsLook, ComputesOn, at_first, one_more}
-use Rattle.pb_notify.specs.Talks.{Reaches, made, took, computed}
-use Rattle.pb_notify.specs.Forms.{JobsEnd, JobsTalk}
+use Rattle.pb_notify.specs.Conversations.{Reaches, made, took, computed}
+use Rattle.pb_notify.specs.Forms.{JobsEnd, JobsConverse}
 use Rattle.pb_worker.specs.Gains.{Gains, Told, MayRefuse, IsStop, IsWant}
 use Rattle.pb_worker.specs.Passes.{IsObserverOf, HasColumn, IsJobOn, IsRun, job_on, ReachesOn}
 use Rattle.pb_worker.specs.Stops.{RunStops}
@@ -58,7 +58,7 @@ pub first_calls : (observers : List ObserverOf) (n : ℕ) (x : Cell) (job : RunO
 first_calls observers n x job known is = subst (λ j. need_of j ≢ Local) (sym (job_is observers n x job known is)) (begins n known.0 x)
 
 -- it couldn't be made
-pub not_made : (observers : List ObserverOf) (n : ℕ) (x : Cell) (a : SeatOf) → JobsTalk → HasColumn observers n x → (r : Refusal) → IsWant r → Gains (RunStops a.number observers n x r) a a
+pub not_made : (observers : List ObserverOf) (n : ℕ) (x : Cell) (a : SeatOf) → JobsConverse → HasColumn observers n x → (r : Refusal) → IsWant r → Gains (RunStops a.number observers n x r) a a
 not_made observers n x a law known r want = gains_none a (record {
   o = known.0;
   observer = known.1;
@@ -77,13 +77,13 @@ module _ (observers : List ObserverOf) (n : ℕ) (x : Cell) (a b : SeatOf) (job 
     gains = gains_more a b c step answer along.gains t (λ said h. on_to (job_on n along.o x) (said ++ told step answer ∷ []) (took said job (told step answer) l h e can is hears));
   }
 
-  stopped : JobsTalk → (r : Refusal) → IsStop a.number (next_of job) r → Gains (RunStops a.number observers n x r) a b
+  stopped : JobsConverse → (r : Refusal) → IsStop a.number (next_of job) r → Gains (RunStops a.number observers n x r) a b
   stopped law r stop = gains_as a b (λ said h. record { o = along.o; observer = along.observer; job = job; reaches = h; begins = law n along.o.program (row_of x) along.o.column said job h; stop = stop }) along.gains
 
-  pub refused : JobsTalk → (step : Step) → next_of job ≡ Some step → (r : Refusal) → MayRefuse b.number step r → Gains (RunStops a.number observers n x r) a b
+  pub refused : JobsConverse → (step : Step) → next_of job ≡ Some step → (r : Refusal) → MayRefuse b.number step r → Gains (RunStops a.number observers n x r) a b
   refused law step e r h = stopped law r (stops_at a.number (next_of job) step r e (subst (λ m. MayRefuse m step r) along.gains.number h))
 
-  pub wants : JobsTalk → (r : Refusal) → IsWant r → Gains (RunStops a.number observers n x r) a b
+  pub wants : JobsConverse → (r : Refusal) → IsWant r → Gains (RunStops a.number observers n x r) a b
   wants law r w = stopped law r (inl w)
 
   -- at its end

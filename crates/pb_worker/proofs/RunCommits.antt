@@ -11,7 +11,7 @@ use Rattle.pb_steps.specs.declared.step.Answer.TheVariants.{At, Marked, NoMark}
 use Rattle.pb_verify.specs.Observers.{ObserverOf}
 use Rattle.pb_history.specs.declared.entry.Received.{Received}
 use Rattle.pb_history.specs.History.{Has}
-use Rattle.pb_txn.specs.Talks.{told}
+use Rattle.pb_txn.specs.Conversations.{told}
 use Rattle.pb_worker.specs.Passes.{IsRun, AreRuns, before_all, runs, passes_by, IsWalk, at_beginning, found, IsPass, ArePasses, at_first, one_more, IsDrain}
 use Rattle.pb_worker.specs.Stops.{RunStops, RunsStop, PassStops, at_a_mark, in_runs, DrainStops}
 use Rattle.pb_worker.specs.Swaps.{Spare}

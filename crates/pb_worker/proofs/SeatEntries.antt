@@ -19,7 +19,7 @@ use Rattle.pb_history.specs.History.{Has, IsEntry}
 use Rattle.pb_history.specs.Journals.{JournalLeads}
 use Rattle.pb_history.specs.TransactionsTold.{names_start, entries_naming, is_begin, BeginsOnce, TellsTransactions}
 use Rattle.pb_core.proofs.Keeps.{machine_seats}
-use Rattle.pb_txn.specs.Talks.{told}
+use Rattle.pb_txn.specs.Conversations.{told}
 use Rattle.pb_worker.proofs.CutTries.{left_false}
 use Rattle.pb_worker.proofs.Starts.{HasTwice}
 use Rattle.pb_base.proofs.Logic.{not_both}

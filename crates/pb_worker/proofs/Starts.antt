@@ -11,7 +11,7 @@ use Rattle.pb_steps.specs.declared.step.Work.TheVariants as works
 use Rattle.pb_verify.specs.Observers.{ObserverOf}
 use Rattle.pb_history.specs.declared.entry.Received.{Received}
 use Rattle.pb_history.specs.History.{Has}
-use Rattle.pb_txn.specs.Talks.{told}
+use Rattle.pb_txn.specs.Conversations.{told}
 use Rattle.pb_worker.specs.Tries.{AreTried, before_all, tried}
 use Rattle.pb_worker.specs.Stops.{ChangesStop}
 use Rattle.pb_worker.specs.Work.{IsWork, IsPart, in_changes, in_passes, AreFilled}

@@ -11,10 +11,10 @@ use Rattle.pb_steps.specs.Answers.{CanAnswer}
 use Rattle.pb_history.specs.declared.entry.Received.{Received}
 use Rattle.pb_core.specs.Calls.{SeatOf}
 use Rattle.pb_txn.specs.Plans as plans
-use Rattle.pb_txn.specs.Talks.{told}
+use Rattle.pb_txn.specs.Conversations.{told}
 use Rattle.pb_txn.specs.Forms.{PlansStop}
-use Rattle.pb_txn.specs.Changes.{ChangeOf, new_change, next_of, answered, outcome_of, Talks, ChangesTalk, ChangesEnd}
-use Rattle.pb_txn.proofs.ChangeTalk.{HasBegun, begins as has_begun}
+use Rattle.pb_txn.specs.Changes.{ChangeOf, new_change, next_of, answered, outcome_of, Converses, ChangesConverse, ChangesEnd}
+use Rattle.pb_txn.proofs.ChangeConversation.{HasBegun, begins as has_begun}
 use Rattle.pb_worker.specs.Gains.{Gains, Told, MayRefuse, IsStop, IsWant}
 use Rattle.pb_worker.specs.Tries.{IsTry, committed_in, is_commit, has_commit}
 use Rattle.pb_worker.specs.Stops.{TryStops}
@@ -25,7 +25,7 @@ use Rattle.pb_worker.proofs.CutTries.{or_assoc}
 
 -- what was said so far led here, and tells whether the transaction is committed
 pub record HasSaid (batch : Writes) (job : ChangeOf) (committed : Bool) (said : List Received) : Type 0 where
-  pub talks : Talks (new_change batch) said job
+  pub converses : Converses (new_change batch) said job
   pub told : committed ≡ has_commit said
 
 -- what the seat gained led the change to where it stands
@@ -38,32 +38,32 @@ commit_on [] r = or_false (is_commit r.answer)
 commit_on (s ∷ ss) r = ap (λ b. is_commit s.answer || b) (commit_on ss r) ∙ or_assoc (is_commit s.answer) (has_commit ss) (is_commit r.answer)
 
 -- one answer more leads a change on
-talk_on : (p : ChangeOf) (said : List Received) (q : ChangeOf) (step : Step) (a : Answer) → Talks p said q → next_of q ≡ Some step → CanAnswer step a → Talks p (said ++ told step a ∷ []) (answered q a)
-talk_on p [] q step a t e can = (ap next_of (sym t) ∙ e, can, ap (λ (z : ChangeOf). answered z a) t)
-talk_on p (r ∷ rs) q step a t e can = (t.0, t.1, talk_on (answered p r.answer) rs q step a t.2 e can)
+converse_on : (p : ChangeOf) (said : List Received) (q : ChangeOf) (step : Step) (a : Answer) → Converses p said q → next_of q ≡ Some step → CanAnswer step a → Converses p (said ++ told step a ∷ []) (answered q a)
+converse_on p [] q step a t e can = (ap next_of (sym t) ∙ e, can, ap (λ (z : ChangeOf). answered z a) t)
+converse_on p (r ∷ rs) q step a t e can = (t.0, t.1, converse_on (answered p r.answer) rs q step a t.2 e can)
 
 pub some_cells : (batch : Writes) (n : ℕ) → n ≡ length batch → 0 < n → batch ≢ []
 some_cells batch n is some e = let none : length batch ≡ 0 = ap length e in omega (arith, is, some, none)
 
 -- before its first step nothing was said, and nothing is committed
 pub first : (batch : Writes) (a : SeatOf) (job : ChangeOf) → job ≡ new_change batch → IsAlong batch a a job false
-first batch a job is = gains_none a (record { talks = is; told = refl })
+first batch a job is = gains_none a (record { converses = is; told = refl })
 
 module _ (batch : Writes) (a b : SeatOf) (job : ChangeOf) (committed : Bool) (along : IsAlong batch a b job committed) where
   pub next : (step : Step) → next_of job ≡ Some step → (answer : Answer) → CanAnswer step answer → (c : SeatOf) → Told b step answer c → (k : ChangeOf) → k ≡ answered job answer → (now : Bool) → now ≡ (committed || is_commit answer) → IsAlong batch a c k now
   next step e answer can c t k is now now-is =
       gains_more a b c step answer along t (λ said h. record {
-        talks = subst (λ z. Talks (new_change batch) (said ++ told step answer ∷ []) z) (sym is) (talk_on (new_change batch) said job step answer h.talks e can);
+        converses = subst (λ z. Converses (new_change batch) (said ++ told step answer ∷ []) z) (sym is) (converse_on (new_change batch) said job step answer h.converses e can);
         told = now-is ∙ ap (λ z. z || is_commit answer) h.told ∙ sym (commit_on said (told step answer));
       })
 
-  stopped : ChangesTalk → batch ≢ [] → (r : Refusal) → IsStop a.number (next_of job) r → Gains (TryStops a.number batch committed r) a b
-  stopped law some r stop = gains_as a b (λ said h. record { told = h.told; job = job; talks = h.talks; begins = law batch said job some h.talks; stop = stop }) along
+  stopped : ChangesConverse → batch ≢ [] → (r : Refusal) → IsStop a.number (next_of job) r → Gains (TryStops a.number batch committed r) a b
+  stopped law some r stop = gains_as a b (λ said h. record { told = h.told; job = job; converses = h.converses; begins = law batch said job some h.converses; stop = stop }) along
 
-  pub refused : ChangesTalk → batch ≢ [] → (step : Step) → next_of job ≡ Some step → (r : Refusal) → MayRefuse b.number step r → Gains (TryStops a.number batch committed r) a b
+  pub refused : ChangesConverse → batch ≢ [] → (step : Step) → next_of job ≡ Some step → (r : Refusal) → MayRefuse b.number step r → Gains (TryStops a.number batch committed r) a b
   refused law some step e r h = stopped law some r (stops_at a.number (next_of job) step r e (subst (λ n. MayRefuse n step r) along.number h))
 
-  pub wants : ChangesTalk → batch ≢ [] → (r : Refusal) → IsWant r → Gains (TryStops a.number batch committed r) a b
+  pub wants : ChangesConverse → batch ≢ [] → (r : Refusal) → IsWant r → Gains (TryStops a.number batch committed r) a b
   wants law some r w = stopped law some r (inl w)
 
 -- ---- at its end
@@ -71,7 +71,7 @@ module _ (batch : Writes) (a b : SeatOf) (job : ChangeOf) (committed : Bool) (al
 no_step : (s : Step) → ◌≡◌ {A = Option Step} (Some s) None → ⊥
 no_step s e = cc
 
-ended_by : (batch : Writes) (r : Received) (rest : List Received) (q : ChangeOf) → batch ≢ [] → PlansStop → ChangesEnd → Talks (new_change batch) (r ∷ rest) q → next_of q ≡ None → HasBegun batch r rest q
+ended_by : (batch : Writes) (r : Received) (rest : List Received) (q : ChangeOf) → batch ≢ [] → PlansStop → ChangesEnd → Converses (new_change batch) (r ∷ rest) q → next_of q ≡ None → HasBegun batch r rest q
     → IsTry batch (committed_in (outcome_of q)) (r ∷ rest)
 ended_by [] r rest q some stop end t e b = absurd (some refl)
 ended_by (w ∷ ws) r rest q some stop end t e b =
@@ -87,9 +87,9 @@ ended_by (w ∷ ws) r rest q some stop end t e b =
     }
 
 -- at its end a change is a whole try, which committed where its outcome says so
-pub ended : (batch : Writes) (said : List Received) (q : ChangeOf) → batch ≢ [] → PlansStop → ChangesEnd → Talks (new_change batch) said q → next_of q ≡ None → IsTry batch (committed_in (outcome_of q)) said
+pub ended : (batch : Writes) (said : List Received) (q : ChangeOf) → batch ≢ [] → PlansStop → ChangesEnd → Converses (new_change batch) said q → next_of q ≡ None → IsTry batch (committed_in (outcome_of q)) said
 ended batch [] q some stop end t e = absurd (no_step (Begin works.Script) (ap next_of (sym t) ∙ e))
 ended batch (r ∷ rest) q some stop end t e = ended_by batch r rest q some stop end t e (has_begun batch r rest q t)
 
 pub has_ended : (batch : Writes) (a b : SeatOf) (job : ChangeOf) (committed : Bool) → IsAlong batch a b job committed → batch ≢ [] → PlansStop → ChangesEnd → next_of job ≡ None → Gains (IsTry batch (committed_in (outcome_of job))) a b
-has_ended batch a b job committed along some stop end e = gains_as a b (λ said h. ended batch said job some stop end h.talks e) along
+has_ended batch a b job committed along some stop end e = gains_as a b (λ said h. ended batch said job some stop end h.converses e) along

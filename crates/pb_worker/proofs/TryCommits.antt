@@ -11,7 +11,7 @@ use Rattle.pb_history.specs.declared.entry.Received.{Received}
 use Rattle.pb_history.specs.History.{Has}
 use Rattle.pb_txn.specs.declared.place.Outcome.{Outcome}
 use Rattle.pb_txn.specs.Places.{declared_cells}
-use Rattle.pb_txn.specs.Talks.{told}
+use Rattle.pb_txn.specs.Conversations.{told}
 use Rattle.pb_txn.specs.Forms.{IsWhole, committed, conflicted_first, conflicted_later, lost, prewrites, secondaries}
 use Rattle.pb_txn.specs.Changes.{IsWholeChange}
 use Rattle.pb_worker.specs.Tries.{is_committed, is_commit, has_commit, IsTry, AreVain, at_first, one_more, IsDone, AreTries}
@@ -109,7 +109,7 @@ of_cut seat batch is r said some t =
       b.0,
       record {
         made = λ e.
-            let c = cut_commits batch t.part s.job some s.talks (sym s.told ∙ e) in
+            let c = cut_commits batch t.part s.job some s.converses (sym s.told ∙ e) in
             made_in_part batch t.count t.vain t.part said t.tries t.said_is b.0 (subst (λ u. HasCommitted batch u t.part) (its c.0 c.1.committed) c.1);
         only = λ u h.
             let k = only_in_part batch t.count t.vain t.part said t.tries t.said_is u h in

@@ -10,7 +10,7 @@ use Rattle.pb_steps.specs.declared.step.Answer.{Answer}
 use Rattle.pb_history.specs.declared.entry.Received.{Received}
 use Rattle.pb_core.specs.Calls.{SharedOf, SeatOf, call_reason}
 use Rattle.pb_core.specs.Histories.{IsLegalTable}
-use Rattle.pb_txn.specs.Talks.{told}
+use Rattle.pb_txn.specs.Conversations.{told}
 
 -- a seat was told one more answer
 pub record Told (old : SeatOf) (step : Step) (answer : Answer) (new : SeatOf) : Type 0 where

@@ -8,12 +8,12 @@ use Rattle.pb_steps.specs.declared.step.Step.TheVariants.{NextMark}
 use Rattle.pb_steps.specs.declared.step.Answer.TheVariants.{Marked, NoMark}
 use Rattle.pb_verify.specs.Observers.{ObserverOf}
 use Rattle.pb_history.specs.declared.entry.Received.{Received}
-use Rattle.pb_txn.specs.Talks.{told}
+use Rattle.pb_txn.specs.Conversations.{told}
 use Rattle.pb_notify.specs.declared.need.JobEnd.{JobEnd}
 use Rattle.pb_notify.specs.declared.need.Need.TheVariants.{Local, Over}
 use Rattle.pb_notify.specs.Runs.{RunOf, fresh, need_of}
-use Rattle.pb_notify.specs.Talks.{Reaches}
-use Rattle.pb_notify.specs.Forms.{IsRunTalk, WasMeant}
+use Rattle.pb_notify.specs.Conversations.{Reaches}
+use Rattle.pb_notify.specs.Forms.{IsRunConversation, WasMeant}
 use Rattle.pb_worker.specs.declared.passes.TheConstants.{MAX_PASSES}
 
 -- the observer of this number is one of the cell's column
@@ -49,7 +49,7 @@ pub record IsRun (observers : List ObserverOf) (n : ℕ) (x : Cell) (said : List
   pub end : JobEnd
   pub over : need_of job ≡ Over end
   pub run : Option Meant
-  pub talk : IsRunTalk n o.program (row_of x) o.column said end run
+  pub talk : IsRunConversation n o.program (row_of x) o.column said end run
   pub meant : WasMeant run
 
 -- the observer of this number is one of another column

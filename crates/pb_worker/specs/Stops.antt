@@ -12,14 +12,14 @@ use Rattle.pb_steps.specs.declared.step.Answer.TheVariants.{Marked}
 use Rattle.pb_verify.specs.Observers.{ObserverOf}
 use Rattle.pb_history.specs.declared.entry.Received.{Received}
 use Rattle.pb_txn.specs.declared.place.Outcome.{Outcome}
-use Rattle.pb_txn.specs.Changes.{ChangeOf, new_change, Talks, IsWholeChange}
+use Rattle.pb_txn.specs.Changes.{ChangeOf, new_change, Converses, IsWholeChange}
 use Rattle.pb_txn.specs.Changes as changes
-use Rattle.pb_txn.specs.Talks.{told}
+use Rattle.pb_txn.specs.Conversations.{told}
 use Rattle.pb_notify.specs.declared.need.JobEnd.{JobEnd}
 use Rattle.pb_notify.specs.Runs.{RunOf}
 use Rattle.pb_notify.specs.Runs as runs
-use Rattle.pb_notify.specs.Talks.{Reaches}
-use Rattle.pb_notify.specs.Forms.{IsRunTalk}
+use Rattle.pb_notify.specs.Conversations.{Reaches}
+use Rattle.pb_notify.specs.Forms.{IsRunConversation}
 use Rattle.pb_worker.specs.declared.tries.TheConstants.{MAX_TRIES}
 use Rattle.pb_worker.specs.declared.passes.TheConstants.{MAX_PASSES}
 use Rattle.pb_worker.specs.Gains.{IsStop}
@@ -30,7 +30,7 @@ use Rattle.pb_worker.specs.Passes.{IsObserverOf, job_on, AreRuns, IsWalk, ArePas
 pub record TryStops (seat : ℕ) (batch : Writes) (committed : Bool) (r : Refusal) (said : List Received) : Type 0 where
   pub told : committed ≡ has_commit said
   pub job : ChangeOf
-  pub talks : Talks (new_change batch) said job
+  pub converses : Converses (new_change batch) said job
   pub begins : (start : Ts) × (rest : List Received) × (o : Outcome) × IsWholeChange batch start (said ++ rest) o
   pub stop : IsStop seat (changes.next_of job) r
 
@@ -63,7 +63,7 @@ pub record RunStops (seat : ℕ) (observers : List ObserverOf) (i : ℕ) (x : Ce
   pub observer : IsObserverOf observers i x o
   pub job : RunOf
   pub reaches : Reaches (job_on i o x) said job
-  pub begins : (rest : List Received) × (end : JobEnd) × (run : Option Meant) × IsRunTalk i o.program (row_of x) o.column (said ++ rest) end run
+  pub begins : (rest : List Received) × (end : JobEnd) × (run : Option Meant) × IsRunConversation i o.program (row_of x) o.column (said ++ rest) end run
   pub stop : IsStop seat (runs.next_of job) r
 
 -- after the runs of the observers before it

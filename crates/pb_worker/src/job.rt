@@ -8,7 +8,7 @@ use crate::desk::{Callee, ask};
 use crate::gate::Gate;
 use pb_base::{Cell, NoMemory, ObserverNo, Reason, Refusal};
 use pb_core::Seat;
-use pb_notify::{Need, ObserverJob, jobs_talk};
+use pb_notify::{Need, ObserverJob, jobs_converse};
 use pb_verify::Observer;
 use std::alloc::Global;
 use std::sync::{Arc, Mutex, Wait};
@@ -64,7 +64,7 @@ pub(crate) fn run_one<R: Wait, C: Callee, G: Gate>(
         (λ r. Gains (RunStops seat.old.number observers.now number cell r) seat.old seat.new) }
 {
     // For the proof: what a job has asked is a beginning of a run's conversation, and at its end a whole one.
-    jobs_talk();
+    jobs_converse();
     let Ok(mut job) = job_on(observers, number, cell) else {
         return Err(Reason::NoMemory.refusal());
     };

@@ -11,7 +11,7 @@ use crate::gate::Gate;
 use pb_base::{Batch, NoMemory, Reason, Refusal};
 use pb_core::Seat;
 use pb_steps::Answer;
-use pb_txn::{ChangeJob, Outcome, changes_talk, plans_talk};
+use pb_txn::{ChangeJob, Outcome, changes_converse, plans_converse};
 use std::alloc::Global;
 use std::sync::{Mutex, Wait};
 use std::thread;
@@ -88,8 +88,8 @@ fn try_once<R: Wait, C: Callee, G: Gate>(
     // For the proof: a batch has some cells; and what a change has asked is a beginning of its conversation, and at
     // its end a whole one.
     let _ = batch.len();
-    plans_talk();
-    changes_talk();
+    plans_converse();
+    changes_converse();
     let mut committed = false;
     let Ok(mut job) = job_of(alloc, batch) else {
         return Err(Cut {
@@ -188,7 +188,7 @@ pub(crate) fn change_all<R: Wait, C: Callee, G: Gate>(
         (ChangesStop seat.old.number batches.now count first done.new.items r) seat.old seat.new) }
 {
     // For the proof: what a change has asked is a beginning of its conversation.
-    changes_talk();
+    changes_converse();
     let mut next = first;
     while next < batches.len() {
         // For the proof: a batch has some cells.

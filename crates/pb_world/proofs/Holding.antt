@@ -9,15 +9,15 @@ use Rattle.pb_vm.specs.Position.{Position}
 use Rattle.pb_vm.specs.Moves.{IsAtState}
 use Rattle.pb_history.specs.declared.entry.Received.{Received}
 use Rattle.pb_core.specs.Calls.{SeatOf}
-use Rattle.pb_txn.specs.Changes.{ChangeOf, ChangesTalk}
+use Rattle.pb_txn.specs.Changes.{ChangeOf, ChangesConverse}
 use Rattle.pb_notify.specs.Runs.{RunOf}
-use Rattle.pb_notify.specs.Forms.{JobsTalk}
+use Rattle.pb_notify.specs.Forms.{JobsConverse}
 use Rattle.pb_notify.specs.Led.{MachineStandsAt, IsMachineOf, MachinesAreLed, AsksAreOpen, EndedRunsMean}
 use Rattle.pb_world.specs.declared.job.ActorJob.{ActorJob}
 use Rattle.pb_world.specs.declared.job.ActorJob.TheVariants.{Change, Run}
 use Rattle.pb_world.specs.Jobs.{RulesAccept}
 use Rattle.pb_world.specs.Events.{WorldOf}
-use Rattle.pb_world.specs.Sound.{ChangeCame, RunCame, Came, IsTied, IsSound}
+use Rattle.pb_world.specs.Sound.{ChangeCame, RunCame, Came, IsTied, IsSoundWorld}
 use Rattle.pb_world.specs.Headline.{IsNeverStuck, HoldsOfChange, HoldsOfRun, HoldsOfJob, HoldsOfActor}
 use Rattle.pb_world.proofs.SeatLists.{seat_list}
 
@@ -47,15 +47,15 @@ never_stuck law v ok size led = record {
 }
 
 -- what a change has said is a beginning of its conversation
-of_change : ChangesTalk → (w : WorldOf) (c : ChangeOf) (said : List Received) → ChangeCame w c said → HoldsOfChange w c said
+of_change : ChangesConverse → (w : WorldOf) (c : ChangeOf) (said : List Received) → ChangeCame w c said → HoldsOfChange w c said
 of_change law w c said m =
-    let t = law c.batch said c (not_empty c.batch m.is) m.talks in
+    let t = law c.batch said c (not_empty c.batch m.is) m.converses in
     record { number = m.number; there = m.there; start = t.0; rest = t.1; outcome = t.2; talk = t.3 }
 
 -- and so is what a run has said, whose machine was led by it
-of_run : AcceptedAreNeverStuck → JobsTalk → MachinesAreLed → AsksAreOpen → EndedRunsMean → (w : WorldOf) (r : RunOf) (said : List Received) → RunCame w r said → HoldsOfRun w r said
-of_run stuck talks led waits ended w r said m =
-    let t = talks r.observer r.judged r.row r.column said r m.reaches in
+of_run : AcceptedAreNeverStuck → JobsConverse → MachinesAreLed → AsksAreOpen → EndedRunsMean → (w : WorldOf) (r : RunOf) (said : List Received) → RunCame w r said → HoldsOfRun w r said
+of_run stuck converses led waits ended w r said m =
+    let t = converses r.observer r.judged r.row r.column said r m.reaches in
     record {
       its = m.its;
       rest = t.0;
@@ -70,12 +70,12 @@ of_run stuck talks led waits ended w r said m =
       ended = ended r.observer r.judged r.row r.column said r m.reaches;
     }
 
-of_job : AcceptedAreNeverStuck → JobsTalk → MachinesAreLed → AsksAreOpen → EndedRunsMean → ChangesTalk → (w : WorldOf) (j : ActorJob) (said : List Received) → Came w j said → HoldsOfJob w j said
-of_job stuck talks led waits ended changes w (Change c) said m = of_change changes w c said m
-of_job stuck talks led waits ended changes w (Run r) said m = of_run stuck talks led waits ended w r said m
+of_job : AcceptedAreNeverStuck → JobsConverse → MachinesAreLed → AsksAreOpen → EndedRunsMean → ChangesConverse → (w : WorldOf) (j : ActorJob) (said : List Received) → Came w j said → HoldsOfJob w j said
+of_job stuck converses led waits ended changes w (Change c) said m = of_change changes w c said m
+of_job stuck converses led waits ended changes w (Run r) said m = of_run stuck converses led waits ended w r said m
 
 -- of an actor in a sound world the headline holds
-pub of_actor : AcceptedAreNeverStuck → JobsTalk → MachinesAreLed → AsksAreOpen → EndedRunsMean → ChangesTalk → (w : WorldOf) (k n : ℕ) (seat : SeatOf) (j : ActorJob) → IsSound w → slice_get w.seats k ≡ Some seat → IsTied w seat n j → HoldsOfActor w k n seat j
-of_actor stuck talks led waits ended changes w k n seat j s is t =
+pub of_actor : AcceptedAreNeverStuck → JobsConverse → MachinesAreLed → AsksAreOpen → EndedRunsMean → ChangesConverse → (w : WorldOf) (k n : ℕ) (seat : SeatOf) (j : ActorJob) → IsSoundWorld w → slice_get w.seats k ≡ Some seat → IsTied w seat n j → HoldsOfActor w k n seat j
+of_actor stuck converses led waits ended changes w k n seat j s is t =
     let its = seat_list w.shared w.seats k seat s.seats is in
-    record { number = its.0; entries = its.1; before = t.before; said = t.said; counted = t.counted; received = t.received; job = of_job stuck talks led waits ended changes w j t.said t.came }
+    record { number = its.0; entries = its.1; before = t.before; said = t.said; counted = t.counted; received = t.received; job = of_job stuck converses led waits ended changes w j t.said t.came }

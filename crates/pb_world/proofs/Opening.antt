@@ -3,7 +3,7 @@ use Rattle.std.proofs.Common.{◌≡◌, ℕ, zero, suc, length, slice_get, Some
 use Rattle.pb_world.specs.declared.actor.Actor.{Actor}
 use Rattle.pb_world.specs.Events.{WorldOf, idle_actors}
 use Rattle.pb_world.specs.Headline.{IsOpened}
-use Rattle.pb_world.specs.Sound.{IsSound}
+use Rattle.pb_world.specs.Sound.{IsSoundWorld}
 use Rattle.pb_base.proofs.Logic.{same_some as some_same, none_some}
 
 -- an actor of a world that was just opened has no job
@@ -13,7 +13,7 @@ idle (suc n) zero a e = ap (λ (x : Actor). x.job) (sym (some_same _ a e))
 idle (suc n) (suc k) a e = idle n k a e
 
 -- without jobs it is enough that the journal is legal and the seats have their entries
-pub opened_sound : (w : WorldOf) → IsOpened w → IsSound w
+pub opened_sound : (w : WorldOf) → IsOpened w → IsSoundWorld w
 opened_sound w o = record {
   legal = o.legal;
   seats = o.seats;

@@ -20,13 +20,13 @@ use Rattle.pb_history.specs.declared.entry.Received.{Received}
 use Rattle.pb_history.specs.Journals.{JournalLeads, IsLegal}
 use Rattle.pb_core.specs.Calls.{SharedOf, SeatOf, Calls, call_reason, AreSeats}
 use Rattle.pb_core.specs.Histories.{IsLegalTable}
-use Rattle.pb_txn.specs.Changes.{ChangeOf, new_change, Talks}
+use Rattle.pb_txn.specs.Changes.{ChangeOf, new_change, Converses}
 use Rattle.pb_txn.specs.Changes as changes
 use Rattle.pb_notify.specs.declared.need.Need.{Need}
 use Rattle.pb_notify.specs.declared.need.Need.TheVariants.{Local, Call, Over}
 use Rattle.pb_notify.specs.Runs.{RunOf, fresh, need_of}
-use Rattle.pb_notify.specs.Talks.{Reaches, took, computed}
-use Rattle.pb_notify.specs.Talks as talk
+use Rattle.pb_notify.specs.Conversations.{Reaches, took, computed}
+use Rattle.pb_notify.specs.Conversations as talk
 use Rattle.pb_parse.specs.declared.event.Event.{Event}
 use Rattle.pb_parse.specs.declared.event.Event.TheVariants as events
 use Rattle.pb_parse.specs.declared.event.Job.{Job}
@@ -39,7 +39,7 @@ use Rattle.pb_world.specs.declared.note.Note.TheVariants.{Refused}
 use Rattle.pb_world.specs.Jobs.{next_of, is_local, is_local_need, is_over, Takes, Computes, RulesAccept, IsReady}
 use Rattle.pb_world.specs.Actors.{AnswersJob, RefusesJob, CallSteps, Instructs, IsIdle, JobSteps, ActorSteps, launched, crashed}
 use Rattle.pb_world.specs.Events.{WorldOf, change_of, job_for, with_actor, actor_of, no_actor, no_launch, fault_of, Launches, StepsActor, CrashesActor, OwnAnswers, OwnCalls, Does}
-use Rattle.pb_world.specs.Sound.{ChangeCame, RunCame, Came, IsTied, IsSound, EventsKeepSound}
+use Rattle.pb_world.specs.Sound.{ChangeCame, RunCame, Came, IsTied, IsSoundWorld, EventsKeepSound}
 use Rattle.pb_world.proofs.SeatLists.{called, append-none}
 use Rattle.pb_base.proofs.Logic.{same_some as some_same, none_some as some_none, some_none as none_some}
 use Rattle.pb_history.proofs.JournalParts.{one_more as leads_more}
@@ -87,9 +87,9 @@ call_legal s seat told st a t l c =
 
 -- ---- jobs
 
-talks_push : (p : ChangeOf) (said : List Received) (q : ChangeOf) (st : Step) (a : Answer) → Talks p said q → changes.next_of q ≡ Some st → CanAnswer st a → Talks p (said ++ record { step = st; answer = a } ∷ []) (changes.answered q a)
-talks_push p [] q st a t next can = (subst (λ x. changes.next_of x ≡ Some st) t next, can, ap (λ x. changes.answered x a) t)
-talks_push p (r ∷ rs) q st a t next can = (t.0, t.1, talks_push (changes.answered p r.answer) rs q st a t.2 next can)
+converses_push : (p : ChangeOf) (said : List Received) (q : ChangeOf) (st : Step) (a : Answer) → Converses p said q → changes.next_of q ≡ Some st → CanAnswer st a → Converses p (said ++ record { step = st; answer = a } ∷ []) (changes.answered q a)
+converses_push p [] q st a t next can = (subst (λ x. changes.next_of x ≡ Some st) t next, can, ap (λ x. changes.answered x a) t)
+converses_push p (r ∷ rs) q st a t next can = (t.0, t.1, converses_push (changes.answered p r.answer) rs q st a t.2 next can)
 
 -- the same run, further on
 record IsOneRun (r l : RunOf) : Type 0 where
@@ -113,7 +113,7 @@ run_goes_on w r l said more same m reaches = record {
 -- a job that took an answer has come on by it
 came_on : (w : WorldOf) (j k : ActorJob) (said : List Received) (st : Step) (a : Answer) → Came w j said → next_of j ≡ Some st → CanAnswer st a → Takes j a k → Came w k (said ++ record { step = st; answer = a } ∷ [])
 came_on w (Change c) k said st a m next can takes =
-    let more : ChangeCame w (changes.answered c a) (said ++ record { step = st; answer = a } ∷ []) = record { number = m.number; there = m.there; is = m.is; talks = talks_push (new_change c.batch) said c st a m.talks next can } in
+    let more : ChangeCame w (changes.answered c a) (said ++ record { step = st; answer = a } ∷ []) = record { number = m.number; there = m.there; is = m.is; converses = converses_push (new_change c.batch) said c st a m.converses next can } in
     subst (λ x. Came w x (said ++ record { step = st; answer = a } ∷ [])) (sym takes) more
 came_on w (Run r) k said st a m next can takes =
     let l = takes.0 in
@@ -147,7 +147,7 @@ came_by w (Run r) k said m local did =
 
 -- what a job came by depends on the observers and the changes alone
 came_in : (w v : WorldOf) (j : ActorJob) (said : List Received) → v.shared.state.observers ≡ w.shared.state.observers → v.batches ≡ w.batches → Came w j said → Came v j said
-came_in w v (Change c) said os bs m = record { number = m.number; there = subst (λ x. change_of x m.number ≡ Some c.batch) (sym bs) m.there; is = m.is; talks = m.talks }
+came_in w v (Change c) said os bs m = record { number = m.number; there = subst (λ x. change_of x m.number ≡ Some c.batch) (sym bs) m.there; is = m.is; converses = m.converses }
 came_in w v (Run r) said os bs m = record { its = record { observer = m.its.observer; there = subst (λ x. slice_get x r.observer ≡ Some m.its.observer) (sym os) m.its.there; program = m.its.program; column = m.its.column }; accepted = m.accepted; reaches = m.reaches }
 
 -- a job stays tied while the observers and the changes stay
@@ -245,8 +245,8 @@ actor_steps w seat a note t told b tie d = subst (λ n. IsSteppedTo w seat n t t
 -- ---- events
 
 -- one actor changed, and its seat
-pub stepped : (w v : WorldOf) (k : ℕ) (n : Note) → 0 < k → IsSound w → StepsActor w k n v → IsSound v
-stepped w v k n some s d = subst (λ x. IsSound x) (sym d.after) here
+pub stepped : (w v : WorldOf) (k : ℕ) (n : Note) → 0 < k → IsSoundWorld w → StepsActor w k n v → IsSoundWorld v
+stepped w v k n some s d = subst (λ x. IsSoundWorld x) (sym d.after) here
   where
     u : WorldOf
     u = record w { shared = v.shared; seats = slice_set w.seats k d.told; actors = slice_set w.actors k d.stepped }
@@ -269,7 +269,7 @@ stepped w v k n some s d = subst (λ x. IsSound x) (sym d.after) here
     none a (changed e a-is) = absurd (omega (arith, some, e))
     none a (unchanged apart is) = s.own a is
 
-    here : IsSound u
+    here : IsSoundWorld u
     here = record {
       legal = moves_legal w.shared d.seat v.shared d.told left.moves s.legal;
       seats = moves_seats w.shared w.seats k d.seat v.shared d.told left.moves d.its_seat s.seats;
@@ -278,7 +278,7 @@ stepped w v k n some s d = subst (λ x. IsSound x) (sym d.after) here
     }
 
 -- one actor changed alone
-with_sound : (w : WorldOf) (k : ℕ) (b : Actor) → 0 < k → IsSound w → ((seat : SeatOf) (j : ActorJob) → slice_get w.seats k ≡ Some seat → b.job ≡ Some j → IsTied w seat b.launched j) → IsSound (with_actor w k b)
+with_sound : (w : WorldOf) (k : ℕ) (b : Actor) → 0 < k → IsSoundWorld w → ((seat : SeatOf) (j : ActorJob) → slice_get w.seats k ≡ Some seat → b.job ≡ Some j → IsTied w seat b.launched j) → IsSoundWorld (with_actor w k b)
 with_sound w k b some s tie = record {
   legal = s.legal;
   seats = s.seats;
@@ -297,8 +297,8 @@ with_sound w k b some s tie = record {
     at i a seat j (unchanged apart is) is' job = tied_in w (with_actor w k b) seat a.launched j refl refl (s.tied i a seat j is is' job)
 
 -- a crash leaves no job to be tied
-crashed_sound : (w v : WorldOf) (k : ℕ) (n : Note) → 0 < k → IsSound w → CrashesActor w k n v → IsSound v
-crashed_sound w v k n some s d = subst (λ x. IsSound x) (sym d.after) (with_sound w k (crashed d.actor) some s (λ seat j is job. absurd (some_none j job)))
+crashed_sound : (w v : WorldOf) (k : ℕ) (n : Note) → 0 < k → IsSoundWorld w → CrashesActor w k n v → IsSoundWorld v
+crashed_sound w v k n some s d = subst (λ x. IsSoundWorld x) (sym d.after) (with_sound w k (crashed d.actor) some s (λ seat j is job. absurd (some_none j job)))
 
 -- a job that is made has come there without a word
 change_made : (w : WorldOf) (k : ℕ) (o : Option Writes) (made : ActorJob) → change_of w.batches k ≡ o → option_map (λ batch. Change (new_change batch)) o ≡ Some made → IsReady made → Came w made []
@@ -306,7 +306,7 @@ change_made w k None made is e ready = absurd (some_none made e)
 change_made w k (Some batch) made is e ready =
     let same : Change (new_change batch) ≡ made = some_same (Change (new_change batch)) made e in
     let fits : is_batch batch ≡ true = subst (λ x. IsReady x) (sym same) ready in
-    let here : ChangeCame w (new_change batch) [] = record { number = k; there = is; is = fits; talks = refl } in
+    let here : ChangeCame w (new_change batch) [] = record { number = k; there = is; is = fits; converses = refl } in
     subst (λ x. Came w x []) same here
 
 run_made : (w : WorldOf) (o : ℕ) (row : Row) (found : Option ObserverOf) (made : ActorJob) → slice_get w.shared.state.observers o ≡ found → option_map (λ (x : ObserverOf). Run (fresh o x.program row x.column)) found ≡ Some made → IsReady made → Came w made []
@@ -323,8 +323,8 @@ came_first w (jobs.Change k) made is ready = change_made w k (change_of w.batche
 came_first w (jobs.Run o row) made is ready = run_made w o row (slice_get w.shared.state.observers o) made refl is ready
 
 -- its conversation begins at the end of its seat's list
-launched_sound : (w v : WorldOf) (k : ℕ) (job : Job) (n : Note) → 0 < k → IsSound w → Launches w k job n v → IsSound v
-launched_sound w v k job n some s d = subst (λ x. IsSound x) (sym d.after) (with_sound w k (launched (length d.seat.received) d.made) some s at)
+launched_sound : (w v : WorldOf) (k : ℕ) (job : Job) (n : Note) → 0 < k → IsSoundWorld w → Launches w k job n v → IsSoundWorld v
+launched_sound w v k job n some s d = subst (λ x. IsSoundWorld x) (sym d.after) (with_sound w k (launched (length d.seat.received) d.made) some s at)
   where
     at : (seat : SeatOf) (j : ActorJob) → slice_get w.seats k ≡ Some seat → Some d.made ≡ Some j → IsTied w seat (length d.seat.received) j
     at seat j is e =
@@ -339,8 +339,8 @@ launched_sound w v k job n some s d = subst (λ x. IsSound x) (sym d.after) (wit
         subst (λ x. IsTied w seat (length d.seat.received) x) (some_same d.made j e) here
 
 -- the world's own step
-own_moved : (w v : WorldOf) (seat told : SeatOf) → IsSound w → slice_get w.seats 0 ≡ Some seat → Moves w.shared seat v.shared told → v ≡ record w { shared = v.shared; seats = slice_set w.seats 0 told } → IsSound v
-own_moved w v seat told s its m after = subst (λ x. IsSound x) (sym after) (record {
+own_moved : (w v : WorldOf) (seat told : SeatOf) → IsSoundWorld w → slice_get w.seats 0 ≡ Some seat → Moves w.shared seat v.shared told → v ≡ record w { shared = v.shared; seats = slice_set w.seats 0 told } → IsSoundWorld v
+own_moved w v seat told s its m after = subst (λ x. IsSoundWorld x) (sym after) (record {
   legal = moves_legal w.shared seat v.shared told m s.legal;
   seats = moves_seats w.shared w.seats 0 seat v.shared told m its s.seats;
   own = s.own;
@@ -354,12 +354,12 @@ own_moved w v seat told s its m after = subst (λ x. IsSound x) (sym after) (rec
     at i a p j is (changed e p-is) job = absurd (some_none j (sym (s.own a (subst (λ n. slice_get w.actors n ≡ Some a) e is)) ∙ job))
     at i a p j is (unchanged apart is') job = tied_in w u p a.launched j (moves_observers w.shared seat v.shared told m) refl (s.tied i a p j is is' job)
 
-own_sound : (w v : WorldOf) (st : Step) (n : Note) → IsSound w → OwnCalls w st n v → IsSound v
+own_sound : (w v : WorldOf) (st : Step) (n : Note) → IsSoundWorld w → OwnCalls w st n v → IsSoundWorld v
 own_sound w v st n s d = by (call_reason w.shared d.seat.number st) d.calls
   where
-    by : (r : Option Reason) → MatchOption r (OwnAnswers w d.seat st n v) (λ why. (n ≡ Refused (reason_code why)) × (v ≡ w)) → IsSound v
+    by : (r : Option Reason) → MatchOption r (OwnAnswers w d.seat st n v) (λ why. (n ≡ Refused (reason_code why)) × (v ≡ w)) → IsSoundWorld v
     by None c = own_moved w v d.seat c.told s d.its_seat (calls st c.answer c.calls) c.after
-    by (Some y) c = subst (λ x. IsSound x) (sym c.1) s
+    by (Some y) c = subst (λ x. IsSoundWorld x) (sym c.1) s
 
 read_some : (w : WorldOf) (k : ℕ) (a : Actor) (b : Bool) → (k == 0) ≡ b → (if b then None else slice_get w.actors k) ≡ Some a → 0 < k
 read_some w k a true same e = absurd (none_some a (sym e))
@@ -375,7 +375,7 @@ not_own_launch w k made None is h = absurd (none_some _ h)
 not_own_launch w k made (Some a) is h = read_some w k a (k == 0) refl is
 
 -- so any event keeps a world sound
-does_sound : (w : WorldOf) (e : Event) (n : Note) (v : WorldOf) → IsSound w → fault_of w e ≡ None → Does w e n v → IsSound v
+does_sound : (w : WorldOf) (e : Event) (n : Note) (v : WorldOf) → IsSoundWorld w → fault_of w e ≡ None → Does w e n v → IsSoundWorld v
 does_sound w (events.Launch k job) n v s can d = launched_sound w v k job n (not_own_launch w k (job_for w job) (actor_of w k) refl can) s d
 does_sound w (events.Step k) n v s can d = stepped w v k n (not_own w k (actor_of w k) refl can) s d
 does_sound w (events.Crash k) n v s can d = crashed_sound w v k n (not_own w k (actor_of w k) refl can) s d
@@ -385,7 +385,7 @@ does_sound w (events.Sweep x) n v s can d = own_sound w v (step.Sweep x) n s d
 
 -- and any list of events
 pub events_keep_sound : EventsKeepSound
-events_keep_sound w [] [] v s r = subst (λ y. IsSound y) (sym r) s
+events_keep_sound w [] [] v s r = subst (λ y. IsSoundWorld y) (sym r) s
 events_keep_sound w (e ∷ es) (n ∷ ns) v s r = events_keep_sound r.0 es ns v (does_sound w e n r.0 s r.1.can r.1.does) r.2
 events_keep_sound w [] (n ∷ ns) v s r = absurd r
 events_keep_sound w (e ∷ es) [] v s r = absurd r

@@ -15,7 +15,7 @@ use Rattle.pb_txn.specs.declared.place.Outcome.{Outcome}
 use Rattle.pb_txn.specs.Changes.{ChangeOf, IsWholeChange}
 use Rattle.pb_notify.specs.declared.need.JobEnd.{JobEnd}
 use Rattle.pb_notify.specs.Runs.{RunOf}
-use Rattle.pb_notify.specs.Forms.{IsRunTalk}
+use Rattle.pb_notify.specs.Forms.{IsRunConversation}
 use Rattle.pb_notify.specs.Led.{MachineStandsAt, IsMachineOf, IsAskingAt, HasEnded}
 use Rattle.pb_parse.specs.declared.event.Event.{Event}
 use Rattle.pb_world.specs.declared.actor.Actor.{Actor}
@@ -50,7 +50,7 @@ pub record HoldsOfRun (w : WorldOf) (r : RunOf) (said : List Received) : Type 0 
   pub rest : List Received
   pub end : JobEnd
   pub run : Option Meant
-  pub talk : IsRunTalk r.observer r.judged r.row r.column (said ++ rest) end run
+  pub talk : IsRunConversation r.observer r.judged r.row r.column (said ++ rest) end run
   pub machine : (s : Ts) (v : Position) → MachineStandsAt r.place s v
       → IsMachineOf r.observer r.judged r.row r.column r.place s v said × IsNeverStuck v
   pub asks : IsAskingAt r.place

@@ -6,9 +6,9 @@ use Rattle.pb_verify.specs.Observers.{ObserverOf}
 use Rattle.pb_history.specs.declared.entry.Received.{Received}
 use Rattle.pb_core.specs.Calls.{SeatOf, AreSeats}
 use Rattle.pb_core.specs.Histories.{IsLegalTable}
-use Rattle.pb_txn.specs.Changes.{ChangeOf, new_change, Talks}
+use Rattle.pb_txn.specs.Changes.{ChangeOf, new_change, Converses}
 use Rattle.pb_notify.specs.Runs.{RunOf, fresh}
-use Rattle.pb_notify.specs.Talks.{Reaches}
+use Rattle.pb_notify.specs.Conversations.{Reaches}
 use Rattle.pb_world.specs.declared.actor.Actor.{Actor}
 use Rattle.pb_world.specs.declared.job.ActorJob.{ActorJob}
 use Rattle.pb_world.specs.declared.job.ActorJob.TheVariants.{Change, Run}
@@ -22,7 +22,7 @@ pub record ChangeCame (w : WorldOf) (c : ChangeOf) (said : List Received) : Type
   pub number : ℕ
   pub there : change_of w.batches number ≡ Some c.batch
   pub is : is_batch c.batch ≡ true
-  pub talks : Talks (new_change c.batch) said c
+  pub converses : Converses (new_change c.batch) said c
 
 -- its observer is there, with the program that it runs and the column that it reads
 pub record HasObserver (w : WorldOf) (r : RunOf) : Type 0 where
@@ -51,7 +51,7 @@ pub record IsTied (w : WorldOf) (seat : SeatOf) (launched : ℕ) (j : ActorJob) 
   pub came : Came w j said
 
 -- what every event keeps; the world's own seat never has a job, since no launch reaches it
-pub record IsSound (w : WorldOf) : Type 0 where
+pub record IsSoundWorld (w : WorldOf) : Type 0 where
   pub legal : IsLegalTable w.shared
   pub seats : AreSeats w.shared w.seats
   pub own : (a : Actor) → slice_get w.actors 0 ≡ Some a → a.job ≡ None
@@ -61,4 +61,4 @@ pub record IsSound (w : WorldOf) : Type 0 where
 
 -- whatever events happen, it stays so
 abbrev pub EventsKeepSound : Type 0
-EventsKeepSound = (w : WorldOf) (es : List Event) (ns : List Note) (v : WorldOf) → IsSound w → RunsTo w es ns v → IsSound v
+EventsKeepSound = (w : WorldOf) (es : List Event) (ns : List Note) (v : WorldOf) → IsSoundWorld w → RunsTo w es ns v → IsSoundWorld v

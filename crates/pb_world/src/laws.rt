@@ -4,9 +4,9 @@ ghost use Rattle.pb_world.specs.Sound.{EventsKeepSound};
 ghost use Rattle.pb_world.specs.GivenJobs.{JobsAreGiven, BusyActorsAreLeft, BusyActorsAreTold, RefusedJobsEnd};
 
 use pb_core::legal_tables_tell;
-use pb_notify::{jobs_talk, machines_are_led};
+use pb_notify::{jobs_converse, machines_are_led};
 use pb_sound::accepted_are_never_stuck;
-use pb_txn::changes_talk;
+use pb_txn::changes_converse;
 
 /// Whatever events happen, a sound world stays sound: its journal is legal, each seat has its entries of it, and each
 /// actor's job stands where its seat's answers led it since the launch.
@@ -39,8 +39,8 @@ pub fn worlds_hold()
     ensures part { RunsPart }
 {
     accepted_are_never_stuck();
-    jobs_talk();
+    jobs_converse();
     machines_are_led();
-    changes_talk();
+    changes_converse();
     legal_tables_tell();
 }

@@ -2,7 +2,7 @@
 ghost use Rattle.std.specs.Prelude.{◌≤◌, IfOk};
 ghost use Rattle.pb_base.specs.declared.limits.TheConstants.{MAX_ENTRIES, MAX_SEATS};
 ghost use Rattle.pb_core.specs.Calls.{AreSeats};
-ghost use Rattle.pb_world.specs.Sound.{IsSound};
+ghost use Rattle.pb_world.specs.Sound.{IsSoundWorld};
 
 use crate::jobs::program;
 use law_worlds::opened_worlds_are_sound;
@@ -52,7 +52,7 @@ fn left_after(
     world: World<EitherTablet>,
     events: &[Event],
 ) -> Result<(Shared<EitherTablet>, Vec<Seat>), NoMemory>
-    requires { IsSound world }
+    requires { IsSoundWorld world }
     ensures { IfOk result (λ s. AreSeats s.0 s.1.items) }
 {
     // For the proof: the seats of a world are those of its table, whatever happens.

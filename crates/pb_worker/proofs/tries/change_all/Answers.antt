@@ -23,7 +23,7 @@ returns-in_err-make_room-clause-err g c =
     let at : slice_get c.args.batches.now (c.args.first + length l.done.items * c.args.count) ≡ Some c.index-batches-next.result = ap (slice_get c.args.batches.now) (sym l.invariant.number) ∙ here in
     rw (p.1, p.2) (subst (λ (fs : List Bool). Gains (ChangesStop c.args.seat.now.number c.args.batches.now c.args.count c.args.first fs c.in_err-make_room.field-0.0) c.args.seat.now l.seat) (sym c.in_err-make_room.ensures.items)
     (no_room c.args.batches.now c.args.count c.args.first l.done.items c.args.seat.now l.seat l.invariant.tried c.index-batches-next.result at
-    c.changes_talk.ensures.talks (some_cells c.index-batches-next.result c.len.result c.len.ensures.count c.len.ensures.some) c.in_err-make_room.field-0.0 c.in_err-make_room.ensures.want))
+    c.changes_converse.ensures.converses (some_cells c.index-batches-next.result c.len.result c.len.ensures.count c.len.ensures.some) c.in_err-make_room.field-0.0 c.in_err-make_room.ensures.want))
 
 pub returns-in-Err-clause-err : goal.returns-in-Err-clause-err
 returns-in-Err-clause-err g c =

@@ -12,11 +12,11 @@ use Rattle.pb_txn.specs.declared.place.Outcome.{Outcome}
 use Rattle.pb_txn.specs.Places.{declared_cells}
 use Rattle.pb_txn.specs.Plans.{PlanOf, fresh}
 use Rattle.pb_txn.specs.Plans as plans
-use Rattle.pb_txn.specs.Talks as talks
-use Rattle.pb_txn.specs.Talks.{told}
+use Rattle.pb_txn.specs.Conversations as conversations
+use Rattle.pb_txn.specs.Conversations.{told}
 use Rattle.pb_txn.specs.Forms.{IsWhole}
-use Rattle.pb_txn.specs.Changes.{ChangeOf, new_change, answered, Talks, IsWholeChange, ChangesTalk, ChangesEnd}
-use Rattle.pb_txn.proofs.Talk.{plans_talk, plans_end}
+use Rattle.pb_txn.specs.Changes.{ChangeOf, new_change, answered, Converses, IsWholeChange, ChangesConverse, ChangesEnd}
+use Rattle.pb_txn.proofs.Conversation.{plans_converse, plans_end}
 use Rattle.pb_base.proofs.Logic.{same_some as same_step, same_some as same_plan}
 
 -- a change that follows its plan
@@ -24,14 +24,14 @@ abbrev following : Writes → PlanOf → ChangeOf
 following batch p = record { batch = batch; plan = Some p }
 
 -- a plan keeps its start
-start_stays : (p : PlanOf) (said : List Received) (q : PlanOf) → talks.Talks p said q → q.start ≡ p.start
+start_stays : (p : PlanOf) (said : List Received) (q : PlanOf) → conversations.Converses p said q → q.start ≡ p.start
 start_stays p [] q t = ap (λ (z : PlanOf). z.start) t
 start_stays p (x ∷ xs) q t = start_stays (plans.answered p x.answer) xs q t.2
 
 -- what a change asks once it has begun is what its plan asks
-plan_talks : (batch : Writes) (p : PlanOf) (said : List Received) (q : ChangeOf) → Talks (following batch p) said q → (r : PlanOf) × (q ≡ following batch r) × talks.Talks p said r
-plan_talks batch p [] q t = (p, t, refl)
-plan_talks batch p (x ∷ xs) q t = let r = plan_talks batch (plans.answered p x.answer) xs q t.2 in (r.0, r.1, (t.0, t.1, r.2))
+plan_converses : (batch : Writes) (p : PlanOf) (said : List Received) (q : ChangeOf) → Converses (following batch p) said q → (r : PlanOf) × (q ≡ following batch r) × conversations.Converses p said r
+plan_converses batch p [] q t = (p, t, refl)
+plan_converses batch p (x ∷ xs) q t = let r = plan_converses batch (plans.answered p x.answer) xs q t.2 in (r.0, r.1, (t.0, t.1, r.2))
 
 -- its first answer is the start
 pub record HasBegun (batch : Writes) (r : Received) (rest : List Received) (q : ChangeOf) : Type 0 where
@@ -39,15 +39,15 @@ pub record HasBegun (batch : Writes) (r : Received) (rest : List Received) (q : 
   pub first : r ≡ told (Begin works.Script) (At (record { 0 = s }))
   pub plan : PlanOf
   pub q_is : q ≡ following batch plan
-  pub said : talks.Talks (fresh s (declared.Script batch)) rest plan
+  pub said : conversations.Converses (fresh s (declared.Script batch)) rest plan
 
 -- a begin is answered with a start, of which the plan is then
-begun : (batch : Writes) (a : Answer) (rest : List Received) (q : ChangeOf) → CanAnswer (Begin works.Script) a → Talks (answered (new_change batch) a) rest q → HasBegun batch (told (Begin works.Script) a) rest q
-begun batch (At s) rest q can t = let p = plan_talks batch (fresh s.0 (declared.Script batch)) rest q t in record { s = s.0; first = refl; plan = p.0; q_is = p.1; said = p.2 }
+begun : (batch : Writes) (a : Answer) (rest : List Received) (q : ChangeOf) → CanAnswer (Begin works.Script) a → Converses (answered (new_change batch) a) rest q → HasBegun batch (told (Begin works.Script) a) rest q
+begun batch (At s) rest q can t = let p = plan_converses batch (fresh s.0 (declared.Script batch)) rest q t in record { s = s.0; first = refl; plan = p.0; q_is = p.1; said = p.2 }
 begun batch _ rest q can t = absurd can
 
 -- a change of which a step was answered has begun
-pub begins : (batch : Writes) (r : Received) (rest : List Received) (q : ChangeOf) → Talks (new_change batch) (r ∷ rest) q → HasBegun batch r rest q
+pub begins : (batch : Writes) (r : Received) (rest : List Received) (q : ChangeOf) → Converses (new_change batch) (r ∷ rest) q → HasBegun batch r rest q
 begins batch r rest q t =
     let is : Begin works.Script ≡ r.step = same_step _ _ t.0 in
     let b = begun batch r.answer rest q (subst (λ z. CanAnswer z r.answer) (sym is) t.1) t.2 in
@@ -56,26 +56,26 @@ begins batch r rest q t =
 -- some way to make it
 whole : (batch : Writes) → batch ≢ [] → (rest : List Received) × (o : Outcome) × IsWhole (record { 0 = 0 }) (declared.Script batch) (declared_cells (declared.Script batch)) rest o
 whole [] some = absurd (some refl)
-whole (w ∷ ws) some = plans_talk 0 (declared.Script (w ∷ ws)) w.0 _ [] (fresh 0 (declared.Script (w ∷ ws))) refl refl
+whole (w ∷ ws) some = plans_converse 0 (declared.Script (w ∷ ws)) w.0 _ [] (fresh 0 (declared.Script (w ∷ ws))) refl refl
 
 -- what was said since the begin can be ended, since a batch has some cells
-on_from : (batch : Writes) (s : ℕ) (rest : List Received) (q : PlanOf) → batch ≢ [] → talks.Talks (fresh s (declared.Script batch)) rest q
+on_from : (batch : Writes) (s : ℕ) (rest : List Received) (q : PlanOf) → batch ≢ [] → conversations.Converses (fresh s (declared.Script batch)) rest q
     → (more : List Received) × (o : Outcome) × IsWhole (record { 0 = s }) (declared.Script batch) (declared_cells (declared.Script batch)) (rest ++ more) o
 on_from [] s rest q some t = absurd (some refl)
-on_from (w ∷ ws) s rest q some t = plans_talk s (declared.Script (w ∷ ws)) w.0 _ rest q refl t
+on_from (w ∷ ws) s rest q some t = plans_converse s (declared.Script (w ∷ ws)) w.0 _ rest q refl t
 
 -- and once its plan is over, it is a whole conversation
-at_end : (batch : Writes) (s : ℕ) (rest : List Received) (q : PlanOf) (o : Outcome) → batch ≢ [] → talks.Talks (fresh s (declared.Script batch)) rest q → plans.outcome_of q ≡ Some o
+at_end : (batch : Writes) (s : ℕ) (rest : List Received) (q : PlanOf) (o : Outcome) → batch ≢ [] → conversations.Converses (fresh s (declared.Script batch)) rest q → plans.outcome_of q ≡ Some o
     → IsWhole (record { 0 = s }) (declared.Script batch) (declared_cells (declared.Script batch)) rest o
 at_end [] s rest q o some t e = absurd (some refl)
 at_end (w ∷ ws) s rest q o some t e = plans_end s (declared.Script (w ∷ ws)) w.0 _ rest q o refl t e
 
 -- before its begin any whole change may follow, and later one that ends as its plan may
-pub changes_talk : ChangesTalk
-changes_talk batch [] q some t =
+pub changes_converse : ChangesConverse
+changes_converse batch [] q some t =
     let w = whole batch some in
     (record { 0 = 0 }, told (Begin works.Script) (At (record { 0 = 0 })) ∷ w.0, w.1, record { rest = w.0; said_is = refl; whole = w.2 })
-changes_talk batch (r ∷ rest) q some t =
+changes_converse batch (r ∷ rest) q some t =
     let b = begins batch r rest q t in
     let w = on_from batch b.s rest b.plan some b.said in
     (record { 0 = b.s }, w.0, w.1, record { rest = rest ++ w.0; said_is = ap (λ (z : Received). z ∷ rest ++ w.0) b.first; whole = w.2 })

@@ -29,9 +29,9 @@ use Rattle.pb_txn.specs.declared.place.Outcome.TheVariants as outcomes
 use Rattle.pb_txn.specs.Places.{declared_cells}
 use Rattle.pb_txn.specs.Plans.{PlanOf, outcome_of}
 use Rattle.pb_txn.specs.Plans as plans
-use Rattle.pb_txn.specs.Talks.{told}
-use Rattle.pb_txn.specs.Talks as talks
-use Rattle.pb_txn.specs.Forms.{IsWhole, PlansTalk, PlansEnd}
+use Rattle.pb_txn.specs.Conversations.{told}
+use Rattle.pb_txn.specs.Conversations as conversations
+use Rattle.pb_txn.specs.Forms.{IsWhole, PlansConverse, PlansEnd}
 use Rattle.pb_notify.specs.declared.look.TheConstants.{MAX_LOCKED}
 use Rattle.pb_notify.specs.declared.look.Look.{Look}
 use Rattle.pb_notify.specs.declared.look.Look.TheVariants.{Reading, Clearing, Settling, ClearingAgain}
@@ -45,17 +45,17 @@ use Rattle.pb_notify.specs.declared.place.RunPlace.TheVariants.{Beginning, Obser
 use Rattle.pb_notify.specs.Looks.{look_after, locked_after}
 use Rattle.pb_notify.specs.Places.{place_after, locked_at, after_begin, if_found, after_cell, if_recalled, seen_so_far, after_acknowledgment, after_recall, after_ask, by_outcome, Comes, goes, waits, declares, ComesFrom, AtPlace, step_at}
 use Rattle.pb_notify.specs.Runs.{RunOf, fresh, answered, need_at}
-use Rattle.pb_notify.specs.Talks.{Reaches, made, took, computed}
-use Rattle.pb_notify.specs.Forms.{AreRounds, one_more, IsLooked, at_first, its_begin, IsObserved, IsAcknowledged, IsRecalled, AreAsked, dirty, asked as asked_more, IsRunOn, LooksFrom, at_cell, at_acknowledgment, at_old, at_ask, IsRunTalk, absent, clean, ran, conflicted, lost, blocked, WasMeant, JobsTalk, JobsEnd}
+use Rattle.pb_notify.specs.Conversations.{Reaches, made, took, computed}
+use Rattle.pb_notify.specs.Forms.{AreRounds, one_more, IsLooked, at_first, its_begin, IsObserved, IsAcknowledged, IsRecalled, AreAsked, dirty, asked as asked_more, IsRunOn, LooksFrom, at_cell, at_acknowledgment, at_old, at_ask, IsRunConversation, absent, clean, ran, conflicted, lost, blocked, WasMeant, JobsConverse, JobsEnd}
 use Rattle.pb_notify.specs.Led.{IsBeforeSweep}
 use Rattle.pb_notify.proofs.Kept.{at_after, at_computed}
-use Rattle.pb_notify.proofs.LookTalk.{IsIn, InLook, AfterLook, IsBlocked, look_more}
-use Rattle.pb_notify.proofs.LookTalk as looks
+use Rattle.pb_notify.proofs.LookConversation.{IsIn, InLook, AfterLook, IsBlocked, look_more}
+use Rattle.pb_notify.proofs.LookConversation as looks
 use Rattle.pb_base.proofs.Logic.{same_some as same_step, none_some}
 
 -- a plan's talk goes on by one step
-plan_more : (p : PlanOf) (said : List Received) (q : PlanOf) (r : Received) → talks.Talks p said q → plans.next_of q ≡ Some r.step → CanAnswer r.step r.answer
-    → talks.Talks p (said ++ r ∷ []) (plans.answered q r.answer)
+plan_more : (p : PlanOf) (said : List Received) (q : PlanOf) (r : Received) → conversations.Converses p said q → plans.next_of q ≡ Some r.step → CanAnswer r.step r.answer
+    → conversations.Converses p (said ++ r ∷ []) (plans.answered q r.answer)
 plan_more p [] q r t next can = (ap plans.next_of (sym t) ∙ next, can, ap (λ z. plans.answered z r.answer) t)
 plan_more p (x ∷ xs) q r t next can = (t.0, t.1, plan_more (plans.answered p x.answer) xs q r t.2 next can)
 
@@ -121,14 +121,14 @@ module _ (o : ℕ) (judged : JudgedOf) (row : Row) (column : ℕ) where
     pub meant : IsMeant run
     pub result : r ≡ run.result
     pub plan : List Received
-    pub talks_are : talks.Talks (plans.fresh s.0 (declared.Run o run)) plan p
+    pub converses_are : conversations.Converses (plans.fresh s.0 (declared.Run o run)) plan p
     pub said_is : said ≡ base ++ plan
     pub few : n < MAX_LOCKED
 
   pub record IsEnded (end : JobEnd) (said : List Received) : Type 0 where
     pub run : Option Meant
     pub meant : WasMeant run
-    pub whole : IsRunTalk o judged row column said end run
+    pub whole : IsRunConversation o judged row column said end run
 
   -- what has been said at a place, with so many locks met
   abbrev pub SoFar : ℕ → RunPlace → List Received → Type 0
@@ -154,7 +154,7 @@ module _ (o : ℕ) (judged : JudgedOf) (row : Row) (column : ℕ) where
 
   blocks : (s : Ts) (x : Cell) (at : Option Ts) (m : ℕ) (base : List Received) (n : ℕ) (said : List Received) → LooksFrom o second row column s x at m base → IsBlocked s x at m base n said → IsEnded ends.Blocked said
   blocks s x at m base n said from b =
-      record { run = None; meant = tt; whole = subst (λ l. IsRunTalk o judged row column l ends.Blocked None) (sym b.said_is) (blocked s x at m base b.met b.before b.t b.primary from b.rounds b.last) }
+      record { run = None; meant = tt; whole = subst (λ l. IsRunConversation o judged row column l ends.Blocked None) (sym b.said_is) (blocked s x at m base b.met b.before b.t b.primary from b.rounds b.last) }
 
   found_more : (s : Ts) (n : ℕ) (said : List Received) (a : Answer) (found : Option Revision) → version_in a ≡ found → IsLooked s cell None 0 (its_begin o row s) n said a → n < MAX_LOCKED
       → SoFar n (if_found s found) said
@@ -216,27 +216,27 @@ module _ (o : ℕ) (judged : JudgedOf) (row : Row) (column : ℕ) where
       (seen, record { program = given.program; bytes = given.bytes; began = given.began }, asked_more v.talk m base (ask_of q) a n said was i)
   asked_one s v q seen m base n said Blocks given was i = blocks s (Data q.row q.column) None m base n said (at_ask seen v.talk m base (ask_of q) was) i
 
-  module _ (plans_talk : PlansTalk) (plans_end : PlansEnd) where
+  module _ (plans_converse : PlansConverse) (plans_end : PlansEnd) where
     planned_more : (n r : ℕ) (p : PlanOf) (said : List Received) (out : Option Outcome) → outcome_of p ≡ out → IsPlanned n r p said → SoFar n (by_outcome r p out) said
     planned_more n r p said None is i = i
     planned_more n r p said (Some (outcomes.Committed c)) is i = record {
       run = Some i.run;
       meant = i.meant;
-      ends = λ w can. subst (λ z. IsRunTalk o judged row column (said ++ told (Sweep cell) w ∷ []) (ends.Ran z) (Some i.run)) (sym i.result)
-          (subst (λ l. IsRunTalk o judged row column (l ++ told (Sweep cell) w ∷ []) (ends.Ran i.run.result) (Some i.run)) (sym i.said_is)
-          (ran i.s i.seen i.talk n i.base i.plan i.run c w i.asked i.few i.run_on (plans_end i.s.0 (declared.Run o i.run) _ _ i.plan p (outcomes.Committed c) refl i.talks_are is) can));
+      ends = λ w can. subst (λ z. IsRunConversation o judged row column (said ++ told (Sweep cell) w ∷ []) (ends.Ran z) (Some i.run)) (sym i.result)
+          (subst (λ l. IsRunConversation o judged row column (l ++ told (Sweep cell) w ∷ []) (ends.Ran i.run.result) (Some i.run)) (sym i.said_is)
+          (ran i.s i.seen i.talk n i.base i.plan i.run c w i.asked i.few i.run_on (plans_end i.s.0 (declared.Run o i.run) _ _ i.plan p (outcomes.Committed c) refl i.converses_are is) can));
     }
     planned_more n r p said (Some outcomes.Conflicted) is i = record {
       run = Some i.run;
       meant = i.meant;
-      whole = subst (λ l. IsRunTalk o judged row column l ends.Conflicted (Some i.run)) (sym i.said_is)
-          (conflicted i.s i.seen i.talk n i.base i.plan i.run i.asked i.few i.run_on (plans_end i.s.0 (declared.Run o i.run) _ _ i.plan p outcomes.Conflicted refl i.talks_are is));
+      whole = subst (λ l. IsRunConversation o judged row column l ends.Conflicted (Some i.run)) (sym i.said_is)
+          (conflicted i.s i.seen i.talk n i.base i.plan i.run i.asked i.few i.run_on (plans_end i.s.0 (declared.Run o i.run) _ _ i.plan p outcomes.Conflicted refl i.converses_are is));
     }
     planned_more n r p said (Some outcomes.Lost) is i = record {
       run = Some i.run;
       meant = i.meant;
-      whole = subst (λ l. IsRunTalk o judged row column l ends.Lost (Some i.run)) (sym i.said_is)
-          (lost i.s i.seen i.talk n i.base i.plan i.run i.asked i.few i.run_on (plans_end i.s.0 (declared.Run o i.run) _ _ i.plan p outcomes.Lost refl i.talks_are is));
+      whole = subst (λ l. IsRunConversation o judged row column l ends.Lost (Some i.run)) (sym i.said_is)
+          (lost i.s i.seen i.talk n i.base i.plan i.run i.asked i.few i.run_on (plans_end i.s.0 (declared.Run o i.run) _ _ i.plan p outcomes.Lost refl i.converses_are is));
     }
 
     plan_step : (n r : ℕ) (p : PlanOf) (said : List Received) (t : Step) (a : Answer) → IsPlanned n r p said → plans.next_of p ≡ Some t → CanAnswer t a
@@ -252,7 +252,7 @@ module _ (o : ℕ) (judged : JudgedOf) (row : Row) (column : ℕ) where
       meant = i.meant;
       result = i.result;
       plan = i.plan ++ told t a ∷ [];
-      talks_are = plan_more _ i.plan p (told t a) i.talks_are next can;
+      converses_are = plan_more _ i.plan p (told t a) i.converses_are next can;
       said_is = ap (λ l. l ++ told t a ∷ []) i.said_is ∙ append_assoc i.base i.plan (told t a ∷ []);
       few = i.few;
     }
@@ -308,7 +308,7 @@ module _ (o : ℕ) (judged : JudgedOf) (row : Row) (column : ℕ) where
           meant = l.meant;
           result = st.result;
           plan = [];
-          talks_are = ap (plans.fresh s.0) st.declares;
+          converses_are = ap (plans.fresh s.0) st.declares;
           said_is = sym (append-nil said);
           few = few;
         }
@@ -324,10 +324,10 @@ module _ (o : ℕ) (judged : JudgedOf) (row : Row) (column : ℕ) where
       pub rest : List Received
       pub end : JobEnd
       pub run : Option Meant
-      pub whole : IsRunTalk o judged row column (said ++ rest) end run
+      pub whole : IsRunConversation o judged row column (said ++ rest) end run
 
     after : (said more : List Received) → CanEnd (said ++ more) → CanEnd said
-    after said more c = record { rest = more ++ c.rest; end = c.end; run = c.run; whole = subst (λ l. IsRunTalk o judged row column l c.end c.run) (append_assoc said more c.rest) c.whole }
+    after said more c = record { rest = more ++ c.rest; end = c.end; run = c.run; whole = subst (λ l. IsRunConversation o judged row column l c.end c.run) (append_assoc said more c.rest) c.whole }
 
     by_plan : (n : ℕ) (s : Ts) (seen : Seen) (talk : Talk) (base plan rest : List Received) (f : Meant) (out : Outcome) → n < MAX_LOCKED → AreAsked o second row column s seen talk n base
         → IsRunOn judged row column s seen talk f → IsWhole s (declared.Run o f) (declared_cells (declared.Run o f)) (plan ++ rest) out → CanEnd (base ++ plan)
@@ -335,7 +335,7 @@ module _ (o : ℕ) (judged : JudgedOf) (row : Row) (column : ℕ) where
       rest = rest ++ told (Sweep cell) Done ∷ [];
       end = ends.Ran f.result;
       run = Some f;
-      whole = subst (λ l. IsRunTalk o judged row column l (ends.Ran f.result) (Some f))
+      whole = subst (λ l. IsRunConversation o judged row column l (ends.Ran f.result) (Some f))
           (ap (λ l. l ++ told (Sweep cell) Done ∷ []) (sym (append_assoc base plan rest)) ∙ append_assoc (base ++ plan) rest (told (Sweep cell) Done ∷ []))
           (ran s seen talk n base (plan ++ rest) f c Done was few on w tt);
     }
@@ -343,19 +343,19 @@ module _ (o : ℕ) (judged : JudgedOf) (row : Row) (column : ℕ) where
       rest = rest;
       end = ends.Conflicted;
       run = Some f;
-      whole = subst (λ l. IsRunTalk o judged row column l ends.Conflicted (Some f)) (sym (append_assoc base plan rest)) (conflicted s seen talk n base (plan ++ rest) f was few on w);
+      whole = subst (λ l. IsRunConversation o judged row column l ends.Conflicted (Some f)) (sym (append_assoc base plan rest)) (conflicted s seen talk n base (plan ++ rest) f was few on w);
     }
     by_plan n s seen talk base plan rest f outcomes.Lost few was on w = record {
       rest = rest;
       end = ends.Lost;
       run = Some f;
-      whole = subst (λ l. IsRunTalk o judged row column l ends.Lost (Some f)) (sym (append_assoc base plan rest)) (lost s seen talk n base (plan ++ rest) f was few on w);
+      whole = subst (λ l. IsRunConversation o judged row column l ends.Lost (Some f)) (sym (append_assoc base plan rest)) (lost s seen talk n base (plan ++ rest) f was few on w);
     }
 
     from_plan : (n : ℕ) (s : Ts) (seen : Seen) (talk : Talk) (base plan : List Received) (f : Meant) (p : PlanOf) → n < MAX_LOCKED → AreAsked o second row column s seen talk n base
-        → IsRunOn judged row column s seen talk f → talks.Talks (plans.fresh s.0 (declared.Run o f)) plan p → CanEnd (base ++ plan)
+        → IsRunOn judged row column s seen talk f → conversations.Converses (plans.fresh s.0 (declared.Run o f)) plan p → CanEnd (base ++ plan)
     from_plan n s seen talk base plan f p few was on t =
-        let w = plans_talk s.0 (declared.Run o f) _ _ plan p refl t in
+        let w = plans_converse s.0 (declared.Run o f) _ _ plan p refl t in
         by_plan n s seen talk base plan w.0 f w.1 few was on w.2
 
     -- some run, whatever it means
@@ -407,9 +407,9 @@ module _ (o : ℕ) (judged : JudgedOf) (row : Row) (column : ℕ) where
     can_end n (Asking s v q look) said at i =
         let l = looks.ends s (Data q.row q.column) None i.1 i.2 look n said i.5 in
         after said (l.next ∷ l.rest) (from_asked n s i.0 _ (said ++ l.next ∷ l.rest) at.0 (asked_more v.talk i.1 i.2 (ask_of q) Absent n (said ++ l.next ∷ l.rest) i.4 l.look))
-    can_end n (Planning r p) said at i = subst CanEnd (sym i.said_is) (from_plan n i.s i.seen i.talk i.base i.plan i.run p i.few i.asked i.run_on i.talks_are)
+    can_end n (Planning r p) said at i = subst CanEnd (sym i.said_is) (from_plan n i.s i.seen i.talk i.base i.plan i.run p i.few i.asked i.run_on i.converses_are)
     can_end n (Sweeping end) said at i = record { rest = told (Sweep cell) Done ∷ []; end = end; run = i.run; whole = i.ends Done tt }
-    can_end n (Over end) said at i = record { rest = []; end = end; run = i.run; whole = subst (λ l. IsRunTalk o judged row column l end i.run) (sym (append-nil said)) i.whole }
+    can_end n (Over end) said at i = record { rest = []; end = end; run = i.run; whole = subst (λ l. IsRunConversation o judged row column l end i.run) (sym (append-nil said)) i.whole }
 
     -- ---- all of it
 
@@ -458,14 +458,14 @@ module _ (o : ℕ) (judged : JudgedOf) (row : Row) (column : ℕ) where
     ended said _ end n i e = absurd cc
 
 -- what was said at any place can be ended: a look by a read without a lock, a plan as plans can
-pub jobs_talk : PlansTalk → PlansEnd → JobsTalk
-jobs_talk pt pe o judged row column said k reaches =
+pub jobs_converse : PlansConverse → PlansEnd → JobsConverse
+jobs_converse pt pe o judged row column said k reaches =
     let h = holds o judged row column pt pe said k reaches in
     let c = can_end o judged row column pt pe k.locked k.place said h.at h.so in
     (c.rest, c.end, c.run, c.whole)
 
 -- at the end what was said is whole
-pub jobs_end : PlansTalk → PlansEnd → JobsEnd
+pub jobs_end : PlansConverse → PlansEnd → JobsEnd
 jobs_end pt pe o judged row column said k end reaches over =
     let h = holds o judged row column pt pe said k reaches in
     let e = ended o judged row column pt pe said k.place end k.locked h.so over in

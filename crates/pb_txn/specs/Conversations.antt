@@ -11,6 +11,6 @@ abbrev pub told : Step → Answer → Received
 told step answer = record { step = step; answer = answer }
 
 -- from one place to another, each of its next steps was answered with one of its answers
-abbrev pub Talks : PlanOf → List Received → PlanOf → Type 0
-Talks p [] q = q ≡ p
-Talks p (r ∷ rs) q = (next_of p ≡ Some r.step) × CanAnswer r.step r.answer × Talks (answered p r.answer) rs q
+abbrev pub Converses : PlanOf → List Received → PlanOf → Type 0
+Converses p [] q = q ≡ p
+Converses p (r ∷ rs) q = (next_of p ≡ Some r.step) × CanAnswer r.step r.answer × Converses (answered p r.answer) rs q

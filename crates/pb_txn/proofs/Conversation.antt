@@ -17,8 +17,8 @@ use Rattle.pb_txn.specs.declared.place.PlanPlace.{PlanPlace}
 use Rattle.pb_txn.specs.declared.place.PlanPlace.TheVariants.{Declaring, Prewriting, Stamping, CommittingPrimary, CommittingSecondary, Settling, Clearing, Over}
 use Rattle.pb_txn.specs.Places.{declared_cells, place_after, after_prewrite, after_stamp, after_primary, prewrite_from, commit_from, clear_from, step_at}
 use Rattle.pb_txn.specs.Plans.{PlanOf, fresh, answered, outcome_at}
-use Rattle.pb_txn.specs.Talks.{told, Talks}
-use Rattle.pb_txn.specs.Forms.{prewrites, secondaries, AreCleared, IsWhole, committed, conflicted_first, conflicted_later, lost, PlansTalk, PlansEnd, PlansStop}
+use Rattle.pb_txn.specs.Conversations.{told, Converses}
+use Rattle.pb_txn.specs.Forms.{prewrites, secondaries, AreCleared, IsWhole, committed, conflicted_first, conflicted_later, lost, PlansConverse, PlansEnd, PlansStop}
 use Rattle.pb_base.proofs.Logic.{same_some as some_some, none_some, some_none}
 
 prewrites_append : (s : Ts) (xs ys : List Cell) → prewrites s (xs ++ ys) ≡ prewrites s xs ++ prewrites s ys
@@ -238,7 +238,7 @@ module _ (s : Ts) (what : Declared) (x : Cell) (others : List Cell) where
     stops p l (over o said whole) e = (o, refl)
 
     -- a talk goes on from what was said
-    pub said_all : (p q : PlanOf) (l said : List Received) → p.start ≡ s.0 → p.what ≡ what → SoFar p.place l → Talks p said q → SoFar q.place (l ++ said)
+    pub said_all : (p q : PlanOf) (l said : List Received) → p.start ≡ s.0 → p.what ≡ what → SoFar p.place l → Converses p said q → SoFar q.place (l ++ said)
     said_all p q l [] s-is w-is so t = rw append-nil (subst (λ z. SoFar z.place l) (sym t) so)
     said_all p q l (r ∷ rs) s-is w-is so t =
         let next : step_at s.0 what p.place ≡ Some r.step = (λ i. step_at (sym s-is i) (sym w-is i) p.place) ∙ t.0 in
@@ -287,8 +287,8 @@ module _ (s : Ts) (what : Declared) (x : Cell) (others : List Cell) where
   ended p l o (over w said whole) e = subst (λ z. Whole said z) (some_some w o e) whole
 
 -- what was said at any place can be ended, by commits while none was refused, and else by clearing what is left
-pub plans_talk : PlansTalk
-plans_talk s what x others said q is t =
+pub plans_converse : PlansConverse
+plans_converse s what x others said q is t =
     let so = said_all (record { 0 = s }) what x others is (fresh s what) q [] said refl refl declaring t in
     let r = can_end (record { 0 = s }) what x others q.place said so in
     (r.0, r.1, subst (λ cs. IsWhole (record { 0 = s }) what cs (said ++ r.0) r.1) (sym is) r.2)
@@ -299,7 +299,7 @@ plans_end s what x others said q o is t e =
     (ended (record { 0 = s }) what x others q.place said o (said_all (record { 0 = s }) what x others is (fresh s what) q [] said refl refl declaring t) e)
 
 -- a plan keeps its start and its declaration
-stays : (p : PlanOf) (said : List Received) (q : PlanOf) → Talks p said q → (q.start ≡ p.start) × (q.what ≡ p.what)
+stays : (p : PlanOf) (said : List Received) (q : PlanOf) → Converses p said q → (q.start ≡ p.start) × (q.what ≡ p.what)
 stays p [] q t = (ap (λ (z : PlanOf). z.start) t, ap (λ (z : PlanOf). z.what) t)
 stays p (r ∷ rs) q t = stays (answered p r.answer) rs q t.2
 
