@@ -6,8 +6,7 @@ use crate::laws::legal_tables_tell;
 use crate::seat::{Book, Seat};
 use pb_base::{MAX_ENTRIES, MAX_OBSERVERS, MAX_SEATS, NoMemory, Reason, Refusal, Ts};
 use pb_history::{
-    AnswerRoom, Entry, KeptAnswer, Received, histories_are_told, quiet_is_counted, reads_are_told,
-    runs_are_counted, steps_can_answer,
+    AnswerRoom, Entry, KeptAnswer, Received, journals_tell, quiet_is_counted, steps_can_answer,
 };
 use pb_state::{Admitted, State};
 use pb_steps::{Answer, Phase, Step};
@@ -275,11 +274,16 @@ impl<T: Tablet> Shared<T> {
         ensures once { HandlesOnce self.now }
     {
         // For the proof: what legal journals tell.
-        histories_are_told();
-        reads_are_told();
-        runs_are_counted();
+        journals_tell();
         legal_tables_tell();
         &self.journal
+    }
+
+    /// What its type keeps: its journal is legal, and leads to the state that is there.
+    pub fn known(&self)
+        ensures { IsLegalTable self.now }
+    {
+        let _ = &self.journal;
     }
 
     /// The clock as opened.

@@ -52,7 +52,7 @@ fn conclude<T: Tablet, S: Sink>(
     match finish(shared, seats) {
         Ok(ended) => {
             // For the proof: the journal is legal.
-            let _ = ended.shared().journal();
+            ended.shared().known();
             let outcome = report(alloc, sink, ended.shared());
             ended.close();
             match outcome {

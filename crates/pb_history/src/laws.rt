@@ -120,6 +120,37 @@ pub fn handled_when_quiet()
     ensures { HandledWhenQuiet }
 {}
 
+/// What every legal journal tells of its history and state, in one law for who has such a journal; each part is a law above.
+pub fn journals_tell()
+    ensures history { HistoriesAreTold }
+    ensures versions { ReadsAreTold }
+    ensures counts { RunsAreCounted }
+    ensures timestamps { TimestampsRise }
+    ensures order { CommitsAreOrdered }
+    ensures snapshots { ReadsTellSnapshots }
+    ensures writers { WritersAreApart }
+    ensures runs { RunsAreTold }
+    ensures scripts { ScriptsWriteBatches }
+    ensures records { RecordsAreTold }
+    ensures behind { BehindIsMarked }
+    ensures most { HandledAtMostOnce }
+    ensures quiet { HandledWhenQuiet }
+{
+    histories_are_told();
+    reads_are_told();
+    runs_are_counted();
+    timestamps_rise();
+    commits_are_ordered();
+    reads_tell_snapshots();
+    writers_are_apart();
+    runs_are_told();
+    scripts_write_batches();
+    records_are_told();
+    behind_is_marked();
+    handled_at_most_once();
+    handled_when_quiet();
+}
+
 /// The reasons to refuse a step are listed lowest number first, so that the first that applies is the lowest.
 pub fn reasons_rise()
     ensures { ReasonsRise }

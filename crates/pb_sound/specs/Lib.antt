@@ -12,3 +12,4 @@ pub mod Silent
 pub mod RunWrites
 pub mod Accesses
 pub mod ProfilesAgree
+pub mod AcceptedRuns

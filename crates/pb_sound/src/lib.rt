@@ -10,17 +10,16 @@
 
 ghost use Rattle.pb_sound.specs.NeverStuck.{AcceptedAreNeverStuck};
 ghost use Rattle.pb_sound.specs.Alike.{EndIsMeaning};
-ghost use Rattle.pb_sound.specs.Placements.{EachPlacementIsAlike, EachPlacementHasTheSlot};
+ghost use Rattle.pb_sound.specs.AcceptedRuns.{AcceptedRuns};
+ghost use Rattle.pb_sound.specs.Placements.{EachPlacementHasTheSlot};
 ghost use Rattle.pb_sound.specs.Silent.{WithoutHelpersSilent};
 ghost use Rattle.pb_sound.specs.RunWrites.{RunsWriteBatches};
 ghost use Rattle.pb_sound.specs.OneMeaning.{EachHasOneMeaning};
 ghost use Rattle.pb_sound.specs.Positions.{AcceptedCellsRun, EveryRunEnds};
-ghost use Rattle.pb_sound.specs.Steps.{AcceptedStepTogether};
-ghost use Rattle.pb_sound.specs.Accesses.{AcceptedAccessesFit};
 ghost use Rattle.pb_sound.specs.ProfilesAgree.{ProgramsOfOneAreOfTwo, SameAreAccepted, SameAreRefused, SameIsMeant};
 
 use pb_isa::next_slots_are_first;
-use pb_verify::{frames_are_meets, jumps_lead_on};
+use pb_verify::{frames_are_meets, jumps_lead_on, needs_fall};
 
 /// An accepted program is never stuck: at every placement, with every record of the size that it is judged for, start and
 /// replies, each instruction that a run from entry comes to goes on to a later slot, asks, or is an exit; and the frame before
@@ -33,21 +32,19 @@ pub fn accepted_are_never_stuck()
     next_slots_are_first();
 }
 
-/// A machine that tests nothing, on a list of registers and one of bytes, does with an accepted program what the
-/// definitions do, and each byte that it reads or writes is there. So `Vm` may test nothing.
-pub fn accepted_step_together()
-    ensures { AcceptedStepTogether }
+/// What a machine that tests nothing rests on, in one law. From entry on, a list of registers and one of bytes do what the
+/// definitions do with an accepted program, and each byte that an instruction reads or writes is there, so that nothing has
+/// to be tested. What a run does at one placement, it does at every one, since no rule lets a number depend on an address:
+/// so a machine that keeps one placement tells what it does at each. An access is where the frame before its slot says, so
+/// that it can be resolved once, at upload. And what a program can still ask for and write falls from slot to slot.
+pub fn accepted_programs_run()
+    ensures { AcceptedRuns }
 {
     frames_are_meets();
     jumps_lead_on();
     next_slots_are_first();
+    needs_fall();
 }
-
-/// What an instruction of an accepted program reads or writes is where the frame before its slot says, so that it can
-/// be resolved once, at upload.
-pub fn accepted_accesses_fit()
-    ensures { AcceptedAccessesFit }
-{}
 
 /// What an accepted program ends with at one placement, it ends with at every one, after the same asks and replies.
 pub fn end_is_meaning()
@@ -76,17 +73,6 @@ pub fn accepted_cells_run()
 /// Whatever is told, a run of an accepted program comes to an end, since each instruction leads to a later slot.
 pub fn every_run_ends()
     ensures { EveryRunEnds }
-{
-    frames_are_meets();
-    jumps_lead_on();
-    next_slots_are_first();
-}
-
-/// What a run of an accepted program does at one placement, it does at every one: it goes on, asks the same, or ends
-/// with the same. By it a machine that keeps one placement tells what it does at each, since no rule lets a number
-/// depend on an address.
-pub fn each_placement_is_alike()
-    ensures { EachPlacementIsAlike }
 {
     frames_are_meets();
     jumps_lead_on();

@@ -38,7 +38,7 @@ impl<T: Tablet> Callee for Shared<T> {
 
     fn take(&mut self, seat: &mut Seat, step: &Step) -> Result<Answer, Refusal> {
         // For the proof: the journal is legal.
-        let _ = self.journal();
+        self.known();
         self.call(seat, step)
     }
 }

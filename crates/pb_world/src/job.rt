@@ -55,7 +55,7 @@ impl ActorJob {
     {
         match self {
             ActorJob::Change(_) => false,
-            ActorJob::Run(job) => job.needs() == Need::Local,
+            ActorJob::Run(job) => matches!(job.needs(), Need::Local),
         }
     }
 

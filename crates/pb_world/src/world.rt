@@ -108,7 +108,7 @@ impl<T: Tablet> World<T> {
     {
         prove!(shared.seats() > 0);
         // For the proof: the journal is legal.
-        let _ = shared.journal();
+        shared.known();
         match idle_actors(alloc, seats.len()) {
             Ok(actors) => Ok(World {
                 shared,

@@ -5,23 +5,23 @@ returns-clause-history c = λ s legal.
     let obs = s.state.observers in
     let n = s.state.seats in
     record {
-      timestamps = c.timestamps_rise.ensures obs n s.opened s.journal s.state legal;
-      order = c.commits_are_ordered.ensures obs n s.opened s.journal s.state legal;
-      reads = c.reads_tell_snapshots.ensures obs n s.opened s.journal s.state legal;
-      writers = c.writers_are_apart.ensures obs n s.opened s.journal s.state legal;
-      runs = c.runs_are_told.ensures obs n s.opened s.journal s.state legal;
-      scripts = c.scripts_write_batches.ensures obs n s.opened s.journal s.state legal;
+      timestamps = c.journals_tell.ensures.timestamps obs n s.opened s.journal s.state legal;
+      order = c.journals_tell.ensures.order obs n s.opened s.journal s.state legal;
+      reads = c.journals_tell.ensures.snapshots obs n s.opened s.journal s.state legal;
+      writers = c.journals_tell.ensures.writers obs n s.opened s.journal s.state legal;
+      runs = c.journals_tell.ensures.runs obs n s.opened s.journal s.state legal;
+      scripts = c.journals_tell.ensures.scripts obs n s.opened s.journal s.state legal;
     }
 
 pub returns-clause-records : goal.returns-clause-records
-returns-clause-records c = λ s legal. c.records_are_told.ensures s.state.observers s.state.seats s.opened s.journal s.state legal
+returns-clause-records c = λ s legal. c.journals_tell.ensures.records s.state.observers s.state.seats s.opened s.journal s.state legal
 
 pub returns-clause-once : goal.returns-clause-once
 returns-clause-once c = λ s legal.
     let obs = s.state.observers in
     let n = s.state.seats in
     record {
-      behind = c.behind_is_marked.ensures obs n s.opened s.journal s.state legal;
-      most = c.handled_at_most_once.ensures obs n s.opened s.journal s.state legal;
-      quiet = c.handled_when_quiet.ensures obs n s.opened s.journal s.state legal;
+      behind = c.journals_tell.ensures.behind obs n s.opened s.journal s.state legal;
+      most = c.journals_tell.ensures.most obs n s.opened s.journal s.state legal;
+      quiet = c.journals_tell.ensures.quiet obs n s.opened s.journal s.state legal;
     }

@@ -1,8 +1,0 @@
-use Rattle.pb_sound.proofs.Reached.{Laws}
-use Rattle.pb_sound.proofs.Together.{step_together}
-use Rattle.pb_sound.proofs.accepted_step_together.Goals as goal
-
-pub returns : goal.returns
-returns c =
-    let laws : Laws = record { meets = c.frames_are_meets.ensures; firsts = c.next_slots_are_first.ensures; later = c.jumps_lead_on.ensures.later; forward = c.jumps_lead_on.ensures.forward } in
-    step_together laws
