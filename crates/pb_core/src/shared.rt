@@ -386,13 +386,15 @@ impl<T: Tablet> Shared<T> {
     /// Takes one step for a seat, and adds its one entry to the journal, to the seat's book and to the seat's list.
     ///
     /// The numbers 40 to 47 and 49 come before any growth; 1 comes only where a growth was refused. Refused, it leaves the
-    /// table and the seat as they were. 44 comes exactly where the journal has as many entries as its limit.
+    /// table and the seat as they were. 44 comes exactly where the journal has as many entries as its limit. The journal that
+    /// it is called on is legal.
     pub fn call(&mut self, seat: &mut Seat, step: &Step) -> Result<Answer, Refusal>
         ensures refused { (r : _) → call_reason self.old seat.old.number step.now ≡ Some r
             → result ≡ Err (refusal_by r) }
         ensures allowed { call_reason self.old seat.old.number step.now ≡ None
             → IfErr result (λ r. r ≡ refusal_by reasons.NoMemory) }
         ensures taken { IfOk result (λ a. Calls self.old seat.old step.now a self.new seat.new) }
+        ensures legal { IsLegalTable self.old }
         ensures can { IfOk result (λ a. CanAnswer step.now a) }
         ensures table { OnErr result (self.new ≡ self.old) }
         ensures seat { OnErr result (seat.new ≡ seat.old) }

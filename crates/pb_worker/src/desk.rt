@@ -37,8 +37,6 @@ impl<T: Tablet> Callee for Shared<T> {
     ghost table = { λ s. s };
 
     fn take(&mut self, seat: &mut Seat, step: &Step) -> Result<Answer, Refusal> {
-        // For the proof: the journal is legal.
-        self.known();
         self.call(seat, step)
     }
 }
