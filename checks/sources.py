@@ -4,6 +4,7 @@ Nothing of it proves or runs anything. `checks/wrong-bodies` tries the edits, an
 """
 from __future__ import annotations
 
+import hashlib
 import os
 import re
 from dataclasses import dataclass
@@ -12,6 +13,8 @@ from pathlib import Path
 TOP = Path(__file__).resolve().parent.parent
 SOURCES = ("src", "specs", "proofs")
 PLACES = ("wrong-bodies", "must-fail")
+# What `checks/wrong-bodies` notes of the crates that it has tried.
+TRIED = TOP / "checks/wrong-bodies.tried"
 
 # What isn't code. A quote after a name is a prime of a clause's, and one before it a lifetime's.
 NOT_CODE = re.compile(r"""//[^\n]*|/\*.*?\*/|"(?:\\.|[^"\\])*"|(?<!\w)'(?:\\.[^']*|[^'\\\n])'""", re.S)
@@ -124,6 +127,29 @@ def texts_of(crate):
 def edits_of(crate):
     """The files of a crate's edits."""
     return sorted(it for place in PLACES for it in (TOP / "crates" / crate / place).glob("*.edit"))
+
+
+def sum_of(crate):
+    """A sum of what a crate's wrong bodies and their refusals are made of: its code, its definitions, and the edits."""
+    folder = TOP / "crates" / crate
+    files = sorted(it for part in ("src", "specs", *PLACES) for it in (folder / part).rglob("*") if it.is_file())
+    made = hashlib.sha256()
+    for it in files:
+        made.update(f"{it.relative_to(folder)} {len(it.read_bytes())}\n".encode() + it.read_bytes())
+    return made.hexdigest()[:16]
+
+
+def tried_crates():
+    """The crates of whose wrong bodies all were refused when they were last tried, each with the sum of what it was made of then
+    and how many they were."""
+    lines = TRIED.read_text(encoding="utf-8").splitlines() if TRIED.is_file() else []
+    return {name: (made, int(count)) for name, made, count in (line.split("\t") for line in lines)}
+
+
+def untried_crates():
+    """The crates with edits whose code, definitions or edits aren't those that were tried."""
+    tried = tried_crates()
+    return [it for it, below in lines_of_crates() if below is not None and edits_of(it) and tried.get(it, ("", 0))[0] != sum_of(it)]
 
 
 def pairs_of(file):

@@ -399,6 +399,8 @@ impl<T: Tablet> Shared<T> {
         ensures table { OnErr result (self.new ≡ self.old) }
         ensures seat { OnErr result (seat.new ≡ seat.old) }
     {
+        // For the proof: the journal is legal, and an answer is one of its step's.
+        self.known();
         steps_can_answer();
         match self.admit(seat.number, step) {
             Ok(admitted) => match self.keep(seat, step, &admitted) {
