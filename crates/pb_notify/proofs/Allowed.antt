@@ -121,7 +121,7 @@ module _ (observers : List ObserverOf) (seats clock : ℕ) (journal : List Entry
     at_look s x at look reads i in_time next =
         absurd (looks_in_time state seat why seated s.0 (with_reads state.observers seat s o row reads) (own_read s reads i) s x at look step refl refl in_time next refused)
 
-    module _ (n r : ℕ) (p : PlanOf) (i : talk.IsPlanned o observer.program row observer.column n r p said) where
+    module _ (n r : ℕ) (p : PlanOf) (i : conversation.IsPlanned o observer.program row observer.column n r p said) where
       abbrev what : Declared
       what = declared.Run o i.run
 
@@ -199,7 +199,7 @@ module _ (observers : List ObserverOf) (seats clock : ℕ) (journal : List Entry
           let ks = keeps (plans.fresh i.s.0 what) p i.plan i.converses_are in
           by_place p.place refl ((λ j. steps.step_at (sym ks.0 j) (sym ks.1 j) p.place) ∙ next) next
 
-    at_place : (n : ℕ) (place : RunPlace) → talk.SoFar o observer.program row observer.column n place said → step_at o row observer.column place ≡ Some step → why ≡ OutOfTimestamps
+    at_place : (n : ℕ) (place : RunPlace) → conversation.SoFar o observer.program row observer.column n place said → step_at o row observer.column place ≡ Some step → why ≡ OutOfTimestamps
     at_place n Beginning so next =
         begins_in_time state seat why seated o row observer there (subst (λ z. step_reason state seat z ≡ Some why) (sym (same_step (Begin (works.Run o row)) step next)) refused)
     at_place n (Observing s look) so next = at_look s _ None look [] (cell_begins state.observers seat s o row second observer.column look n said so) (omega arith) next

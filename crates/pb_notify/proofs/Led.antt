@@ -172,7 +172,7 @@ reached_led j said k led (computed before from to reaches need c) = computed_led
 
 module _ (o : ℕ) (judged : JudgedOf) (row : Row) (column : ℕ) where
   -- a look goes on from what was said before it
-  machine_at : (said : List Received) (n : ℕ) (place : RunPlace) (s : Ts) (v : Position) → MachineStandsAt place s v → talk.SoFar o judged row column n place said → AtLed place → IsMachineOf o judged row column place s v said
+  machine_at : (said : List Received) (n : ℕ) (place : RunPlace) (s : Ts) (v : Position) → MachineStandsAt place s v → conversation.SoFar o judged row column n place said → AtLed place → IsMachineOf o judged row column place s v said
   machine_at said n (Computing t w) s v stands so led =
       subst (λ (z : Position). IsMachineOf o judged row column (Computing t w) s z said) stands.1
       (subst (λ (z : Ts). IsMachineOf o judged row column (Computing t w) z w said) stands.0
@@ -205,7 +205,7 @@ keeps_what p [] q t = ap (λ (z : PlanOf). z.what) t
 keeps_what p (r ∷ rs) q t = keeps_what (plans.answered p r.answer) rs q t.2
 
 module _ (o : ℕ) (judged : JudgedOf) (row : Row) (column : ℕ) where
-  ended_at : (n : ℕ) (place : RunPlace) (said : List Received) → talk.SoFar o judged row column n place said → HasEnded o judged row column place said
+  ended_at : (n : ℕ) (place : RunPlace) (said : List Received) → conversation.SoFar o judged row column n place said → HasEnded o judged row column place said
   ended_at n (Planning r p) said so = record {
     s = so.s;
     seen = so.seen;

@@ -3,7 +3,7 @@ pub mod Machines
 pub mod Steps
 pub mod Places
 pub mod Runs
-pub mod Converses
+pub mod Conversations
 pub mod Forms
 pub mod Led
 pub mod Allowed

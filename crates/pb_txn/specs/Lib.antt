@@ -1,6 +1,6 @@
 pub mod Places
 pub mod Plans
-pub mod Converses
+pub mod Conversations
 pub mod Forms
 pub mod Changes
 pub mod Allowed
