@@ -65,15 +65,15 @@ is_placed j size accepted e =
 
 module _ (meaning : EachHasOneMeaning) (led : MachinesAreLed) (w : WorldOf) where
   module _ (r : RunOf) (said : List Received) (came : RunCame w r said) where
-    places_once : (place : RunPlace) → r.place ≡ place → (x y : RunPlace) → ComesFrom r.observer r.judged (Data r.row r.column) place x → ComesFrom r.observer r.judged (Data r.row r.column) place y → x ≡ y
+    places_once : (place : RunPlace) → r.place ≡ place → (x y : RunPlace) → ComesFrom r.watch.observer r.watch.judged (Data r.watch.row r.watch.column) place x → ComesFrom r.watch.observer r.watch.judged (Data r.watch.row r.watch.column) place y → x ≡ y
     places_once (Starting s seen) is x y c d =
-        let p = is_placed r.judged _ came.accepted c.size in
-        comes_once _ p.0 p.1 meaning r.observer s x y c.comes d.comes
+        let p = is_placed r.watch.judged _ came.accepted c.size in
+        comes_once _ p.0 p.1 meaning r.watch.observer s x y c.comes d.comes
     places_once (Computing s v) is x y c d =
         let stands : MachineStandsAt r.place s v = subst (λ p. MachineStandsAt p s v) (sym is) (refl, refl) in
-        let machine = led r.observer r.judged r.row r.column said r s v came.reaches stands in
-        let p = is_placed r.judged (length v.bytes) came.accepted machine.size in
-        comes_once v p.0 p.1 meaning r.observer s x y c d
+        let machine = led r.watch said r s v came.reaches stands in
+        let p = is_placed r.watch.judged (length v.bytes) came.accepted machine.size in
+        comes_once v p.0 p.1 meaning r.watch.observer s x y c d
     places_once _ is x y c d = absurd c
 
     run_computes_once : (k l : RunOf) → runs.Computes r k → runs.Computes r l → k ≡ l

@@ -17,11 +17,10 @@ use Rattle.pb_verify.specs.Observers.{ObserverOf}
 use Rattle.pb_history.specs.History.{Has}
 use Rattle.pb_core.specs.Calls.{SharedOf, SeatOf, call_reason}
 use Rattle.pb_txn.specs.Changes.{new_change}
-use Rattle.pb_txn.specs.Changes as changes
 use Rattle.pb_notify.specs.declared.place.RunPlace.{RunPlace}
 use Rattle.pb_notify.specs.declared.place.RunPlace.TheVariants.{Starting, Computing}
 use Rattle.pb_notify.specs.Places.{Comes, goes, waits, declares, ComesFrom}
-use Rattle.pb_notify.specs.Runs.{RunOf, fresh, need_at}
+use Rattle.pb_notify.specs.Runs.{RunOf, watch_of, fresh, need_at}
 use Rattle.pb_parse.specs.declared.event.Event.{Event}
 use Rattle.pb_parse.specs.declared.event.Event.TheVariants as events
 use Rattle.pb_parse.specs.declared.event.Job.{Job}
@@ -69,7 +68,7 @@ longer es k job d isnt l = record {
 of_on : (w : WorldOf) (job : Job) (j : ActorJob) (a : Answer) (k : ActorJob) → IsOf w job j → Takes j a k → IsOf w job k
 of_on w (jobs.Change n) (Change c) a k is takes = subst (λ x. IsOf w (jobs.Change n) x) (sym takes) is
 of_on w (jobs.Run o row) (Run r) a k is takes =
-    let here : IsOf w (jobs.Run o row) (Run takes.0) = subst (λ (l : RunOf). IsOf w (jobs.Run o row) (Run l)) (sym takes.2) (is.0, is.1, record { observer = is.2.observer; there = is.2.there; program = is.2.program; column = is.2.column }) in
+    let here : IsOf w (jobs.Run o row) (Run takes.0) = subst (λ (l : RunOf). IsOf w (jobs.Run o row) (Run l)) (sym takes.2) is in
     subst (λ x. IsOf w (jobs.Run o row) x) (sym takes.1) here
 of_on w (jobs.Change n) (Run r) a k is takes = absurd is
 of_on w (jobs.Run o row) (Change c) a k is takes = absurd is
@@ -78,7 +77,7 @@ of_on w (jobs.Run o row) (Change c) a k is takes = absurd is
 of_by : (w : WorldOf) (job : Job) (j k : ActorJob) → IsOf w job j → Computes j k → IsOf w job k
 of_by w (jobs.Change n) (Change c) k is did = absurd did
 of_by w (jobs.Run o row) (Run r) k is did =
-    let here : IsOf w (jobs.Run o row) (Run did.0) = subst (λ (l : RunOf). IsOf w (jobs.Run o row) (Run l)) (sym did.2.same) (is.0, is.1, record { observer = is.2.observer; there = is.2.there; program = is.2.program; column = is.2.column }) in
+    let here : IsOf w (jobs.Run o row) (Run did.0) = subst (λ (l : RunOf). IsOf w (jobs.Run o row) (Run l)) (sym did.2.same) is in
     subst (λ x. IsOf w (jobs.Run o row) x) (sym did.1) here
 of_by w (jobs.Change n) (Run r) k is did = absurd is
 of_by w (jobs.Run o row) (Change c) k is did = absurd is
@@ -87,7 +86,7 @@ of_by w (jobs.Run o row) (Change c) k is did = absurd is
 of_in : (w v : WorldOf) (job : Job) (j : ActorJob) → v.shared.state.observers ≡ w.shared.state.observers → v.batches ≡ w.batches → IsOf w job j → IsOf v job j
 of_in w v (jobs.Change n) (Change c) os bs is = subst (λ x. change_of x n ≡ Some c.batch) (sym bs) is
 of_in w v (jobs.Run o row) (Run r) os bs is =
-    (is.0, is.1, record { observer = is.2.observer; there = subst (λ x. slice_get x r.observer ≡ Some is.2.observer) (sym os) is.2.there; program = is.2.program; column = is.2.column })
+    (is.0, is.1, record { observer = is.2.observer; there = subst (λ x. slice_get x r.watch.observer ≡ Some is.2.observer) (sym os) is.2.there; program = is.2.program; column = is.2.column })
 of_in w v (jobs.Change n) (Run r) os bs is = absurd is
 of_in w v (jobs.Run o row) (Change c) os bs is = absurd is
 
@@ -105,7 +104,7 @@ from_on o judged x _ next c = absurd c
 -- so a run that did an instruction isn't over
 computed_goes : (j k : ActorJob) → Computes j k → is_over k ≡ false
 computed_goes (Change c) k did = absurd did
-computed_goes (Run r) k did = subst (λ x. is_over x ≡ false) (sym did.1) (from_on r.observer r.judged _ r.place did.0.place did.2.comes)
+computed_goes (Run r) k did = subst (λ x. is_over x ≡ false) (sym did.1) (from_on r.watch.observer r.watch.judged _ r.place did.0.place did.2.comes)
 
 -- a job that is kept isn't over
 kept_goes : (b : Bool) (after k : ActorJob) → is_over after ≡ b → Some k ≡ (if b then None else Some after) → (k ≡ after) × (is_over k ≡ false)
@@ -123,10 +122,10 @@ module _ (w : WorldOf) where
   change_made k None made is e = absurd (none_some made e)
   change_made k (Some batch) made is e = subst (λ x. IsMade (jobs.Change k) x) (some_same (Change (new_change batch)) made e) (record { is = is; goes_on = refl })
 
-  run_made : (o : ℕ) (row : Row) (found : Option ObserverOf) (made : ActorJob) → slice_get w.shared.state.observers o ≡ found → option_map (λ (x : ObserverOf). Run (fresh o x.program row x.column)) found ≡ Some made → IsMade (jobs.Run o row) made
+  run_made : (o : ℕ) (row : Row) (found : Option ObserverOf) (made : ActorJob) → slice_get w.shared.state.observers o ≡ found → option_map (λ (x : ObserverOf). Run (fresh (watch_of o x row))) found ≡ Some made → IsMade (jobs.Run o row) made
   run_made o row None made is e = absurd (none_some made e)
   run_made o row (Some x) made is e =
-      subst (λ y. IsMade (jobs.Run o row) y) (some_same (Run (fresh o x.program row x.column)) made e)
+      subst (λ y. IsMade (jobs.Run o row) y) (some_same (Run (fresh (watch_of o x row))) made e)
       (record { is = (refl, refl, record { observer = x; there = is; program = refl; column = refl }); goes_on = refl })
 
   made_is : (job : Job) (made : ActorJob) → job_for w job ≡ Some made → IsMade job made

@@ -24,9 +24,9 @@ use Rattle.pb_txn.specs.Changes.{ChangeOf, new_change, Converses}
 use Rattle.pb_txn.specs.Changes as changes
 use Rattle.pb_notify.specs.declared.need.Need.{Need}
 use Rattle.pb_notify.specs.declared.need.Need.TheVariants.{Local, Call, Over}
-use Rattle.pb_notify.specs.Runs.{RunOf, fresh, need_of}
+use Rattle.pb_notify.specs.Runs.{Watch, RunOf, watch_of, fresh, need_of}
 use Rattle.pb_notify.specs.Conversations.{Reaches, took, computed}
-use Rattle.pb_notify.specs.Conversations as talk
+use Rattle.pb_notify.specs.Conversations as conversations
 use Rattle.pb_parse.specs.declared.event.Event.{Event}
 use Rattle.pb_parse.specs.declared.event.Event.TheVariants as events
 use Rattle.pb_parse.specs.declared.event.Job.{Job}
@@ -39,7 +39,7 @@ use Rattle.pb_world.specs.declared.note.Note.TheVariants.{Refused}
 use Rattle.pb_world.specs.Jobs.{next_of, is_local, is_local_need, is_over, Takes, Computes, RulesAccept, IsReady}
 use Rattle.pb_world.specs.Actors.{AnswersJob, RefusesJob, CallSteps, Instructs, IsIdle, JobSteps, ActorSteps, launched, crashed}
 use Rattle.pb_world.specs.Events.{WorldOf, change_of, job_for, with_actor, actor_of, no_actor, no_launch, fault_of, Launches, StepsActor, CrashesActor, OwnAnswers, OwnCalls, Does}
-use Rattle.pb_world.specs.Sound.{ChangeCame, RunCame, Came, IsTied, IsSoundWorld, EventsKeepSound}
+use Rattle.pb_world.specs.Sound.{HasObserver, ChangeCame, RunCame, Came, IsTied, IsSoundWorld, EventsKeepSound}
 use Rattle.pb_world.proofs.SeatLists.{called, append-none}
 use Rattle.pb_base.proofs.Logic.{same_some as some_same, none_some as some_none, some_none as none_some}
 use Rattle.pb_history.proofs.JournalParts.{one_more as leads_more}
@@ -92,22 +92,11 @@ converses_push p [] q st a t next can = (subst (λ x. changes.next_of x ≡ Some
 converses_push p (r ∷ rs) q st a t next can = (t.0, t.1, converses_push (changes.answered p r.answer) rs q st a t.2 next can)
 
 -- the same run, further on
-record IsOneRun (r l : RunOf) : Type 0 where
-  pub observer : l.observer ≡ r.observer
-  pub judged : l.judged ≡ r.judged
-  pub row : l.row ≡ r.row
-  pub column : l.column ≡ r.column
-
-run_goes_on : (w : WorldOf) (r l : RunOf) (said more : List Received) → IsOneRun r l → RunCame w r said → Reaches (fresh r.observer r.judged r.row r.column) more l → RunCame w l more
+run_goes_on : (w : WorldOf) (r l : RunOf) (said more : List Received) → l.watch ≡ r.watch → RunCame w r said → Reaches (fresh r.watch) more l → RunCame w l more
 run_goes_on w r l said more same m reaches = record {
-  its = record {
-    observer = m.its.observer;
-    there = subst (λ n. slice_get w.shared.state.observers n ≡ Some m.its.observer) (sym same.observer) m.its.there;
-    program = same.judged ∙ m.its.program;
-    column = same.column ∙ m.its.column;
-  };
-  accepted = subst (λ x. RulesAccept x) (sym same.judged) m.accepted;
-  reaches = subst (λ (z : Type 0). z) (λ i. Reaches (fresh (sym same.observer i) (sym same.judged i) (sym same.row i) (sym same.column i)) more l) reaches;
+  its = subst (HasObserver w) (sym same) m.its;
+  accepted = subst (λ (o : Watch). RulesAccept o.judged) (sym same) m.accepted;
+  reaches = subst (λ (o : Watch). Reaches (fresh o) more l) (sym same) reaches;
 }
 
 -- a job that took an answer has come on by it
@@ -117,12 +106,7 @@ came_on w (Change c) k said st a m next can takes =
     subst (λ x. Came w x (said ++ record { step = st; answer = a } ∷ [])) (sym takes) more
 came_on w (Run r) k said st a m next can takes =
     let l = takes.0 in
-    let same : IsOneRun r l = record {
-      observer = ap (λ (x : RunOf). x.observer) takes.2;
-      judged = ap (λ (x : RunOf). x.judged) takes.2;
-      row = ap (λ (x : RunOf). x.row) takes.2;
-      column = ap (λ (x : RunOf). x.column) takes.2;
-    } in
+    let same : l.watch ≡ r.watch = ap (λ (x : RunOf). x.watch) takes.2 in
     let reaches = took said r (record { step = st; answer = a }) l m.reaches next can takes.2 takes.3 in
     subst (λ x. Came w x (said ++ record { step = st; answer = a } ∷ [])) (sym takes.1) (run_goes_on w r l said (said ++ record { step = st; answer = a } ∷ []) same m reaches)
 
@@ -136,19 +120,14 @@ came_by : (w : WorldOf) (j k : ActorJob) (said : List Received) → Came w j sai
 came_by w (Change c) k said m local did = absurd did
 came_by w (Run r) k said m local did =
     let l = did.0 in
-    let same : IsOneRun r l = record {
-      observer = ap (λ (x : RunOf). x.observer) did.2.same;
-      judged = ap (λ (x : RunOf). x.judged) did.2.same;
-      row = ap (λ (x : RunOf). x.row) did.2.same;
-      column = ap (λ (x : RunOf). x.column) did.2.same;
-    } in
+    let same : l.watch ≡ r.watch = ap (λ (x : RunOf). x.watch) did.2.same in
     let reaches = computed said r l m.reaches (local_by (need_of r) local) did.2 in
     subst (λ x. Came w x said) (sym did.1) (run_goes_on w r l said said same m reaches)
 
 -- what a job came by depends on the observers and the changes alone
 came_in : (w v : WorldOf) (j : ActorJob) (said : List Received) → v.shared.state.observers ≡ w.shared.state.observers → v.batches ≡ w.batches → Came w j said → Came v j said
 came_in w v (Change c) said os bs m = record { number = m.number; there = subst (λ x. change_of x m.number ≡ Some c.batch) (sym bs) m.there; is = m.is; converses = m.converses }
-came_in w v (Run r) said os bs m = record { its = record { observer = m.its.observer; there = subst (λ x. slice_get x r.observer ≡ Some m.its.observer) (sym os) m.its.there; program = m.its.program; column = m.its.column }; accepted = m.accepted; reaches = m.reaches }
+came_in w v (Run r) said os bs m = record { its = record { observer = m.its.observer; there = subst (λ x. slice_get x r.watch.observer ≡ Some m.its.observer) (sym os) m.its.there; program = m.its.program; column = m.its.column }; accepted = m.accepted; reaches = m.reaches }
 
 -- a job stays tied while the observers and the changes stay
 tied_in : (w v : WorldOf) (seat : SeatOf) (n : ℕ) (j : ActorJob) → v.shared.state.observers ≡ w.shared.state.observers → v.batches ≡ w.batches → IsTied w seat n j → IsTied v seat n j
@@ -309,12 +288,12 @@ change_made w k (Some batch) made is e ready =
     let here : ChangeCame w (new_change batch) [] = record { number = k; there = is; is = fits; converses = refl } in
     subst (λ x. Came w x []) same here
 
-run_made : (w : WorldOf) (o : ℕ) (row : Row) (found : Option ObserverOf) (made : ActorJob) → slice_get w.shared.state.observers o ≡ found → option_map (λ (x : ObserverOf). Run (fresh o x.program row x.column)) found ≡ Some made → IsReady made → Came w made []
+run_made : (w : WorldOf) (o : ℕ) (row : Row) (found : Option ObserverOf) (made : ActorJob) → slice_get w.shared.state.observers o ≡ found → option_map (λ (x : ObserverOf). Run (fresh (watch_of o x row))) found ≡ Some made → IsReady made → Came w made []
 run_made w o row None made is e ready = absurd (some_none made e)
 run_made w o row (Some x) made is e ready =
-    let same : Run (fresh o x.program row x.column) ≡ made = some_same (Run (fresh o x.program row x.column)) made e in
+    let same : Run (fresh (watch_of o x row)) ≡ made = some_same (Run (fresh (watch_of o x row))) made e in
     let fits = subst (λ y. IsReady y) (sym same) ready in
-    let here : RunCame w (fresh o x.program row x.column) [] = record { its = record { observer = x; there = is; program = refl; column = refl }; accepted = fits; reaches = talk.made } in
+    let here : RunCame w (fresh (watch_of o x row)) [] = record { its = record { observer = x; there = is; program = refl; column = refl }; accepted = fits; reaches = conversations.made } in
     subst (λ y. Came w y []) same here
 
 -- a job that was just made has said nothing
