@@ -37,7 +37,7 @@ use Rattle.pb_world.specs.declared.job.ActorJob.TheVariants.{Change, Run}
 use Rattle.pb_world.specs.declared.note.Note.{Note}
 use Rattle.pb_world.specs.declared.note.Note.TheVariants.{Refused}
 use Rattle.pb_world.specs.Jobs.{next_of, is_local, is_local_need, is_over, Takes, Computes, RulesAccept, IsReady}
-use Rattle.pb_world.specs.Actors.{AnswersJob, RefusesJob, CallSteps, Instructs, IsIdle, JobSteps, ActorSteps, launched, crashed}
+use Rattle.pb_world.specs.Actors.{Stepped, AnswersJob, RefusesJob, CallSteps, Instructs, IsIdle, JobSteps, StepsTo, launched, crashed}
 use Rattle.pb_world.specs.Events.{WorldOf, change_of, job_for, with_actor, actor_of, no_actor, no_launch, fault_of, Launches, StepsActor, CrashesActor, OwnAnswers, OwnCalls, Does}
 use Rattle.pb_world.specs.Sound.{HasObserver, ChangeCame, RunCame, Came, IsTied, IsSoundWorld, EventsKeepSound}
 use Rattle.pb_world.proofs.SeatLists.{called, append-none}
@@ -167,15 +167,15 @@ moves_seats s seats k seat t told (calls st a c) is are = called s seats k seat 
 -- ---- what a step leaves of a job
 
 -- what is left of the job is tied to what its seat was told by then
-record IsSteppedTo (w : WorldOf) (seat : SeatOf) (n : ℕ) (t : SharedOf) (told : SeatOf) (rest : Option ActorJob) : Type 0 where
-  pub moves : Moves w.shared seat t told
-  pub tied : (k : ActorJob) → rest ≡ Some k → IsTied w told n k
+record IsSteppedTo (w : WorldOf) (seat : SeatOf) (n : ℕ) (to : Stepped) : Type 0 where
+  pub moves : Moves w.shared seat to.table to.seat
+  pub tied : (k : ActorJob) → to.job ≡ Some k → IsTied w to.seat n k
 
 none_left : (w : WorldOf) (told : SeatOf) (n : ℕ) (rest : Option ActorJob) → rest ≡ None → (k : ActorJob) → rest ≡ Some k → IsTied w told n k
 none_left w told n rest none k some = absurd (some_none k (sym none ∙ some))
 
-instructed : (w : WorldOf) (seat : SeatOf) (n : ℕ) (j : ActorJob) (note : Note) (t : SharedOf) (told : SeatOf) (rest : Option ActorJob) → is_local j ≡ true → IsTied w seat n j → Instructs w.shared seat j note t told rest → IsSteppedTo w seat n t told rest
-instructed w seat n j note t told rest local tie d = record {
+instructed : (w : WorldOf) (seat : SeatOf) (n : ℕ) (j : ActorJob) (to : Stepped) → is_local j ≡ true → IsTied w seat n j → Instructs w.shared seat j to → IsSteppedTo w seat n to
+instructed w seat n j to local tie d = record {
   moves = stays d.same.table d.same.list;
   tied = λ k is.
       let same : d.after ≡ k = some_same d.after k (sym d.left ∙ is) in
@@ -183,11 +183,11 @@ instructed w seat n j note t told rest local tie d = record {
       record { before = tie.before; said = tie.said; counted = tie.counted; received = ap (λ (x : SeatOf). x.received) d.same.list ∙ tie.received; came = here };
 }
 
-idled : (w : WorldOf) (seat : SeatOf) (n : ℕ) (note : Note) (t : SharedOf) (told : SeatOf) (rest : Option ActorJob) → IsIdle w.shared seat note t told rest → IsSteppedTo w seat n t told rest
-idled w seat n note t told rest d = record { moves = stays d.same.table d.same.list; tied = none_left w told n rest d.left }
+idled : (w : WorldOf) (seat : SeatOf) (n : ℕ) (to : Stepped) → IsIdle w.shared seat to → IsSteppedTo w seat n to
+idled w seat n to d = record { moves = stays d.same.table d.same.list; tied = none_left w to.seat n to.job d.left }
 
-answered : (w : WorldOf) (seat : SeatOf) (n : ℕ) (j : ActorJob) (st : Step) (note : Note) (t : SharedOf) (told : SeatOf) (rest : Option ActorJob) → next_of j ≡ Some st → IsTied w seat n j → AnswersJob w.shared seat j st note t told rest → IsSteppedTo w seat n t told rest
-answered w seat n j st note t told rest next tie d = record {
+answered : (w : WorldOf) (seat : SeatOf) (n : ℕ) (j : ActorJob) (st : Step) (to : Stepped) → next_of j ≡ Some st → IsTied w seat n j → AnswersJob w.shared seat j st to → IsSteppedTo w seat n to
+answered w seat n j st to next tie d = record {
   moves = calls st d.answer d.calls;
   tied = λ k is.
       let r : Received = record { step = st; answer = d.answer } in
@@ -196,30 +196,27 @@ answered w seat n j st note t told rest next tie d = record {
       record { before = tie.before; said = tie.said ++ r ∷ []; counted = tie.counted; received = d.calls.received ∙ (ap (λ l. l ++ r ∷ []) tie.received ∙ append_assoc' tie.before tie.said (r ∷ [])); came = here };
 }
 
-called_by : (w : WorldOf) (seat : SeatOf) (n : ℕ) (j : ActorJob) (st : Step) (note : Note) (t : SharedOf) (told : SeatOf) (rest : Option ActorJob) (why : Option Reason) → next_of j ≡ Some st → IsTied w seat n j
-    → MatchOption why (AnswersJob w.shared seat j st note t told rest) (λ y. RefusesJob w.shared seat y note t told rest) → IsSteppedTo w seat n t told rest
-called_by w seat n j st note t told rest None next tie d = answered w seat n j st note t told rest next tie d
-called_by w seat n j st note t told rest (Some y) next tie d = record { moves = stays d.same.table d.same.list; tied = none_left w told n rest d.left }
+called_by : (w : WorldOf) (seat : SeatOf) (n : ℕ) (j : ActorJob) (st : Step) (to : Stepped) (why : Option Reason) → next_of j ≡ Some st → IsTied w seat n j
+    → MatchOption why (AnswersJob w.shared seat j st to) (λ y. RefusesJob w.shared seat y to) → IsSteppedTo w seat n to
+called_by w seat n j st to None next tie d = answered w seat n j st to next tie d
+called_by w seat n j st to (Some y) next tie d = record { moves = stays d.same.table d.same.list; tied = none_left w to.seat n to.job d.left }
 
-asked : (w : WorldOf) (seat : SeatOf) (n : ℕ) (j : ActorJob) (note : Note) (t : SharedOf) (told : SeatOf) (rest : Option ActorJob) (o : Option Step) → next_of j ≡ o → IsTied w seat n j
-    → MatchOption o (IsIdle w.shared seat note t told rest) (λ st. CallSteps w.shared seat j st note t told rest) → IsSteppedTo w seat n t told rest
-asked w seat n j note t told rest None is tie d = idled w seat n note t told rest d
-asked w seat n j note t told rest (Some st) is tie d = called_by w seat n j st note t told rest (call_reason w.shared seat.number st) is tie d
+asked : (w : WorldOf) (seat : SeatOf) (n : ℕ) (j : ActorJob) (to : Stepped) (o : Option Step) → next_of j ≡ o → IsTied w seat n j
+    → MatchOption o (IsIdle w.shared seat to) (λ st. CallSteps w.shared seat j st to) → IsSteppedTo w seat n to
+asked w seat n j to None is tie d = idled w seat n to d
+asked w seat n j to (Some st) is tie d = called_by w seat n j st to (call_reason w.shared seat.number st) is tie d
 
 -- whatever a step of a job came to
-job_steps : (w : WorldOf) (seat : SeatOf) (n : ℕ) (j : ActorJob) (note : Note) (t : SharedOf) (told : SeatOf) (rest : Option ActorJob) → IsTied w seat n j → JobSteps w.shared seat j note t told rest → IsSteppedTo w seat n t told rest
-job_steps w seat n j note t told rest tie d = by (is_local j) refl d
+job_steps : (w : WorldOf) (seat : SeatOf) (n : ℕ) (j : ActorJob) (to : Stepped) → IsTied w seat n j → JobSteps w.shared seat j to → IsSteppedTo w seat n to
+job_steps w seat n j to tie d = by (is_local j) refl d
   where
-    by : (b : Bool) → is_local j ≡ b → MatchBool b (Instructs w.shared seat j note t told rest) (MatchOption (next_of j) (IsIdle w.shared seat note t told rest) (λ st. CallSteps w.shared seat j st note t told rest)) → IsSteppedTo w seat n t told rest
-    by true local d = instructed w seat n j note t told rest local tie d
-    by false local d = asked w seat n j note t told rest (next_of j) refl tie d
+    by : (b : Bool) → is_local j ≡ b → MatchBool b (Instructs w.shared seat j to) (MatchOption (next_of j) (IsIdle w.shared seat to) (λ st. CallSteps w.shared seat j st to)) → IsSteppedTo w seat n to
+    by true local d = instructed w seat n j to local tie d
+    by false local d = asked w seat n j to (next_of j) refl tie d
 
-actor_steps : (w : WorldOf) (seat : SeatOf) (a : Actor) (note : Note) (t : SharedOf) (told : SeatOf) (b : Actor) → ((j : ActorJob) → a.job ≡ Some j → IsTied w seat a.launched j) → ActorSteps w.shared seat a note t told b → IsSteppedTo w seat b.launched t told b.job
-actor_steps w seat a note t told b tie d = subst (λ n. IsSteppedTo w seat n t told b.job) (sym d.launched) (by a.job refl d.steps)
-  where
-    by : (o : Option ActorJob) → a.job ≡ o → MatchOption o (IsIdle w.shared seat note t told b.job) (λ j. JobSteps w.shared seat j note t told b.job) → IsSteppedTo w seat a.launched t told b.job
-    by None is d = idled w seat a.launched note t told b.job d
-    by (Some j) is d = job_steps w seat a.launched j note t told b.job (tie j is) d
+actor_steps : (w : WorldOf) (seat : SeatOf) (n : ℕ) (o : Option ActorJob) (to : Stepped) → ((j : ActorJob) → o ≡ Some j → IsTied w seat n j) → StepsTo w.shared seat o to → IsSteppedTo w seat n to
+actor_steps w seat n None to tie d = idled w seat n to d
+actor_steps w seat n (Some j) to tie d = job_steps w seat n j to (tie j refl) d
 
 -- ---- events
 
@@ -230,8 +227,11 @@ stepped w v k n some s d = subst (λ x. IsSoundWorld x) (sym d.after) here
     u : WorldOf
     u = record w { shared = v.shared; seats = slice_set w.seats k d.told; actors = slice_set w.actors k d.stepped }
 
-    left : IsSteppedTo w d.seat d.stepped.launched v.shared d.told d.stepped.job
-    left = actor_steps w d.seat d.actor n v.shared d.told d.stepped (λ j is. s.tied k d.actor d.seat j d.its_actor d.its_seat is) d.steps
+    to : Stepped
+    to = record { note = n; table = v.shared; seat = d.told; job = d.stepped.job }
+
+    left : IsSteppedTo w d.seat d.stepped.launched to
+    left = subst (λ m. IsSteppedTo w d.seat m to) (sym d.steps.launched) (actor_steps w d.seat d.actor.launched d.actor.job to (λ j is. s.tied k d.actor d.seat j d.its_actor d.its_seat is) d.steps.steps)
 
     observers : v.shared.state.observers ≡ w.shared.state.observers
     observers = moves_observers w.shared d.seat v.shared d.told left.moves
