@@ -17,11 +17,11 @@ use Rattle.pb_world.specs.declared.actor.Actor.{Actor}
 use Rattle.pb_world.specs.declared.job.ActorJob.{ActorJob}
 use Rattle.pb_world.specs.declared.note.Note.{Note}
 use Rattle.pb_world.specs.declared.note.Note.TheVariants.{Called, Refused}
-use Rattle.pb_world.specs.Actors.{ActorSteps, launched, crashed, crash_note}
+use Rattle.pb_world.specs.Actors.{Stepped, ActorSteps, launched, crashed, crash_note}
 use Rattle.pb_world.specs.Events.{WorldOf, job_for, with_actor, Launches, StepsActor, CrashesActor, OwnAnswers, OwnCalls, Does}
 use Rattle.pb_world.specs.Sound.{Came, IsSoundWorld}
 use Rattle.law_worlds.specs.Outcomes.{AreOneEvent, EventsHaveOneOutcome}
-use Rattle.law_worlds.proofs.Jobs.{AreOneStep, calls_once, actor_steps_once}
+use Rattle.law_worlds.proofs.Jobs.{calls_once, actor_steps_once}
 use Rattle.pb_base.proofs.Logic.{one_value}
 
 module _ (w : WorldOf) (n : Note) (v : WorldOf) (m : Note) (u : WorldOf) where
@@ -68,8 +68,8 @@ module _ (w : WorldOf) (n : Note) (v : WorldOf) (m : Note) (u : WorldOf) where
 
     steps_once : EachHasOneMeaning → MachinesAreLed → (k : ℕ) → StepsActor w k n v → StepsActor w k m u → AreOneEvent n v m u
     steps_once meaning led k x y = record {
-      note = one.note;
-      world = x.after ∙ ((λ i. record w { shared = one.table i; seats = slice_set w.seats k (one.list i); actors = slice_set w.actors k (one.job i) }) ∙ sym y.after);
+      note = ap (λ (z : Stepped). z.note) one;
+      world = x.after ∙ ((λ i. record w { shared = (one i).table; seats = slice_set w.seats k (one i).seat; actors = slice_set w.actors k (record { launched = launched_is i; job = (one i).job }) }) ∙ sym y.after);
     }
       where
         seat : y.seat ≡ x.seat
@@ -84,8 +84,17 @@ module _ (w : WorldOf) (n : Note) (v : WorldOf) (m : Note) (u : WorldOf) where
         came : (j : ActorJob) → x.actor.job ≡ Some j → (said : List Received) × Came w j said
         came j is = let tied = sound.tied k x.actor x.seat j x.its_actor x.its_seat is in (tied.said, tied.came)
 
-        one : AreOneStep n v.shared x.told x.stepped m u.shared y.told y.stepped
-        one = actor_steps_once step meaning led w table x.seat n m v.shared u.shared x.told y.told x.actor x.stepped y.stepped came x.steps other
+        to : Stepped
+        to = record { note = n; table = v.shared; seat = x.told; job = x.stepped.job }
+
+        at : Stepped
+        at = record { note = m; table = u.shared; seat = y.told; job = y.stepped.job }
+
+        one : to ≡ at
+        one = actor_steps_once step meaning led w table x.seat to at x.actor.job came x.steps.steps other.steps
+
+        launched_is : x.stepped.launched ≡ y.stepped.launched
+        launched_is = x.steps.launched ∙ sym other.launched
 
     does_once : EachHasOneMeaning → MachinesAreLed → (e : Event) → Does w e n v → Does w e m u → AreOneEvent n v m u
     does_once meaning led (events.Launch k job) x y = launches_once k job x y

@@ -18,13 +18,11 @@ use Rattle.pb_notify.specs.Places.{ComesFrom}
 use Rattle.pb_notify.specs.Led.{MachineStandsAt, MachinesAreLed}
 use Rattle.pb_notify.specs.Runs.{RunOf}
 use Rattle.pb_notify.specs.Runs as runs
-use Rattle.pb_world.specs.declared.actor.Actor.{Actor}
 use Rattle.pb_world.specs.declared.job.ActorJob.{ActorJob}
 use Rattle.pb_world.specs.declared.job.ActorJob.TheVariants.{Change, Run}
-use Rattle.pb_world.specs.declared.note.Note.{Note}
 use Rattle.pb_world.specs.declared.note.Note.TheVariants.{Called}
 use Rattle.pb_world.specs.Jobs.{next_of, is_local, Takes, Computes, kept, RulesAccept}
-use Rattle.pb_world.specs.Actors.{AnswersJob, RefusesJob, CallSteps, Instructs, IsIdle, JobSteps, ActorSteps}
+use Rattle.pb_world.specs.Actors.{Stepped, AnswersJob, RefusesJob, CallSteps, Instructs, IsIdle, StepsTo}
 use Rattle.pb_world.specs.Events.{WorldOf}
 use Rattle.pb_world.specs.Sound.{RunCame, Came}
 use Rattle.law_worlds.proofs.Machines.{comes_once}
@@ -65,15 +63,15 @@ is_placed j size accepted e =
 
 module _ (meaning : EachHasOneMeaning) (led : MachinesAreLed) (w : WorldOf) where
   module _ (r : RunOf) (said : List Received) (came : RunCame w r said) where
-    places_once : (place : RunPlace) → r.place ≡ place → (x y : RunPlace) → ComesFrom r.observer r.judged (Data r.row r.column) place x → ComesFrom r.observer r.judged (Data r.row r.column) place y → x ≡ y
+    places_once : (place : RunPlace) → r.place ≡ place → (x y : RunPlace) → ComesFrom r.watch.observer r.watch.judged (Data r.watch.row r.watch.column) place x → ComesFrom r.watch.observer r.watch.judged (Data r.watch.row r.watch.column) place y → x ≡ y
     places_once (Starting s seen) is x y c d =
-        let p = is_placed r.judged _ came.accepted c.size in
-        comes_once _ p.0 p.1 meaning r.observer s x y c.comes d.comes
+        let p = is_placed r.watch.judged _ came.accepted c.size in
+        comes_once _ p.0 p.1 meaning r.watch.observer s x y c.comes d.comes
     places_once (Computing s v) is x y c d =
         let stands : MachineStandsAt r.place s v = subst (λ p. MachineStandsAt p s v) (sym is) (refl, refl) in
-        let machine = led r.observer r.judged r.row r.column said r s v came.reaches stands in
-        let p = is_placed r.judged (length v.bytes) came.accepted machine.size in
-        comes_once v p.0 p.1 meaning r.observer s x y c d
+        let machine = led r.watch said r s v came.reaches stands in
+        let p = is_placed r.watch.judged (length v.bytes) came.accepted machine.size in
+        comes_once v p.0 p.1 meaning r.watch.observer s x y c d
     places_once _ is x y c d = absurd c
 
     run_computes_once : (k l : RunOf) → runs.Computes r k → runs.Computes r l → k ≡ l
@@ -94,74 +92,46 @@ takes_once (Run r) a k l x y = x.1 ∙ (ap Run (x.2 ∙ sym y.2) ∙ sym y.1)
 
 -- ---- steps of an actor
 
--- two notes, each with the table, the seat's list and the job that are left, are the same
-pub record AreOneStep {J : Type 0} (n : Note) (t : SharedOf) (told : SeatOf) (rest : J) (m : Note) (u : SharedOf) (heard : SeatOf) (left : J) : Type 0 where
-  pub note : n ≡ m
-  pub table : t ≡ u
-  pub list : told ≡ heard
-  pub job : rest ≡ left
+module _ (step : StepsHaveOneOutcome) (meaning : EachHasOneMeaning) (led : MachinesAreLed) (w : WorldOf) (sound : IsSoundTable w.shared.state) (seat : SeatOf) (to at : Stepped) where
+  are_one : to.note ≡ at.note → to.table ≡ at.table → to.seat ≡ at.seat → to.job ≡ at.job → to ≡ at
+  are_one note table list job = λ i. record { note = note i; table = table i; seat = list i; job = job i }
 
-module _ (step : StepsHaveOneOutcome) (meaning : EachHasOneMeaning) (led : MachinesAreLed) (w : WorldOf) (sound : IsSoundTable w.shared.state) (seat : SeatOf) (n m : Note) (t u : SharedOf) (told heard : SeatOf) where
-  module _ (rest left : Option ActorJob) where
-    abbrev Same : Type 0
-    Same = AreOneStep n t told rest m u heard left
+  idle_once : IsIdle w.shared seat to → IsIdle w.shared seat at → to ≡ at
+  idle_once x y = are_one (x.note ∙ sym y.note) (x.same.table ∙ sym y.same.table) (x.same.list ∙ sym y.same.list) (x.left ∙ sym y.left)
 
-    idle_once : IsIdle w.shared seat n t told rest → IsIdle w.shared seat m u heard left → Same
-    idle_once x y = record { note = x.note ∙ sym y.note; table = x.same.table ∙ sym y.same.table; list = x.same.list ∙ sym y.same.list; job = x.left ∙ sym y.left }
+  instructs_once : (j : ActorJob) (said : List Received) → Came w j said → Instructs w.shared seat j to → Instructs w.shared seat j at → to ≡ at
+  instructs_once j said came x y =
+      are_one (x.note ∙ sym y.note) (x.same.table ∙ sym y.same.table) (x.same.list ∙ sym y.same.list)
+      (x.left ∙ (ap Some (computes_once meaning led w j said came x.after y.after x.computes y.computes) ∙ sym y.left))
 
-    instructs_once : (j : ActorJob) (said : List Received) → Came w j said → Instructs w.shared seat j n t told rest → Instructs w.shared seat j m u heard left → Same
-    instructs_once j said came x y = record {
-      note = x.note ∙ sym y.note;
-      table = x.same.table ∙ sym y.same.table;
-      list = x.same.list ∙ sym y.same.list;
-      job = x.left ∙ (ap Some (computes_once meaning led w j said came x.after y.after x.computes y.computes) ∙ sym y.left);
-    }
+  answers_once : (j : ActorJob) (st : Step) → AnswersJob w.shared seat j st to → AnswersJob w.shared seat j st at → to ≡ at
+  answers_once j st x y =
+      let one = calls_once step w.shared seat st x.answer y.answer to.table at.table to.seat at.seat sound x.calls y.calls in
+      let after : x.after ≡ y.after = takes_once j y.answer x.after y.after (subst (λ a. Takes j a x.after) one.answer x.takes) y.takes in
+      are_one (x.note ∙ (ap Called one.answer ∙ sym y.note)) one.table one.list (x.left ∙ (ap kept after ∙ sym y.left))
 
-    answers_once : (j : ActorJob) (st : Step) → AnswersJob w.shared seat j st n t told rest → AnswersJob w.shared seat j st m u heard left → Same
-    answers_once j st x y =
-        let one = calls_once step w.shared seat st x.answer y.answer t u told heard sound x.calls y.calls in
-        let after : x.after ≡ y.after = takes_once j y.answer x.after y.after (subst (λ a. Takes j a x.after) one.answer x.takes) y.takes in
-        record {
-          note = x.note ∙ (ap Called one.answer ∙ sym y.note);
-          table = one.table;
-          list = one.list;
-          job = x.left ∙ (ap kept after ∙ sym y.left);
-        }
+  refuses_once : (why : Reason) → RefusesJob w.shared seat why to → RefusesJob w.shared seat why at → to ≡ at
+  refuses_once why x y = are_one (x.note ∙ sym y.note) (x.same.table ∙ sym y.same.table) (x.same.list ∙ sym y.same.list) (x.left ∙ sym y.left)
 
-    refuses_once : (why : Reason) → RefusesJob w.shared seat why n t told rest → RefusesJob w.shared seat why m u heard left → Same
-    refuses_once why x y = record { note = x.note ∙ sym y.note; table = x.same.table ∙ sym y.same.table; list = x.same.list ∙ sym y.same.list; job = x.left ∙ sym y.left }
+  called_once : (j : ActorJob) (st : Step) (why : Option Reason)
+      → MatchOption why (AnswersJob w.shared seat j st to) (λ r. RefusesJob w.shared seat r to)
+      → MatchOption why (AnswersJob w.shared seat j st at) (λ r. RefusesJob w.shared seat r at) → to ≡ at
+  called_once j st None x y = answers_once j st x y
+  called_once j st (Some why) x y = refuses_once why x y
 
-    called_once : (j : ActorJob) (st : Step) (why : Option Reason)
-        → MatchOption why (AnswersJob w.shared seat j st n t told rest) (λ r. RefusesJob w.shared seat r n t told rest)
-        → MatchOption why (AnswersJob w.shared seat j st m u heard left) (λ r. RefusesJob w.shared seat r m u heard left) → Same
-    called_once j st None x y = answers_once j st x y
-    called_once j st (Some why) x y = refuses_once why x y
+  asked_once : (j : ActorJob) (o : Option Step)
+      → MatchOption o (IsIdle w.shared seat to) (λ st. CallSteps w.shared seat j st to)
+      → MatchOption o (IsIdle w.shared seat at) (λ st. CallSteps w.shared seat j st at) → to ≡ at
+  asked_once j None x y = idle_once x y
+  asked_once j (Some st) x y = called_once j st (call_reason w.shared seat.number st) x y
 
-    asked_once : (j : ActorJob) (o : Option Step)
-        → MatchOption o (IsIdle w.shared seat n t told rest) (λ st. CallSteps w.shared seat j st n t told rest)
-        → MatchOption o (IsIdle w.shared seat m u heard left) (λ st. CallSteps w.shared seat j st m u heard left) → Same
-    asked_once j None x y = idle_once x y
-    asked_once j (Some st) x y = called_once j st (call_reason w.shared seat.number st) x y
+  job_steps_by : (j : ActorJob) (said : List Received) → Came w j said → (local : Bool)
+      → MatchBool local (Instructs w.shared seat j to) (MatchOption (next_of j) (IsIdle w.shared seat to) (λ st. CallSteps w.shared seat j st to))
+      → MatchBool local (Instructs w.shared seat j at) (MatchOption (next_of j) (IsIdle w.shared seat at) (λ st. CallSteps w.shared seat j st at)) → to ≡ at
+  job_steps_by j said came true x y = instructs_once j said came x y
+  job_steps_by j said came false x y = asked_once j (next_of j) x y
 
-    job_steps_by : (j : ActorJob) (said : List Received) → Came w j said → (local : Bool)
-        → MatchBool local (Instructs w.shared seat j n t told rest) (MatchOption (next_of j) (IsIdle w.shared seat n t told rest) (λ st. CallSteps w.shared seat j st n t told rest))
-        → MatchBool local (Instructs w.shared seat j m u heard left) (MatchOption (next_of j) (IsIdle w.shared seat m u heard left) (λ st. CallSteps w.shared seat j st m u heard left)) → Same
-    job_steps_by j said came true x y = instructs_once j said came x y
-    job_steps_by j said came false x y = asked_once j (next_of j) x y
-
-    steps_by : (o : Option ActorJob) → ((j : ActorJob) → o ≡ Some j → (said : List Received) × Came w j said)
-        → MatchOption o (IsIdle w.shared seat n t told rest) (λ j. JobSteps w.shared seat j n t told rest)
-        → MatchOption o (IsIdle w.shared seat m u heard left) (λ j. JobSteps w.shared seat j m u heard left) → Same
-    steps_by None came x y = idle_once x y
-    steps_by (Some j) came x y = let c = came j refl in job_steps_by j c.0 c.1 (is_local j) x y
-
-  pub actor_steps_once : (a b c : Actor) → ((j : ActorJob) → a.job ≡ Some j → (said : List Received) × Came w j said) → ActorSteps w.shared seat a n t told b → ActorSteps w.shared seat a m u heard c
-      → AreOneStep n t told b m u heard c
-  actor_steps_once a b c came x y =
-      let one = steps_by b.job c.job a.job came x.steps y.steps in
-      record {
-        note = one.note;
-        table = one.table;
-        list = one.list;
-        job = λ i. record { launched = (x.launched ∙ sym y.launched) i; job = one.job i };
-      }
+  -- what the step of an actor with this job, or none, comes to
+  pub actor_steps_once : (o : Option ActorJob) → ((j : ActorJob) → o ≡ Some j → (said : List Received) × Came w j said) → StepsTo w.shared seat o to → StepsTo w.shared seat o at → to ≡ at
+  actor_steps_once None came x y = idle_once x y
+  actor_steps_once (Some j) came x y = let c = came j refl in job_steps_by j c.0 c.1 (is_local j) x y

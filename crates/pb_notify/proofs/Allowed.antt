@@ -44,6 +44,7 @@ use Rattle.pb_notify.specs.declared.place.RunPlace.TheVariants.{Beginning, Obser
 use Rattle.pb_notify.specs.Forms.{IsAcknowledged}
 use Rattle.pb_notify.specs.Looks.{look_step}
 use Rattle.pb_notify.specs.Places.{step_at}
+use Rattle.pb_notify.specs.Runs.{Watch, watch_of}
 use Rattle.pb_notify.specs.Allowed.{entries_by, HasRun, JobsAreAllowed}
 use Rattle.pb_notify.proofs.RunConversation as conversation
 use Rattle.pb_notify.proofs.RecordedReads.{after, after_is, after_append, has_append, with_reads, IsRecorded, HasRead, in_look, cell_begins, observed, acknowledged, has_read, is_newer}
@@ -87,6 +88,9 @@ has_filtered s seat (x ∷ xs) r (inr h) names = keeps_has (names_start s.0 x.st
 module _ (observers : List ObserverOf) (seats clock : ℕ) (journal : List Entry) (state : StateOf) (legal : IsLegal observers seats clock journal state) (allowed : PlansAreAllowed)
     (tells : TellsTransactions journal state) (earlier : TellsAcknowledged journal) (seat o : ℕ) (row : Row) (observer : ObserverOf) (first_there : slice_get observers o ≡ Some observer) (there : slice_get state.observers o ≡ Some observer)
     (row_fits : row.0 < 2 ^ 64) (column_fits : observer.column < 2 ^ 64) (seated : seat < state.seats) (said : List Received) (has : HasRun journal seat o row said) where
+  abbrev watch : Watch
+  watch = watch_of o observer row
+
   column_is : observed_column state.observers o ≡ observer.column
   column_is = ap column_or_zero there
 
@@ -94,7 +98,7 @@ module _ (observers : List ObserverOf) (seats clock : ℕ) (journal : List Entry
   got : (s : Ts) → Has said (told (Begin (works.Run o row)) (At s)) → finite.get state.transactions s.0 ≡ after state.observers seat s said None
   got s begun = tells.each s.0 ∙ ap (transaction_by state.observers) (has s begun) ∙ after_is state.observers seat s said None
 
-  own_read : (s : Ts) (reads : List RecordedRead) → IsRecorded state.observers seat s o row said reads → IsOwn state seat s.0 (with_reads state.observers seat s o row reads)
+  own_read : (s : Ts) (reads : List RecordedRead) → IsRecorded state.observers seat s watch said reads → IsOwn state seat s.0 (with_reads state.observers seat s watch reads)
   own_read s reads i = record { there = got s i.begun ∙ i.there; mine = refl }
 
   abbrev second : Bool
@@ -107,29 +111,29 @@ module _ (observers : List ObserverOf) (seats clock : ℕ) (journal : List Entry
       (subst (λ l. Has l (record { seat = seat; step = r.step; answer = r.answer })) (sym (has s begun)) (has_filtered s seat said r h names))
 
   -- the acknowledged timestamp is at most the start
-  in_time : (s : Ts) (seen : Seen) (n : ℕ) (base rest : List Received) (reads : List RecordedRead) → IsRecorded state.observers seat s o row base reads → said ≡ base ++ rest
-      → IsAcknowledged o row observer.column s seen n base → seen.acknowledged.0 ≤ s.0
+  in_time : (s : Ts) (seen : Seen) (n : ℕ) (base rest : List Received) (reads : List RecordedRead) → IsRecorded state.observers seat s watch base reads → said ≡ base ++ rest
+      → IsAcknowledged watch s seen n base → seen.acknowledged.0 ≤ s.0
   in_time s seen n base rest reads recorded is i =
-      let r = told (Read s (Ack o row observer.column)) i.answer in
+      let r = told (Read s (Ack o row observer.column)) i.look.answer in
       let begun = subst (λ l. Has l (told (Begin (works.Run o row)) (At s))) (sym is) (has_append base rest _ recorded.begun) in
       let there = subst (λ l. Has l r) (sym is) (has_append base rest r (subst (λ l. Has l r) (sym i.look.said_is) (has_last i.look.before r))) in
-      let low = earlier seat s o row observer.column i.answer (had s r begun there (itself s.0)) in
+      let low = earlier seat s o row observer.column i.look.answer (had s r begun there (itself s.0)) in
       subst (λ (t : Ts). t.0 ≤ s.0) (sym i.acknowledged) low
 
   module _ (step : Step) (why : Reason) (refused : step_reason state seat step ≡ Some why) where
-    at_look : (s : Ts) (x : Cell) (at : Option Ts) (look : Look) (reads : List RecordedRead) → IsRecorded state.observers seat s o row said reads → read_up_to s.0 at ≤ s.0 → Some (look_step s x at look) ≡ Some step → why ≡ OutOfTimestamps
+    at_look : (s : Ts) (x : Cell) (at : Option Ts) (look : Look) (reads : List RecordedRead) → IsRecorded state.observers seat s watch said reads → read_up_to s.0 at ≤ s.0 → Some (look_step s x at look) ≡ Some step → why ≡ OutOfTimestamps
     at_look s x at look reads i in_time next =
-        absurd (looks_in_time state seat why seated s.0 (with_reads state.observers seat s o row reads) (own_read s reads i) s x at look step refl refl in_time next refused)
+        absurd (looks_in_time state seat why seated s.0 (with_reads state.observers seat s watch reads) (own_read s reads i) s x at look step refl refl in_time next refused)
 
-    module _ (n r : ℕ) (p : PlanOf) (i : conversation.IsPlanned o observer.program row observer.column n r p said) where
+    module _ (n r : ℕ) (p : PlanOf) (i : conversation.IsPlanned watch n r p said) where
       abbrev what : Declared
       what = declared.Run o i.run
 
-      read : HasRead state.observers seat i.s o row second observer.column i.seen i.talk i.base
-      read = has_read state.observers seat i.s o row second observer.column i.seen i.talk n i.base i.asked
+      read : HasRead state.observers seat i.s watch i.seen i.talk i.base
+      read = has_read state.observers seat i.s watch i.seen i.talk n i.base i.asked
 
       abbrev u : TransactionOf
-      u = with_reads state.observers seat i.s o row read.reads
+      u = with_reads state.observers seat i.s watch read.reads
 
       begun : Has said (told (Begin (works.Run o row)) (At i.s))
       begun = subst (λ l. Has l (told (Begin (works.Run o row)) (At i.s))) (sym i.said_is) (has_append i.base i.plan _ read.recorded.begun)
@@ -161,7 +165,7 @@ module _ (observers : List ObserverOf) (seats clock : ℕ) (journal : List Entry
               acknowledged = w.acknowledged;
               old = subst (λ c. WasOld (old_at second i.seen.acknowledged) (Data row c) w.rest i.seen.old read.asked) (sym column_is) w.old;
             };
-            newer = is_newer i.s o second row observer.column i.seen i.talk n i.base i.asked;
+            newer = is_newer watch i.s i.seen i.talk n i.base i.asked;
             program = i.run_on.program;
             bytes = i.run_on.bytes ∙ ap (λ c. record_by second (Data row c) i.seen.version i.seen.acknowledged.0 i.seen.old) (sym column_is);
             began = i.run_on.began;
@@ -199,22 +203,22 @@ module _ (observers : List ObserverOf) (seats clock : ℕ) (journal : List Entry
           let ks = keeps (plans.fresh i.s.0 what) p i.plan i.converses_are in
           by_place p.place refl ((λ j. steps.step_at (sym ks.0 j) (sym ks.1 j) p.place) ∙ next) next
 
-    at_place : (n : ℕ) (place : RunPlace) → conversation.SoFar o observer.program row observer.column n place said → step_at o row observer.column place ≡ Some step → why ≡ OutOfTimestamps
+    at_place : (n : ℕ) (place : RunPlace) → conversation.SoFar watch n place said → step_at o row observer.column place ≡ Some step → why ≡ OutOfTimestamps
     at_place n Beginning so next =
         begins_in_time state seat why seated o row observer there (subst (λ z. step_reason state seat z ≡ Some why) (sym (same_step (Begin (works.Run o row)) step next)) refused)
-    at_place n (Observing s look) so next = at_look s _ None look [] (cell_begins state.observers seat s o row second observer.column look n said so) (omega arith) next
+    at_place n (Observing s look) so next = at_look s _ None look [] (cell_begins state.observers seat s watch look n said so) (omega arith) next
     at_place n (Acknowledging s found look) so next =
-        at_look s _ None look _ (in_look state.observers seat s o row (Ack o row observer.column) None so.0 so.1 look n said _ (observed state.observers seat s o row second observer.column found so.0 so.1 so.2) so.3) (omega arith) next
+        at_look s _ None look _ (in_look state.observers seat s watch (Ack o row observer.column) None so.0 so.1 look n said _ (observed state.observers seat s watch found so.0 so.1 so.2) so.3) (omega arith) next
     at_place n (Recalling s seen look) so next =
-        let recorded = acknowledged state.observers seat s o row second observer.column seen so.0 so.1 so.2 in
+        let recorded = acknowledged state.observers seat s watch seen so.0 so.1 so.2 in
         let from = conversation.look_goes_on s (Data row observer.column) (Some seen.acknowledged) so.0 so.1 look n said so.5 in
-        at_look s _ (Some seen.acknowledged) look _ (in_look state.observers seat s o row (Data row observer.column) (Some seen.acknowledged) so.0 so.1 look n said _ recorded so.5)
+        at_look s _ (Some seen.acknowledged) look _ (in_look state.observers seat s watch (Data row observer.column) (Some seen.acknowledged) so.0 so.1 look n said _ recorded so.5)
         (in_time s seen so.0 so.1 from.0 _ recorded from.1 so.2) next
     at_place n (Starting s seen) so next = absurd (none_some step next)
     at_place n (Computing s v) so next = absurd (none_some step next)
     at_place n (Asking s v q look) so next =
-        let r = has_read state.observers seat s o row second observer.column so.0 v.talk so.1 so.2 so.4 in
-        at_look s _ None look r.reads (in_look state.observers seat s o row (Data q.row q.column) None so.1 so.2 look n said r.reads r.recorded so.5) (omega arith) next
+        let r = has_read state.observers seat s watch so.0 v.talk so.1 so.2 so.4 in
+        at_look s _ None look r.reads (in_look state.observers seat s watch (Data q.row q.column) None so.1 so.2 look n said r.reads r.recorded so.5) (omega arith) next
     at_place n (Planning r p) so next = at_plan n r p so next
     at_place n (Sweeping end) so next =
         absurd (no_transaction state seat why seated (subst (λ z. step_reason state seat z ≡ Some why) (sym (same_step (Sweep (Data row observer.column)) step next)) refused))
@@ -223,8 +227,8 @@ module _ (observers : List ObserverOf) (seats clock : ℕ) (journal : List Entry
 -- by where the job stands: looks, its declaration and the later steps of its plan each come at their time
 pub jobs_allowed : PlansConverse → PlansEnd → PlansAreAllowed → TransactionsAreTold → JournalsAreSound → AcknowledgedIsEarlier → JobsAreAllowed
 jobs_allowed pt pe allowed told_by sound earlier observers seats clock journal state legal seat o observer row said k step why seated there row_fits column_fits reaches has next refused =
-    let h = conversation.holds o observer.program row observer.column pt pe said k reaches in
+    let h = conversation.holds (watch_of o observer row) pt pe said k reaches in
     let os_is = (sound observers seats clock journal state legal).observers_stay in
-    let here : step_at o row observer.column k.place ≡ Some step = (λ i. step_at (sym h.observer i) (sym h.in_row i) (sym h.in_column i) k.place) ∙ next in
+    let here : step_at o row observer.column k.place ≡ Some step = ap (λ (j : Watch). step_at j.observer j.row j.column k.place) (sym h.watch) ∙ next in
     at_place observers seats clock journal state legal allowed (told_by observers seats clock journal state legal) (earlier observers seats clock journal state legal) seat o row observer there (ap (λ os. slice_get os o) os_is ∙ there)
     row_fits column_fits seated said has step why refused k.locked k.place h.so here

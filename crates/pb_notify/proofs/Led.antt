@@ -3,7 +3,6 @@ use Rattle.std.proofs.Common.{◌≡◌, ℕ, Bool, true, false, cond, List, [],
 use Rattle.std.specs.Prelude.{nat_lt}
 use Rattle.pb_base.specs.declared.cell.Cell.{Cell}
 use Rattle.pb_base.specs.declared.cell.Cell.TheVariants.{Data}
-use Rattle.pb_base.specs.declared.names.Row.{Row}
 use Rattle.pb_base.specs.declared.names.Ts.{Ts}
 use Rattle.pb_base.specs.declared.content.Revision.{Revision}
 use Rattle.pb_helpers.specs.OldRecord.{tells_old}
@@ -19,7 +18,7 @@ use Rattle.pb_helpers.specs.Replies.{ask_of}
 use Rattle.pb_txn.specs.Conversations as plan_converses
 use Rattle.pb_steps.specs.declared.seen.Seen.{Seen}
 use Rattle.pb_steps.specs.declared.step.Answer.{Answer}
-use Rattle.pb_steps.specs.declared.step.Answer.TheVariants.{At, Absent}
+use Rattle.pb_steps.specs.declared.step.Answer.TheVariants.{At}
 use Rattle.pb_steps.specs.Reads.{version_in, acknowledged_in}
 use Rattle.pb_history.specs.declared.entry.Received.{Received}
 use Rattle.pb_txn.specs.declared.place.Outcome.{Outcome}
@@ -34,7 +33,7 @@ use Rattle.pb_notify.specs.declared.place.RunPlace.{RunPlace}
 use Rattle.pb_notify.specs.declared.place.RunPlace.TheVariants.{Beginning, Observing, Acknowledging, Recalling, Starting, Computing, Asking, Planning, Sweeping, Over}
 use Rattle.pb_notify.specs.Looks.{look_after}
 use Rattle.pb_notify.specs.Places.{place_after, after_begin, if_found, after_cell, if_recalled, seen_so_far, after_acknowledgment, after_recall, after_ask, by_outcome, Comes, goes, waits, declares, ComesFrom, IsToldBy, IsToldAt}
-use Rattle.pb_notify.specs.Runs.{RunOf, fresh}
+use Rattle.pb_notify.specs.Runs.{Watch, RunOf, fresh}
 use Rattle.pb_notify.specs.Conversations.{Reaches, made, took, computed}
 use Rattle.pb_notify.specs.Forms.{IsLooking}
 use Rattle.pb_notify.specs.Led.{MachineStandsAt, IsLed, IsMachineOf, MachinesAreLed, IsAskingAt, HasEnded, AsksAreOpen, EndedRunsMean}
@@ -165,47 +164,47 @@ reached_led : (j : RunOf) (said : List Received) (k : RunOf) → AtLed j.place �
 reached_led j said k led made = led
 reached_led j said k led (took before from r to reaches next can is told) =
     let told-at = subst (λ (z : RunOf). IsToldAt from.locked from.place r.answer z.place) is told in
-    subst (λ (z : RunOf). AtLed z.place) (sym is) (answered_led (tells_old from.judged) from.locked from.place r.answer (reached_led j before from led reaches) told-at)
-reached_led j said k led (computed before from to reaches need c) = computed_led from.observer from.judged (Data from.row from.column) from.place to.place (reached_led j said from led reaches) c.comes
+    subst (λ (z : RunOf). AtLed z.place) (sym is) (answered_led (tells_old from.watch.judged) from.locked from.place r.answer (reached_led j before from led reaches) told-at)
+reached_led j said k led (computed before from to reaches need c) = computed_led from.watch.observer from.watch.judged (Data from.watch.row from.watch.column) from.place to.place (reached_led j said from led reaches) c.comes
 
 -- ---- with what was said
 
-module _ (o : ℕ) (judged : JudgedOf) (row : Row) (column : ℕ) where
+module _ (o : Watch) where
   -- a look goes on from what was said before it
-  machine_at : (said : List Received) (n : ℕ) (place : RunPlace) (s : Ts) (v : Position) → MachineStandsAt place s v → conversation.SoFar o judged row column n place said → AtLed place → IsMachineOf o judged row column place s v said
+  machine_at : (said : List Received) (n : ℕ) (place : RunPlace) (s : Ts) (v : Position) → MachineStandsAt place s v → conversation.SoFar o n place said → AtLed place → IsMachineOf o place s v said
   machine_at said n (Computing t w) s v stands so led =
-      subst (λ (z : Position). IsMachineOf o judged row column (Computing t w) s z said) stands.1
-      (subst (λ (z : Ts). IsMachineOf o judged row column (Computing t w) z w said) stands.0
+      subst (λ (z : Position). IsMachineOf o (Computing t w) s z said) stands.1
+      (subst (λ (z : Ts). IsMachineOf o (Computing t w) z w said) stands.0
       (record { seen = so.0; program = so.1.program; bytes = so.1.bytes; began = so.1.began; met = n; base = said; asked = so.2; since = refl; size = led.1 ∙ ap (λ (j : JudgedOf). j.record_size) so.1.program; led = led.0 }))
   machine_at said n (Asking t w q look) s v stands so led =
       let from = conversation.look_goes_on t (Data q.row q.column) None so.1 so.2 look n said so.5 in
       let end = looks.ends t (Data q.row q.column) None so.1 so.2 look n said so.5 in
-      let open_look : IsLooking t (Data q.row q.column) None so.1 so.2 said = record { since = from.0; said_is = from.1; next = end.next; rest = end.rest; n = n; answer = Absent; look = end.look } in
-      subst (λ (z : Position). IsMachineOf o judged row column (Asking t w q look) s z said) stands.1
-      (subst (λ (z : Ts). IsMachineOf o judged row column (Asking t w q look) z w said) stands.0
+      let open_look : IsLooking t (Data q.row q.column) None so.1 so.2 said = record { since = from.0; said_is = from.1; next = end.next; rest = end.rest; n = n; look = end.look.0 } in
+      subst (λ (z : Position). IsMachineOf o (Asking t w q look) s z said) stands.1
+      (subst (λ (z : Ts). IsMachineOf o (Asking t w q look) z w said) stands.0
       (record { seen = so.0; program = so.3.program; bytes = so.3.bytes; began = so.3.began; met = so.1; base = so.2; asked = so.4; since = open_look; size = led.1 ∙ ap (λ (j : JudgedOf). j.record_size) so.3.program; led = led.0 }))
   machine_at said n _ s v stands so led = absurd stands
 
 -- with the conversation up to there, the record and the replies are what the job read
 pub machines_are_led : PlansConverse → PlansEnd → MachinesAreLed
-machines_are_led pt pe o judged row column said k s v reaches stands =
-    let h = conversation.holds o judged row column pt pe said k reaches in
-    machine_at o judged row column said k.locked k.place s v stands h.so (reached_led (fresh o judged row column) said k tt reaches)
+machines_are_led pt pe o said k s v reaches stands =
+    let h = conversation.holds o pt pe said k reaches in
+    machine_at o said k.locked k.place s v stands h.so (reached_led (fresh o) said k tt reaches)
 
 asking_led : (place : RunPlace) → AtLed place → IsAskingAt place
 asking_led (Asking s v q look) led = led.2
 asking_led place led = tt
 
 pub asks_are_open : AsksAreOpen
-asks_are_open o judged row column said k reaches = asking_led k.place (reached_led (fresh o judged row column) said k tt reaches)
+asks_are_open o said k reaches = asking_led k.place (reached_led (fresh o) said k tt reaches)
 
 -- a plan declares what it was made for
 keeps_what : (p : PlanOf) (said : List Received) (q : PlanOf) → plan_converses.Converses p said q → q.what ≡ p.what
 keeps_what p [] q t = ap (λ (z : PlanOf). z.what) t
 keeps_what p (r ∷ rs) q t = keeps_what (plans.answered p r.answer) rs q t.2
 
-module _ (o : ℕ) (judged : JudgedOf) (row : Row) (column : ℕ) where
-  ended_at : (n : ℕ) (place : RunPlace) (said : List Received) → conversation.SoFar o judged row column n place said → HasEnded o judged row column place said
+module _ (o : Watch) where
+  ended_at : (n : ℕ) (place : RunPlace) (said : List Received) → conversation.SoFar o n place said → HasEnded o place said
   ended_at n (Planning r p) said so = record {
     s = so.s;
     seen = so.seen;
@@ -227,6 +226,6 @@ module _ (o : ℕ) (judged : JudgedOf) (row : Row) (column : ℕ) where
 
 -- what a job declares was left by its machine, as the conversation at that place says
 pub ended_runs_mean : PlansConverse → PlansEnd → EndedRunsMean
-ended_runs_mean pt pe o judged row column said k reaches =
-    let h = conversation.holds o judged row column pt pe said k reaches in
-    ended_at o judged row column k.locked k.place said h.so
+ended_runs_mean pt pe o said k reaches =
+    let h = conversation.holds o pt pe said k reaches in
+    ended_at o k.locked k.place said h.so

@@ -52,10 +52,14 @@ module _ (s : Ts) (x : Cell) (at : Option Ts) (m : ℕ) (base : List Received) w
     pub primary : Cell
     pub said_is : said ≡ before ++ told (read_step s x at) (Locked t primary) ∷ []
 
+  -- a look that was answered so
+  abbrev pub LooksAs : ℕ → List Received → Answer → Type 0
+  LooksAs n said a = (look : IsLooked s x at m base n said) × (look.answer ≡ a)
+
   -- and after an answer
   abbrev pub AfterLook : Looked → ℕ → List Received → Type 0
   AfterLook (On look) n said = InLook look n said
-  AfterLook (Tells a) n said = IsLooked s x at m base n said a
+  AfterLook (Tells a) n said = LooksAs n said a
   AfterLook Blocks n said = IsBlocked n said
 
   one_longer : (n : ℕ) (said part : List Received) (r : Received) → IsIn n said part → IsIn n (said ++ r ∷ []) (part ++ r ∷ [])
@@ -75,11 +79,14 @@ module _ (s : Ts) (x : Cell) (at : Option Ts) (m : ℕ) (base : List Received) w
       last : (a b : ℕ) → nat_lt (a + 1) b ≡ false → a < b → suc a ≡ b
       last a b h lt = grind (arith, h, lt)
 
+  then_read : (n : ℕ) (said : List Received) → AreRounds s x at m base n said → LooksAs n (said ++ told (read_step s x at) Absent ∷ []) Absent
+  then_read n said rounds = (record { before = said; rounds = rounds; answer = Absent; held = tt; said_is = refl }, refl)
+
   read_more : (n : ℕ) (said : List Received) (a : Answer) → AreRounds s x at m base n said → CanAnswer (Read s x) a → n < MAX_LOCKED
       → AfterLook (look_after n Reading a) (locked_after n Reading a) (said ++ told (read_step s x at) a ∷ [])
   read_more n said (Locked t primary) rounds can few = met_lock n said t primary (nat_lt (n + 1) MAX_LOCKED) refl few rounds
-  read_more n said (Found start commit content) rounds can few = record { before = said; rounds = rounds; held = tt; said_is = refl }
-  read_more n said Absent rounds can few = record { before = said; rounds = rounds; held = tt; said_is = refl }
+  read_more n said (Found start commit content) rounds can few = (record { before = said; rounds = rounds; answer = Found start commit content; held = tt; said_is = refl }, refl)
+  read_more n said Absent rounds can few = then_read n said rounds
   read_more n said _ rounds can few = absurd can
 
   clear_more : (n : ℕ) (said : List Received) (primary : Cell) (a : Answer) → InLook (Clearing primary) n said → CanAnswer (Clear x) a
@@ -106,14 +113,11 @@ module _ (s : Ts) (x : Cell) (at : Option Ts) (m : ℕ) (base : List Received) w
   pub record CanEnd (n : ℕ) (said : List Received) : Type 0 where
     pub next : Received
     pub rest : List Received
-    pub look : IsLooked s x at m base n (said ++ next ∷ rest) Absent
-
-  then_read : (n : ℕ) (said : List Received) → AreRounds s x at m base n said → IsLooked s x at m base n (said ++ told (read_step s x at) Absent ∷ []) Absent
-  then_read n said rounds = record { before = said; rounds = rounds; held = tt; said_is = refl }
+    pub look : LooksAs n (said ++ next ∷ rest) Absent
 
   after_one : (n : ℕ) (said : List Received) (r : Received) → AreRounds s x at m base n (said ++ r ∷ []) → CanEnd n said
   after_one n said r rounds =
-      record { next = r; rest = told (read_step s x at) Absent ∷ []; look = subst (λ l. IsLooked s x at m base n l Absent) (append_assoc said (r ∷ []) (told (read_step s x at) Absent ∷ [])) (then_read n (said ++ r ∷ []) rounds) }
+      record { next = r; rest = told (read_step s x at) Absent ∷ []; look = subst (λ l. LooksAs n l Absent) (append_assoc said (r ∷ []) (told (read_step s x at) Absent ∷ [])) (then_read n (said ++ r ∷ []) rounds) }
 
   pub ends : (look : Look) (n : ℕ) (said : List Received) → InLook look n said → CanEnd n said
   ends Reading n said i = record { next = told (read_step s x at) Absent; rest = []; look = then_read n said i }
@@ -123,5 +127,5 @@ module _ (s : Ts) (x : Cell) (at : Option Ts) (m : ℕ) (base : List Received) w
       let b = told (Clear x) Absent in
       let longer = one_longer n said _ a i.1 in
       let done = after_one n (said ++ a ∷ []) b (round_done n (said ++ a ∷ []) _ b longer (settled i.0 primary Absent Absent tt tt)) in
-      record { next = a; rest = done.next ∷ done.rest; look = subst (λ l. IsLooked s x at m base n l Absent) (append_assoc said (a ∷ []) (done.next ∷ done.rest)) done.look }
+      record { next = a; rest = done.next ∷ done.rest; look = subst (λ l. LooksAs n l Absent) (append_assoc said (a ∷ []) (done.next ∷ done.rest)) done.look }
   ends ClearingAgain n said i = after_one n said (told (Clear x) Absent) (round_done n said _ (told (Clear x) Absent) i.4 (settled i.0 i.1 i.2 Absent i.3 tt))

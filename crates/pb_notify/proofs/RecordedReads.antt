@@ -5,11 +5,11 @@ use Rattle.std.specs.Prelude.{◌==◌}
 use Rattle.std.specs.List.{filter}
 use Rattle.pb_base.specs.declared.cell.Cell.{Cell}
 use Rattle.pb_base.specs.declared.cell.Cell.TheVariants.{Data, Ack}
-use Rattle.pb_base.specs.declared.names.Row.{Row}
 use Rattle.pb_base.specs.declared.names.Ts.{Ts}
 use Rattle.pb_base.specs.declared.content.Revision.{Revision}
 use Rattle.pb_isa.specs.Machine as machine
 use Rattle.pb_isa.specs.Meaning.{Talk}
+use Rattle.pb_helpers.specs.OldRecord.{tells_old}
 use Rattle.pb_steps.specs.declared.seen.RecordedRead.{RecordedRead}
 use Rattle.pb_steps.specs.declared.seen.Seen.{Seen}
 use Rattle.pb_steps.specs.declared.step.Work.TheVariants as works
@@ -29,6 +29,7 @@ use Rattle.pb_txn.specs.Allowed.{names}
 use Rattle.pb_txn.specs.Conversations.{told}
 use Rattle.pb_notify.specs.declared.look.Look.{Look}
 use Rattle.pb_notify.specs.declared.look.Look.TheVariants.{Reading, Clearing, Settling, ClearingAgain}
+use Rattle.pb_notify.specs.Runs.{Watch}
 use Rattle.pb_notify.specs.Forms.{IsRound, cleared, settled, AreRounds, at_first, one_more, IsHeld, IsLooked, its_begin, IsObserved, IsAcknowledged, IsRecalled, AreAsked, dirty, asked as asked_more}
 use Rattle.pb_notify.specs.Allowed.{entries_by}
 use Rattle.pb_notify.proofs.LookConversation.{IsIn, InLook}
@@ -57,9 +58,9 @@ replies_more [] (y ∷ talk) r q a h e f = absurd h
 replies_more (x ∷ rs) [] r q a h e f = absurd h
 
 -- what was found is newer than its acknowledgment
-pub is_newer : (s : Ts) (o : ℕ) (second : Bool) (row : Row) (column : ℕ) (seen : Seen) (talk : Talk) (n : ℕ) (said : List Received) → AreAsked o second row column s seen talk n said → seen.acknowledged.0 < seen.version.commit.0
-is_newer s o second row column seen talk n said (dirty k now i newer) = newer
-is_newer s o second row column seen talk n said (asked_more before m base q a k now was look) = is_newer s o second row column seen before m base was
+pub is_newer : (o : Watch) (s : Ts) (seen : Seen) (talk : Talk) (n : ℕ) (said : List Received) → AreAsked o s seen talk n said → seen.acknowledged.0 < seen.version.commit.0
+is_newer o s seen talk n said (dirty k now i newer) = newer
+is_newer o s seen talk n said (asked_more before m base q k now was look) = is_newer o s seen before m base was
 
 module _ (observers : List ObserverOf) (seat : ℕ) (s : Ts) where
   -- ---- the transaction of this start after what was said
@@ -97,17 +98,17 @@ module _ (observers : List ObserverOf) (seat : ℕ) (s : Ts) where
   read_bare x None a = refl
   read_bare x (Some t) a = refl
 
-  module _ (o : ℕ) (row : Row) where
+  module _ (o : Watch) where
     abbrev pub with_reads : List RecordedRead → TransactionOf
-    with_reads rs = record (new_transaction seat (works.Run o row)) { reads = rs }
+    with_reads rs = record (new_transaction seat (works.Run o.observer o.row)) { reads = rs }
 
     -- what was said began the run, and led to these reads by looks alone
     pub record IsRecorded (said : List Received) (reads : List RecordedRead) : Type 0 where
-      pub begun : Has said (told (Begin (works.Run o row)) (At s))
+      pub begun : Has said (told (Begin (works.Run o.observer o.row)) (At s))
       pub bare : bare_of s said ≡ []
       pub there : after said None ≡ Some (with_reads reads)
 
-    begins : IsRecorded (its_begin o row s) []
+    begins : IsRecorded (its_begin o s) []
     begins = record { begun = inl refl; bare = refl; there = rw (itself s.0) refl }
 
     -- what records no read
@@ -160,10 +161,11 @@ module _ (observers : List ObserverOf) (seat : ℕ) (s : Ts) where
     abbrev read_of : Cell → Option Ts → Answer → RecordedRead
     read_of x at a = record { cell = x; at = at; answer = a }
 
-    looked : (x : Cell) (at : Option Ts) (m : ℕ) (base : List Received) (n : ℕ) (said : List Received) (a : Answer) (reads : List RecordedRead) → IsRecorded base reads → IsLooked s x at m base n said a
-        → IsRecorded said (reads ++ read_of x at a ∷ [])
-    looked x at m base n said a reads i is =
+    looked : (x : Cell) (at : Option Ts) (m : ℕ) (base : List Received) (n : ℕ) (said : List Received) (reads : List RecordedRead) → IsRecorded base reads → (l : IsLooked s x at m base n said)
+        → IsRecorded said (reads ++ read_of x at l.answer ∷ [])
+    looked x at m base n said reads i is =
         let before = rounds x at m base n is.before reads i is.rounds in
+        let a = is.answer in
         let read = told (read_step s x at) a ∷ [] in
         subst (λ l. IsRecorded l (reads ++ read_of x at a ∷ [])) (sym is.said_is) (record {
           begun = has_append is.before read _ before.begun;
@@ -178,85 +180,93 @@ module _ (observers : List ObserverOf) (seat : ℕ) (s : Ts) where
 
     -- ---- the parts of a run
 
-    module _ (second : Bool) (column : ℕ) where
-      -- the reads are those of the cell, its acknowledgment, the cell as of that if it was read so, and the asks
-      pub record HasRead (seen : Seen) (talk : Talk) (said : List Received) : Type 0 where
-        pub reads : List RecordedRead
-        pub asked : List RecordedRead
-        pub recorded : IsRecorded said reads
-        pub was : WasSeen (Data row column) (Ack o row column) second reads seen asked
-        pub replied : AreReplies asked talk
+    abbrev cell : Cell
+    cell = Data o.row o.column
 
-      pub cell_begins : (look : Look) (n : ℕ) (said : List Received) → InLook s (Data row column) None 0 (its_begin o row s) look n said → IsRecorded said []
-      cell_begins look n said is = in_look (Data row column) None 0 (its_begin o row s) look n said [] begins is
+    abbrev ack : Cell
+    ack = Ack o.observer o.row o.column
 
-      pub observed : (found : Revision) (n : ℕ) (said : List Received) (i : IsObserved o row column s found n said) → IsRecorded said (read_of (Data row column) None i.answer ∷ [])
-      observed found n said i = looked (Data row column) None 0 (its_begin o row s) n said i.answer [] begins i.look
+    abbrev second : Bool
+    second = tells_old o.judged
 
-      pub acknowledged : (seen : Seen) (n : ℕ) (said : List Received) (i : IsAcknowledged o row column s seen n said) → IsRecorded said (read_of (Data row column) None i.observed.answer ∷ read_of (Ack o row column) None i.answer ∷ [])
-      acknowledged seen n said i = looked (Ack o row column) None i.met i.base n said i.answer (read_of (Data row column) None i.observed.answer ∷ []) (observed seen.version i.met i.base i.observed) i.look
+    -- the reads are those of the cell, its acknowledgment, the cell as of that if it was read so, and the asks
+    pub record HasRead (seen : Seen) (talk : Talk) (said : List Received) : Type 0 where
+      pub reads : List RecordedRead
+      pub asked : List RecordedRead
+      pub recorded : IsRecorded said reads
+      pub was : WasSeen cell ack second reads seen asked
+      pub replied : AreReplies asked talk
 
-      recalled : (seen : Seen) (n : ℕ) (said : List Received) (at : Option Ts) → old_at second seen.acknowledged ≡ at → IsRecalled o row column s seen at n said → HasRead seen [] said
-      recalled seen n said None is r =
-          let i = r.1 in
-          record {
-            reads = read_of (Data row column) None i.observed.answer ∷ read_of (Ack o row column) None i.answer ∷ [];
-            asked = [];
-            recorded = acknowledged seen n said i;
-            was = record {
-              found_by = read_of (Data row column) None i.observed.answer;
-              acknowledged_by = read_of (Ack o row column) None i.answer;
-              rest = [];
-              reads_are = refl;
-              observed = record { cell = refl; at = refl };
-              found = i.observed.found_is;
-              acknowledgment = record { cell = refl; at = refl };
-              acknowledged = i.acknowledged;
-              old = subst (λ z. WasOld z (Data row column) [] seen.old []) (sym is) (r.0, refl);
-            };
-            replied = tt;
-          }
-      recalled seen n said (Some t) is r =
-          let i = r.3 in
-          let third = read_of (Data row column) (Some t) r.2 in
-          record {
-            reads = read_of (Data row column) None i.observed.answer ∷ read_of (Ack o row column) None i.answer ∷ third ∷ [];
-            asked = [];
-            recorded = looked (Data row column) (Some t) r.0 r.1 n said r.2 _ (acknowledged seen r.0 r.1 i) r.4;
-            was = record {
-              found_by = read_of (Data row column) None i.observed.answer;
-              acknowledged_by = read_of (Ack o row column) None i.answer;
-              rest = third ∷ [];
-              reads_are = refl;
-              observed = record { cell = refl; at = refl };
-              found = i.observed.found_is;
-              acknowledgment = record { cell = refl; at = refl };
-              acknowledged = i.acknowledged;
-              old = subst (λ z. WasOld z (Data row column) (third ∷ []) seen.old []) (sym is) (third, record { cell = refl; at = refl }, r.5, refl);
-            };
-            replied = tt;
-          }
+    pub cell_begins : (look : Look) (n : ℕ) (said : List Received) → InLook s cell None 0 (its_begin o s) look n said → IsRecorded said []
+    cell_begins look n said is = in_look cell None 0 (its_begin o s) look n said [] begins is
 
-      pub has_read : (seen : Seen) (talk : Talk) (n : ℕ) (said : List Received) → AreAsked o second row column s seen talk n said → HasRead seen talk said
-      has_read seen talk n said (dirty k now i newer) = recalled seen k now (old_at second seen.acknowledged) refl i
-      has_read seen talk n said (asked_more before m base q a k now was look) =
-          let h = has_read seen before m base was in
-          let w = h.was in
-          let one_more_read = read_of (asked_cell q) None a in
-          record {
-            reads = h.reads ++ one_more_read ∷ [];
-            asked = h.asked ++ one_more_read ∷ [];
-            recorded = looked (asked_cell q) None m base k now a h.reads h.recorded look;
-            was = record {
-              found_by = w.found_by;
-              acknowledged_by = w.acknowledged_by;
-              rest = w.rest ++ one_more_read ∷ [];
-              reads_are = ap (λ l. l ++ one_more_read ∷ []) w.reads_are;
-              observed = w.observed;
-              found = w.found;
-              acknowledgment = w.acknowledgment;
-              acknowledged = w.acknowledged;
-              old = old_more (old_at second seen.acknowledged) (Data row column) w.rest seen.old h.asked one_more_read w.old;
-            };
-            replied = replies_more h.asked before one_more_read q (value_in a) h.replied (record { cell = refl; at = refl }) refl;
-          }
+    pub observed : (found : Revision) (n : ℕ) (said : List Received) (i : IsObserved o s found n said) → IsRecorded said (read_of cell None i.look.answer ∷ [])
+    observed found n said i = looked cell None 0 (its_begin o s) n said [] begins i.look
+
+    pub acknowledged : (seen : Seen) (n : ℕ) (said : List Received) (i : IsAcknowledged o s seen n said) → IsRecorded said (read_of cell None i.observed.look.answer ∷ read_of ack None i.look.answer ∷ [])
+    acknowledged seen n said i = looked ack None i.met i.base n said (read_of cell None i.observed.look.answer ∷ []) (observed seen.version i.met i.base i.observed) i.look
+
+    recalled : (seen : Seen) (n : ℕ) (said : List Received) (at : Option Ts) → old_at second seen.acknowledged ≡ at → IsRecalled o s seen at n said → HasRead seen [] said
+    recalled seen n said None is r =
+        let i = r.1 in
+        record {
+          reads = read_of cell None i.observed.look.answer ∷ read_of ack None i.look.answer ∷ [];
+          asked = [];
+          recorded = acknowledged seen n said i;
+          was = record {
+            found_by = read_of cell None i.observed.look.answer;
+            acknowledged_by = read_of ack None i.look.answer;
+            rest = [];
+            reads_are = refl;
+            observed = record { cell = refl; at = refl };
+            found = i.observed.found_is;
+            acknowledgment = record { cell = refl; at = refl };
+            acknowledged = i.acknowledged;
+            old = subst (λ z. WasOld z cell [] seen.old []) (sym is) (r.0, refl);
+          };
+          replied = tt;
+        }
+    recalled seen n said (Some t) is r =
+        let i = r.2 in
+        let third = read_of cell (Some t) r.3.answer in
+        record {
+          reads = read_of cell None i.observed.look.answer ∷ read_of ack None i.look.answer ∷ third ∷ [];
+          asked = [];
+          recorded = looked cell (Some t) r.0 r.1 n said _ (acknowledged seen r.0 r.1 i) r.3;
+          was = record {
+            found_by = read_of cell None i.observed.look.answer;
+            acknowledged_by = read_of ack None i.look.answer;
+            rest = third ∷ [];
+            reads_are = refl;
+            observed = record { cell = refl; at = refl };
+            found = i.observed.found_is;
+            acknowledgment = record { cell = refl; at = refl };
+            acknowledged = i.acknowledged;
+            old = subst (λ z. WasOld z cell (third ∷ []) seen.old []) (sym is) (third, record { cell = refl; at = refl }, r.4, refl);
+          };
+          replied = tt;
+        }
+
+    pub has_read : (seen : Seen) (talk : Talk) (n : ℕ) (said : List Received) → AreAsked o s seen talk n said → HasRead seen talk said
+    has_read seen talk n said (dirty k now i newer) = recalled seen k now (old_at second seen.acknowledged) refl i
+    has_read seen talk n said (asked_more before m base q k now was look) =
+        let h = has_read seen before m base was in
+        let w = h.was in
+        let one_more_read = read_of (asked_cell q) None look.answer in
+        record {
+          reads = h.reads ++ one_more_read ∷ [];
+          asked = h.asked ++ one_more_read ∷ [];
+          recorded = looked (asked_cell q) None m base k now h.reads h.recorded look;
+          was = record {
+            found_by = w.found_by;
+            acknowledged_by = w.acknowledged_by;
+            rest = w.rest ++ one_more_read ∷ [];
+            reads_are = ap (λ l. l ++ one_more_read ∷ []) w.reads_are;
+            observed = w.observed;
+            found = w.found;
+            acknowledgment = w.acknowledgment;
+            acknowledged = w.acknowledged;
+            old = old_more (old_at second seen.acknowledged) cell w.rest seen.old h.asked one_more_read w.old;
+          };
+          replied = replies_more h.asked before one_more_read q (value_in look.answer) h.replied (record { cell = refl; at = refl }) refl;
+        }

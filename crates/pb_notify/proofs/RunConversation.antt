@@ -3,10 +3,8 @@ use Rattle.std.proofs.Common.{◌≡◌, ℕ, ◌+◌, ◌<◌, ◌≤◌, Bool,
 use Rattle.std.specs.Prelude.{nat_lt, not, ◌&&◌, ◌==◌}
 use Rattle.pb_base.specs.declared.cell.Cell.{Cell}
 use Rattle.pb_base.specs.declared.cell.Cell.TheVariants.{Data, Ack}
-use Rattle.pb_base.specs.declared.names.Row.{Row}
 use Rattle.pb_base.specs.declared.names.Ts.{Ts}
 use Rattle.pb_base.specs.declared.content.Revision.{Revision}
-use Rattle.pb_isa.specs.Programs.{JudgedOf}
 use Rattle.pb_isa.specs.Meaning.{Talk}
 use Rattle.pb_helpers.specs.OldRecord.{tells_old, record_by}
 use Rattle.pb_helpers.specs.declared.ask.Ask.{Ask}
@@ -44,12 +42,12 @@ use Rattle.pb_notify.specs.declared.place.RunPlace.{RunPlace}
 use Rattle.pb_notify.specs.declared.place.RunPlace.TheVariants.{Beginning, Observing, Acknowledging, Recalling, Starting, Computing, Asking, Planning, Sweeping, Over}
 use Rattle.pb_notify.specs.Looks.{look_after, locked_after}
 use Rattle.pb_notify.specs.Places.{place_after, locked_at, after_begin, if_found, after_cell, if_recalled, seen_so_far, after_acknowledgment, after_recall, after_ask, by_outcome, Comes, goes, waits, declares, ComesFrom, AtPlace, step_at}
-use Rattle.pb_notify.specs.Runs.{RunOf, fresh, answered, need_at}
+use Rattle.pb_notify.specs.Runs.{Watch, RunOf, fresh, answered, need_at}
 use Rattle.pb_notify.specs.Conversations.{Reaches, made, took, computed}
-use Rattle.pb_notify.specs.Forms.{AreRounds, one_more, IsLooked, at_first, its_begin, IsObserved, IsAcknowledged, IsRecalled, AreAsked, dirty, asked as asked_more, IsRunOn, LooksFrom, at_cell, at_acknowledgment, at_old, at_ask, IsRunConversation, absent, clean, ran, conflicted, lost, blocked, WasMeant, JobsConverse, JobsEnd}
+use Rattle.pb_notify.specs.Forms.{AreRounds, one_more, at_first, its_begin, IsObserved, IsAcknowledged, IsRecalled, AreAsked, dirty, asked as asked_more, IsRunOn, LooksFrom, at_cell, at_acknowledgment, at_old, at_ask, IsRunConversation, absent, clean, ran, conflicted, lost, blocked, WasMeant, JobsConverse, JobsEnd}
 use Rattle.pb_notify.specs.Led.{IsBeforeSweep}
 use Rattle.pb_notify.proofs.Kept.{at_after, at_computed}
-use Rattle.pb_notify.proofs.LookConversation.{IsIn, InLook, AfterLook, IsBlocked, look_more}
+use Rattle.pb_notify.proofs.LookConversation.{IsIn, InLook, LooksAs, AfterLook, IsBlocked, look_more}
 use Rattle.pb_notify.proofs.LookConversation as looks
 use Rattle.pb_base.proofs.Logic.{same_some as same_step, none_some}
 
@@ -90,22 +88,22 @@ look_goes_on s x at m base (Clearing primary) n said i = in_goes_on s x at m bas
 look_goes_on s x at m base (Settling primary) n said i = in_goes_on s x at m base n said _ i.1
 look_goes_on s x at m base ClearingAgain n said i = in_goes_on s x at m base n said _ i.4
 
-module _ (o : ℕ) (judged : JudgedOf) (row : Row) (column : ℕ) where
+module _ (o : Watch) where
   abbrev cell : Cell
-  cell = Data row column
+  cell = Data o.row o.column
 
   abbrev ack : Cell
-  ack = Ack o row column
+  ack = Ack o.observer o.row o.column
 
   abbrev second : Bool
-  second = tells_old judged
+  second = tells_old o.judged
 
   abbrev bytes_of : Seen → List ℕ
   bytes_of seen = record_by second cell seen.version seen.acknowledged.0 seen.old
 
   -- what a machine was given
   pub record IsGiven (s : Ts) (seen : Seen) (v : Position) : Type 0 where
-    pub program : v.judged ≡ judged
+    pub program : v.judged ≡ o.judged
     pub bytes : v.bytes ≡ bytes_of seen
     pub began : v.began ≡ s.0
 
@@ -115,71 +113,71 @@ module _ (o : ℕ) (judged : JudgedOf) (row : Row) (column : ℕ) where
     pub seen : Seen
     pub talk : Talk
     pub base : List Received
-    pub asked : AreAsked o second row column s seen talk n base
+    pub asked : AreAsked o s seen talk n base
     pub run : Meant
-    pub run_on : IsRunOn judged row column s seen talk run
+    pub run_on : IsRunOn o s seen talk run
     pub meant : IsMeant run
     pub result : r ≡ run.result
     pub plan : List Received
-    pub converses_are : conversations.Converses (plans.fresh s.0 (declared.Run o run)) plan p
+    pub converses_are : conversations.Converses (plans.fresh s.0 (declared.Run o.observer run)) plan p
     pub said_is : said ≡ base ++ plan
     pub few : n < MAX_LOCKED
 
   pub record IsEnded (end : JobEnd) (said : List Received) : Type 0 where
     pub run : Option Meant
     pub meant : WasMeant run
-    pub whole : IsRunConversation o judged row column said end run
+    pub whole : IsRunConversation o said end run
 
   -- what has been said at a place, with so many locks met
   abbrev pub SoFar : ℕ → RunPlace → List Received → Type 0
   SoFar n Beginning said = (n ≡ 0) × (said ≡ [])
-  SoFar n (Observing s look) said = InLook s cell None 0 (its_begin o row s) look n said
-  SoFar n (Acknowledging s found look) said = (m : ℕ) × (base : List Received) × IsObserved o row column s found m base × InLook s ack None m base look n said
+  SoFar n (Observing s look) said = InLook s cell None 0 (its_begin o s) look n said
+  SoFar n (Acknowledging s found look) said = (m : ℕ) × (base : List Received) × IsObserved o s found m base × InLook s ack None m base look n said
   SoFar n (Recalling s seen look) said =
-      (m : ℕ) × (base : List Received) × IsAcknowledged o row column s seen m base × (seen.acknowledged.0 < seen.version.commit.0) × (old_at second seen.acknowledged ≡ Some seen.acknowledged)
+      (m : ℕ) × (base : List Received) × IsAcknowledged o s seen m base × (seen.acknowledged.0 < seen.version.commit.0) × (old_at second seen.acknowledged ≡ Some seen.acknowledged)
       × InLook s cell (Some seen.acknowledged) m base look n said
-  SoFar n (Starting s seen) said = AreAsked o second row column s seen [] n said
-  SoFar n (Computing s v) said = (seen : Seen) × IsGiven s seen v × AreAsked o second row column s seen v.talk n said
+  SoFar n (Starting s seen) said = AreAsked o s seen [] n said
+  SoFar n (Computing s v) said = (seen : Seen) × IsGiven s seen v × AreAsked o s seen v.talk n said
   SoFar n (Asking s v q look) said =
-      (seen : Seen) × (m : ℕ) × (base : List Received) × IsGiven s seen v × AreAsked o second row column s seen v.talk m base × InLook s (Data q.row q.column) None m base look n said
+      (seen : Seen) × (m : ℕ) × (base : List Received) × IsGiven s seen v × AreAsked o s seen v.talk m base × InLook s (Data q.row q.column) None m base look n said
   SoFar n (Planning r p) said = IsPlanned n r p said
-  SoFar n (Sweeping end) said = IsBeforeSweep o judged row column end said
+  SoFar n (Sweeping end) said = IsBeforeSweep o end said
   SoFar n (Over end) said = IsEnded end said
 
   -- ---- one more answer
 
-  at_begin : (a : Answer) → CanAnswer (Begin (works.Run o row)) a → SoFar 0 (after_begin a) (told (Begin (works.Run o row)) a ∷ [])
+  at_begin : (a : Answer) → CanAnswer (Begin (works.Run o.observer o.row)) a → SoFar 0 (after_begin a) (told (Begin (works.Run o.observer o.row)) a ∷ [])
   at_begin (At s) can = at_first
   at_begin _ can = absurd can
 
-  blocks : (s : Ts) (x : Cell) (at : Option Ts) (m : ℕ) (base : List Received) (n : ℕ) (said : List Received) → LooksFrom o second row column s x at m base → IsBlocked s x at m base n said → IsEnded ends.Blocked said
+  blocks : (s : Ts) (x : Cell) (at : Option Ts) (m : ℕ) (base : List Received) (n : ℕ) (said : List Received) → LooksFrom o s x at m base → IsBlocked s x at m base n said → IsEnded ends.Blocked said
   blocks s x at m base n said from b =
-      record { run = None; meant = tt; whole = subst (λ l. IsRunConversation o judged row column l ends.Blocked None) (sym b.said_is) (blocked s x at m base b.met b.before b.t b.primary from b.rounds b.last) }
+      record { run = None; meant = tt; whole = subst (λ l. IsRunConversation o l ends.Blocked None) (sym b.said_is) (blocked s x at m base b.met b.before b.t b.primary from b.rounds b.last) }
 
-  found_more : (s : Ts) (n : ℕ) (said : List Received) (a : Answer) (found : Option Revision) → version_in a ≡ found → IsLooked s cell None 0 (its_begin o row s) n said a → n < MAX_LOCKED
+  found_more : (s : Ts) (n : ℕ) (said : List Received) (a : Answer) (found : Option Revision) → version_in a ≡ found → LooksAs s cell None 0 (its_begin o s) n said a → n < MAX_LOCKED
       → SoFar n (if_found s found) said
-  found_more s n said a None is look few = record { run = None; meant = tt; ends = λ w can. absent s n said a w look is few can }
-  found_more s n said a (Some found) is look few = (n, said, record { answer = a; look = look; found_is = is }, at_first)
+  found_more s n said a None is look few = record { run = None; meant = tt; ends = λ w can. absent s n said w look.0 (ap version_in look.1 ∙ is) few can }
+  found_more s n said a (Some found) is look few = (n, said, record { look = look.0; found_is = ap version_in look.1 ∙ is }, at_first)
 
-  observed_more : (s : Ts) (n : ℕ) (said : List Received) (looked : Looked) → AfterLook s cell None 0 (its_begin o row s) looked n said → ((a : Answer) → looked ≡ Tells a → n < MAX_LOCKED)
+  observed_more : (s : Ts) (n : ℕ) (said : List Received) (looked : Looked) → AfterLook s cell None 0 (its_begin o s) looked n said → ((a : Answer) → looked ≡ Tells a → n < MAX_LOCKED)
       → SoFar n (after_cell s looked) said
   observed_more s n said (On look) i few = i
   observed_more s n said (Tells a) i few = found_more s n said a (version_in a) refl i (few a refl)
-  observed_more s n said Blocks i few = blocks s cell None 0 (its_begin o row s) n said at_cell i
+  observed_more s n said Blocks i few = blocks s cell None 0 (its_begin o s) n said at_cell i
 
   -- a look at the cell as of the acknowledged timestamp begins, or the machine does
   if_some : (b : Bool) (a t : Ts) → cond b (Some a) None ≡ Some t → t ≡ a
   if_some true a t e = cc
   if_some false a t e = cc
 
-  recalled_more : (s : Ts) (seen : Seen) (n : ℕ) (said : List Received) (at : Option Ts) → old_at second seen.acknowledged ≡ at → seen.old ≡ None → IsAcknowledged o row column s seen n said
+  recalled_more : (s : Ts) (seen : Seen) (n : ℕ) (said : List Received) (at : Option Ts) → old_at second seen.acknowledged ≡ at → seen.old ≡ None → IsAcknowledged o s seen n said
       → seen.acknowledged.0 < seen.version.commit.0 → SoFar n (if_recalled s seen at) said
-  recalled_more s seen n said None is none i newer = dirty n said (subst (λ z. IsRecalled o row column s seen z n said) (sym is) (none, i)) newer
+  recalled_more s seen n said None is none i newer = dirty n said (subst (λ z. IsRecalled o s seen z n said) (sym is) (none, i)) newer
   recalled_more s seen n said (Some t) is none i newer =
       let same : t ≡ seen.acknowledged = if_some (second && not (seen.acknowledged.0 == 0)) seen.acknowledged t is in
       (n, said, i, newer, is ∙ ap Some same, at_first)
 
-  dirty_more : (s : Ts) (found : Revision) (n : ℕ) (said : List Received) (t : Ts) (b : Bool) → nat_lt t.0 found.commit.0 ≡ b → IsAcknowledged o row column s (seen_so_far found t) n said → n < MAX_LOCKED
+  dirty_more : (s : Ts) (found : Revision) (n : ℕ) (said : List Received) (t : Ts) (b : Bool) → nat_lt t.0 found.commit.0 ≡ b → IsAcknowledged o s (seen_so_far found t) n said → n < MAX_LOCKED
       → SoFar n (cond b (if_recalled s (seen_so_far found t) (old_at second t)) (Sweeping ends.Clean)) said
   dirty_more s found n said t true e i few = recalled_more s (seen_so_far found t) n said (old_at second t) refl refl i (newer t.0 found.commit.0 e) where
     newer : (a b : ℕ) → nat_lt a b ≡ true → a < b
@@ -190,30 +188,34 @@ module _ (o : ℕ) (judged : JudgedOf) (row : Row) (column : ℕ) where
       older : (a b : ℕ) → nat_lt a b ≡ false → b ≤ a
       older a b h = grind (arith, h)
 
-  acknowledged_more : (s : Ts) (found : Revision) (m : ℕ) (base : List Received) (n : ℕ) (said : List Received) (looked : Looked) → IsObserved o row column s found m base
+  acknowledged_more : (s : Ts) (found : Revision) (m : ℕ) (base : List Received) (n : ℕ) (said : List Received) (looked : Looked) → IsObserved o s found m base
       → AfterLook s ack None m base looked n said → ((a : Answer) → looked ≡ Tells a → n < MAX_LOCKED) → SoFar n (after_acknowledgment second s found looked) said
   acknowledged_more s found m base n said (On look) was i few = (m, base, was, i)
   acknowledged_more s found m base n said (Tells a) was i few =
       dirty_more s found n said (acknowledged_in a) (nat_lt (acknowledged_in a).0 found.commit.0) refl
-      (record { met = m; base = base; observed = was; answer = a; look = i; acknowledged = refl }) (few a refl)
+      (record { met = m; base = base; observed = was; look = i.0; acknowledged = ap acknowledged_in (sym i.1) }) (few a refl)
   acknowledged_more s found m base n said Blocks was i few = blocks s ack None m base n said (at_acknowledgment found m base was) i
 
-  recalled_one : (s : Ts) (seen : Seen) (m : ℕ) (base : List Received) (n : ℕ) (said : List Received) (looked : Looked) → IsAcknowledged o row column s seen m base
+  recalled_one : (s : Ts) (seen : Seen) (m : ℕ) (base : List Received) (n : ℕ) (said : List Received) (looked : Looked) → IsAcknowledged o s seen m base
       → seen.acknowledged.0 < seen.version.commit.0 → old_at second seen.acknowledged ≡ Some seen.acknowledged → AfterLook s cell (Some seen.acknowledged) m base looked n said
       → SoFar n (after_recall s seen looked) said
   recalled_one s seen m base n said (On look) i newer is l = (m, base, i, newer, is, l)
   recalled_one s seen m base n said (Tells a) i newer is l =
       dirty n said
-      (subst (λ z. IsRecalled o row column s (record seen { old = value_in a }) z n said) (sym is)
-      (m, base, a, record { met = i.met; base = i.base; observed = i.observed; answer = i.answer; look = i.look; acknowledged = i.acknowledged }, l, refl))
+      (subst (λ z. IsRecalled o s (record seen { old = value_in a }) z n said) (sym is)
+      (m, base, record { met = i.met; base = i.base; observed = i.observed; look = i.look; acknowledged = i.acknowledged }, l.0, ap value_in (sym l.1)))
       newer
   recalled_one s seen m base n said Blocks i newer is l = blocks s cell (Some seen.acknowledged) m base n said (at_old seen seen.acknowledged m base i newer is) l
 
+  asked_so : (s : Ts) (q : Ask) (seen : Seen) (talk : Talk) (m : ℕ) (base : List Received) (a : Answer) (n : ℕ) (said : List Received) → AreAsked o s seen talk m base
+      → LooksAs s (Data q.row q.column) None m base n said a → AreAsked o s seen (talk ++ (ask_of q, value_in a) ∷ []) n said
+  asked_so s q seen talk m base a n said was l = subst (λ b. AreAsked o s seen (talk ++ (ask_of q, value_in b) ∷ []) n said) l.1 (asked_more talk m base (ask_of q) n said was l.0)
+
   asked_one : (s : Ts) (v : Position) (q : Ask) (seen : Seen) (m : ℕ) (base : List Received) (n : ℕ) (said : List Received) (looked : Looked) → IsGiven s seen v
-      → AreAsked o second row column s seen v.talk m base → AfterLook s (Data q.row q.column) None m base looked n said → SoFar n (after_ask s v q looked) said
+      → AreAsked o s seen v.talk m base → AfterLook s (Data q.row q.column) None m base looked n said → SoFar n (after_ask s v q looked) said
   asked_one s v q seen m base n said (On look) given was i = (seen, m, base, given, was, i)
   asked_one s v q seen m base n said (Tells a) given was i =
-      (seen, record { program = given.program; bytes = given.bytes; began = given.began }, asked_more v.talk m base (ask_of q) a n said was i)
+      (seen, record { program = given.program; bytes = given.bytes; began = given.began }, asked_so s q seen v.talk m base a n said was i)
   asked_one s v q seen m base n said Blocks given was i = blocks s (Data q.row q.column) None m base n said (at_ask seen v.talk m base (ask_of q) was) i
 
   module _ (plans_converse : PlansConverse) (plans_end : PlansEnd) where
@@ -222,21 +224,21 @@ module _ (o : ℕ) (judged : JudgedOf) (row : Row) (column : ℕ) where
     planned_more n r p said (Some (outcomes.Committed c)) is i = record {
       run = Some i.run;
       meant = i.meant;
-      ends = λ w can. subst (λ z. IsRunConversation o judged row column (said ++ told (Sweep cell) w ∷ []) (ends.Ran z) (Some i.run)) (sym i.result)
-          (subst (λ l. IsRunConversation o judged row column (l ++ told (Sweep cell) w ∷ []) (ends.Ran i.run.result) (Some i.run)) (sym i.said_is)
-          (ran i.s i.seen i.talk n i.base i.plan i.run c w i.asked i.few i.run_on (plans_end i.s.0 (declared.Run o i.run) _ _ i.plan p (outcomes.Committed c) refl i.converses_are is) can));
+      ends = λ w can. subst (λ z. IsRunConversation o (said ++ told (Sweep cell) w ∷ []) (ends.Ran z) (Some i.run)) (sym i.result)
+          (subst (λ l. IsRunConversation o (l ++ told (Sweep cell) w ∷ []) (ends.Ran i.run.result) (Some i.run)) (sym i.said_is)
+          (ran i.s i.seen i.talk n i.base i.plan i.run c w i.asked i.few i.run_on (plans_end i.s.0 (declared.Run o.observer i.run) _ _ i.plan p (outcomes.Committed c) refl i.converses_are is) can));
     }
     planned_more n r p said (Some outcomes.Conflicted) is i = record {
       run = Some i.run;
       meant = i.meant;
-      whole = subst (λ l. IsRunConversation o judged row column l ends.Conflicted (Some i.run)) (sym i.said_is)
-          (conflicted i.s i.seen i.talk n i.base i.plan i.run i.asked i.few i.run_on (plans_end i.s.0 (declared.Run o i.run) _ _ i.plan p outcomes.Conflicted refl i.converses_are is));
+      whole = subst (λ l. IsRunConversation o l ends.Conflicted (Some i.run)) (sym i.said_is)
+          (conflicted i.s i.seen i.talk n i.base i.plan i.run i.asked i.few i.run_on (plans_end i.s.0 (declared.Run o.observer i.run) _ _ i.plan p outcomes.Conflicted refl i.converses_are is));
     }
     planned_more n r p said (Some outcomes.Lost) is i = record {
       run = Some i.run;
       meant = i.meant;
-      whole = subst (λ l. IsRunConversation o judged row column l ends.Lost (Some i.run)) (sym i.said_is)
-          (lost i.s i.seen i.talk n i.base i.plan i.run i.asked i.few i.run_on (plans_end i.s.0 (declared.Run o i.run) _ _ i.plan p outcomes.Lost refl i.converses_are is));
+      whole = subst (λ l. IsRunConversation o l ends.Lost (Some i.run)) (sym i.said_is)
+          (lost i.s i.seen i.talk n i.base i.plan i.run i.asked i.few i.run_on (plans_end i.s.0 (declared.Run o.observer i.run) _ _ i.plan p outcomes.Lost refl i.converses_are is));
     }
 
     plan_step : (n r : ℕ) (p : PlanOf) (said : List Received) (t : Step) (a : Answer) → IsPlanned n r p said → plans.next_of p ≡ Some t → CanAnswer t a
@@ -257,13 +259,13 @@ module _ (o : ℕ) (judged : JudgedOf) (row : Row) (column : ℕ) where
       few = i.few;
     }
 
-    said_more : (n : ℕ) (place : RunPlace) (said : List Received) (t : Step) (a : Answer) → AtPlace n place → SoFar n place said → step_at o row column place ≡ Some t → CanAnswer t a
+    said_more : (n : ℕ) (place : RunPlace) (said : List Received) (t : Step) (a : Answer) → AtPlace n place → SoFar n place said → step_at o.observer o.row o.column place ≡ Some t → CanAnswer t a
         → SoFar (locked_at n place a) (place_after second n place a) (said ++ told t a ∷ [])
     said_more n Beginning said t a at i e can =
-        subst (λ u. CanAnswer u a → SoFar n (after_begin a) (said ++ told u a ∷ [])) (same_step (Begin (works.Run o row)) t e)
-        (λ c. subst (λ l. SoFar n (after_begin a) (l ++ told (Begin (works.Run o row)) a ∷ [])) (sym i.1) (subst (λ k. SoFar k (after_begin a) (told (Begin (works.Run o row)) a ∷ [])) (sym i.0) (at_begin a c))) can
+        subst (λ u. CanAnswer u a → SoFar n (after_begin a) (said ++ told u a ∷ [])) (same_step (Begin (works.Run o.observer o.row)) t e)
+        (λ c. subst (λ l. SoFar n (after_begin a) (l ++ told (Begin (works.Run o.observer o.row)) a ∷ [])) (sym i.1) (subst (λ k. SoFar k (after_begin a) (told (Begin (works.Run o.observer o.row)) a ∷ [])) (sym i.0) (at_begin a c))) can
     said_more n (Observing s look) said t a at i e can =
-        observed_more s _ _ (look_after n look a) (look_more s cell None 0 (its_begin o row s) look n said t a i (same_step _ t e) can at) (λ b is. tells_few n look a b at is)
+        observed_more s _ _ (look_after n look a) (look_more s cell None 0 (its_begin o s) look n said t a i (same_step _ t e) can at) (λ b is. tells_few n look a b at is)
     said_more n (Acknowledging s found look) said t a at i e can =
         acknowledged_more s found i.0 i.1 _ _ (look_after n look a) i.2 (look_more s ack None i.0 i.1 look n said t a i.3 (same_step _ t e) can at) (λ b is. tells_few n look a b at is)
     said_more n (Recalling s seen look) said t a at i e can =
@@ -279,20 +281,20 @@ module _ (o : ℕ) (judged : JudgedOf) (row : Row) (column : ℕ) where
 
     -- ---- one instruction
 
-    comes_more : (n : ℕ) (s : Ts) (v : Position) (seen : Seen) (place : RunPlace) (said : List Received) → n < MAX_LOCKED → IsGiven s seen v → AreAsked o second row column s seen v.talk n said
-        → Comes o s v place → SoFar n place said
+    comes_more : (n : ℕ) (s : Ts) (v : Position) (seen : Seen) (place : RunPlace) (said : List Received) → n < MAX_LOCKED → IsGiven s seen v → AreAsked o s seen v.talk n said
+        → Comes o.observer s v place → SoFar n place said
     comes_more n s v seen place said few given was (goes w st) =
         let w-is = st.went in (
           seen,
           record { program = w-is.given.judged ∙ given.program; bytes = w-is.given.bytes ∙ given.bytes; began = w-is.given.began ∙ given.began },
-          subst (λ talk. AreAsked o second row column s seen talk n said) (sym w-is.talk) was,
+          subst (λ talk. AreAsked o s seen talk n said) (sym w-is.talk) was,
         )
     comes_more n s v seen place said few given was (waits w q st) = (
       seen,
       n,
       said,
       record { program = st.given.judged ∙ given.program; bytes = st.given.bytes ∙ given.bytes; began = st.given.began ∙ given.began },
-      subst (λ talk. AreAsked o second row column s seen talk n said) (sym st.talk) was,
+      subst (λ talk. AreAsked o s seen talk n said) (sym st.talk) was,
       at_first,
     )
     comes_more n s v seen place said few given was (declares r what st) =
@@ -313,7 +315,7 @@ module _ (o : ℕ) (judged : JudgedOf) (row : Row) (column : ℕ) where
           few = few;
         }
 
-    computed_more : (n : ℕ) (place next : RunPlace) (said : List Received) → AtPlace n place → SoFar n place said → ComesFrom o judged cell place next → SoFar n next said
+    computed_more : (n : ℕ) (place next : RunPlace) (said : List Received) → AtPlace n place → SoFar n place said → ComesFrom o.observer o.judged cell place next → SoFar n next said
     computed_more n (Starting s seen) next said at i c = comes_more n s _ seen next said at (record { program = refl; bytes = refl; began = refl }) i c.comes
     computed_more n (Computing s v) next said at i c = comes_more n s v i.0 next said at.0 i.1 i.2 c
     computed_more n _ next said at i c = absurd c
@@ -324,18 +326,18 @@ module _ (o : ℕ) (judged : JudgedOf) (row : Row) (column : ℕ) where
       pub rest : List Received
       pub end : JobEnd
       pub run : Option Meant
-      pub whole : IsRunConversation o judged row column (said ++ rest) end run
+      pub whole : IsRunConversation o (said ++ rest) end run
 
     after : (said more : List Received) → CanEnd (said ++ more) → CanEnd said
-    after said more c = record { rest = more ++ c.rest; end = c.end; run = c.run; whole = subst (λ l. IsRunConversation o judged row column l c.end c.run) (append_assoc said more c.rest) c.whole }
+    after said more c = record { rest = more ++ c.rest; end = c.end; run = c.run; whole = subst (λ l. IsRunConversation o l c.end c.run) (append_assoc said more c.rest) c.whole }
 
-    by_plan : (n : ℕ) (s : Ts) (seen : Seen) (talk : Talk) (base plan rest : List Received) (f : Meant) (out : Outcome) → n < MAX_LOCKED → AreAsked o second row column s seen talk n base
-        → IsRunOn judged row column s seen talk f → IsWhole s (declared.Run o f) (declared_cells (declared.Run o f)) (plan ++ rest) out → CanEnd (base ++ plan)
+    by_plan : (n : ℕ) (s : Ts) (seen : Seen) (talk : Talk) (base plan rest : List Received) (f : Meant) (out : Outcome) → n < MAX_LOCKED → AreAsked o s seen talk n base
+        → IsRunOn o s seen talk f → IsWhole s (declared.Run o.observer f) (declared_cells (declared.Run o.observer f)) (plan ++ rest) out → CanEnd (base ++ plan)
     by_plan n s seen talk base plan rest f (outcomes.Committed c) few was on w = record {
       rest = rest ++ told (Sweep cell) Done ∷ [];
       end = ends.Ran f.result;
       run = Some f;
-      whole = subst (λ l. IsRunConversation o judged row column l (ends.Ran f.result) (Some f))
+      whole = subst (λ l. IsRunConversation o l (ends.Ran f.result) (Some f))
           (ap (λ l. l ++ told (Sweep cell) Done ∷ []) (sym (append_assoc base plan rest)) ∙ append_assoc (base ++ plan) rest (told (Sweep cell) Done ∷ []))
           (ran s seen talk n base (plan ++ rest) f c Done was few on w tt);
     }
@@ -343,25 +345,25 @@ module _ (o : ℕ) (judged : JudgedOf) (row : Row) (column : ℕ) where
       rest = rest;
       end = ends.Conflicted;
       run = Some f;
-      whole = subst (λ l. IsRunConversation o judged row column l ends.Conflicted (Some f)) (sym (append_assoc base plan rest)) (conflicted s seen talk n base (plan ++ rest) f was few on w);
+      whole = subst (λ l. IsRunConversation o l ends.Conflicted (Some f)) (sym (append_assoc base plan rest)) (conflicted s seen talk n base (plan ++ rest) f was few on w);
     }
     by_plan n s seen talk base plan rest f outcomes.Lost few was on w = record {
       rest = rest;
       end = ends.Lost;
       run = Some f;
-      whole = subst (λ l. IsRunConversation o judged row column l ends.Lost (Some f)) (sym (append_assoc base plan rest)) (lost s seen talk n base (plan ++ rest) f was few on w);
+      whole = subst (λ l. IsRunConversation o l ends.Lost (Some f)) (sym (append_assoc base plan rest)) (lost s seen talk n base (plan ++ rest) f was few on w);
     }
 
-    from_plan : (n : ℕ) (s : Ts) (seen : Seen) (talk : Talk) (base plan : List Received) (f : Meant) (p : PlanOf) → n < MAX_LOCKED → AreAsked o second row column s seen talk n base
-        → IsRunOn judged row column s seen talk f → conversations.Converses (plans.fresh s.0 (declared.Run o f)) plan p → CanEnd (base ++ plan)
+    from_plan : (n : ℕ) (s : Ts) (seen : Seen) (talk : Talk) (base plan : List Received) (f : Meant) (p : PlanOf) → n < MAX_LOCKED → AreAsked o s seen talk n base
+        → IsRunOn o s seen talk f → conversations.Converses (plans.fresh s.0 (declared.Run o.observer f)) plan p → CanEnd (base ++ plan)
     from_plan n s seen talk base plan f p few was on t =
-        let w = plans_converse s.0 (declared.Run o f) _ _ plan p refl t in
+        let w = plans_converse s.0 (declared.Run o.observer f) _ _ plan p refl t in
         by_plan n s seen talk base plan w.0 f w.1 few was on w.2
 
     -- some run, whatever it means
-    from_asked : (n : ℕ) (s : Ts) (seen : Seen) (talk : Talk) (said : List Received) → n < MAX_LOCKED → AreAsked o second row column s seen talk n said → CanEnd said
+    from_asked : (n : ℕ) (s : Ts) (seen : Seen) (talk : Talk) (said : List Received) → n < MAX_LOCKED → AreAsked o s seen talk n said → CanEnd said
     from_asked n s seen talk said few was =
-        let f : Meant = record { judged = judged; bytes = bytes_of seen; began = s.0; talk = talk; result = 0; writes = [] } in
+        let f : Meant = record { judged = o.judged; bytes = bytes_of seen; began = s.0; talk = talk; result = 0; writes = [] } in
         after said [] (from_plan n s seen talk said [] f _ few was (record { program = refl; bytes = refl; began = refl; talk_is = refl }) refl)
 
     from_recalling : (n : ℕ) (s : Ts) (seen : Seen) (look : Look) (said : List Received) → n < MAX_LOCKED → SoFar n (Recalling s seen look) said → CanEnd said
@@ -374,7 +376,7 @@ module _ (o : ℕ) (judged : JudgedOf) (row : Row) (column : ℕ) where
     from_dirty n s seen (Some t) said few i = from_recalling n s seen Reading said few i
 
     from_acknowledged : (n : ℕ) (s : Ts) (seen : Seen) (said : List Received) (b : Bool) → nat_lt seen.acknowledged.0 seen.version.commit.0 ≡ b → n < MAX_LOCKED → seen.old ≡ None
-        → IsAcknowledged o row column s seen n said → CanEnd said
+        → IsAcknowledged o s seen n said → CanEnd said
     from_acknowledged n s seen said true e few none was =
         from_dirty n s seen (old_at second seen.acknowledged) said few (recalled_more s seen n said (old_at second seen.acknowledged) refl none was (newer _ _ e))
       where
@@ -386,66 +388,57 @@ module _ (o : ℕ) (judged : JudgedOf) (row : Row) (column : ℕ) where
         older : (a b : ℕ) → nat_lt a b ≡ false → b ≤ a
         older a b h = grind (arith, h)
 
-    from_cell : (n : ℕ) (s : Ts) (said : List Received) → n < MAX_LOCKED → IsLooked s cell None 0 (its_begin o row s) n said Absent → CanEnd said
-    from_cell n s said few look = record { rest = told (Sweep cell) Done ∷ []; end = ends.Clean; run = None; whole = absent s n said Absent Done look refl few tt }
+    from_cell : (n : ℕ) (s : Ts) (said : List Received) → n < MAX_LOCKED → LooksAs s cell None 0 (its_begin o s) n said Absent → CanEnd said
+    from_cell n s said few look = record { rest = told (Sweep cell) Done ∷ []; end = ends.Clean; run = None; whole = absent s n said Done look.0 (ap version_in look.1) few tt }
 
     can_end : (n : ℕ) (place : RunPlace) (said : List Received) → AtPlace n place → SoFar n place said → CanEnd said
     can_end n Beginning said at i =
         let s : Ts = record { 0 = 0 } in
-        let l = looks.ends s cell None 0 (its_begin o row s) Reading 0 (its_begin o row s) at_first in
-        subst CanEnd (sym i.1) (after [] (its_begin o row s ++ l.next ∷ l.rest) (from_cell 0 s (its_begin o row s ++ l.next ∷ l.rest) (omega arith) l.look))
+        let l = looks.ends s cell None 0 (its_begin o s) Reading 0 (its_begin o s) at_first in
+        subst CanEnd (sym i.1) (after [] (its_begin o s ++ l.next ∷ l.rest) (from_cell 0 s (its_begin o s ++ l.next ∷ l.rest) (omega arith) l.look))
     can_end n (Observing s look) said at i =
-        let l = looks.ends s cell None 0 (its_begin o row s) look n said i in
+        let l = looks.ends s cell None 0 (its_begin o s) look n said i in
         after said (l.next ∷ l.rest) (from_cell n s (said ++ l.next ∷ l.rest) at l.look)
     can_end n (Acknowledging s found look) said at i =
         let l = looks.ends s ack None i.0 i.1 look n said i.3 in
         let seen : Seen = seen_so_far found (acknowledged_in Absent) in
-        after said (l.next ∷ l.rest) (from_acknowledged n s seen (said ++ l.next ∷ l.rest) (nat_lt seen.acknowledged.0 found.commit.0) refl at refl (record { met = i.0; base = i.1; observed = i.2; answer = Absent; look = l.look; acknowledged = refl }))
+        after said (l.next ∷ l.rest) (from_acknowledged n s seen (said ++ l.next ∷ l.rest) (nat_lt seen.acknowledged.0 found.commit.0) refl at refl (record { met = i.0; base = i.1; observed = i.2; look = l.look.0; acknowledged = ap acknowledged_in (sym l.look.1) }))
     can_end n (Recalling s seen look) said at i = from_recalling n s seen look said at i
     can_end n (Starting s seen) said at i = from_asked n s seen [] said at i
     can_end n (Computing s v) said at i = from_asked n s i.0 v.talk said at.0 i.2
     can_end n (Asking s v q look) said at i =
         let l = looks.ends s (Data q.row q.column) None i.1 i.2 look n said i.5 in
-        after said (l.next ∷ l.rest) (from_asked n s i.0 _ (said ++ l.next ∷ l.rest) at.0 (asked_more v.talk i.1 i.2 (ask_of q) Absent n (said ++ l.next ∷ l.rest) i.4 l.look))
+        after said (l.next ∷ l.rest) (from_asked n s i.0 _ (said ++ l.next ∷ l.rest) at.0 (asked_so s q i.0 v.talk i.1 i.2 Absent n (said ++ l.next ∷ l.rest) i.4 l.look))
     can_end n (Planning r p) said at i = subst CanEnd (sym i.said_is) (from_plan n i.s i.seen i.talk i.base i.plan i.run p i.few i.asked i.run_on i.converses_are)
     can_end n (Sweeping end) said at i = record { rest = told (Sweep cell) Done ∷ []; end = end; run = i.run; whole = i.ends Done tt }
-    can_end n (Over end) said at i = record { rest = []; end = end; run = i.run; whole = subst (λ l. IsRunConversation o judged row column l end i.run) (sym (append-nil said)) i.whole }
+    can_end n (Over end) said at i = record { rest = []; end = end; run = i.run; whole = subst (λ l. IsRunConversation o l end i.run) (sym (append-nil said)) i.whole }
 
     -- ---- all of it
 
     pub record Holds (said : List Received) (k : RunOf) : Type 0 where
-      pub observer : k.observer ≡ o
-      pub program : k.judged ≡ judged
-      pub in_row : k.row ≡ row
-      pub in_column : k.column ≡ column
+      pub watch : k.watch ≡ o
       pub at : AtPlace k.locked k.place
       pub so : SoFar k.locked k.place said
 
-    holds_answered : (said : List Received) (k : RunOf) (r : Received) → Holds said k → step_at k.observer k.row k.column k.place ≡ Some r.step → CanAnswer r.step r.answer → Holds (said ++ r ∷ []) (answered k r.answer)
+    holds_answered : (said : List Received) (k : RunOf) (r : Received) → Holds said k → step_at k.watch.observer k.watch.row k.watch.column k.place ≡ Some r.step → CanAnswer r.step r.answer → Holds (said ++ r ∷ []) (answered k r.answer)
     holds_answered said k r h next can = record {
-      observer = h.observer;
-      program = h.program;
-      in_row = h.in_row;
-      in_column = h.in_column;
-      at = at_after (tells_old k.judged) k.locked k.place r.answer h.at;
-      so = subst (λ j. SoFar (locked_at k.locked k.place r.answer) (place_after (tells_old j) k.locked k.place r.answer) (said ++ r ∷ [])) (sym h.program)
-          (said_more k.locked k.place said r.step r.answer h.at h.so ((λ i. step_at (sym h.observer i) (sym h.in_row i) (sym h.in_column i) k.place) ∙ next) can);
+      watch = h.watch;
+      at = at_after (tells_old k.watch.judged) k.locked k.place r.answer h.at;
+      so = subst (λ (j : Watch). SoFar (locked_at k.locked k.place r.answer) (place_after (tells_old j.judged) k.locked k.place r.answer) (said ++ r ∷ [])) (sym h.watch)
+          (said_more k.locked k.place said r.step r.answer h.at h.so (ap (λ (j : Watch). step_at j.observer j.row j.column k.place) (sym h.watch) ∙ next) can);
     }
 
-    holds_computed : (said : List Received) (k : RunOf) (place : RunPlace) → Holds said k → ComesFrom k.observer k.judged (Data k.row k.column) k.place place → Holds said (record k { place = place })
+    holds_computed : (said : List Received) (k : RunOf) (place : RunPlace) → Holds said k → ComesFrom k.watch.observer k.watch.judged (Data k.watch.row k.watch.column) k.place place → Holds said (record k { place = place })
     holds_computed said k place h comes =
-        let c : ComesFrom o judged cell k.place place = subst (λ (z : Type 0). z) (λ i. ComesFrom (h.observer i) (h.program i) (Data (h.in_row i) (h.in_column i)) k.place place) comes in
+        let c : ComesFrom o.observer o.judged cell k.place place = subst (λ (j : Watch). ComesFrom j.observer j.judged (Data j.row j.column) k.place place) h.watch comes in
         record {
-          observer = h.observer;
-          program = h.program;
-          in_row = h.in_row;
-          in_column = h.in_column;
-          at = at_computed k.locked o judged cell k.place place c h.at;
+          watch = h.watch;
+          at = at_computed k.locked o.observer o.judged cell k.place place c h.at;
           so = computed_more k.locked k.place place said h.at h.so c;
         }
 
-    pub holds : (said : List Received) (k : RunOf) → Reaches (fresh o judged row column) said k → Holds said k
-    holds said k made = record { observer = refl; program = refl; in_row = refl; in_column = refl; at = omega arith; so = (refl, refl) }
+    pub holds : (said : List Received) (k : RunOf) → Reaches (fresh o) said k → Holds said k
+    holds said k made = record { watch = refl; at = omega arith; so = (refl, refl) }
     holds said k (took before from r to reaches next can is told) = subst (Holds (before ++ r ∷ [])) (sym is) (holds_answered before from r (holds before from reaches) next can)
     holds said k (computed before from to reaches need c) = subst (Holds before) (sym c.same) (holds_computed before from to.place (holds before from reaches) c.comes)
 
@@ -459,14 +452,14 @@ module _ (o : ℕ) (judged : JudgedOf) (row : Row) (column : ℕ) where
 
 -- what was said at any place can be ended: a look by a read without a lock, a plan as plans can
 pub jobs_converse : PlansConverse → PlansEnd → JobsConverse
-jobs_converse pt pe o judged row column said k reaches =
-    let h = holds o judged row column pt pe said k reaches in
-    let c = can_end o judged row column pt pe k.locked k.place said h.at h.so in
+jobs_converse pt pe o said k reaches =
+    let h = holds o pt pe said k reaches in
+    let c = can_end o pt pe k.locked k.place said h.at h.so in
     (c.rest, c.end, c.run, c.whole)
 
 -- at the end what was said is whole
 pub jobs_end : PlansConverse → PlansEnd → JobsEnd
-jobs_end pt pe o judged row column said k end reaches over =
-    let h = holds o judged row column pt pe said k reaches in
-    let e = ended o judged row column pt pe said k.place end k.locked h.so over in
+jobs_end pt pe o said k end reaches over =
+    let h = holds o pt pe said k reaches in
+    let e = ended o pt pe said k.place end k.locked h.so over in
     (e.run, e.whole, e.meant)

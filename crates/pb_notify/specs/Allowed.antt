@@ -20,7 +20,7 @@ use Rattle.pb_history.specs.Journals.{IsLegal}
 use Rattle.pb_history.specs.History.{Has}
 use Rattle.pb_history.specs.TransactionsTold.{entries_naming}
 use Rattle.pb_txn.specs.Conversations.{told}
-use Rattle.pb_notify.specs.Runs.{RunOf, fresh, next_of}
+use Rattle.pb_notify.specs.Runs.{RunOf, watch_of, fresh, next_of}
 use Rattle.pb_notify.specs.Conversations.{Reaches}
 
 -- a conversation as entries of this seat
@@ -38,7 +38,7 @@ abbrev pub JobsAreAllowed : Type 0
 JobsAreAllowed = (observers : List ObserverOf) (seats clock : ℕ) (journal : List Entry) (state : StateOf) → IsLegal observers seats clock journal state
     → (seat o : ℕ) (observer : ObserverOf) (row : Row) (said : List Received) (k : RunOf) (step : Step) (why : Reason)
     → seat < state.seats → slice_get observers o ≡ Some observer → row.0 < 2 ^ 64 → observer.column < 2 ^ 64
-    → Reaches (fresh o observer.program row observer.column) said k → HasRun journal seat o row said → next_of k ≡ Some step
+    → Reaches (fresh (watch_of o observer row)) said k → HasRun journal seat o row said → next_of k ≡ Some step
     → step_reason state seat step ≡ Some why → why ≡ OutOfTimestamps
 
 -- it is so where the seat's entries end with the conversation

@@ -1,12 +1,10 @@
 -- The conversations of a run of an observer on a cell (OSDI 2010, section 2.4). Each goes on from an earlier part, and
 -- counts the reads that met a lock.
-use Rattle.std.specs.Prelude.{◌≡◌, ◌≢◌, ℕ, suc, ◌<◌, ◌≤◌, Bool, List, [], ◌∷◌, ◌++◌, Option, Some, None}
+use Rattle.std.specs.Prelude.{◌≡◌, ◌≢◌, ℕ, suc, ◌<◌, ◌≤◌, List, [], ◌∷◌, ◌++◌, Option, Some, None}
 use Rattle.pb_base.specs.declared.cell.Cell.{Cell}
 use Rattle.pb_base.specs.declared.cell.Cell.TheVariants.{Data, Ack}
-use Rattle.pb_base.specs.declared.names.Row.{Row}
 use Rattle.pb_base.specs.declared.names.Ts.{Ts}
 use Rattle.pb_base.specs.declared.content.Revision.{Revision}
-use Rattle.pb_isa.specs.Programs.{JudgedOf}
 use Rattle.pb_isa.specs.Machine as machine
 use Rattle.pb_isa.specs.Meaning.{Talk}
 use Rattle.pb_helpers.specs.OldRecord.{tells_old, record_by}
@@ -29,7 +27,7 @@ use Rattle.pb_notify.specs.declared.look.TheConstants.{MAX_LOCKED}
 use Rattle.pb_notify.specs.declared.need.JobEnd.{JobEnd}
 use Rattle.pb_notify.specs.declared.need.JobEnd.TheVariants as ends
 use Rattle.pb_steps.specs.Read.{read_step}
-use Rattle.pb_notify.specs.Runs.{RunOf, fresh, need_of}
+use Rattle.pb_notify.specs.Runs.{Watch, RunOf, fresh, need_of}
 use Rattle.pb_notify.specs.declared.need.Need.TheVariants.{Over}
 use Rattle.pb_notify.specs.Conversations.{Reaches}
 
@@ -53,11 +51,12 @@ IsHeld Absent = Unit {0}
 IsHeld _ = ⊥
 
 -- a look at a cell: rounds, and a read that was answered with what the cell holds
-pub record IsLooked (s : Ts) (x : Cell) (at : Option Ts) (m : ℕ) (base : List Received) (n : ℕ) (said : List Received) (a : Answer) : Type 0 where
+pub record IsLooked (s : Ts) (x : Cell) (at : Option Ts) (m : ℕ) (base : List Received) (n : ℕ) (said : List Received) : Type 0 where
   pub before : List Received
   pub rounds : AreRounds s x at m base n before
-  pub held : IsHeld a
-  pub said_is : said ≡ before ++ told (read_step s x at) a ∷ []
+  pub answer : Answer
+  pub held : IsHeld answer
+  pub said_is : said ≡ before ++ told (read_step s x at) answer ∷ []
 
 -- a look at a cell that isn't at its end: what was said since is a beginning of one, and no more
 pub record IsLooking (s : Ts) (x : Cell) (at : Option Ts) (m : ℕ) (base said : List Received) : Type 0 where
@@ -66,86 +65,83 @@ pub record IsLooking (s : Ts) (x : Cell) (at : Option Ts) (m : ℕ) (base said :
   pub next : Received
   pub rest : List Received
   pub n : ℕ
-  pub answer : Answer
-  pub look : IsLooked s x at m base n (said ++ next ∷ rest) answer
+  pub look : IsLooked s x at m base n (said ++ next ∷ rest)
 
--- ---- the parts of a run of this observer on the cell of this row and column
+-- ---- the parts of a run of this observer on its cell
 
--- the first step of a run of this observer on the row, and its start
-abbrev pub its_begin : ℕ → Row → Ts → List Received
-its_begin o row s = told (Begin (works.Run o row)) (At s) ∷ []
+-- the first step of the run, and its start
+abbrev pub its_begin : Watch → Ts → List Received
+its_begin o s = told (Begin (works.Run o.observer o.row)) (At s) ∷ []
 
 -- the cell was looked at, and holds this version
-pub record IsObserved (o : ℕ) (row : Row) (column : ℕ) (s : Ts) (found : Revision) (n : ℕ) (said : List Received) : Type 0 where
-  pub answer : Answer
-  pub look : IsLooked s (Data row column) None 0 (its_begin o row s) n said answer
-  pub found_is : version_in answer ≡ Some found
+pub record IsObserved (o : Watch) (s : Ts) (found : Revision) (n : ℕ) (said : List Received) : Type 0 where
+  pub look : IsLooked s (Data o.row o.column) None 0 (its_begin o s) n said
+  pub found_is : version_in look.answer ≡ Some found
 
 -- then its acknowledgment
-pub record IsAcknowledged (o : ℕ) (row : Row) (column : ℕ) (s : Ts) (seen : Seen) (n : ℕ) (said : List Received) : Type 0 where
+pub record IsAcknowledged (o : Watch) (s : Ts) (seen : Seen) (n : ℕ) (said : List Received) : Type 0 where
   pub met : ℕ
   pub base : List Received
-  pub observed : IsObserved o row column s seen.version met base
-  pub answer : Answer
-  pub look : IsLooked s (Ack o row column) None met base n said answer
-  pub acknowledged : seen.acknowledged ≡ acknowledged_in answer
+  pub observed : IsObserved o s seen.version met base
+  pub look : IsLooked s (Ack o.observer o.row o.column) None met base n said
+  pub acknowledged : seen.acknowledged ≡ acknowledged_in look.answer
 
 -- then the cell as of a timestamp, if it is looked at so
-abbrev pub IsRecalled : ℕ → Row → ℕ → Ts → Seen → Option Ts → ℕ → List Received → Type 0
-IsRecalled o row column s seen None n said = (seen.old ≡ None) × IsAcknowledged o row column s seen n said
-IsRecalled o row column s seen (Some t) n said =
-    (m : ℕ) × (base : List Received) × (a : Answer) × IsAcknowledged o row column s seen m base × IsLooked s (Data row column) (Some t) m base n said a × (seen.old ≡ value_in a)
+abbrev pub IsRecalled : Watch → Ts → Seen → Option Ts → ℕ → List Received → Type 0
+IsRecalled o s seen None n said = (seen.old ≡ None) × IsAcknowledged o s seen n said
+IsRecalled o s seen (Some t) n said =
+    (m : ℕ) × (base : List Received) × IsAcknowledged o s seen m base × (look : IsLooked s (Data o.row o.column) (Some t) m base n said) × (seen.old ≡ value_in look.answer)
 
 -- where the version is newer: the cell as of the acknowledged timestamp, if the program is told that, and a look at
 -- each cell that its machine asked for, with these asks and replies
-pub data AreAsked (o : ℕ) (second : Bool) (row : Row) (column : ℕ) (s : Ts) (seen : Seen) : Talk → ℕ → List Received → Type 0 where
-  dirty : (n : ℕ) (said : List Received) → IsRecalled o row column s seen (old_at second seen.acknowledged) n said → seen.acknowledged.0 < seen.version.commit.0 → AreAsked o second row column s seen [] n said
-  asked : (talk : Talk) (m : ℕ) (base : List Received) (q : machine.Ask) (a : Answer) (n : ℕ) (said : List Received) → AreAsked o second row column s seen talk m base
-      → IsLooked s (asked_cell q) None m base n said a → AreAsked o second row column s seen (talk ++ (q, value_in a) ∷ []) n said
+pub data AreAsked (o : Watch) (s : Ts) (seen : Seen) : Talk → ℕ → List Received → Type 0 where
+  dirty : (n : ℕ) (said : List Received) → IsRecalled o s seen (old_at (tells_old o.judged) seen.acknowledged) n said → seen.acknowledged.0 < seen.version.commit.0 → AreAsked o s seen [] n said
+  asked : (talk : Talk) (m : ℕ) (base : List Received) (q : machine.Ask) (n : ℕ) (said : List Received) → AreAsked o s seen talk m base
+      → (look : IsLooked s (asked_cell q) None m base n said) → AreAsked o s seen (talk ++ (q, value_in look.answer) ∷ []) n said
 
 -- a run of the program on the record of what was seen, with these asks and replies
-pub record IsRunOn (judged : JudgedOf) (row : Row) (column : ℕ) (s : Ts) (seen : Seen) (talk : Talk) (f : Meant) : Type 0 where
-  pub program : f.judged ≡ judged
-  pub bytes : f.bytes ≡ record_by (tells_old judged) (Data row column) seen.version seen.acknowledged.0 seen.old
+pub record IsRunOn (o : Watch) (s : Ts) (seen : Seen) (talk : Talk) (f : Meant) : Type 0 where
+  pub program : f.judged ≡ o.judged
+  pub bytes : f.bytes ≡ record_by (tells_old o.judged) (Data o.row o.column) seen.version seen.acknowledged.0 seen.old
   pub began : f.began ≡ s.0
   pub talk_is : f.talk ≡ talk
 
 -- where a look at a cell begins
-pub data LooksFrom (o : ℕ) (second : Bool) (row : Row) (column : ℕ) (s : Ts) : Cell → Option Ts → ℕ → List Received → Type 0 where
-  at_cell : LooksFrom o second row column s (Data row column) None 0 (its_begin o row s)
-  at_acknowledgment : (found : Revision) (n : ℕ) (said : List Received) → IsObserved o row column s found n said → LooksFrom o second row column s (Ack o row column) None n said
-  at_old : (seen : Seen) (t : Ts) (n : ℕ) (said : List Received) → IsAcknowledged o row column s seen n said → seen.acknowledged.0 < seen.version.commit.0 → old_at second seen.acknowledged ≡ Some t
-      → LooksFrom o second row column s (Data row column) (Some t) n said
-  at_ask : (seen : Seen) (talk : Talk) (n : ℕ) (said : List Received) (q : machine.Ask) → AreAsked o second row column s seen talk n said → LooksFrom o second row column s (asked_cell q) None n said
+pub data LooksFrom (o : Watch) (s : Ts) : Cell → Option Ts → ℕ → List Received → Type 0 where
+  at_cell : LooksFrom o s (Data o.row o.column) None 0 (its_begin o s)
+  at_acknowledgment : (found : Revision) (n : ℕ) (said : List Received) → IsObserved o s found n said → LooksFrom o s (Ack o.observer o.row o.column) None n said
+  at_old : (seen : Seen) (t : Ts) (n : ℕ) (said : List Received) → IsAcknowledged o s seen n said → seen.acknowledged.0 < seen.version.commit.0 → old_at (tells_old o.judged) seen.acknowledged ≡ Some t
+      → LooksFrom o s (Data o.row o.column) (Some t) n said
+  at_ask : (seen : Seen) (talk : Talk) (n : ℕ) (said : List Received) (q : machine.Ask) → AreAsked o s seen talk n said → LooksFrom o s (asked_cell q) None n said
 
 -- ---- whole conversations, with their ends and the run that they declared
 
 -- a whole conversation, by how it ended: each but the last has met fewer locks than it may
-pub data IsRunConversation (o : ℕ) (judged : JudgedOf) (row : Row) (column : ℕ) : List Received → JobEnd → Option Meant → Type 0 where
+pub data IsRunConversation (o : Watch) : List Received → JobEnd → Option Meant → Type 0 where
   -- the cell was absent
-  absent : (s : Ts) (n : ℕ) (said : List Received) (a w : Answer) → IsLooked s (Data row column) None 0 (its_begin o row s) n said a → version_in a ≡ None → n < MAX_LOCKED
-      → CanAnswer (Sweep (Data row column)) w → IsRunConversation o judged row column (said ++ told (Sweep (Data row column)) w ∷ []) ends.Clean None
+  absent : (s : Ts) (n : ℕ) (said : List Received) (w : Answer) (look : IsLooked s (Data o.row o.column) None 0 (its_begin o s) n said) → version_in look.answer ≡ None → n < MAX_LOCKED
+      → CanAnswer (Sweep (Data o.row o.column)) w → IsRunConversation o (said ++ told (Sweep (Data o.row o.column)) w ∷ []) ends.Clean None
   -- its version is acknowledged
-  clean : (s : Ts) (seen : Seen) (n : ℕ) (said : List Received) (w : Answer) → IsAcknowledged o row column s seen n said → seen.version.commit.0 ≤ seen.acknowledged.0 → n < MAX_LOCKED
-      → CanAnswer (Sweep (Data row column)) w → IsRunConversation o judged row column (said ++ told (Sweep (Data row column)) w ∷ []) ends.Clean None
+  clean : (s : Ts) (seen : Seen) (n : ℕ) (said : List Received) (w : Answer) → IsAcknowledged o s seen n said → seen.version.commit.0 ≤ seen.acknowledged.0 → n < MAX_LOCKED
+      → CanAnswer (Sweep (Data o.row o.column)) w → IsRunConversation o (said ++ told (Sweep (Data o.row o.column)) w ∷ []) ends.Clean None
   -- the run was declared, and committed
-  ran : (s : Ts) (seen : Seen) (talk : Talk) (n : ℕ) (said plan : List Received) (f : Meant) (c : Ts) (w : Answer) → AreAsked o (tells_old judged) row column s seen talk n said → n < MAX_LOCKED
-      → IsRunOn judged row column s seen talk f → IsWhole s (declared.Run o f) (declared_cells (declared.Run o f)) plan (outcomes.Committed c)
-      → CanAnswer (Sweep (Data row column)) w → IsRunConversation o judged row column ((said ++ plan) ++ told (Sweep (Data row column)) w ∷ []) (ends.Ran f.result) (Some f)
-  conflicted : (s : Ts) (seen : Seen) (talk : Talk) (n : ℕ) (said plan : List Received) (f : Meant) → AreAsked o (tells_old judged) row column s seen talk n said → n < MAX_LOCKED
-      → IsRunOn judged row column s seen talk f → IsWhole s (declared.Run o f) (declared_cells (declared.Run o f)) plan outcomes.Conflicted
-      → IsRunConversation o judged row column (said ++ plan) ends.Conflicted (Some f)
-  lost : (s : Ts) (seen : Seen) (talk : Talk) (n : ℕ) (said plan : List Received) (f : Meant) → AreAsked o (tells_old judged) row column s seen talk n said → n < MAX_LOCKED
-      → IsRunOn judged row column s seen talk f → IsWhole s (declared.Run o f) (declared_cells (declared.Run o f)) plan outcomes.Lost
-      → IsRunConversation o judged row column (said ++ plan) ends.Lost (Some f)
+  ran : (s : Ts) (seen : Seen) (talk : Talk) (n : ℕ) (said plan : List Received) (f : Meant) (c : Ts) (w : Answer) → AreAsked o s seen talk n said → n < MAX_LOCKED
+      → IsRunOn o s seen talk f → IsWhole s (declared.Run o.observer f) (declared_cells (declared.Run o.observer f)) plan (outcomes.Committed c)
+      → CanAnswer (Sweep (Data o.row o.column)) w → IsRunConversation o ((said ++ plan) ++ told (Sweep (Data o.row o.column)) w ∷ []) (ends.Ran f.result) (Some f)
+  conflicted : (s : Ts) (seen : Seen) (talk : Talk) (n : ℕ) (said plan : List Received) (f : Meant) → AreAsked o s seen talk n said → n < MAX_LOCKED
+      → IsRunOn o s seen talk f → IsWhole s (declared.Run o.observer f) (declared_cells (declared.Run o.observer f)) plan outcomes.Conflicted
+      → IsRunConversation o (said ++ plan) ends.Conflicted (Some f)
+  lost : (s : Ts) (seen : Seen) (talk : Talk) (n : ℕ) (said plan : List Received) (f : Meant) → AreAsked o s seen talk n said → n < MAX_LOCKED
+      → IsRunOn o s seen talk f → IsWhole s (declared.Run o.observer f) (declared_cells (declared.Run o.observer f)) plan outcomes.Lost
+      → IsRunConversation o (said ++ plan) ends.Lost (Some f)
   -- a look met the last lock that its reads may meet
-  blocked : (s : Ts) (x : Cell) (at : Option Ts) (m : ℕ) (base : List Received) (n : ℕ) (said : List Received) (t : Ts) (primary : Cell) → LooksFrom o (tells_old judged) row column s x at m base
-      → AreRounds s x at m base n said → suc n ≡ MAX_LOCKED → IsRunConversation o judged row column (said ++ told (read_step s x at) (Locked t primary) ∷ []) ends.Blocked None
+  blocked : (s : Ts) (x : Cell) (at : Option Ts) (m : ℕ) (base : List Received) (n : ℕ) (said : List Received) (t : Ts) (primary : Cell) → LooksFrom o s x at m base
+      → AreRounds s x at m base n said → suc n ≡ MAX_LOCKED → IsRunConversation o (said ++ told (read_step s x at) (Locked t primary) ∷ []) ends.Blocked None
 
 -- what a job has asked so far is a beginning of such a conversation
 abbrev pub JobsConverse : Type 0
-JobsConverse = (o : ℕ) (judged : JudgedOf) (row : Row) (column : ℕ) (said : List Received) (k : RunOf) → Reaches (fresh o judged row column) said k
-    → (rest : List Received) × (end : JobEnd) × (run : Option Meant) × IsRunConversation o judged row column (said ++ rest) end run
+JobsConverse = (o : Watch) (said : List Received) (k : RunOf) → Reaches (fresh o) said k
+    → (rest : List Received) × (end : JobEnd) × (run : Option Meant) × IsRunConversation o (said ++ rest) end run
 
 -- a run that was declared is what its program means
 abbrev pub WasMeant : Option Meant → Type 0
@@ -154,5 +150,5 @@ WasMeant (Some f) = IsMeant f
 
 -- and where it is over, a whole one with its end
 abbrev pub JobsEnd : Type 0
-JobsEnd = (o : ℕ) (judged : JudgedOf) (row : Row) (column : ℕ) (said : List Received) (k : RunOf) (end : JobEnd) → Reaches (fresh o judged row column) said k → need_of k ≡ Over end
-    → (run : Option Meant) × IsRunConversation o judged row column said end run × WasMeant run
+JobsEnd = (o : Watch) (said : List Received) (k : RunOf) (end : JobEnd) → Reaches (fresh o) said k → need_of k ≡ Over end
+    → (run : Option Meant) × IsRunConversation o said end run × WasMeant run

@@ -2,9 +2,7 @@
 -- the replies that it read.
 use Rattle.std.specs.Prelude.{◌≡◌, ℕ, List, [], ◌∷◌, ◌++◌, length, Option, None}
 use Rattle.pb_base.specs.declared.cell.Cell.TheVariants.{Data}
-use Rattle.pb_base.specs.declared.names.Row.{Row}
 use Rattle.pb_base.specs.declared.names.Ts.{Ts}
-use Rattle.pb_isa.specs.Programs.{JudgedOf}
 use Rattle.pb_isa.specs.Machine.{Placement, IsPlacement, State}
 use Rattle.pb_helpers.specs.OldRecord.{tells_old, record_by}
 use Rattle.pb_vm.specs.Position.{Position}
@@ -23,7 +21,7 @@ use Rattle.pb_history.specs.declared.entry.Received.{Received}
 use Rattle.pb_notify.specs.declared.need.JobEnd.{JobEnd}
 use Rattle.pb_notify.specs.declared.place.RunPlace.{RunPlace}
 use Rattle.pb_notify.specs.declared.place.RunPlace.TheVariants.{Computing, Asking, Planning, Sweeping}
-use Rattle.pb_notify.specs.Runs.{RunOf, fresh}
+use Rattle.pb_notify.specs.Runs.{Watch, RunOf, fresh}
 use Rattle.pb_notify.specs.Conversations.{Reaches}
 use Rattle.pb_notify.specs.Forms.{IsLooking, AreAsked, IsRunOn, IsRunConversation, WasMeant}
 
@@ -45,15 +43,15 @@ IsSaidSince (Asking s v q look) met base said = IsLooking s (Data q.row q.column
 IsSaidSince place met base said = Unit {0}
 
 -- the program on the record of what was seen, from the start, with the replies that were read
-pub record IsMachineOf (o : ℕ) (judged : JudgedOf) (row : Row) (column : ℕ) (place : RunPlace) (s : Ts) (v : Position) (said : List Received) : Type 0 where
+pub record IsMachineOf (o : Watch) (place : RunPlace) (s : Ts) (v : Position) (said : List Received) : Type 0 where
   pub seen : Seen
-  pub program : v.judged ≡ judged
-  pub bytes : v.bytes ≡ record_by (tells_old judged) (Data row column) seen.version seen.acknowledged.0 seen.old
-  pub size : length v.bytes ≡ judged.record_size
+  pub program : v.judged ≡ o.judged
+  pub bytes : v.bytes ≡ record_by (tells_old o.judged) (Data o.row o.column) seen.version seen.acknowledged.0 seen.old
+  pub size : length v.bytes ≡ o.judged.record_size
   pub began : v.began ≡ s.0
   pub met : ℕ
   pub base : List Received
-  pub asked : AreAsked o (tells_old judged) row column s seen v.talk met base
+  pub asked : AreAsked o s seen v.talk met base
   pub since : IsSaidSince place met base said
   pub led : IsLed v
 
@@ -64,7 +62,7 @@ IsAskingAt place = Unit {0}
 
 -- the plan that is followed declares a run of the program on the record of what was seen, with the replies that were
 -- read, and this is what the program means by them; what was said since is the plan's
-pub record IsEndedRun (o : ℕ) (judged : JudgedOf) (row : Row) (column r : ℕ) (p : PlanOf) (said : List Received) : Type 0 where
+pub record IsEndedRun (o : Watch) (r : ℕ) (p : PlanOf) (said : List Received) : Type 0 where
   pub s : Ts
   pub seen : Seen
   pub talk : Talk
@@ -72,36 +70,36 @@ pub record IsEndedRun (o : ℕ) (judged : JudgedOf) (row : Row) (column r : ℕ)
   pub base : List Received
   pub since : List Received
   pub said_is : said ≡ base ++ since
-  pub asked : AreAsked o (tells_old judged) row column s seen talk met base
+  pub asked : AreAsked o s seen talk met base
   pub run : Meant
-  pub run_on : IsRunOn judged row column s seen talk run
+  pub run_on : IsRunOn o s seen talk run
   pub meant : IsMeant run
   pub result : r ≡ run.result
-  pub declares : p.what ≡ declared.Run o run
+  pub declares : p.what ≡ declared.Run o.observer run
   pub followed : Converses (plans.fresh s.0 p.what) since p
 
 -- before its sweep: with the sweep's answer what was said is a whole conversation, and if a run was declared in it,
 -- that is what its program means
-pub record IsBeforeSweep (o : ℕ) (judged : JudgedOf) (row : Row) (column : ℕ) (end : JobEnd) (said : List Received) : Type 0 where
+pub record IsBeforeSweep (o : Watch) (end : JobEnd) (said : List Received) : Type 0 where
   pub run : Option Meant
   pub meant : WasMeant run
-  pub ends : (w : Answer) → CanAnswer (Sweep (Data row column)) w → IsRunConversation o judged row column (said ++ told (Sweep (Data row column)) w ∷ []) end run
+  pub ends : (w : Answer) → CanAnswer (Sweep (Data o.row o.column)) w → IsRunConversation o (said ++ told (Sweep (Data o.row o.column)) w ∷ []) end run
 
 -- what is known once the machine has ended: of the plan, or of what comes before the sweep
-abbrev pub HasEnded : ℕ → JudgedOf → Row → ℕ → RunPlace → List Received → Type 0
-HasEnded o judged row column (Planning r p) said = IsEndedRun o judged row column r p said
-HasEnded o judged row column (Sweeping end) said = IsBeforeSweep o judged row column end said
-HasEnded o judged row column place said = Unit {0}
+abbrev pub HasEnded : Watch → RunPlace → List Received → Type 0
+HasEnded o (Planning r p) said = IsEndedRun o r p said
+HasEnded o (Sweeping end) said = IsBeforeSweep o end said
+HasEnded o place said = Unit {0}
 
 -- a job that looks at a cell for its machine looks at the one that the next instruction asks for
 abbrev pub AsksAreOpen : Type 0
-AsksAreOpen = (o : ℕ) (judged : JudgedOf) (row : Row) (column : ℕ) (said : List Received) (k : RunOf) → Reaches (fresh o judged row column) said k → IsAskingAt k.place
+AsksAreOpen = (o : Watch) (said : List Received) (k : RunOf) → Reaches (fresh o) said k → IsAskingAt k.place
 
 -- what a job declares, or has declared before its sweep, is what its program means
 abbrev pub EndedRunsMean : Type 0
-EndedRunsMean = (o : ℕ) (judged : JudgedOf) (row : Row) (column : ℕ) (said : List Received) (k : RunOf) → Reaches (fresh o judged row column) said k → HasEnded o judged row column k.place said
+EndedRunsMean = (o : Watch) (said : List Received) (k : RunOf) → Reaches (fresh o) said k → HasEnded o k.place said
 
 -- the machine of a job was led to where it stands, on what the job read
 abbrev pub MachinesAreLed : Type 0
-MachinesAreLed = (o : ℕ) (judged : JudgedOf) (row : Row) (column : ℕ) (said : List Received) (k : RunOf) (s : Ts) (v : Position) → Reaches (fresh o judged row column) said k
-    → MachineStandsAt k.place s v → IsMachineOf o judged row column k.place s v said
+MachinesAreLed = (o : Watch) (said : List Received) (k : RunOf) (s : Ts) (v : Position) → Reaches (fresh o) said k
+    → MachineStandsAt k.place s v → IsMachineOf o k.place s v said

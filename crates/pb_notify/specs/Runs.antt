@@ -5,6 +5,7 @@ use Rattle.pb_base.specs.declared.cell.Cell.TheVariants.{Data}
 use Rattle.pb_base.specs.declared.names.Row.{Row}
 use Rattle.pb_isa.specs.Programs.{JudgedOf}
 use Rattle.pb_helpers.specs.OldRecord.{tells_old}
+use Rattle.pb_verify.specs.Observers.{ObserverOf}
 use Rattle.pb_steps.specs.declared.step.Step.{Step}
 use Rattle.pb_steps.specs.declared.step.Answer.{Answer}
 use Rattle.pb_txn.specs.Plans as plans
@@ -14,22 +15,30 @@ use Rattle.pb_notify.specs.declared.place.RunPlace.{RunPlace}
 use Rattle.pb_notify.specs.declared.place.RunPlace.TheVariants.{Beginning, Starting, Computing, Over}
 use Rattle.pb_notify.specs.Places.{stored_step, step_at, place_after, locked_at, AtPlace, IsSlotAt, IsToldAt, ComesFrom, GrowsAt}
 
--- the observer and its program, the row and column of the cell, how many reads met a lock, and where it stands
-pub record RunOf : Type 0 where
+-- an observer with its program, and the row and column of a cell that it watches
+pub record Watch : Type 0 where
   pub observer : ℕ
   pub judged : JudgedOf
   pub row : Row
   pub column : ℕ
+
+-- what the observer of this number watches in a row
+abbrev pub watch_of : ℕ → ObserverOf → Row → Watch
+watch_of n observer row = record { observer = n; judged = observer.program; row = row; column = observer.column }
+
+-- what it is a run on, how many reads met a lock, and where it stands
+pub record RunOf : Type 0 where
+  pub watch : Watch
   pub locked : ℕ
   pub place : RunPlace
 
 -- before its first step
-abbrev pub fresh : ℕ → JudgedOf → Row → ℕ → RunOf
-fresh o judged row column = record { observer = o; judged = judged; row = row; column = column; locked = 0; place = Beginning }
+abbrev pub fresh : Watch → RunOf
+fresh o = record { watch = o; locked = 0; place = Beginning }
 
 -- the step that it asks next, while it needs an answer
 abbrev pub next_of : RunOf → Option Step
-next_of j = step_at j.observer j.row j.column j.place
+next_of j = step_at j.watch.observer j.watch.row j.watch.column j.place
 
 -- there is such a step, as an owner who is told to call may rely on
 abbrev pub HasNext : RunOf → Type 0
@@ -52,7 +61,7 @@ IsSlotOf j slot = IsSlotAt j.place slot
 
 -- after its next step was answered
 abbrev pub answered : RunOf → Answer → RunOf
-answered j a = record j { locked = locked_at j.locked j.place a; place = place_after (tells_old j.judged) j.locked j.place a }
+answered j a = record j { locked = locked_at j.locked j.place a; place = place_after (tells_old j.watch.judged) j.locked j.place a }
 
 -- its machine was told what a look for it found
 abbrev pub HearsLook : RunOf → Answer → RunOf → Type 0
@@ -66,7 +75,7 @@ CanTake j a = plans.CanTake (next_of j) a
 
 -- the machine does one, and all but the place is as before
 pub record Computes (j k : RunOf) : Type 0 where
-  pub comes : ComesFrom j.observer j.judged (Data j.row j.column) j.place k.place
+  pub comes : ComesFrom j.watch.observer j.watch.judged (Data j.watch.row j.watch.column) j.place k.place
   pub same : k ≡ record j { place = k.place }
 
 -- ---- all instructions up to the next ask or the exit

@@ -36,7 +36,7 @@ impl Model for ObserverJob {
 
     ghost Value = { RunOf };
 
-    ghost view = { λ j. record { observer = j.observer; judged = j.accepted.value; row = j.row; column = j.column; locked = j.locked; place = j.place } };
+    ghost view = { λ j. record { watch = record { observer = j.observer; judged = j.accepted.value; row = j.row; column = j.column }; locked = j.locked; place = j.place } };
 
     ghost invariant = { λ j. IsJob j.observer j.row j.column j.locked j.place j.next };
 }
@@ -53,7 +53,12 @@ impl ObserverJob {
         row: Row,
         column: Column,
     ) -> ObserverJob
-        ensures { result ≡ fresh observer accepted.value row column }
+        ensures { result ≡ fresh (record {
+          observer = observer;
+          judged = accepted.value;
+          row = row;
+          column = column;
+        }) }
     {
         ObserverJob {
             observer,

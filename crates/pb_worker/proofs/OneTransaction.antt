@@ -1,12 +1,10 @@
 -- A conversation of a change or of a run begins its transaction first, and commits no other.
-use Rattle.std.proofs.Common.{◌≡◌, ℕ, inl, inr, Bool, List, [], ◌∷◌, ◌++◌, Option, Some, None, refl, sym, ap, subst}
+use Rattle.std.proofs.Common.{◌≡◌, ℕ, inl, inr, List, [], ◌∷◌, ◌++◌, Option, Some, None, refl, sym, ap, subst}
 use Rattle.pb_base.specs.declared.cell.Cell.{Cell}
 use Rattle.pb_base.specs.declared.cell.Cell.TheVariants.{Data, Ack}
 use Rattle.pb_base.specs.declared.content.Revision.{Revision}
-use Rattle.pb_base.specs.declared.names.Row.{Row}
 use Rattle.pb_base.specs.declared.names.Ts.{Ts}
 use Rattle.pb_base.specs.Batch.{Writes}
-use Rattle.pb_isa.specs.Programs.{JudgedOf}
 use Rattle.pb_isa.specs.Meaning.{Talk}
 use Rattle.pb_vm.specs.Finished.{Meant}
 use Rattle.pb_steps.specs.declared.seen.Seen.{Seen}
@@ -17,7 +15,6 @@ use Rattle.pb_steps.specs.declared.step.Step.{Step}
 use Rattle.pb_steps.specs.declared.step.Step.TheVariants.{Begin, Declare, Prewrite, Stamp, CommitPrimary, CommitSecondary, Settle, Clear, Sweep}
 use Rattle.pb_steps.specs.declared.step.Answer.{Answer}
 use Rattle.pb_steps.specs.declared.step.Answer.TheVariants.{At, Done, Conflict, Committed, Lost, Locked, Waits}
-use Rattle.pb_steps.specs.Declarations.{old_at}
 use Rattle.pb_steps.specs.Read.{read_step}
 use Rattle.pb_steps.specs.Reads.{asked_cell}
 use Rattle.pb_history.specs.declared.entry.Received.{Received}
@@ -27,6 +24,7 @@ use Rattle.pb_txn.specs.Conversations.{told}
 use Rattle.pb_txn.specs.Forms.{IsWhole, AreCleared, committed, conflicted_first, conflicted_later, lost, prewrites, secondaries}
 use Rattle.pb_txn.specs.Changes.{IsWholeChange}
 use Rattle.pb_notify.specs.declared.need.JobEnd.{JobEnd}
+use Rattle.pb_notify.specs.Runs.{Watch}
 use Rattle.pb_notify.specs.Forms.{IsRound, cleared, settled, AreRounds, at_first, one_more, IsLooked, its_begin, IsObserved, IsAcknowledged, IsRecalled, AreAsked, dirty, asked, LooksFrom, at_cell, at_acknowledgment, at_old, at_ask}
 use Rattle.pb_notify.specs.Forms.{IsRunConversation, absent, clean, ran, conflicted, lost as lost_run, blocked}
 use Rattle.pb_history.proofs.Updates.{has_which}
@@ -129,54 +127,55 @@ round_none s x at round (settled t primary a b can also) =
     and_first s (told (read_step s x at) (Locked t primary)) (told (Clear x) Waits ∷ told (Settle primary) a ∷ told (Clear x) b ∷ []) (read_none s s x at)
     (and_first s (told (Clear x) Waits) (told (Settle primary) a ∷ told (Clear x) b ∷ []) (λ u e. cc) (and_first s (told (Settle primary) a) (told (Clear x) b ∷ []) (λ u e. cc) (only_one s (told (Clear x) b) (λ u e. cc))))
 
-module _ (o : ℕ) (row : Row) (column : ℕ) (s : Ts) where
+module _ (o : Watch) (s : Ts) where
   abbrev IsOfRun : List Received → Type 0
-  IsOfRun said = IsOneTransaction (works.Run o row) s said
+  IsOfRun said = IsOneTransaction (works.Run o.observer o.row) s said
 
   with_rounds : (x : Cell) (at : Option Ts) (m : ℕ) (base : List Received) (n : ℕ) (said : List Received) → AreRounds s x at m base n said → IsOfRun base → IsOfRun said
   with_rounds x at m base n said at_first i = i
-  with_rounds x at m base k all (one_more n said round before r) i = goes_on (works.Run o row) s said round (with_rounds x at m base n said before i) (round_none s x at round r)
+  with_rounds x at m base k all (one_more n said round before r) i = goes_on (works.Run o.observer o.row) s said round (with_rounds x at m base n said before i) (round_none s x at round r)
 
-  with_look : (x : Cell) (at : Option Ts) (m : ℕ) (base : List Received) (n : ℕ) (said : List Received) (a : Answer) → IsLooked s x at m base n said a → IsOfRun base → IsOfRun said
-  with_look x at m base n said a l i =
+  with_look : (x : Cell) (at : Option Ts) (m : ℕ) (base : List Received) (n : ℕ) (said : List Received) → IsLooked s x at m base n said → IsOfRun base → IsOfRun said
+  with_look x at m base n said l i =
+      let a = l.answer in
       let last = only_one s (told (read_step s x at) a) (read_none s s x at) in
-      subst (IsOneTransaction (works.Run o row) s) (sym l.said_is) (goes_on (works.Run o row) s l.before (told (read_step s x at) a ∷ []) (with_rounds x at m base n l.before l.rounds i) last)
+      subst (IsOneTransaction (works.Run o.observer o.row) s) (sym l.said_is) (goes_on (works.Run o.observer o.row) s l.before (told (read_step s x at) a ∷ []) (with_rounds x at m base n l.before l.rounds i) last)
 
-  observed : (found : Revision) (n : ℕ) (said : List Received) → IsObserved o row column s found n said → IsOfRun said
-  observed found n said b = with_look (Data row column) None 0 (its_begin o row s) n said b.answer b.look (begins (works.Run o row) s)
+  observed : (found : Revision) (n : ℕ) (said : List Received) → IsObserved o s found n said → IsOfRun said
+  observed found n said b = with_look (Data o.row o.column) None 0 (its_begin o s) n said b.look (begins (works.Run o.observer o.row) s)
 
-  acknowledged : (seen : Seen) (n : ℕ) (said : List Received) → IsAcknowledged o row column s seen n said → IsOfRun said
-  acknowledged seen n said k = with_look (Ack o row column) None k.met k.base n said k.answer k.look (observed seen.version k.met k.base k.observed)
+  acknowledged : (seen : Seen) (n : ℕ) (said : List Received) → IsAcknowledged o s seen n said → IsOfRun said
+  acknowledged seen n said k = with_look (Ack o.observer o.row o.column) None k.met k.base n said k.look (observed seen.version k.met k.base k.observed)
 
-  recalled : (seen : Seen) (t : Option Ts) (n : ℕ) (said : List Received) → IsRecalled o row column s seen t n said → IsOfRun said
+  recalled : (seen : Seen) (t : Option Ts) (n : ℕ) (said : List Received) → IsRecalled o s seen t n said → IsOfRun said
   recalled seen None n said k = acknowledged seen n said k.1
-  recalled seen (Some t) n said k = with_look (Data row column) (Some t) k.0 k.1 n said k.2 k.4 (acknowledged seen k.0 k.1 k.3)
+  recalled seen (Some t) n said k = with_look (Data o.row o.column) (Some t) k.0 k.1 n said k.3 (acknowledged seen k.0 k.1 k.2)
 
-  after_asks : (second : Bool) (seen : Seen) (talk : Talk) (n : ℕ) (said : List Received) → AreAsked o second row column s seen talk n said → IsOfRun said
-  after_asks second seen talk m all (dirty n said r newer) = recalled seen (old_at second seen.acknowledged) n said r
-  after_asks second seen whole n all (asked talk m base q a k said before look) = with_look (asked_cell q) None m base k said a look (after_asks second seen talk m base before)
+  after_asks : (seen : Seen) (talk : Talk) (n : ℕ) (said : List Received) → AreAsked o s seen talk n said → IsOfRun said
+  after_asks seen talk m all (dirty n said r newer) = recalled seen _ n said r
+  after_asks seen whole n all (asked talk m base q k said before look) = with_look (asked_cell q) None m base k said look (after_asks seen talk m base before)
 
-  before_look : (second : Bool) (x : Cell) (at : Option Ts) (m : ℕ) (base : List Received) → LooksFrom o second row column s x at m base → IsOfRun base
-  before_look second x at m base at_cell = begins (works.Run o row) s
-  before_look second x at m base (at_acknowledgment found n said b) = observed found n said b
-  before_look second x at m base (at_old seen t n said k newer old) = acknowledged seen n said k
-  before_look second x at m base (at_ask seen talk n said q k) = after_asks second seen talk n said k
+  before_look : (x : Cell) (at : Option Ts) (m : ℕ) (base : List Received) → LooksFrom o s x at m base → IsOfRun base
+  before_look x at m base at_cell = begins (works.Run o.observer o.row) s
+  before_look x at m base (at_acknowledgment found n said b) = observed found n said b
+  before_look x at m base (at_old seen t n said k newer old) = acknowledged seen n said k
+  before_look x at m base (at_ask seen talk n said q k) = after_asks seen talk n said k
 
   swept : (x : Cell) (w : Answer) → CommitNoOther s (told (Sweep x) w ∷ [])
   swept x w = only_one s (told (Sweep x) w) (λ u e. cc)
 
 -- a run begins one transaction, and commits no other, however many locks it clears
-pub of_run : (o : ℕ) (judged : JudgedOf) (row : Row) (column : ℕ) (said : List Received) (end : JobEnd) (run : Option Meant) → IsRunConversation o judged row column said end run → (s : Ts) × IsOneTransaction (works.Run o row) s said
-of_run o judged row column all end run (absent s n said a w look none few can) =
-    (s, goes_on (works.Run o row) s said (told (Sweep (Data row column)) w ∷ []) (with_look o row column s (Data row column) None 0 (its_begin o row s) n said a look (begins (works.Run o row) s)) (swept o row column s (Data row column) w))
-of_run o judged row column all end run (clean s seen n said w k newer few can) =
-    (s, goes_on (works.Run o row) s said (told (Sweep (Data row column)) w ∷ []) (acknowledged o row column s seen n said k) (swept o row column s (Data row column) w))
-of_run o judged row column all end run (ran s seen talk n said plan f c w k few is whole can) =
-    let before = goes_on (works.Run o row) s said plan (after_asks o row column s _ seen talk n said k) (whole_own s _ _ plan _ whole) in
-    (s, goes_on (works.Run o row) s (said ++ plan) (told (Sweep (Data row column)) w ∷ []) before (swept o row column s (Data row column) w))
-of_run o judged row column all end run (conflicted s seen talk n said plan f k few is whole) =
-    (s, goes_on (works.Run o row) s said plan (after_asks o row column s _ seen talk n said k) (whole_own s _ _ plan _ whole))
-of_run o judged row column all end run (lost_run s seen talk n said plan f k few is whole) =
-    (s, goes_on (works.Run o row) s said plan (after_asks o row column s _ seen talk n said k) (whole_own s _ _ plan _ whole))
-of_run o judged row column all end run (blocked s x at m base n said t primary from rounds last) =
-    (s, goes_on (works.Run o row) s said (told (read_step s x at) (Locked t primary) ∷ []) (with_rounds o row column s x at m base n said rounds (before_look o row column s _ x at m base from)) (only_one s (told (read_step s x at) (Locked t primary)) (read_none s s x at)))
+pub of_run : (o : Watch) (said : List Received) (end : JobEnd) (run : Option Meant) → IsRunConversation o said end run → (s : Ts) × IsOneTransaction (works.Run o.observer o.row) s said
+of_run o all end run (absent s n said w look none few can) =
+    (s, goes_on (works.Run o.observer o.row) s said (told (Sweep (Data o.row o.column)) w ∷ []) (with_look o s (Data o.row o.column) None 0 (its_begin o s) n said look (begins (works.Run o.observer o.row) s)) (swept o s (Data o.row o.column) w))
+of_run o all end run (clean s seen n said w k newer few can) =
+    (s, goes_on (works.Run o.observer o.row) s said (told (Sweep (Data o.row o.column)) w ∷ []) (acknowledged o s seen n said k) (swept o s (Data o.row o.column) w))
+of_run o all end run (ran s seen talk n said plan f c w k few is whole can) =
+    let before = goes_on (works.Run o.observer o.row) s said plan (after_asks o s seen talk n said k) (whole_own s _ _ plan _ whole) in
+    (s, goes_on (works.Run o.observer o.row) s (said ++ plan) (told (Sweep (Data o.row o.column)) w ∷ []) before (swept o s (Data o.row o.column) w))
+of_run o all end run (conflicted s seen talk n said plan f k few is whole) =
+    (s, goes_on (works.Run o.observer o.row) s said plan (after_asks o s seen talk n said k) (whole_own s _ _ plan _ whole))
+of_run o all end run (lost_run s seen talk n said plan f k few is whole) =
+    (s, goes_on (works.Run o.observer o.row) s said plan (after_asks o s seen talk n said k) (whole_own s _ _ plan _ whole))
+of_run o all end run (blocked s x at m base n said t primary from rounds last) =
+    (s, goes_on (works.Run o.observer o.row) s said (told (read_step s x at) (Locked t primary) ∷ []) (with_rounds o s x at m base n said rounds (before_look o s x at m base from)) (only_one s (told (read_step s x at) (Locked t primary)) (read_none s s x at)))

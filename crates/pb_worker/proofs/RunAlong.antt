@@ -12,7 +12,7 @@ use Rattle.pb_txn.specs.Conversations.{told}
 use Rattle.pb_notify.specs.declared.need.Need.{Need}
 use Rattle.pb_notify.specs.declared.need.Need.TheVariants.{Local, Call, Over}
 use Rattle.pb_notify.specs.declared.need.JobEnd.{JobEnd}
-use Rattle.pb_notify.specs.Runs.{RunOf, HasNext, next_of, need_of, answered, HearsLook, ComputesOn, at_first, one_more}
+use Rattle.pb_notify.specs.Runs.{RunOf, watch_of, HasNext, next_of, need_of, answered, HearsLook, ComputesOn, at_first, one_more}
 use Rattle.pb_notify.specs.Conversations.{Reaches, made, took, computed}
 use Rattle.pb_notify.specs.Forms.{JobsEnd, JobsConverse}
 use Rattle.pb_worker.specs.Gains.{Gains, Told, MayRefuse, IsStop, IsWant}
@@ -64,7 +64,7 @@ not_made observers n x a law known r want = gains_none a (record {
   observer = known.1;
   job = job_on n known.0 x;
   reaches = made;
-  begins = law n known.0.program (row_of x) known.0.column [] (job_on n known.0 x) made;
+  begins = law (watch_of n known.0 (row_of x)) [] (job_on n known.0 x) made;
   stop = inl want;
 })
 
@@ -78,7 +78,7 @@ module _ (observers : List ObserverOf) (n : ℕ) (x : Cell) (a b : SeatOf) (job 
   }
 
   stopped : JobsConverse → (r : Refusal) → IsStop a.number (next_of job) r → Gains (RunStops a.number observers n x r) a b
-  stopped law r stop = gains_as a b (λ said h. record { o = along.o; observer = along.observer; job = job; reaches = h; begins = law n along.o.program (row_of x) along.o.column said job h; stop = stop }) along.gains
+  stopped law r stop = gains_as a b (λ said h. record { o = along.o; observer = along.observer; job = job; reaches = h; begins = law (watch_of n along.o (row_of x)) said job h; stop = stop }) along.gains
 
   pub refused : JobsConverse → (step : Step) → next_of job ≡ Some step → (r : Refusal) → MayRefuse b.number step r → Gains (RunStops a.number observers n x r) a b
   refused law step e r h = stopped law r (stops_at a.number (next_of job) step r e (subst (λ m. MayRefuse m step r) along.gains.number h))
@@ -98,7 +98,7 @@ module _ (observers : List ObserverOf) (n : ℕ) (x : Cell) (a b : SeatOf) (job 
   pub ran : JobsEnd → need_of job ≢ Local → next_of job ≡ None → (need_of job ≡ Call → HasNext job) → Gains (IsRun observers n x) a b
   ran law calls none some =
       let over = over_by (need_of job) refl calls none some in
-      gains_as a b (λ said h. let whole = law n along.o.program (row_of x) along.o.column said job over.0 h over.1 in record {
+      gains_as a b (λ said h. let whole = law (watch_of n along.o (row_of x)) said job over.0 h over.1 in record {
         o = along.o;
         observer = along.observer;
         job = job;

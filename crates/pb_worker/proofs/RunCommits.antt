@@ -12,6 +12,7 @@ use Rattle.pb_verify.specs.Observers.{ObserverOf}
 use Rattle.pb_history.specs.declared.entry.Received.{Received}
 use Rattle.pb_history.specs.History.{Has}
 use Rattle.pb_txn.specs.Conversations.{told}
+use Rattle.pb_notify.specs.Runs.{watch_of}
 use Rattle.pb_worker.specs.Passes.{IsRun, AreRuns, before_all, runs, passes_by, IsWalk, at_beginning, found, IsPass, ArePasses, at_first, one_more, IsDrain}
 use Rattle.pb_worker.specs.Stops.{RunStops, RunsStop, PassStops, at_a_mark, in_runs, DrainStops}
 use Rattle.pb_worker.specs.Swaps.{Spare}
@@ -72,14 +73,14 @@ of_beginning o row s (r ∷ said) rest i = record {
 -- so a whole run
 run_commits : (observers : List ObserverOf) (n : ℕ) (x : Cell) (said : List Received) → IsRun observers n x said → CommitRuns said
 run_commits observers n x said r =
-    let k = of_run n r.o.program (row_of x) r.o.column said r.end r.run r.talk in
+    let k = of_run (watch_of n r.o (row_of x)) said r.end r.run r.talk in
     of_beginning n (row_of x) k.0 said [] (subst (IsOneTransaction (works.Run n (row_of x)) k.0) (sym (append_nil said)) k.1)
 
 -- and one that was left
 run_stopped : (seat : ℕ) (observers : List ObserverOf) (i : ℕ) (x : Cell) (r : Refusal) (said : List Received) → RunStops seat observers i x r said → CommitRuns said
 run_stopped seat observers i x r said s =
     let b = s.begins in
-    let k = of_run i s.o.program (row_of x) s.o.column (said ++ b.0) b.1 b.2 b.3 in
+    let k = of_run (watch_of i s.o (row_of x)) (said ++ b.0) b.1 b.2 b.3 in
     of_beginning i (row_of x) k.0 said b.0 k.1
 
 -- ---- passes

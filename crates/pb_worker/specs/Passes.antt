@@ -11,7 +11,7 @@ use Rattle.pb_history.specs.declared.entry.Received.{Received}
 use Rattle.pb_txn.specs.Conversations.{told}
 use Rattle.pb_notify.specs.declared.need.JobEnd.{JobEnd}
 use Rattle.pb_notify.specs.declared.need.Need.TheVariants.{Local, Over}
-use Rattle.pb_notify.specs.Runs.{RunOf, fresh, need_of}
+use Rattle.pb_notify.specs.Runs.{RunOf, watch_of, fresh, need_of}
 use Rattle.pb_notify.specs.Conversations.{Reaches}
 use Rattle.pb_notify.specs.Forms.{IsRunConversation, WasMeant}
 use Rattle.pb_worker.specs.declared.passes.TheConstants.{MAX_PASSES}
@@ -23,7 +23,7 @@ pub record IsObserverOf (observers : List ObserverOf) (n : ℕ) (x : Cell) (o : 
 
 -- the run of this observer on the cell, before its first step
 abbrev pub job_on : ℕ → ObserverOf → Cell → RunOf
-job_on n o x = fresh n o.program (row_of x) o.column
+job_on n o x = fresh (watch_of n o (row_of x))
 
 -- there is an observer of this number, and its column is the cell's
 abbrev pub HasColumn : List ObserverOf → ℕ → Cell → Type 0
@@ -49,7 +49,7 @@ pub record IsRun (observers : List ObserverOf) (n : ℕ) (x : Cell) (said : List
   pub end : JobEnd
   pub over : need_of job ≡ Over end
   pub run : Option Meant
-  pub talk : IsRunConversation n o.program (row_of x) o.column said end run
+  pub talk : IsRunConversation (watch_of n o (row_of x)) said end run
   pub meant : WasMeant run
 
 -- the observer of this number is one of another column

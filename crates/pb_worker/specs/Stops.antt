@@ -16,7 +16,7 @@ use Rattle.pb_txn.specs.Changes.{ChangeOf, new_change, Converses, IsWholeChange}
 use Rattle.pb_txn.specs.Changes as changes
 use Rattle.pb_txn.specs.Conversations.{told}
 use Rattle.pb_notify.specs.declared.need.JobEnd.{JobEnd}
-use Rattle.pb_notify.specs.Runs.{RunOf}
+use Rattle.pb_notify.specs.Runs.{RunOf, watch_of}
 use Rattle.pb_notify.specs.Runs as runs
 use Rattle.pb_notify.specs.Conversations.{Reaches}
 use Rattle.pb_notify.specs.Forms.{IsRunConversation}
@@ -63,7 +63,7 @@ pub record RunStops (seat : ℕ) (observers : List ObserverOf) (i : ℕ) (x : Ce
   pub observer : IsObserverOf observers i x o
   pub job : RunOf
   pub reaches : Reaches (job_on i o x) said job
-  pub begins : (rest : List Received) × (end : JobEnd) × (run : Option Meant) × IsRunConversation i o.program (row_of x) o.column (said ++ rest) end run
+  pub begins : (rest : List Received) × (end : JobEnd) × (run : Option Meant) × IsRunConversation (watch_of i o (row_of x)) (said ++ rest) end run
   pub stop : IsStop seat (runs.next_of job) r
 
 -- after the runs of the observers before it

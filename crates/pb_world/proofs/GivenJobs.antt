@@ -17,11 +17,10 @@ use Rattle.pb_verify.specs.Observers.{ObserverOf}
 use Rattle.pb_history.specs.History.{Has}
 use Rattle.pb_core.specs.Calls.{SharedOf, SeatOf, call_reason}
 use Rattle.pb_txn.specs.Changes.{new_change}
-use Rattle.pb_txn.specs.Changes as changes
 use Rattle.pb_notify.specs.declared.place.RunPlace.{RunPlace}
 use Rattle.pb_notify.specs.declared.place.RunPlace.TheVariants.{Starting, Computing}
 use Rattle.pb_notify.specs.Places.{Comes, goes, waits, declares, ComesFrom}
-use Rattle.pb_notify.specs.Runs.{RunOf, fresh, need_at}
+use Rattle.pb_notify.specs.Runs.{RunOf, watch_of, fresh, need_at}
 use Rattle.pb_parse.specs.declared.event.Event.{Event}
 use Rattle.pb_parse.specs.declared.event.Event.TheVariants as events
 use Rattle.pb_parse.specs.declared.event.Job.{Job}
@@ -35,7 +34,7 @@ use Rattle.pb_world.specs.declared.job.ActorJob.TheVariants.{Change, Run}
 use Rattle.pb_world.specs.declared.note.Note.{Note}
 use Rattle.pb_world.specs.declared.note.Note.TheVariants.{Called, Refused, Instruction}
 use Rattle.pb_world.specs.Jobs.{next_of, is_local, is_over, is_over_need, Takes, Computes}
-use Rattle.pb_world.specs.Actors.{AnswersJob, RefusesJob, Instructs, IsIdle, JobSteps, launched, crashed}
+use Rattle.pb_world.specs.Actors.{Stepped, AnswersJob, RefusesJob, CallSteps, Instructs, IsIdle, StepsTo, launched, crashed}
 use Rattle.pb_world.specs.Events.{WorldOf, change_of, job_for, actor_of, no_launch, no_launch_by, fault_of, Launches, StepsActor, CrashesActor, OwnAnswers, OwnCalls, Does, RunsTo}
 use Rattle.pb_world.specs.GivenJobs.{Renews, IsLastLaunch, IsOf, IsGivenJob, JobsAreGiven, BusyActorsAreLeft, BusyActorsAreTold, RefusedJobsEnd}
 use Rattle.pb_world.proofs.Soundness.{IsAfterSet, changed, unchanged, after_set}
@@ -69,7 +68,7 @@ longer es k job d isnt l = record {
 of_on : (w : WorldOf) (job : Job) (j : ActorJob) (a : Answer) (k : ActorJob) → IsOf w job j → Takes j a k → IsOf w job k
 of_on w (jobs.Change n) (Change c) a k is takes = subst (λ x. IsOf w (jobs.Change n) x) (sym takes) is
 of_on w (jobs.Run o row) (Run r) a k is takes =
-    let here : IsOf w (jobs.Run o row) (Run takes.0) = subst (λ (l : RunOf). IsOf w (jobs.Run o row) (Run l)) (sym takes.2) (is.0, is.1, record { observer = is.2.observer; there = is.2.there; program = is.2.program; column = is.2.column }) in
+    let here : IsOf w (jobs.Run o row) (Run takes.0) = subst (λ (l : RunOf). IsOf w (jobs.Run o row) (Run l)) (sym takes.2) is in
     subst (λ x. IsOf w (jobs.Run o row) x) (sym takes.1) here
 of_on w (jobs.Change n) (Run r) a k is takes = absurd is
 of_on w (jobs.Run o row) (Change c) a k is takes = absurd is
@@ -78,7 +77,7 @@ of_on w (jobs.Run o row) (Change c) a k is takes = absurd is
 of_by : (w : WorldOf) (job : Job) (j k : ActorJob) → IsOf w job j → Computes j k → IsOf w job k
 of_by w (jobs.Change n) (Change c) k is did = absurd did
 of_by w (jobs.Run o row) (Run r) k is did =
-    let here : IsOf w (jobs.Run o row) (Run did.0) = subst (λ (l : RunOf). IsOf w (jobs.Run o row) (Run l)) (sym did.2.same) (is.0, is.1, record { observer = is.2.observer; there = is.2.there; program = is.2.program; column = is.2.column }) in
+    let here : IsOf w (jobs.Run o row) (Run did.0) = subst (λ (l : RunOf). IsOf w (jobs.Run o row) (Run l)) (sym did.2.same) is in
     subst (λ x. IsOf w (jobs.Run o row) x) (sym did.1) here
 of_by w (jobs.Change n) (Run r) k is did = absurd is
 of_by w (jobs.Run o row) (Change c) k is did = absurd is
@@ -87,7 +86,7 @@ of_by w (jobs.Run o row) (Change c) k is did = absurd is
 of_in : (w v : WorldOf) (job : Job) (j : ActorJob) → v.shared.state.observers ≡ w.shared.state.observers → v.batches ≡ w.batches → IsOf w job j → IsOf v job j
 of_in w v (jobs.Change n) (Change c) os bs is = subst (λ x. change_of x n ≡ Some c.batch) (sym bs) is
 of_in w v (jobs.Run o row) (Run r) os bs is =
-    (is.0, is.1, record { observer = is.2.observer; there = subst (λ x. slice_get x r.observer ≡ Some is.2.observer) (sym os) is.2.there; program = is.2.program; column = is.2.column })
+    (is.0, is.1, record { observer = is.2.observer; there = subst (λ x. slice_get x r.watch.observer ≡ Some is.2.observer) (sym os) is.2.there; program = is.2.program; column = is.2.column })
 of_in w v (jobs.Change n) (Run r) os bs is = absurd is
 of_in w v (jobs.Run o row) (Change c) os bs is = absurd is
 
@@ -105,7 +104,7 @@ from_on o judged x _ next c = absurd c
 -- so a run that did an instruction isn't over
 computed_goes : (j k : ActorJob) → Computes j k → is_over k ≡ false
 computed_goes (Change c) k did = absurd did
-computed_goes (Run r) k did = subst (λ x. is_over x ≡ false) (sym did.1) (from_on r.observer r.judged _ r.place did.0.place did.2.comes)
+computed_goes (Run r) k did = subst (λ x. is_over x ≡ false) (sym did.1) (from_on r.watch.observer r.watch.judged _ r.place did.0.place did.2.comes)
 
 -- a job that is kept isn't over
 kept_goes : (b : Bool) (after k : ActorJob) → is_over after ≡ b → Some k ≡ (if b then None else Some after) → (k ≡ after) × (is_over k ≡ false)
@@ -123,10 +122,10 @@ module _ (w : WorldOf) where
   change_made k None made is e = absurd (none_some made e)
   change_made k (Some batch) made is e = subst (λ x. IsMade (jobs.Change k) x) (some_same (Change (new_change batch)) made e) (record { is = is; goes_on = refl })
 
-  run_made : (o : ℕ) (row : Row) (found : Option ObserverOf) (made : ActorJob) → slice_get w.shared.state.observers o ≡ found → option_map (λ (x : ObserverOf). Run (fresh o x.program row x.column)) found ≡ Some made → IsMade (jobs.Run o row) made
+  run_made : (o : ℕ) (row : Row) (found : Option ObserverOf) (made : ActorJob) → slice_get w.shared.state.observers o ≡ found → option_map (λ (x : ObserverOf). Run (fresh (watch_of o x row))) found ≡ Some made → IsMade (jobs.Run o row) made
   run_made o row None made is e = absurd (none_some made e)
   run_made o row (Some x) made is e =
-      subst (λ y. IsMade (jobs.Run o row) y) (some_same (Run (fresh o x.program row x.column)) made e)
+      subst (λ y. IsMade (jobs.Run o row) y) (some_same (Run (fresh (watch_of o x row))) made e)
       (record { is = (refl, refl, record { observer = x; there = is; program = refl; column = refl }); goes_on = refl })
 
   made_is : (job : Job) (made : ActorJob) → job_for w job ≡ Some made → IsMade job made
@@ -136,52 +135,51 @@ module _ (w : WorldOf) where
 -- ---- steps
 
 -- what a step leaves is of the job that there was
-record IsLeftOf (w : WorldOf) (j : Option ActorJob) (s : SharedOf) (rest : Option ActorJob) : Type 0 where
-  pub observers : s.state.observers ≡ w.shared.state.observers
-  pub goes : (k : ActorJob) → rest ≡ Some k → (i : ActorJob) × (j ≡ Some i) × ((job : Job) → IsOf w job i → IsOf w job k) × (is_over k ≡ false)
+record IsLeftOf (w : WorldOf) (j : Option ActorJob) (to : Stepped) : Type 0 where
+  pub observers : to.table.state.observers ≡ w.shared.state.observers
+  pub goes : (k : ActorJob) → to.job ≡ Some k → (i : ActorJob) × (j ≡ Some i) × ((job : Job) → IsOf w job i → IsOf w job k) × (is_over k ≡ false)
 
 -- of what is gone nothing is to be shown
-left_none : (w : WorldOf) (j : Option ActorJob) (s : SharedOf) (rest : Option ActorJob) → s ≡ w.shared → rest ≡ None → IsLeftOf w j s rest
-left_none w j s rest same none = record { observers = ap (λ (x : SharedOf). x.state.observers) same; goes = λ k is. absurd (none_some k (sym none ∙ is)) }
+left_none : (w : WorldOf) (j : Option ActorJob) (to : Stepped) → to.table ≡ w.shared → to.job ≡ None → IsLeftOf w j to
+left_none w j to same none = record { observers = ap (λ (x : SharedOf). x.state.observers) same; goes = λ k is. absurd (none_some k (sym none ∙ is)) }
 
-left_instructed : (w : WorldOf) (seat : SeatOf) (j : ActorJob) (n : Note) (t : SharedOf) (told : SeatOf) (rest : Option ActorJob) → Instructs w.shared seat j n t told rest → IsLeftOf w (Some j) t rest
-left_instructed w seat j n t told rest d = record {
+left_instructed : (w : WorldOf) (seat : SeatOf) (j : ActorJob) (to : Stepped) → Instructs w.shared seat j to → IsLeftOf w (Some j) to
+left_instructed w seat j to d = record {
   observers = ap (λ (x : SharedOf). x.state.observers) d.same.table;
   goes = λ k is.
       let same : d.after ≡ k = some_same d.after k (sym d.left ∙ is) in
       (j, refl, (λ job of. subst (λ x. IsOf w job x) same (of_by w job j d.after of d.computes)), subst (λ x. is_over x ≡ false) same (computed_goes j d.after d.computes));
 }
 
-left_answered : (w : WorldOf) (seat : SeatOf) (j : ActorJob) (st : Step) (n : Note) (t : SharedOf) (told : SeatOf) (rest : Option ActorJob) → AnswersJob w.shared seat j st n t told rest → IsLeftOf w (Some j) t rest
-left_answered w seat j st n t told rest d = record {
+left_answered : (w : WorldOf) (seat : SeatOf) (j : ActorJob) (st : Step) (to : Stepped) → AnswersJob w.shared seat j st to → IsLeftOf w (Some j) to
+left_answered w seat j st to d = record {
   observers = d.calls.observers;
   goes = λ k is.
       let kept = kept_goes (is_over d.after) d.after k refl (sym is ∙ d.left) in
       (j, refl, (λ job of. subst (λ x. IsOf w job x) (sym kept.0) (of_on w job j d.answer d.after of d.takes)), kept.1);
 }
 
-left_called : (w : WorldOf) (seat : SeatOf) (j : ActorJob) (st : Step) (n : Note) (t : SharedOf) (told : SeatOf) (rest : Option ActorJob) (why : Option Reason)
-    → MatchOption why (AnswersJob w.shared seat j st n t told rest) (λ y. RefusesJob w.shared seat y n t told rest) → IsLeftOf w (Some j) t rest
-left_called w seat j st n t told rest None d = left_answered w seat j st n t told rest d
-left_called w seat j st n t told rest (Some y) d = left_none w (Some j) t rest d.same.table d.left
+left_called : (w : WorldOf) (seat : SeatOf) (j : ActorJob) (st : Step) (to : Stepped) (why : Option Reason)
+    → MatchOption why (AnswersJob w.shared seat j st to) (λ y. RefusesJob w.shared seat y to) → IsLeftOf w (Some j) to
+left_called w seat j st to None d = left_answered w seat j st to d
+left_called w seat j st to (Some y) d = left_none w (Some j) to d.same.table d.left
 
-left_asked : (w : WorldOf) (seat : SeatOf) (j : ActorJob) (n : Note) (t : SharedOf) (told : SeatOf) (rest : Option ActorJob) (o : Option Step)
-    → MatchOption o (IsIdle w.shared seat n t told rest) (λ st. MatchOption (call_reason w.shared seat.number st) (AnswersJob w.shared seat j st n t told rest) (λ y. RefusesJob w.shared seat y n t told rest)) → IsLeftOf w (Some j) t rest
-left_asked w seat j n t told rest None d = left_none w (Some j) t rest d.same.table d.left
-left_asked w seat j n t told rest (Some st) d = left_called w seat j st n t told rest (call_reason w.shared seat.number st) d
+left_asked : (w : WorldOf) (seat : SeatOf) (j : ActorJob) (to : Stepped) (o : Option Step)
+    → MatchOption o (IsIdle w.shared seat to) (λ st. CallSteps w.shared seat j st to) → IsLeftOf w (Some j) to
+left_asked w seat j to None d = left_none w (Some j) to d.same.table d.left
+left_asked w seat j to (Some st) d = left_called w seat j st to (call_reason w.shared seat.number st) d
 
 -- whatever a step of a job came to
-left_job : (w : WorldOf) (seat : SeatOf) (j : ActorJob) (n : Note) (t : SharedOf) (told : SeatOf) (rest : Option ActorJob) (b : Bool)
-    → MatchBool b (Instructs w.shared seat j n t told rest) (MatchOption (next_of j) (IsIdle w.shared seat n t told rest) (λ st. MatchOption (call_reason w.shared seat.number st) (AnswersJob w.shared seat j st n t told rest) (λ y. RefusesJob w.shared seat y n t told rest)))
-    → IsLeftOf w (Some j) t rest
-left_job w seat j n t told rest true d = left_instructed w seat j n t told rest d
-left_job w seat j n t told rest false d = left_asked w seat j n t told rest (next_of j) d
+left_job : (w : WorldOf) (seat : SeatOf) (j : ActorJob) (to : Stepped) (b : Bool)
+    → MatchBool b (Instructs w.shared seat j to) (MatchOption (next_of j) (IsIdle w.shared seat to) (λ st. CallSteps w.shared seat j st to))
+    → IsLeftOf w (Some j) to
+left_job w seat j to true d = left_instructed w seat j to d
+left_job w seat j to false d = left_asked w seat j to (next_of j) d
 
 -- and a step of an actor with a job or without
-left_actor : (w : WorldOf) (seat : SeatOf) (o : Option ActorJob) (n : Note) (t : SharedOf) (told : SeatOf) (rest : Option ActorJob)
-    → MatchOption o (IsIdle w.shared seat n t told rest) (λ j. JobSteps w.shared seat j n t told rest) → IsLeftOf w o t rest
-left_actor w seat None n t told rest d = left_none w None t rest d.same.table d.left
-left_actor w seat (Some j) n t told rest d = left_job w seat j n t told rest (is_local j) d
+left_actor : (w : WorldOf) (seat : SeatOf) (o : Option ActorJob) (to : Stepped) → StepsTo w.shared seat o to → IsLeftOf w o to
+left_actor w seat None to d = left_none w None to d.same.table d.left
+left_actor w seat (Some j) to d = left_job w seat j to (is_local j) d
 
 -- ---- events
 
@@ -218,8 +216,11 @@ launch_given es w v i job n all d k a j is holds = by (after_set w.actors i (lau
 step_given : (es : List Event) (w v : WorldOf) (i : ℕ) (n : Note) → AreGiven es w → StepsActor w i n v → AreGiven (es ++ events.Step i ∷ []) v
 step_given es w v i n all d k a j is holds = by (after_set w.actors i d.stepped k a (subst (λ (x : WorldOf). slice_get x.actors k ≡ Some a) d.after is))
   where
-    left : IsLeftOf w d.actor.job v.shared d.stepped.job
-    left = left_actor w d.seat d.actor.job n v.shared d.told d.stepped.job d.steps.steps
+    to : Stepped
+    to = record { note = n; table = v.shared; seat = d.told; job = d.stepped.job }
+
+    left : IsLeftOf w d.actor.job to
+    left = left_actor w d.seat d.actor.job to d.steps.steps
 
     bs : v.batches ≡ w.batches
     bs = ap (λ (x : WorldOf). x.batches) d.after
@@ -301,30 +302,29 @@ busy_actors_are_told w k a j job es (suc at) code v is holds s = absurd (busy_ac
 -- ---- refused steps
 
 -- the note of a refused step is that of no answer and of no instruction, so the job is gone
-refused_job : (w : WorldOf) (seat : SeatOf) (j : ActorJob) (code : ℕ) (t : SharedOf) (told : SeatOf) (rest : Option ActorJob) (b : Bool)
-    → MatchBool b (Instructs w.shared seat j (Refused code) t told rest) (MatchOption (next_of j) (IsIdle w.shared seat (Refused code) t told rest) (λ st. MatchOption (call_reason w.shared seat.number st) (AnswersJob w.shared seat j st (Refused code) t told rest) (λ y. RefusesJob w.shared seat y (Refused code) t told rest)))
-    → rest ≡ None
-refused_job w seat j code t told rest true d = absurd (instruction code d.note)
+refused_job : (w : WorldOf) (seat : SeatOf) (j : ActorJob) (code : ℕ) (to : Stepped) (b : Bool) → to.note ≡ Refused code
+    → MatchBool b (Instructs w.shared seat j to) (MatchOption (next_of j) (IsIdle w.shared seat to) (λ st. CallSteps w.shared seat j st to))
+    → to.job ≡ None
+refused_job w seat j code to true is d = absurd (instruction code (sym is ∙ d.note))
   where
     instruction : (c : ℕ) → Refused c ≡ Instruction → ⊥
     instruction c e = cc
-refused_job w seat j code t told rest false d = asked (next_of j) d
+refused_job w seat j code to false is d = asked (next_of j) d
   where
     not_called : (c : ℕ) (a : Answer) → Refused c ≡ Called a → ⊥
     not_called c a e = cc
 
-    called : (st : Step) (why : Option Reason) → MatchOption why (AnswersJob w.shared seat j st (Refused code) t told rest) (λ y. RefusesJob w.shared seat y (Refused code) t told rest) → rest ≡ None
-    called st None d = absurd (not_called code d.answer d.note)
+    called : (st : Step) (why : Option Reason) → MatchOption why (AnswersJob w.shared seat j st to) (λ y. RefusesJob w.shared seat y to) → to.job ≡ None
+    called st None d = absurd (not_called code d.answer (sym is ∙ d.note))
     called st (Some y) d = d.left
 
-    asked : (o : Option Step) → MatchOption o (IsIdle w.shared seat (Refused code) t told rest) (λ st. MatchOption (call_reason w.shared seat.number st) (AnswersJob w.shared seat j st (Refused code) t told rest) (λ y. RefusesJob w.shared seat y (Refused code) t told rest)) → rest ≡ None
+    asked : (o : Option Step) → MatchOption o (IsIdle w.shared seat to) (λ st. CallSteps w.shared seat j st to) → to.job ≡ None
     asked None d = d.left
     asked (Some st) d = called st (call_reason w.shared seat.number st) d
 
-refused_actor : (w : WorldOf) (seat : SeatOf) (o : Option ActorJob) (code : ℕ) (t : SharedOf) (told : SeatOf) (rest : Option ActorJob)
-    → MatchOption o (IsIdle w.shared seat (Refused code) t told rest) (λ j. JobSteps w.shared seat j (Refused code) t told rest) → rest ≡ None
-refused_actor w seat None code t told rest d = d.left
-refused_actor w seat (Some j) code t told rest d = refused_job w seat j code t told rest (is_local j) d
+refused_actor : (w : WorldOf) (seat : SeatOf) (o : Option ActorJob) (code : ℕ) (to : Stepped) → to.note ≡ Refused code → StepsTo w.shared seat o to → to.job ≡ None
+refused_actor w seat None code to is d = d.left
+refused_actor w seat (Some j) code to is d = refused_job w seat j code to (is_local j) is d
 
 pub refused_jobs_end : RefusedJobsEnd
 refused_jobs_end w k code v a h is = by (after_set w.actors k d.stepped k a (subst (λ (x : WorldOf). slice_get x.actors k ≡ Some a) d.after is))
@@ -333,5 +333,5 @@ refused_jobs_end w k code v a h is = by (after_set w.actors k d.stepped k a (sub
     d = h.does
 
     by : IsAfterSet w.actors k d.stepped k a → a.job ≡ None
-    by (changed here a-is) = ap (λ (x : Actor). x.job) a-is ∙ refused_actor w d.seat d.actor.job code v.shared d.told d.stepped.job d.steps.steps
+    by (changed here a-is) = ap (λ (x : Actor). x.job) a-is ∙ refused_actor w d.seat d.actor.job code (record { note = Refused code; table = v.shared; seat = d.told; job = d.stepped.job }) refl d.steps.steps
     by (unchanged apart was) = absurd (apart refl)

@@ -12,7 +12,7 @@ use Rattle.pb_core.specs.Calls.{SeatOf}
 use Rattle.pb_txn.specs.Changes.{ChangeOf, ChangesConverse}
 use Rattle.pb_notify.specs.Runs.{RunOf}
 use Rattle.pb_notify.specs.Forms.{JobsConverse}
-use Rattle.pb_notify.specs.Led.{MachineStandsAt, IsMachineOf, MachinesAreLed, AsksAreOpen, EndedRunsMean}
+use Rattle.pb_notify.specs.Led.{MachinesAreLed, AsksAreOpen, EndedRunsMean}
 use Rattle.pb_world.specs.declared.job.ActorJob.{ActorJob}
 use Rattle.pb_world.specs.declared.job.ActorJob.TheVariants.{Change, Run}
 use Rattle.pb_world.specs.Jobs.{RulesAccept}
@@ -55,7 +55,7 @@ of_change law w c said m =
 -- and so is what a run has said, whose machine was led by it
 of_run : AcceptedAreNeverStuck → JobsConverse → MachinesAreLed → AsksAreOpen → EndedRunsMean → (w : WorldOf) (r : RunOf) (said : List Received) → RunCame w r said → HoldsOfRun w r said
 of_run stuck converses led waits ended w r said m =
-    let t = converses r.observer r.judged r.row r.column said r m.reaches in
+    let t = converses r.watch said r m.reaches in
     record {
       its = m.its;
       rest = t.0;
@@ -63,11 +63,11 @@ of_run stuck converses led waits ended w r said m =
       run = t.2;
       talk = t.3;
       machine = λ s v stands.
-          let machine = led r.observer r.judged r.row r.column said r s v m.reaches stands in
+          let machine = led r.watch said r s v m.reaches stands in
           let accepted : RulesAccept v.judged = subst (λ j. RulesAccept j) (sym machine.program) m.accepted in
           (machine, never_stuck stuck v accepted (machine.size ∙ ap (λ (j : JudgedOf). j.record_size) (sym machine.program)) machine.led);
-      asks = waits r.observer r.judged r.row r.column said r m.reaches;
-      ended = ended r.observer r.judged r.row r.column said r m.reaches;
+      asks = waits r.watch said r m.reaches;
+      ended = ended r.watch said r m.reaches;
     }
 
 of_job : AcceptedAreNeverStuck → JobsConverse → MachinesAreLed → AsksAreOpen → EndedRunsMean → ChangesConverse → (w : WorldOf) (j : ActorJob) (said : List Received) → Came w j said → HoldsOfJob w j said

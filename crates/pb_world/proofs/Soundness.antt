@@ -24,9 +24,9 @@ use Rattle.pb_txn.specs.Changes.{ChangeOf, new_change, Converses}
 use Rattle.pb_txn.specs.Changes as changes
 use Rattle.pb_notify.specs.declared.need.Need.{Need}
 use Rattle.pb_notify.specs.declared.need.Need.TheVariants.{Local, Call, Over}
-use Rattle.pb_notify.specs.Runs.{RunOf, fresh, need_of}
+use Rattle.pb_notify.specs.Runs.{Watch, RunOf, watch_of, fresh, need_of}
 use Rattle.pb_notify.specs.Conversations.{Reaches, took, computed}
-use Rattle.pb_notify.specs.Conversations as talk
+use Rattle.pb_notify.specs.Conversations as conversations
 use Rattle.pb_parse.specs.declared.event.Event.{Event}
 use Rattle.pb_parse.specs.declared.event.Event.TheVariants as events
 use Rattle.pb_parse.specs.declared.event.Job.{Job}
@@ -37,9 +37,9 @@ use Rattle.pb_world.specs.declared.job.ActorJob.TheVariants.{Change, Run}
 use Rattle.pb_world.specs.declared.note.Note.{Note}
 use Rattle.pb_world.specs.declared.note.Note.TheVariants.{Refused}
 use Rattle.pb_world.specs.Jobs.{next_of, is_local, is_local_need, is_over, Takes, Computes, RulesAccept, IsReady}
-use Rattle.pb_world.specs.Actors.{AnswersJob, RefusesJob, CallSteps, Instructs, IsIdle, JobSteps, ActorSteps, launched, crashed}
+use Rattle.pb_world.specs.Actors.{Stepped, AnswersJob, RefusesJob, CallSteps, Instructs, IsIdle, JobSteps, StepsTo, launched, crashed}
 use Rattle.pb_world.specs.Events.{WorldOf, change_of, job_for, with_actor, actor_of, no_actor, no_launch, fault_of, Launches, StepsActor, CrashesActor, OwnAnswers, OwnCalls, Does}
-use Rattle.pb_world.specs.Sound.{ChangeCame, RunCame, Came, IsTied, IsSoundWorld, EventsKeepSound}
+use Rattle.pb_world.specs.Sound.{HasObserver, ChangeCame, RunCame, Came, IsTied, IsSoundWorld, EventsKeepSound}
 use Rattle.pb_world.proofs.SeatLists.{called, append-none}
 use Rattle.pb_base.proofs.Logic.{same_some as some_same, none_some as some_none, some_none as none_some}
 use Rattle.pb_history.proofs.JournalParts.{one_more as leads_more}
@@ -92,22 +92,11 @@ converses_push p [] q st a t next can = (subst (λ x. changes.next_of x ≡ Some
 converses_push p (r ∷ rs) q st a t next can = (t.0, t.1, converses_push (changes.answered p r.answer) rs q st a t.2 next can)
 
 -- the same run, further on
-record IsOneRun (r l : RunOf) : Type 0 where
-  pub observer : l.observer ≡ r.observer
-  pub judged : l.judged ≡ r.judged
-  pub row : l.row ≡ r.row
-  pub column : l.column ≡ r.column
-
-run_goes_on : (w : WorldOf) (r l : RunOf) (said more : List Received) → IsOneRun r l → RunCame w r said → Reaches (fresh r.observer r.judged r.row r.column) more l → RunCame w l more
+run_goes_on : (w : WorldOf) (r l : RunOf) (said more : List Received) → l.watch ≡ r.watch → RunCame w r said → Reaches (fresh r.watch) more l → RunCame w l more
 run_goes_on w r l said more same m reaches = record {
-  its = record {
-    observer = m.its.observer;
-    there = subst (λ n. slice_get w.shared.state.observers n ≡ Some m.its.observer) (sym same.observer) m.its.there;
-    program = same.judged ∙ m.its.program;
-    column = same.column ∙ m.its.column;
-  };
-  accepted = subst (λ x. RulesAccept x) (sym same.judged) m.accepted;
-  reaches = subst (λ (z : Type 0). z) (λ i. Reaches (fresh (sym same.observer i) (sym same.judged i) (sym same.row i) (sym same.column i)) more l) reaches;
+  its = subst (HasObserver w) (sym same) m.its;
+  accepted = subst (λ (o : Watch). RulesAccept o.judged) (sym same) m.accepted;
+  reaches = subst (λ (o : Watch). Reaches (fresh o) more l) (sym same) reaches;
 }
 
 -- a job that took an answer has come on by it
@@ -117,12 +106,7 @@ came_on w (Change c) k said st a m next can takes =
     subst (λ x. Came w x (said ++ record { step = st; answer = a } ∷ [])) (sym takes) more
 came_on w (Run r) k said st a m next can takes =
     let l = takes.0 in
-    let same : IsOneRun r l = record {
-      observer = ap (λ (x : RunOf). x.observer) takes.2;
-      judged = ap (λ (x : RunOf). x.judged) takes.2;
-      row = ap (λ (x : RunOf). x.row) takes.2;
-      column = ap (λ (x : RunOf). x.column) takes.2;
-    } in
+    let same : l.watch ≡ r.watch = ap (λ (x : RunOf). x.watch) takes.2 in
     let reaches = took said r (record { step = st; answer = a }) l m.reaches next can takes.2 takes.3 in
     subst (λ x. Came w x (said ++ record { step = st; answer = a } ∷ [])) (sym takes.1) (run_goes_on w r l said (said ++ record { step = st; answer = a } ∷ []) same m reaches)
 
@@ -136,19 +120,14 @@ came_by : (w : WorldOf) (j k : ActorJob) (said : List Received) → Came w j sai
 came_by w (Change c) k said m local did = absurd did
 came_by w (Run r) k said m local did =
     let l = did.0 in
-    let same : IsOneRun r l = record {
-      observer = ap (λ (x : RunOf). x.observer) did.2.same;
-      judged = ap (λ (x : RunOf). x.judged) did.2.same;
-      row = ap (λ (x : RunOf). x.row) did.2.same;
-      column = ap (λ (x : RunOf). x.column) did.2.same;
-    } in
+    let same : l.watch ≡ r.watch = ap (λ (x : RunOf). x.watch) did.2.same in
     let reaches = computed said r l m.reaches (local_by (need_of r) local) did.2 in
     subst (λ x. Came w x said) (sym did.1) (run_goes_on w r l said said same m reaches)
 
 -- what a job came by depends on the observers and the changes alone
 came_in : (w v : WorldOf) (j : ActorJob) (said : List Received) → v.shared.state.observers ≡ w.shared.state.observers → v.batches ≡ w.batches → Came w j said → Came v j said
 came_in w v (Change c) said os bs m = record { number = m.number; there = subst (λ x. change_of x m.number ≡ Some c.batch) (sym bs) m.there; is = m.is; converses = m.converses }
-came_in w v (Run r) said os bs m = record { its = record { observer = m.its.observer; there = subst (λ x. slice_get x r.observer ≡ Some m.its.observer) (sym os) m.its.there; program = m.its.program; column = m.its.column }; accepted = m.accepted; reaches = m.reaches }
+came_in w v (Run r) said os bs m = record { its = record { observer = m.its.observer; there = subst (λ x. slice_get x r.watch.observer ≡ Some m.its.observer) (sym os) m.its.there; program = m.its.program; column = m.its.column }; accepted = m.accepted; reaches = m.reaches }
 
 -- a job stays tied while the observers and the changes stay
 tied_in : (w v : WorldOf) (seat : SeatOf) (n : ℕ) (j : ActorJob) → v.shared.state.observers ≡ w.shared.state.observers → v.batches ≡ w.batches → IsTied w seat n j → IsTied v seat n j
@@ -188,15 +167,15 @@ moves_seats s seats k seat t told (calls st a c) is are = called s seats k seat 
 -- ---- what a step leaves of a job
 
 -- what is left of the job is tied to what its seat was told by then
-record IsSteppedTo (w : WorldOf) (seat : SeatOf) (n : ℕ) (t : SharedOf) (told : SeatOf) (rest : Option ActorJob) : Type 0 where
-  pub moves : Moves w.shared seat t told
-  pub tied : (k : ActorJob) → rest ≡ Some k → IsTied w told n k
+record IsSteppedTo (w : WorldOf) (seat : SeatOf) (n : ℕ) (to : Stepped) : Type 0 where
+  pub moves : Moves w.shared seat to.table to.seat
+  pub tied : (k : ActorJob) → to.job ≡ Some k → IsTied w to.seat n k
 
 none_left : (w : WorldOf) (told : SeatOf) (n : ℕ) (rest : Option ActorJob) → rest ≡ None → (k : ActorJob) → rest ≡ Some k → IsTied w told n k
 none_left w told n rest none k some = absurd (some_none k (sym none ∙ some))
 
-instructed : (w : WorldOf) (seat : SeatOf) (n : ℕ) (j : ActorJob) (note : Note) (t : SharedOf) (told : SeatOf) (rest : Option ActorJob) → is_local j ≡ true → IsTied w seat n j → Instructs w.shared seat j note t told rest → IsSteppedTo w seat n t told rest
-instructed w seat n j note t told rest local tie d = record {
+instructed : (w : WorldOf) (seat : SeatOf) (n : ℕ) (j : ActorJob) (to : Stepped) → is_local j ≡ true → IsTied w seat n j → Instructs w.shared seat j to → IsSteppedTo w seat n to
+instructed w seat n j to local tie d = record {
   moves = stays d.same.table d.same.list;
   tied = λ k is.
       let same : d.after ≡ k = some_same d.after k (sym d.left ∙ is) in
@@ -204,11 +183,11 @@ instructed w seat n j note t told rest local tie d = record {
       record { before = tie.before; said = tie.said; counted = tie.counted; received = ap (λ (x : SeatOf). x.received) d.same.list ∙ tie.received; came = here };
 }
 
-idled : (w : WorldOf) (seat : SeatOf) (n : ℕ) (note : Note) (t : SharedOf) (told : SeatOf) (rest : Option ActorJob) → IsIdle w.shared seat note t told rest → IsSteppedTo w seat n t told rest
-idled w seat n note t told rest d = record { moves = stays d.same.table d.same.list; tied = none_left w told n rest d.left }
+idled : (w : WorldOf) (seat : SeatOf) (n : ℕ) (to : Stepped) → IsIdle w.shared seat to → IsSteppedTo w seat n to
+idled w seat n to d = record { moves = stays d.same.table d.same.list; tied = none_left w to.seat n to.job d.left }
 
-answered : (w : WorldOf) (seat : SeatOf) (n : ℕ) (j : ActorJob) (st : Step) (note : Note) (t : SharedOf) (told : SeatOf) (rest : Option ActorJob) → next_of j ≡ Some st → IsTied w seat n j → AnswersJob w.shared seat j st note t told rest → IsSteppedTo w seat n t told rest
-answered w seat n j st note t told rest next tie d = record {
+answered : (w : WorldOf) (seat : SeatOf) (n : ℕ) (j : ActorJob) (st : Step) (to : Stepped) → next_of j ≡ Some st → IsTied w seat n j → AnswersJob w.shared seat j st to → IsSteppedTo w seat n to
+answered w seat n j st to next tie d = record {
   moves = calls st d.answer d.calls;
   tied = λ k is.
       let r : Received = record { step = st; answer = d.answer } in
@@ -217,30 +196,27 @@ answered w seat n j st note t told rest next tie d = record {
       record { before = tie.before; said = tie.said ++ r ∷ []; counted = tie.counted; received = d.calls.received ∙ (ap (λ l. l ++ r ∷ []) tie.received ∙ append_assoc' tie.before tie.said (r ∷ [])); came = here };
 }
 
-called_by : (w : WorldOf) (seat : SeatOf) (n : ℕ) (j : ActorJob) (st : Step) (note : Note) (t : SharedOf) (told : SeatOf) (rest : Option ActorJob) (why : Option Reason) → next_of j ≡ Some st → IsTied w seat n j
-    → MatchOption why (AnswersJob w.shared seat j st note t told rest) (λ y. RefusesJob w.shared seat y note t told rest) → IsSteppedTo w seat n t told rest
-called_by w seat n j st note t told rest None next tie d = answered w seat n j st note t told rest next tie d
-called_by w seat n j st note t told rest (Some y) next tie d = record { moves = stays d.same.table d.same.list; tied = none_left w told n rest d.left }
+called_by : (w : WorldOf) (seat : SeatOf) (n : ℕ) (j : ActorJob) (st : Step) (to : Stepped) (why : Option Reason) → next_of j ≡ Some st → IsTied w seat n j
+    → MatchOption why (AnswersJob w.shared seat j st to) (λ y. RefusesJob w.shared seat y to) → IsSteppedTo w seat n to
+called_by w seat n j st to None next tie d = answered w seat n j st to next tie d
+called_by w seat n j st to (Some y) next tie d = record { moves = stays d.same.table d.same.list; tied = none_left w to.seat n to.job d.left }
 
-asked : (w : WorldOf) (seat : SeatOf) (n : ℕ) (j : ActorJob) (note : Note) (t : SharedOf) (told : SeatOf) (rest : Option ActorJob) (o : Option Step) → next_of j ≡ o → IsTied w seat n j
-    → MatchOption o (IsIdle w.shared seat note t told rest) (λ st. CallSteps w.shared seat j st note t told rest) → IsSteppedTo w seat n t told rest
-asked w seat n j note t told rest None is tie d = idled w seat n note t told rest d
-asked w seat n j note t told rest (Some st) is tie d = called_by w seat n j st note t told rest (call_reason w.shared seat.number st) is tie d
+asked : (w : WorldOf) (seat : SeatOf) (n : ℕ) (j : ActorJob) (to : Stepped) (o : Option Step) → next_of j ≡ o → IsTied w seat n j
+    → MatchOption o (IsIdle w.shared seat to) (λ st. CallSteps w.shared seat j st to) → IsSteppedTo w seat n to
+asked w seat n j to None is tie d = idled w seat n to d
+asked w seat n j to (Some st) is tie d = called_by w seat n j st to (call_reason w.shared seat.number st) is tie d
 
 -- whatever a step of a job came to
-job_steps : (w : WorldOf) (seat : SeatOf) (n : ℕ) (j : ActorJob) (note : Note) (t : SharedOf) (told : SeatOf) (rest : Option ActorJob) → IsTied w seat n j → JobSteps w.shared seat j note t told rest → IsSteppedTo w seat n t told rest
-job_steps w seat n j note t told rest tie d = by (is_local j) refl d
+job_steps : (w : WorldOf) (seat : SeatOf) (n : ℕ) (j : ActorJob) (to : Stepped) → IsTied w seat n j → JobSteps w.shared seat j to → IsSteppedTo w seat n to
+job_steps w seat n j to tie d = by (is_local j) refl d
   where
-    by : (b : Bool) → is_local j ≡ b → MatchBool b (Instructs w.shared seat j note t told rest) (MatchOption (next_of j) (IsIdle w.shared seat note t told rest) (λ st. CallSteps w.shared seat j st note t told rest)) → IsSteppedTo w seat n t told rest
-    by true local d = instructed w seat n j note t told rest local tie d
-    by false local d = asked w seat n j note t told rest (next_of j) refl tie d
+    by : (b : Bool) → is_local j ≡ b → MatchBool b (Instructs w.shared seat j to) (MatchOption (next_of j) (IsIdle w.shared seat to) (λ st. CallSteps w.shared seat j st to)) → IsSteppedTo w seat n to
+    by true local d = instructed w seat n j to local tie d
+    by false local d = asked w seat n j to (next_of j) refl tie d
 
-actor_steps : (w : WorldOf) (seat : SeatOf) (a : Actor) (note : Note) (t : SharedOf) (told : SeatOf) (b : Actor) → ((j : ActorJob) → a.job ≡ Some j → IsTied w seat a.launched j) → ActorSteps w.shared seat a note t told b → IsSteppedTo w seat b.launched t told b.job
-actor_steps w seat a note t told b tie d = subst (λ n. IsSteppedTo w seat n t told b.job) (sym d.launched) (by a.job refl d.steps)
-  where
-    by : (o : Option ActorJob) → a.job ≡ o → MatchOption o (IsIdle w.shared seat note t told b.job) (λ j. JobSteps w.shared seat j note t told b.job) → IsSteppedTo w seat a.launched t told b.job
-    by None is d = idled w seat a.launched note t told b.job d
-    by (Some j) is d = job_steps w seat a.launched j note t told b.job (tie j is) d
+actor_steps : (w : WorldOf) (seat : SeatOf) (n : ℕ) (o : Option ActorJob) (to : Stepped) → ((j : ActorJob) → o ≡ Some j → IsTied w seat n j) → StepsTo w.shared seat o to → IsSteppedTo w seat n to
+actor_steps w seat n None to tie d = idled w seat n to d
+actor_steps w seat n (Some j) to tie d = job_steps w seat n j to (tie j refl) d
 
 -- ---- events
 
@@ -251,8 +227,11 @@ stepped w v k n some s d = subst (λ x. IsSoundWorld x) (sym d.after) here
     u : WorldOf
     u = record w { shared = v.shared; seats = slice_set w.seats k d.told; actors = slice_set w.actors k d.stepped }
 
-    left : IsSteppedTo w d.seat d.stepped.launched v.shared d.told d.stepped.job
-    left = actor_steps w d.seat d.actor n v.shared d.told d.stepped (λ j is. s.tied k d.actor d.seat j d.its_actor d.its_seat is) d.steps
+    to : Stepped
+    to = record { note = n; table = v.shared; seat = d.told; job = d.stepped.job }
+
+    left : IsSteppedTo w d.seat d.stepped.launched to
+    left = subst (λ m. IsSteppedTo w d.seat m to) (sym d.steps.launched) (actor_steps w d.seat d.actor.launched d.actor.job to (λ j is. s.tied k d.actor d.seat j d.its_actor d.its_seat is) d.steps.steps)
 
     observers : v.shared.state.observers ≡ w.shared.state.observers
     observers = moves_observers w.shared d.seat v.shared d.told left.moves
@@ -309,12 +288,12 @@ change_made w k (Some batch) made is e ready =
     let here : ChangeCame w (new_change batch) [] = record { number = k; there = is; is = fits; converses = refl } in
     subst (λ x. Came w x []) same here
 
-run_made : (w : WorldOf) (o : ℕ) (row : Row) (found : Option ObserverOf) (made : ActorJob) → slice_get w.shared.state.observers o ≡ found → option_map (λ (x : ObserverOf). Run (fresh o x.program row x.column)) found ≡ Some made → IsReady made → Came w made []
+run_made : (w : WorldOf) (o : ℕ) (row : Row) (found : Option ObserverOf) (made : ActorJob) → slice_get w.shared.state.observers o ≡ found → option_map (λ (x : ObserverOf). Run (fresh (watch_of o x row))) found ≡ Some made → IsReady made → Came w made []
 run_made w o row None made is e ready = absurd (some_none made e)
 run_made w o row (Some x) made is e ready =
-    let same : Run (fresh o x.program row x.column) ≡ made = some_same (Run (fresh o x.program row x.column)) made e in
+    let same : Run (fresh (watch_of o x row)) ≡ made = some_same (Run (fresh (watch_of o x row))) made e in
     let fits = subst (λ y. IsReady y) (sym same) ready in
-    let here : RunCame w (fresh o x.program row x.column) [] = record { its = record { observer = x; there = is; program = refl; column = refl }; accepted = fits; reaches = talk.made } in
+    let here : RunCame w (fresh (watch_of o x row)) [] = record { its = record { observer = x; there = is; program = refl; column = refl }; accepted = fits; reaches = conversations.made } in
     subst (λ y. Came w y []) same here
 
 -- a job that was just made has said nothing

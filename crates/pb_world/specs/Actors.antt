@@ -29,6 +29,13 @@ IsRefusedBy s seat step causes.NoMemory = NoneApplies (call_reason s seat step)
 abbrev pub OnNote : {E : Type 0} → Result Note E → (Note → Type 0) → Type 0 → Type 0
 OnNote r P Q = MatchResult r P (λ _. Q)
 
+-- what a step comes to: its note, the table and the seat after it, and what is left of the job
+pub record Stepped : Type 0 where
+  pub note : Note
+  pub table : SharedOf
+  pub seat : SeatOf
+  pub job : Option ActorJob
+
 -- nothing but the job has changed
 pub record ChangesJobAlone (s : SharedOf) (seat : SeatOf) (t : SharedOf) (told : SeatOf) : Type 0 where
   pub table : t ≡ s
@@ -55,42 +62,46 @@ pub record IsNotAnswered (s : SharedOf) (seat : SeatOf) (j : ActorJob) (t : Shar
   pub same : ChangesJobAlone s seat t told
 
 -- the table answers the step, and the job takes it
-pub record AnswersJob (s : SharedOf) (seat : SeatOf) (j : ActorJob) (step : Step) (n : Note) (t : SharedOf) (told : SeatOf) (rest : Option ActorJob) : Type 0 where
+pub record AnswersJob (s : SharedOf) (seat : SeatOf) (j : ActorJob) (step : Step) (to : Stepped) : Type 0 where
   pub answer : Answer
   pub after : ActorJob
-  pub note : n ≡ Called answer
+  pub note : to.note ≡ Called answer
   pub can : CanAnswer step answer
-  pub calls : Calls s seat step answer t told
+  pub calls : Calls s seat step answer to.table to.seat
   pub takes : Takes j answer after
-  pub left : rest ≡ kept after
+  pub left : to.job ≡ kept after
 
 -- the table refuses the step, which ends the job
-pub record RefusesJob (s : SharedOf) (seat : SeatOf) (why : Reason) (n : Note) (t : SharedOf) (told : SeatOf) (rest : Option ActorJob) : Type 0 where
-  pub note : n ≡ Refused (reason_code why)
-  pub same : ChangesJobAlone s seat t told
-  pub left : rest ≡ None
+pub record RefusesJob (s : SharedOf) (seat : SeatOf) (why : Reason) (to : Stepped) : Type 0 where
+  pub note : to.note ≡ Refused (reason_code why)
+  pub same : ChangesJobAlone s seat to.table to.seat
+  pub left : to.job ≡ None
 
 -- the call that the job asks next is answered, or refused for the first reason that applies
-abbrev pub CallSteps : SharedOf → SeatOf → ActorJob → Step → Note → SharedOf → SeatOf → Option ActorJob → Type 0
-CallSteps s seat j step n t told left = MatchOption (call_reason s seat.number step) (AnswersJob s seat j step n t told left) (λ why. RefusesJob s seat why n t told left)
+abbrev pub CallSteps : SharedOf → SeatOf → ActorJob → Step → Stepped → Type 0
+CallSteps s seat j step to = MatchOption (call_reason s seat.number step) (AnswersJob s seat j step to) (λ why. RefusesJob s seat why to)
 
 -- one instruction of its machine
-pub record Instructs (s : SharedOf) (seat : SeatOf) (j : ActorJob) (n : Note) (t : SharedOf) (told : SeatOf) (rest : Option ActorJob) : Type 0 where
+pub record Instructs (s : SharedOf) (seat : SeatOf) (j : ActorJob) (to : Stepped) : Type 0 where
   pub after : ActorJob
-  pub note : n ≡ Instruction
-  pub same : ChangesJobAlone s seat t told
+  pub note : to.note ≡ Instruction
+  pub same : ChangesJobAlone s seat to.table to.seat
   pub computes : Computes j after
-  pub left : rest ≡ Some after
+  pub left : to.job ≡ Some after
 
 -- there was nothing to do
-pub record IsIdle (s : SharedOf) (seat : SeatOf) (n : Note) (t : SharedOf) (told : SeatOf) (rest : Option ActorJob) : Type 0 where
-  pub note : n ≡ Idle
-  pub same : ChangesJobAlone s seat t told
-  pub left : rest ≡ None
+pub record IsIdle (s : SharedOf) (seat : SeatOf) (to : Stepped) : Type 0 where
+  pub note : to.note ≡ Idle
+  pub same : ChangesJobAlone s seat to.table to.seat
+  pub left : to.job ≡ None
 
 -- one instruction or one call, as the job needs
-abbrev pub JobSteps : SharedOf → SeatOf → ActorJob → Note → SharedOf → SeatOf → Option ActorJob → Type 0
-JobSteps s seat j n t told left = MatchBool (is_local j) (Instructs s seat j n t told left) (MatchOption (next_of j) (IsIdle s seat n t told left) (λ step. CallSteps s seat j step n t told left))
+abbrev pub JobSteps : SharedOf → SeatOf → ActorJob → Stepped → Type 0
+JobSteps s seat j to = MatchBool (is_local j) (Instructs s seat j to) (MatchOption (next_of j) (IsIdle s seat to) (λ step. CallSteps s seat j step to))
+
+-- without a job there is nothing to do
+abbrev pub StepsTo : SharedOf → SeatOf → Option ActorJob → Stepped → Type 0
+StepsTo s seat job to = MatchOption job (IsIdle s seat to) (λ j. JobSteps s seat j to)
 
 -- what a job does next may want memory: an instruction that takes some, or a call that isn't refused
 abbrev pub MayWant : SharedOf → ℕ → ActorJob → Type 0
@@ -100,10 +111,10 @@ MayWant s seat j = MatchBool (is_local j) (GrowsNext j) (MatchOption (next_of j)
 abbrev pub ActorMayWant : SharedOf → ℕ → Actor → Type 0
 ActorMayWant s seat a = MatchOption a.job ⊥ (MayWant s seat)
 
--- an actor without job is idle
+-- a step of an actor, which stays launched as it was
 pub record ActorSteps (s : SharedOf) (seat : SeatOf) (a : Actor) (n : Note) (t : SharedOf) (told : SeatOf) (b : Actor) : Type 0 where
   pub launched : b.launched ≡ a.launched
-  pub steps : MatchOption a.job (IsIdle s seat n t told b.job) (λ j. JobSteps s seat j n t told b.job)
+  pub steps : StepsTo s seat a.job (record { note = n; table = t; seat = told; job = b.job })
 
 -- an actor with a job made now, whose seat's list has this length
 abbrev pub launched : ℕ → ActorJob → Actor

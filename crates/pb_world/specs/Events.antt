@@ -11,7 +11,7 @@ use Rattle.pb_steps.specs.declared.step.Answer.{Answer}
 use Rattle.pb_verify.specs.Observers.{ObserverOf}
 use Rattle.pb_core.specs.Calls.{SharedOf, SeatOf, Calls, call_reason}
 use Rattle.pb_txn.specs.Changes.{new_change}
-use Rattle.pb_notify.specs.Runs.{fresh}
+use Rattle.pb_notify.specs.Runs.{watch_of, fresh}
 use Rattle.pb_parse.specs.declared.event.Event.{Event}
 use Rattle.pb_parse.specs.declared.event.Event.TheVariants as events
 use Rattle.pb_parse.specs.declared.event.Job.{Job}
@@ -52,7 +52,7 @@ change_of batches k = if k == 0 then None else slice_get batches (k - 1)
 
 -- a run of the observer of this number on the cell of this row and of its column
 abbrev pub run_of : List ObserverOf → ℕ → Row → Option ActorJob
-run_of observers o row = option_map (λ (x : ObserverOf). actors.Run (fresh o x.program row x.column)) (slice_get observers o)
+run_of observers o row = option_map (λ (x : ObserverOf). actors.Run (fresh (watch_of o x row))) (slice_get observers o)
 
 -- the job that a launch gives, before its first step; none where there is no such change or observer
 abbrev pub job_for : WorldOf → Job → Option ActorJob

@@ -31,7 +31,7 @@ pub record IsLastLaunch (es : List Event) (k : ℕ) (job : Job) : Type 0 where
 -- the change of this number, or a run of this observer on the cell of this row
 abbrev pub IsOf : WorldOf → Job → ActorJob → Type 0
 IsOf w (jobs.Change k) (Change c) = change_of w.batches k ≡ Some c.batch
-IsOf w (jobs.Run o row) (Run r) = (r.observer ≡ o) × (r.row ≡ row) × HasObserver w r
+IsOf w (jobs.Run o row) (Run r) = (r.watch.observer ≡ o) × (r.watch.row ≡ row) × HasObserver w r.watch
 IsOf w job j = ⊥
 
 -- the actor's last launch among these events was for this job, which isn't at its end

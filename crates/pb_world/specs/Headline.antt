@@ -46,15 +46,14 @@ pub record HoldsOfChange (w : WorldOf) (c : ChangeOf) (said : List Received) : T
 -- the observer's program on the record of what was read, was told what was read, and is never stuck; while it asks, it
 -- stands before the asking instruction.
 pub record HoldsOfRun (w : WorldOf) (r : RunOf) (said : List Received) : Type 0 where
-  pub its : HasObserver w r
+  pub its : HasObserver w r.watch
   pub rest : List Received
   pub end : JobEnd
   pub run : Option Meant
-  pub talk : IsRunConversation r.observer r.judged r.row r.column (said ++ rest) end run
-  pub machine : (s : Ts) (v : Position) → MachineStandsAt r.place s v
-      → IsMachineOf r.observer r.judged r.row r.column r.place s v said × IsNeverStuck v
+  pub talk : IsRunConversation r.watch (said ++ rest) end run
+  pub machine : (s : Ts) (v : Position) → MachineStandsAt r.place s v → IsMachineOf r.watch r.place s v said × IsNeverStuck v
   pub asks : IsAskingAt r.place
-  pub ended : HasEnded r.observer r.judged r.row r.column r.place said
+  pub ended : HasEnded r.watch r.place said
 
 -- what is promised of a job and what was said for it
 abbrev pub HoldsOfJob : WorldOf → ActorJob → List Received → Type 0

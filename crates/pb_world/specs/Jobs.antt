@@ -80,4 +80,4 @@ pub record RulesAccept (j : JudgedOf) : Type 0 where
 -- a change of some cells, each named once, or a run of an accepted program
 abbrev pub IsReady : ActorJob → Type 0
 IsReady (Change c) = is_batch c.batch ≡ true
-IsReady (Run r) = RulesAccept r.judged
+IsReady (Run r) = RulesAccept r.watch.judged

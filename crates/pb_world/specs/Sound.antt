@@ -7,7 +7,7 @@ use Rattle.pb_history.specs.declared.entry.Received.{Received}
 use Rattle.pb_core.specs.Calls.{SeatOf, AreSeats}
 use Rattle.pb_core.specs.Histories.{IsLegalTable}
 use Rattle.pb_txn.specs.Changes.{ChangeOf, new_change, Converses}
-use Rattle.pb_notify.specs.Runs.{RunOf, fresh}
+use Rattle.pb_notify.specs.Runs.{Watch, RunOf, fresh}
 use Rattle.pb_notify.specs.Conversations.{Reaches}
 use Rattle.pb_world.specs.declared.actor.Actor.{Actor}
 use Rattle.pb_world.specs.declared.job.ActorJob.{ActorJob}
@@ -24,18 +24,18 @@ pub record ChangeCame (w : WorldOf) (c : ChangeOf) (said : List Received) : Type
   pub is : is_batch c.batch ≡ true
   pub converses : Converses (new_change c.batch) said c
 
--- its observer is there, with the program that it runs and the column that it reads
-pub record HasObserver (w : WorldOf) (r : RunOf) : Type 0 where
+-- the observer is there, with this program and this column
+pub record HasObserver (w : WorldOf) (o : Watch) : Type 0 where
   pub observer : ObserverOf
-  pub there : slice_get w.shared.state.observers r.observer ≡ Some observer
-  pub program : r.judged ≡ observer.program
-  pub column : r.column ≡ observer.column
+  pub there : slice_get w.shared.state.observers o.observer ≡ Some observer
+  pub program : o.judged ≡ observer.program
+  pub column : o.column ≡ observer.column
 
 -- a run of an observer, led by its answers and its machine's instructions to where it stands
 pub record RunCame (w : WorldOf) (r : RunOf) (said : List Received) : Type 0 where
-  pub its : HasObserver w r
-  pub accepted : RulesAccept r.judged
-  pub reaches : Reaches (fresh r.observer r.judged r.row r.column) said r
+  pub its : HasObserver w r.watch
+  pub accepted : RulesAccept r.watch.judged
+  pub reaches : Reaches (fresh r.watch) said r
 
 -- the job was led to where it stands by what was said
 abbrev pub Came : WorldOf → ActorJob → List Received → Type 0

@@ -103,7 +103,12 @@ fn step_job<T: Tablet>(
     mut job: ActorJob,
 ) -> AfterStep
     ensures { OnNote result.note
-        (λ n. JobSteps shared.old seat.old job n shared.new seat.new result.job)
+        (λ n. JobSteps shared.old seat.old job (record {
+          note = n;
+          table = shared.new;
+          seat = seat.new;
+          job = result.job;
+        }))
         ((shared.new ≡ shared.old)
         × (seat.new ≡ seat.old) × (result.job ≡ Some job)
         × MayWant shared.old seat.old.number job) }

@@ -72,7 +72,7 @@ returns-in_err-leave-clause-on c =
       | in-Starting+in_ok-local w ↦ rw w.self-is (one_more c.args.self.now w.local.new.self at_first c.requires w.in_ok-local.ensures.ok)
       | in_default w ↦ rw w.self-is at_first
     ] in
-    let j : RunOf = record { observer = i.observer; judged = i.accepted.value; row = i.row; column = i.column; locked = i.locked; place = i.place } in
+    let j : RunOf = record { watch = record { observer = i.observer; judged = i.accepted.value; row = i.row; column = i.column }; locked = i.locked; place = i.place } in
     let here = goes_on c.args.self.now _ j i.place c.in-Computing.field-0 c.in-Computing.machine f.last so_far c.self-2.view_is c.in-Computing.is f.proceeds in
     let back = c.in_err-leave.ensures.same c.in-Computing.field-0 f.last (c.follow-moved.new.self, refl, f.moves) in
     subst (λ p. ComputesOn c.args.self.now (job_at j p)) (sym back.0) here
@@ -100,7 +100,7 @@ returns-in_ok-leave-clause-on c =
       | in-Starting+in_ok-local w ↦ rw w.self-is (one_more c.args.self.now w.local.new.self at_first c.requires w.in_ok-local.ensures.ok)
       | in_default w ↦ rw w.self-is at_first
     ] in
-    let j : RunOf = record { observer = i.observer; judged = i.accepted.value; row = i.row; column = i.column; locked = i.locked; place = i.place } in
+    let j : RunOf = record { watch = record { observer = i.observer; judged = i.accepted.value; row = i.row; column = i.column }; locked = i.locked; place = i.place } in
     let here = goes_on c.args.self.now _ j i.place c.in-Computing.field-0 c.in-Computing.machine f.last so_far c.self-2.view_is c.in-Computing.is f.proceeds in
     let comes = c.in_ok-leave.ensures.ok c.in-Computing.field-0 f.last (c.follow-moved.new.self, refl, f.moves) in
     one_more (job_at j (Computing c.in-Computing.field-0 f.last)) (job_at j c.leave.new.place) here refl (record { comes = comes; same = refl })
@@ -117,7 +117,7 @@ returns-in_default-place c =
         | in-Starting+in_ok-local w ↦
             let is = ap (λ (j : RunOf). j.place) (c.self-2.view_is ∙ w.self-is) in
             let did = w.in_ok-local.ensures.ok in
-            let here = came_local c.args.self.now.observer c.args.self.now.judged _ c.args.self.now.place w.local.new.self.place did.comes (subst (λ p. need_at p ≡ Local) is need) in
+            let here = came_local c.args.self.now.watch.observer c.args.self.now.watch.judged _ c.args.self.now.place w.local.new.self.place did.comes (subst (λ p. need_at p ≡ Local) is need) in
             c.in_default-place.not-Computing here.0 here.1 (is ∙ here.2)
         | in_default w ↦
             let is = ap (λ (j : RunOf). j.place) (c.self-2.view_is ∙ w.self-is ∙ sym c.self.view_is) in

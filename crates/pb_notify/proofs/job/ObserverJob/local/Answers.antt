@@ -13,7 +13,7 @@ pub returns-in-Went-clause-ok : goal.returns-in-Went-clause-ok
 returns-in-Went-clause-ok c =
     let i = c.self.inside in
     let place : RunPlace = Computing c.in-Computing.field-0 c.local.new.self in
-    let k : RunOf = record { observer = i.observer; judged = i.accepted.value; row = i.row; column = i.column; locked = i.locked; place = place } in
+    let k : RunOf = record { watch = record { observer = i.observer; judged = i.accepted.value; row = i.row; column = i.column }; locked = i.locked; place = place } in
     let did = subst (λ m. MovesOn c.in-Computing.machine m c.local.new.self) c.in-Went.is c.local.ensures in
     subst (λ (j : RunOf). Computes j k) c.self.view_is
     (record { comes = subst (λ p. ComesFrom i.observer i.accepted.value (Data i.row i.column) p place) (sym c.in-Computing.is) (goes c.local.new.self (record { went = did.moves; most = did.most })); same = refl })
