@@ -1,4 +1,3 @@
-pub mod FileFaults
 pub mod KnownFiles
 pub mod FirstFaults
 pub mod ProgramFaults

@@ -1,13 +1,14 @@
 -- The fault of a known program's file is told.
 use Rattle.std.proofs.Common.{◌≡◌, refl, ap, sym, subst, ◌⊎◌, ℕ, Some, Ok, Err, inl, inr}
 use Rattle.pb_isa.specs.declared.profile.Profile.{Profile}
+use Rattle.pb_asm.specs.Listing.{listing}
 use Rattle.pb_asm.specs.Texts.{program_of_text}
 use Rattle.pb_command.specs.declared.fault.Fault.{Fault}
 use Rattle.pb_command.specs.declared.fault.Fault.TheVariants as faults
 use Rattle.pb_base.specs.Taking.{Taking}
 use Rattle.pb_command.specs.Files.{Text, Held, Filing}
 use Rattle.pb_command.specs.PathFaults.{IsUnreadAt}
-use Rattle.pb_command.specs.Programs.{Judges, AnswerFails, Lists, Checks, IsFaultyText, Unwritten}
+use Rattle.pb_command.specs.Programs.{Judges, AnswerFails, TellsProgram, Checks, IsFaultyText, Unwritten}
 use Rattle.pb_command.specs.ProgramFaults.{TellsPlace, FaultyTextIsTold, KnownBytesAreAnswered}
 use Rattle.pb_command.proofs.KnownFiles.{only_memory, same_bytes, text_is_text}
 
@@ -58,5 +59,5 @@ cut_or_unread judges bytes path out faults.NoMemory fails = inr fails.1
 
 -- bytes that are known are listed and checked, unless a write or memory fails
 pub known_bytes_are_answered : KnownBytesAreAnswered
-known_bytes_are_answered profile version bytes path out f (inl fails) = only_output bytes path f (cut_or_unread (Lists profile) bytes path out f fails)
+known_bytes_are_answered profile version bytes path out f (inl fails) = only_output bytes path f (cut_or_unread (TellsProgram listing profile) bytes path out f fails)
 known_bytes_are_answered profile version bytes path out f (inr fails) = only_output bytes path f (cut_or_unread (Checks profile version) bytes path out f fails)

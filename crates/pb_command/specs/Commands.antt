@@ -1,10 +1,12 @@
 -- What a command leaves: its status, its output, the lines of its fault, and what the paths hold. `command` promises
 -- it for all five, and `sequential_command` for those that wait for nothing.
-use Rattle.std.specs.Prelude.{◌≡◌, ℕ, List, [], ◌∷◌, None, Result, Ok, Err}
+use Rattle.std.specs.Prelude.{◌≡◌, ◌⊎◌, ℕ, List, [], ◌∷◌, None, Result, Ok, Err}
 use Rattle.std.specs.List.{All}
 use Rattle.pb_texts.specs.declared.words.choice.Options.{Options}
 use Rattle.pb_texts.specs.declared.words.choice.Options.TheVariants as options
+use Rattle.pb_texts.specs.declared.words.choice.ReplayFiles.{ReplayFiles}
 use Rattle.pb_worker.specs.Swaps.{Spare}
+use Rattle.pb_asm.specs.Listing.{listing}
 use Rattle.pb_base.specs.Taking.{Taking, TookNothing}
 use Rattle.pb_driver.specs.declared.fault.RunFault.{RunFault}
 use Rattle.pb_driver.specs.declared.run.Ran.{Ran}
@@ -17,7 +19,7 @@ use Rattle.pb_command.specs.declared.fault.Fault.TheVariants as faults
 use Rattle.pb_command.specs.FaultLines.{Tells}
 use Rattle.pb_command.specs.Files.{Text, Held, Filing, KeepsFiles, IsKnownAs}
 use Rattle.pb_command.specs.PathFaults.{IsFileFault}
-use Rattle.pb_command.specs.Programs.{AsmLeaves, AnswerLeaves, Lists, Checks}
+use Rattle.pb_command.specs.Programs.{AsmLeaves, AnswerLeaves, TellsProgram, Checks}
 
 -- ---- `run`
 
@@ -53,26 +55,31 @@ RunLeaves before manifest script workers spares out (Err f) = RunFails before ma
 
 -- ---- `replay`
 
--- texts that the three paths hold were replayed so, from this clock
-pub record ReplayedFrom (before : Held) (manifest script schedule : Text) (clock : ℕ) (out : Taking) (result : Result (Unit {0}) RunFault) : Type 0 where
-  pub manifest_text : List ℕ
-  pub script_text : List ℕ
-  pub schedule_text : List ℕ
-  pub manifest_held : IsKnownAs (before manifest) (Ok manifest_text)
-  pub script_held : IsKnownAs (before script) (Ok script_text)
-  pub schedule_held : IsKnownAs (before schedule) (Ok schedule_text)
-  pub replayed : ReplaysTexts manifest_text script_text schedule_text clock out result
+-- how the replay of a manifest, a script and a schedule ended, from a clock on, and what the sink took
+abbrev pub Replaying : Type 1
+Replaying = ℕ → List ℕ → List ℕ → List ℕ → Taking → Result (Unit {0}) RunFault → Type 0
 
--- the texts were replayed to this fault; or there was none to replay, and nothing was written
-abbrev pub ReplayFails : Held → Text → Text → Text → ℕ → Taking → Fault → Type 0
-ReplayFails before manifest script schedule clock out (faults.Run f) = ReplayedFrom before manifest script schedule clock out (Err f)
-ReplayFails before manifest script schedule clock out f = TookNothing out × IsFileFault before (manifest ∷ script ∷ schedule ∷ []) f
+-- texts that the three paths hold were replayed so, from the clock that was asked for
+pub record ReplayedFrom (replays : Replaying) (before : Held) (files : ReplayFiles) (out : Taking) (result : Result (Unit {0}) RunFault) : Type 0 where
+  pub manifest : List ℕ
+  pub script : List ℕ
+  pub schedule : List ℕ
+  pub manifest_held : IsKnownAs (before files.manifest.now) (Ok manifest)
+  pub script_held : IsKnownAs (before files.script.now) (Ok script)
+  pub schedule_held : IsKnownAs (before files.schedule.now) (Ok schedule)
+  pub replayed : replays files.clock.0 manifest script schedule out result
 
--- what `replay` leaves: the report of what the events left, or a fault
-abbrev pub ReplayLeaves : Held → Text → Text → Text → ℕ → Taking → Result Verdict Fault → Type 0
-ReplayLeaves before manifest script schedule clock out (Ok Accepted) = ReplayedFrom before manifest script schedule clock out (Ok tt)
-ReplayLeaves before manifest script schedule clock out (Ok Refused) = ⊥
-ReplayLeaves before manifest script schedule clock out (Err f) = ReplayFails before manifest script schedule clock out f
+-- one of the files is at fault, and nothing was written; or the texts were replayed to this fault
+abbrev pub ReplayFails : Replaying → Held → ReplayFiles → Taking → Fault → Type 0
+ReplayFails replays before files out f =
+    (IsFileFault before (files.manifest.now ∷ files.script.now ∷ files.schedule.now ∷ []) f × TookNothing out) ⊎
+    ((g : RunFault) × (f ≡ faults.Run g) × ReplayedFrom replays before files out (Err g))
+
+-- what a replay leaves: the whole of what it writes, or a fault; it refuses nothing that it is given
+abbrev pub ReplayLeaves : Replaying → Held → ReplayFiles → Taking → Result Verdict Fault → Type 0
+ReplayLeaves replays before files out (Ok Accepted) = ReplayedFrom replays before files out (Ok tt)
+ReplayLeaves replays before files out (Ok Refused) = ⊥
+ReplayLeaves replays before files out (Err f) = ReplayFails replays before files out f
 
 -- ---- any command
 
@@ -85,14 +92,13 @@ IsSequential other = Unit {0}
 abbrev pub LeavesBehind : Options → List Spare → Filing → Taking → Result Verdict Fault → Type 0
 LeavesBehind (options.Run manifest script workers swaps) spares files out outcome =
     KeepsFiles files × RunLeaves files.before manifest.now script.now workers spares out outcome
-LeavesBehind (options.Replay manifest script schedule clock) spares files out outcome =
-    KeepsFiles files × ReplayLeaves files.before manifest.now script.now schedule.now clock.0 out outcome
+LeavesBehind (options.Replay replay) spares files out outcome = KeepsFiles files × ReplayLeaves ReplaysTexts files.before replay out outcome
 LeavesBehind (options.Asm input output profile) spares files out outcome =
     TookNothing out × AsmLeaves profile files input.now output.now outcome
 LeavesBehind (options.Dis file profile) spares files out outcome =
-    KeepsFiles files × AnswerLeaves (Lists profile) (files.before file.now) file.now out outcome
-LeavesBehind (options.Check file profile version) spares files out outcome =
-    KeepsFiles files × AnswerLeaves (Checks profile version) (files.before file.now) file.now out outcome
+    KeepsFiles files × AnswerLeaves (TellsProgram listing profile) (files.before file.now) file.now out outcome
+LeavesBehind (options.Check program) spares files out outcome =
+    KeepsFiles files × AnswerLeaves (Checks program.profile program.version) (files.before program.file.now) program.file.now out outcome
 
 -- an outcome as a status, with what was told
 abbrev pub IsToldAs : Result Verdict Fault → Taking → ℕ → Type 0

@@ -4,11 +4,12 @@ use Rattle.std.specs.Prelude.{◌≡◌, ◌⊎◌, ℕ, Some, Ok, Err, IsUtf8}
 use Rattle.pb_isa.specs.declared.profile.Profile.{Profile}
 use Rattle.pb_helpers.specs.declared.change.Version.{Version}
 use Rattle.pb_asm.specs.Texts.{program_of_text}
+use Rattle.pb_asm.specs.Listing.{listing}
 use Rattle.pb_base.specs.Taking.{Taking}
 use Rattle.pb_command.specs.declared.fault.Fault.{Fault}
 use Rattle.pb_command.specs.declared.fault.Fault.TheVariants as faults
 use Rattle.pb_command.specs.Files.{Text, Filing}
-use Rattle.pb_command.specs.Programs.{AsmFails, AnswerFails, Lists, Checks}
+use Rattle.pb_command.specs.Programs.{AsmFails, AnswerFails, TellsProgram, Checks}
 
 -- this tells the place of a text's fault, or that memory was refused
 abbrev pub TellsPlace : ℕ → ℕ → Fault → Type 0
@@ -25,6 +26,6 @@ FaultyTextIsTold = (profile : Profile) (files : Filing) (input output text : Tex
 -- of bytes that are known, nothing but the output or memory fails where they are listed or checked
 abbrev pub KnownBytesAreAnswered : Type 0
 KnownBytesAreAnswered = (profile : Profile) (version : Version) (bytes path : Text) (out : Taking) (f : Fault) →
-    AnswerFails (Lists profile) (Some (Ok bytes)) path out f ⊎
+    AnswerFails (TellsProgram listing profile) (Some (Ok bytes)) path out f ⊎
     AnswerFails (Checks profile version) (Some (Ok bytes)) path out f →
     (f ≡ faults.Output) ⊎ (f ≡ faults.NoMemory)

@@ -3,6 +3,7 @@
 use Rattle.std.specs.Prelude.{◌≡◌, ◌≢◌, ℕ, ◌⊎◌, true, List, ◌++◌, codes, Option, Result, Ok, Err}
 use Rattle.std.specs.Fmt.{decimal}
 use Rattle.pb_isa.specs.Slots.{slots}
+use Rattle.pb_isa.specs.declared.insn.Insn.{Insn}
 use Rattle.pb_isa.specs.declared.profile.Profile.{Profile}
 use Rattle.pb_isa.specs.Programs.{ProgramOf, JudgedOf}
 use Rattle.pb_helpers.specs.declared.change.Version.{Version}
@@ -11,7 +12,6 @@ use Rattle.pb_registry.specs.Accepting.{IsAcceptedCode, IsRefusedCode}
 use Rattle.pb_decode.specs.Encoding.{Encodes}
 use Rattle.pb_decode.specs.Faults.{AreRefusedAs}
 use Rattle.pb_reading.specs.declared.fault.TextFault.{TextFault}
-use Rattle.pb_asm.specs.Listing.{listing}
 use Rattle.pb_asm.specs.Texts.{program_of_text}
 use Rattle.pb_base.specs.Taking.{Taking, TookAll, TookPart, TookNothing}
 use Rattle.pb_command.specs.declared.answer.Verdict.{Verdict}
@@ -79,10 +79,10 @@ refusal_line slot code = codes "refused slot " ++ (decimal slot ++ (codes " code
 abbrev pub Judges : Type 1
 Judges = List ℕ → Verdict → List ℕ → Type 0
 
--- the listing of the program of the profile that the bytes encode; or the first slot at fault, with its lowest code
-abbrev pub Lists : Profile → Judges
-Lists profile bytes Accepted text = (p : ProgramOf) × (p.profile ≡ profile) × Encodes bytes p × (text ≡ listing p.insns)
-Lists profile bytes Refused text = (slot code : ℕ) × AreRefusedAs profile bytes slot code × (text ≡ refusal_line slot code)
+-- this text of the program of the profile that the bytes encode; or the first slot at fault, with its lowest code
+abbrev pub TellsProgram : (List Insn → List ℕ) → Profile → Judges
+TellsProgram text_of profile bytes Accepted text = (p : ProgramOf) × (p.profile ≡ profile) × Encodes bytes p × (text ≡ text_of p.insns)
+TellsProgram text_of profile bytes Refused text = (slot code : ℕ) × AreRefusedAs profile bytes slot code × (text ≡ refusal_line slot code)
 
 -- the line that tells that a program is accepted
 abbrev pub acceptance_line : ℕ → List ℕ

@@ -5,18 +5,19 @@ ghost use Rattle.pb_store.specs.Contents.{nothing};
 ghost use Rattle.pb_texts.specs.CommandLines.{IsInRange, swaps_asked};
 ghost use Rattle.pb_worker.specs.Swaps.{spares_of};
 ghost use Rattle.pb_base.specs.Taking.{taking};
+ghost use Rattle.pb_driver.specs.Replays.{ReplaysTexts};
 ghost use Rattle.pb_command.specs.Files.{filing};
 ghost use Rattle.pb_command.specs.Commands.{IsAllDone, RunLeaves, ReplayLeaves, IsToldAs, IsSequential, Commands};
 
 use crate::answer::Verdict;
 use crate::fault::{Fault, tell};
 use crate::paths::Paths;
-use crate::programs::{assemble_file, check_file, list_file};
+use crate::programs::{Listing, assemble_file, check_file, tell_file};
 use crate::reading::{texts_at, three_texts_at};
 use pb_base::{Sink, Ts};
 use pb_driver::{Ran, replay_texts, run_texts};
 use pb_store::{Table, Tablet};
-use pb_texts::Options;
+use pb_texts::{Options, ReplayFiles};
 use pb_worker::end_spares;
 use std::alloc::Global;
 use std::sync::Wait;
@@ -51,77 +52,57 @@ fn run_files<'a, R: Threads + Wait + Sync, T: Tablet + Send, P: Paths, O: Sink>(
     ensures same { P.held paths.new ≡ P.held paths.old }
     ensures quiet { P.failed paths.new ≡ P.failed paths.old }
 {
-    match texts_at(paths, manifest, script) {
-        Ok((manifest, script)) => {
-            let outcome = run_texts(
-                rt,
-                alloc,
-                manifest.as_str(),
-                script.as_str(),
-                workers,
-                table,
-                spares,
-                Ts(0),
-                out,
-            );
-            let ran = match outcome {
-                Ok(ran) => ran,
-                Err(fault) => return Err(Fault::Run(fault)),
-            };
-            // The report is written whatever was left undone, so that this is told behind it.
-            if is_all_done(&ran) {
-                Ok(Verdict::Accepted)
-            } else {
-                Err(Fault::Undone(ran))
-            }
-        }
+    let (manifest, script) = match texts_at(paths, manifest, script) {
+        Ok(texts) => texts,
         Err(fault) => {
             table.close();
             end_spares(spares);
-            Err(fault)
+            return Err(fault);
         }
+    };
+    let ran = run_texts(
+        rt,
+        alloc,
+        &manifest,
+        &script,
+        workers,
+        table,
+        spares,
+        Ts(0),
+        out,
+    )?;
+    // The report is written whatever was left undone, so that this is told behind it.
+    if is_all_done(&ran) {
+        Ok(Verdict::Accepted)
+    } else {
+        Err(Fault::Undone(ran))
     }
 }
 
-// Replays three files on the table, from this clock, and ends it.
+// Replays three files on the table, and ends it.
 fn replay_files<'a, T: Tablet, P: Paths, O: Sink>(
     alloc: Global,
-    manifest: &'a str,
-    script: &'a str,
-    schedule: &'a str,
-    clock: Ts,
+    files: &ReplayFiles<'a>,
     paths: &mut P,
     table: Table<T>,
     out: &mut O,
 ) -> Result<Verdict, Fault<'a>>
     requires empty { table.contents ≡ nothing }
     requires unfailed { O.failed out.old ≡ false }
-    ensures ran { ReplayLeaves (P.held paths.old) manifest.now script.now schedule.now clock.0
+    ensures ran { ReplayLeaves ReplaysTexts (P.held paths.old) files.now
         (taking O.taken O.failed out.old out.new) result }
     ensures same { P.held paths.new ≡ P.held paths.old }
     ensures quiet { P.failed paths.new ≡ P.failed paths.old }
 {
-    match three_texts_at(paths, manifest, script, schedule) {
-        Ok((manifest, script, schedule)) => {
-            let outcome = replay_texts(
-                alloc,
-                manifest.as_str(),
-                script.as_str(),
-                schedule.as_str(),
-                table,
-                clock,
-                out,
-            );
-            match outcome {
-                Ok(()) => Ok(Verdict::Accepted),
-                Err(fault) => Err(Fault::Run(fault)),
-            }
-        }
+    let (manifest, script, events) = match three_texts_at(paths, files) {
+        Ok(texts) => texts,
         Err(fault) => {
             table.close();
-            Err(fault)
+            return Err(fault);
         }
-    }
+    };
+    replay_texts(alloc, &manifest, &script, &events, table, files.clock, out)?;
+    Ok(Verdict::Accepted)
 }
 
 /// The status of an outcome. Its fault, if it is one, is told.
@@ -175,12 +156,7 @@ pub fn sequential_command<T: Tablet, P: Paths, O: Sink, E: Sink>(
     end_spares(spares);
     let outcome = match options {
         Options::Run { .. } => unreachable!(),
-        Options::Replay {
-            manifest,
-            script,
-            schedule,
-            clock,
-        } => replay_files(alloc, manifest, script, schedule, *clock, paths, table, out),
+        Options::Replay(files) => replay_files(alloc, files, paths, table, out),
         Options::Asm {
             input,
             output,
@@ -191,15 +167,11 @@ pub fn sequential_command<T: Tablet, P: Paths, O: Sink, E: Sink>(
         }
         Options::Dis { file, profile } => {
             table.close();
-            list_file(alloc, *profile, file, paths, out)
+            tell_file::<Listing, P, O>(alloc, *profile, file, paths, out)
         }
-        Options::Check {
-            file,
-            profile,
-            version,
-        } => {
+        Options::Check(program) => {
             table.close();
-            check_file(alloc, *profile, *version, file, paths, out)
+            check_file(alloc, program, paths, out)
         }
     };
     status_of(alloc, &outcome, err)

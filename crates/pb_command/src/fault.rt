@@ -42,6 +42,14 @@ impl<'a> From<AllocError> for Fault<'a> {
     }
 }
 
+impl<'a> From<RunFault> for Fault<'a> {
+    ghost from_gives = { λ f e. e ≡ faults.Run f };
+
+    fn from(fault: RunFault) -> Fault<'a> {
+        Fault::Run(fault)
+    }
+}
+
 // The line that tells the fault of a program's text.
 fn text_line(alloc: Global, fault: AsmFault) -> Result<String, AllocError>
     ensures { IfOk result (λ s. string_bytes s ≡ place_line fault.line fault.code) }

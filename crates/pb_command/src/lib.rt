@@ -16,11 +16,11 @@ mod paths;
 mod programs;
 mod reading;
 
-pub use answer::{Verdict, VerdictText};
+pub use answer::Verdict;
 pub use carry::{command, sequential_command, status_of};
 pub use fault::Fault;
 pub use files::Files;
 pub use laws::{first_file_fault_is_told, known_programs_are_judged};
 pub use paths::{PathFault, Paths};
-pub use programs::{refusal_of, write_answer};
-pub use reading::{bytes_at, three_texts_at};
+pub use programs::{ProgramText, tell_file};
+pub use reading::three_texts_at;

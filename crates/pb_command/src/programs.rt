@@ -1,23 +1,26 @@
 //! Programs assembled, listed and checked. A file's bytes are judged, and the text made, before any of it is written.
-ghost use Rattle.std.specs.Prelude.{◌≡◌, false, IfOk, IfErr, string_bytes};
+ghost use Rattle.std.specs.Prelude.{◌≡◌, ℕ, List, false, IfOk, IfErr, string_bytes};
+ghost use Rattle.pb_isa.specs.declared.insn.Insn.{Insn};
+ghost use Rattle.pb_asm.specs.Listing.{listing};
 ghost use Rattle.pb_base.specs.Taking.{taking, TookAll, TookPart};
 ghost use Rattle.pb_command.specs.declared.fault.Fault.TheVariants as faults;
 ghost use Rattle.pb_command.specs.Files.{filing};
 ghost use Rattle.pb_command.specs.PathFaults.{IsUnreadAt};
 ghost use Rattle.pb_command.specs.Programs.{IsNoProgramText, IsTextFault, IsMemoryFault};
 ghost use Rattle.pb_command.specs.declared.answer.Verdict.TheVariants as verdicts;
-ghost use Rattle.pb_command.specs.Programs.{Assembles, AsmLeaves, Lists, Checks, AnswerLeaves, refusal_line, acceptance_line};
+ghost use Rattle.pb_command.specs.Programs.{Assembles, AsmLeaves, TellsProgram, Checks, AnswerLeaves, refusal_line, acceptance_line};
 
 use crate::answer::{Verdict, VerdictText};
 use crate::fault::Fault;
 use crate::paths::{PathFault, Paths};
 use crate::reading::{bytes_at, text_of};
 use pb_asm::{AsmFault, assemble_in, disassemble};
-use pb_base::{Reason, Refused, Sink};
+use pb_base::{NoMemory, Reason, Refused, Sink};
 use pb_decode::{DecodeFault, decode_in, encode};
 use pb_helpers::{HelperTable, Version};
-use pb_isa::Profile;
+use pb_isa::{Profile, Program};
 use pb_registry::accept_in;
+use pb_texts::ProgramFile;
 use pb_verify::VerifyFault;
 use std::alloc::{AllocError, Global};
 
@@ -79,8 +82,8 @@ fn refusal_line(alloc: Global, refused: Refused) -> Result<String, AllocError>
     format!(in alloc; "refused slot {slot} code {code}\n")
 }
 
-/// A refusal, and the line that tells it.
-pub fn refusal_of<'a>(alloc: Global, refused: Refused) -> Result<VerdictText, Fault<'a>>
+// A refusal, and the line that tells it.
+fn refusal_of<'a>(alloc: Global, refused: Refused) -> Result<VerdictText, Fault<'a>>
     ensures told { IfOk result
         (λ a. (a.verdict ≡ verdicts.Refused)
         × (string_bytes a.text ≡ refusal_line refused.slot refused.code)) }
@@ -93,14 +96,39 @@ pub fn refusal_of<'a>(alloc: Global, refused: Refused) -> Result<VerdictText, Fa
     })
 }
 
-// The listing of bytes, read in this profile, or where they are refused.
-fn listing_of<'a>(alloc: Global, profile: Profile, bytes: &[u8]) -> Result<VerdictText, Fault<'a>>
-    ensures told { IfOk result (λ a. Lists profile bytes.now a.verdict (string_bytes a.text)) }
+/// What is told of a program.
+pub trait ProgramText {
+    ghost text_of: { List Insn → List ℕ };
+
+    /// The text that is told of this one.
+    fn text(alloc: Global, program: &Program) -> Result<String, NoMemory>
+        ensures { IfOk result (λ s. string_bytes s ≡ text_of program.now.insns) };
+}
+
+/// Its listing.
+pub struct Listing;
+
+impl ProgramText for Listing {
+    ghost text_of = { listing };
+
+    fn text(alloc: Global, program: &Program) -> Result<String, NoMemory> {
+        disassemble(alloc, program)
+    }
+}
+
+// What is told of the program of these bytes, read in this profile, or where they are refused.
+fn told_of<'a, V: ProgramText>(
+    alloc: Global,
+    profile: Profile,
+    bytes: &[u8],
+) -> Result<VerdictText, Fault<'a>>
+    ensures told { IfOk result (λ a. TellsProgram V.text_of profile bytes.now a.verdict
+        (string_bytes a.text)) }
     ensures fault { IfErr result IsMemoryFault }
 {
     match decode_in(alloc, profile, bytes) {
         Ok(program) => {
-            let text = disassemble(alloc, &program)?;
+            let text = V::text(alloc, &program)?;
             Ok(VerdictText {
                 verdict: Verdict::Accepted,
                 text,
@@ -144,8 +172,8 @@ fn verdict_of<'a>(
     }
 }
 
-/// Writes an answer.
-pub fn write_answer<'a, O: Sink>(answer: &VerdictText, out: &mut O) -> Result<Verdict, Fault<'a>>
+// Writes an answer.
+fn write_answer<'a, O: Sink>(answer: &VerdictText, out: &mut O) -> Result<Verdict, Fault<'a>>
     requires unfailed { O.failed out.old ≡ false }
     ensures ok { IfOk result (λ v. (v ≡ answer.now.verdict)
         × TookAll (taking O.taken O.failed out.old out.new) (string_bytes answer.now.text)) }
@@ -158,8 +186,8 @@ pub fn write_answer<'a, O: Sink>(answer: &VerdictText, out: &mut O) -> Result<Ve
     }
 }
 
-/// Writes the listing of the program of this profile whose bytes a file is, or where they are refused.
-pub fn list_file<'a, P: Paths, O: Sink>(
+/// Writes what is told of the program of this profile whose bytes a file is, or where they are refused.
+pub fn tell_file<'a, V: ProgramText, P: Paths, O: Sink>(
     alloc: Global,
     profile: Profile,
     file: &'a str,
@@ -167,33 +195,32 @@ pub fn list_file<'a, P: Paths, O: Sink>(
     out: &mut O,
 ) -> Result<Verdict, Fault<'a>>
     requires unfailed { O.failed out.old ≡ false }
-    ensures told { AnswerLeaves (Lists profile) (P.held paths.old file.now) file.now
+    ensures told { AnswerLeaves (TellsProgram V.text_of profile) (P.held paths.old file.now)
+        file.now
         (taking O.taken O.failed out.old out.new) result }
     ensures same { P.held paths.new ≡ P.held paths.old }
     ensures quiet { P.failed paths.new ≡ P.failed paths.old }
 {
     let bytes = bytes_at(paths, file)?;
-    let answer = listing_of(alloc, profile, &bytes)?;
+    let answer = told_of::<V>(alloc, profile, &bytes)?;
     write_answer(&answer, out)
 }
 
-/// Writes whether the program of this profile whose bytes a file is is accepted with all helpers for change records of this
-/// version, or where they are refused.
+/// Writes whether a file's program is accepted with all helpers, or where it is refused.
 pub fn check_file<'a, P: Paths, O: Sink>(
     alloc: Global,
-    profile: Profile,
-    version: Version,
-    file: &'a str,
+    program: &ProgramFile<'a>,
     paths: &mut P,
     out: &mut O,
 ) -> Result<Verdict, Fault<'a>>
     requires unfailed { O.failed out.old ≡ false }
-    ensures told { AnswerLeaves (Checks profile version) (P.held paths.old file.now) file.now
+    ensures told { AnswerLeaves (Checks program.now.profile program.now.version)
+        (P.held paths.old program.now.file.now) program.now.file.now
         (taking O.taken O.failed out.old out.new) result }
     ensures same { P.held paths.new ≡ P.held paths.old }
     ensures quiet { P.failed paths.new ≡ P.failed paths.old }
 {
-    let bytes = bytes_at(paths, file)?;
-    let answer = verdict_of(alloc, profile, version, &bytes)?;
+    let bytes = bytes_at(paths, program.file)?;
+    let answer = verdict_of(alloc, program.profile, program.version, &bytes)?;
     write_answer(&answer, out)
 }

@@ -6,6 +6,7 @@ ghost use Rattle.pb_command.specs.PathFaults.{IsUnreadAt, IsNoTextAt, IsFileFaul
 
 use crate::fault::Fault;
 use crate::paths::{PathFault, Paths};
+use pb_texts::ReplayFiles;
 
 /// The bytes of a file.
 pub fn bytes_at<'a, P: Paths>(paths: &mut P, path: &'a str) -> Result<Vec<u8>, Fault<'a>>
@@ -55,29 +56,27 @@ pub fn texts_at<'a, P: Paths>(
     Ok((first, second))
 }
 
-/// Three files as text. All are read before the first is taken as text.
+/// The three files of a replay as text. All are read before the first is taken as text.
 pub fn three_texts_at<'a, P: Paths>(
     paths: &mut P,
-    manifest: &'a str,
-    script: &'a str,
-    schedule: &'a str,
+    files: &ReplayFiles<'a>,
 ) -> Result<(String, String, String), Fault<'a>>
-    ensures manifest { IfOk result (λ t. IsKnownAs (P.held paths.old manifest.now)
+    ensures manifest { IfOk result (λ t. IsKnownAs (P.held paths.old files.now.manifest.now)
         (Ok (string_bytes t.0))) }
-    ensures script { IfOk result (λ t. IsKnownAs (P.held paths.old script.now)
+    ensures script { IfOk result (λ t. IsKnownAs (P.held paths.old files.now.script.now)
         (Ok (string_bytes t.1))) }
-    ensures schedule { IfOk result (λ t. IsKnownAs (P.held paths.old schedule.now)
+    ensures schedule { IfOk result (λ t. IsKnownAs (P.held paths.old files.now.schedule.now)
         (Ok (string_bytes t.2))) }
     ensures same { P.held paths.new ≡ P.held paths.old }
     ensures quiet { P.failed paths.new ≡ P.failed paths.old }
     ensures fault { IfErr result (IsFileFault (P.held paths.old)
-        (manifest.now ∷ script.now ∷ schedule.now ∷ [])) }
+        (files.now.manifest.now ∷ files.now.script.now ∷ files.now.schedule.now ∷ [])) }
 {
-    let manifest_bytes = bytes_at(paths, manifest)?;
-    let script_bytes = bytes_at(paths, script)?;
-    let schedule_bytes = bytes_at(paths, schedule)?;
-    let manifest_text = text_of(manifest_bytes, manifest)?;
-    let script_text = text_of(script_bytes, script)?;
-    let schedule_text = text_of(schedule_bytes, schedule)?;
+    let manifest_bytes = bytes_at(paths, files.manifest)?;
+    let script_bytes = bytes_at(paths, files.script)?;
+    let schedule_bytes = bytes_at(paths, files.schedule)?;
+    let manifest_text = text_of(manifest_bytes, files.manifest)?;
+    let script_text = text_of(script_bytes, files.script)?;
+    let schedule_text = text_of(schedule_bytes, files.schedule)?;
     Ok((manifest_text, script_text, schedule_text))
 }

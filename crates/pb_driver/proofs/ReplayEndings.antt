@@ -1,5 +1,5 @@
 -- How a run of events ends, by what its calls answered.
-use Rattle.std.proofs.Common.{◌≡◌, Bool, true, false, List, Ok, Err, refl}
+use Rattle.std.proofs.Common.{◌≡◌, ℕ, Bool, true, false, List, Result, Ok, Err, refl}
 use Rattle.std.specs.Prelude.{◌==◌, if◌then◌else◌}
 use Rattle.std.proofs.lemmas.Bool.{eqb-false}
 use Rattle.pb_base.specs.declared.refusal.Reason.TheVariants.{NoMemory}
@@ -12,9 +12,10 @@ use Rattle.pb_script.specs.declared.fault.ReportFault.{ReportFault}
 use Rattle.pb_script.specs.declared.fault.ReportFault.TheVariants as ends
 use Rattle.pb_base.specs.Taking.{Taking, TookNothing}
 use Rattle.pb_script.specs.TableReports.{Reports}
+use Rattle.pb_driver.specs.declared.fault.RunFault.{RunFault}
 use Rattle.pb_driver.specs.declared.fault.RunFault.TheVariants as faults
 use Rattle.pb_driver.specs.Texts.{of_report}
-use Rattle.pb_driver.specs.Replays.{of_event, EventsEnd}
+use Rattle.pb_driver.specs.Replays.{of_event, EventsEnd, OpensReplay, ReplaysTexts}
 
 pub reported : (w : WorldOf) (es : List Event) (ns : List Note) (v : WorldOf) (out : Taking) → RunsTo w es ns v → Reports v.shared out (Ok tt) → EventsEnd w es out (Ok tt)
 reported w es ns v out r p = record { notes = ns; after = v; runs = r; wrote = p }
@@ -29,3 +30,14 @@ stopped w es f v out nothing s = by (f.code == reason_code NoMemory) refl
     by : (b : Bool) → (f.code == reason_code NoMemory) ≡ b → EventsEnd w es out (Err (if b then faults.NoMemory else faults.Event f))
     by true e = nothing
     by false e = (record { other = eqb-false f.code (reason_code NoMemory) e; after = v; stops = s }, nothing)
+
+-- events that ended in the world that the texts open
+pub replayed : (last : ℕ) (m s e : List ℕ) (w : WorldOf) (es : List Event) (out : Taking) (r : Result (Unit {0}) RunFault) → OpensReplay last m s e w es → EventsEnd w es out r → ReplaysTexts last m s e out r
+replayed last m s e w es out (Ok u) o h = record { world = w; events = es; opens = o; ends = h }
+replayed last m s e w es out (Err faults.Output) o h = record { world = w; events = es; opens = o; ends = h }
+replayed last m s e w es out (Err (faults.Event f)) o h = record { world = w; events = es; opens = o; ends = h }
+replayed last m s e w es out (Err faults.NoMemory) o h = h
+replayed last m s e w es out (Err faults.SeatsDiffer) o h = absurd h
+replayed last m s e w es out (Err (faults.Manifest f)) o h = absurd h
+replayed last m s e w es out (Err (faults.Script f)) o h = absurd h
+replayed last m s e w es out (Err (faults.Schedule f)) o h = absurd h

@@ -8,14 +8,10 @@ use Rattle.pb_worker.specs.Agrees.{Agree}
 use Rattle.pb_worker.specs.Laws.{ChangesAreMade}
 use Rattle.pb_worker.specs.Swaps.{Spare}
 use Rattle.pb_worker.specs.Work.{KeepsOpening}
-use Rattle.pb_script.specs.declared.fault.ReportFault.{ReportFault}
-use Rattle.pb_script.specs.declared.fault.ReportFault.TheVariants as ends
 use Rattle.pb_base.specs.Taking.{Taking}
-use Rattle.pb_script.specs.TableReports.{Reports}
 use Rattle.pb_driver.specs.declared.fault.RunFault.{RunFault}
 use Rattle.pb_driver.specs.declared.fault.RunFault.TheVariants as faults
 use Rattle.pb_driver.specs.declared.run.Ran.{Ran}
-use Rattle.pb_driver.specs.Texts.{of_report}
 use Rattle.pb_driver.specs.Runs.{Remains, WorkersLeave, FinishAccepts, Concludes, RunsOn}
 
 -- a legal journal is so from what the table was opened with

@@ -1,6 +1,6 @@
 -- Replays: a schedule's events in a world of a manifest's observers and a script's changes, and the report of what
 -- they left. `replay_texts` promises it; where an event is at fault, nothing is reported.
-use Rattle.std.specs.Prelude.{◌≢◌, ℕ, ◌==◌, if◌then◌else◌, List, length, Result, Ok, Err}
+use Rattle.std.specs.Prelude.{◌≡◌, ◌≢◌, ℕ, ◌==◌, if◌then◌else◌, List, length, Result, Ok, Err}
 use Rattle.pb_base.specs.declared.limits.TheConstants.{MAX_SEATS}
 use Rattle.pb_base.specs.declared.refusal.Reason.TheVariants.{NoMemory}
 use Rattle.pb_base.specs.Reasons.{reason_code}
@@ -55,27 +55,29 @@ EventsEnd w events out (Err _) = ⊥
 abbrev pub opened_world : SharedOf → List SeatOf → List Writes → WorldOf
 opened_world shared seats batches = record { shared = shared; seats = seats; actors = idle_actors (length seats); batches = batches }
 
--- how events ended in the world that such a table is opened as
-abbrev pub Replays : SharedOf → List SeatOf → List Writes → List Event → Taking → Result (Unit {0}) RunFault → Type 0
-Replays shared seats batches events out result = EventsEnd (opened_world shared seats batches) events out result
-
 -- ---- the whole
 
--- The three texts are read, and the schedule's events ended so in a world of the manifest's observers and the script's
+-- The three texts are read, the last as these events, and this is the world of the manifest's observers and the script's
 -- changes, over the table as opened with all its seats and the clock at `last`.
-pub record ReplayedOn (manifest script schedule : List ℕ) (last : ℕ) (out : Taking) (result : Result (Unit {0}) RunFault) : Type 0 where
+pub record OpensReplay (last : ℕ) (manifest script schedule : List ℕ) (world : WorldOf) (events : List Event) : Type 0 where
   pub observers : List ObserverOf
   pub batches : List Writes
-  pub events : List Event
   pub read : IsReplayRead manifest script schedule observers batches events
   pub seats : List SeatOf
   pub seated : AreSeats (fresh observers MAX_SEATS last) seats
-  pub ends : Replays (fresh observers MAX_SEATS last) seats batches events out result
+  pub opened : world ≡ opened_world (fresh observers MAX_SEATS last) seats batches
+
+-- the schedule's events ended so in the world that the three texts open
+pub record ReplayedOn (last : ℕ) (manifest script schedule : List ℕ) (out : Taking) (result : Result (Unit {0}) RunFault) : Type 0 where
+  pub world : WorldOf
+  pub events : List Event
+  pub opens : OpensReplay last manifest script schedule world events
+  pub ends : EventsEnd world events out result
 
 -- how a replay of three texts ended, and what the sink took
-abbrev pub ReplaysTexts : List ℕ → List ℕ → List ℕ → ℕ → Taking → Result (Unit {0}) RunFault → Type 0
-ReplaysTexts manifest script schedule last out (Ok u) = ReplayedOn manifest script schedule last out (Ok u)
-ReplaysTexts manifest script schedule last out (Err faults.NoMemory) = TookNothing out
-ReplaysTexts manifest script schedule last out (Err faults.Output) = ReplayedOn manifest script schedule last out (Err faults.Output)
-ReplaysTexts manifest script schedule last out (Err (faults.Event f)) = ReplayedOn manifest script schedule last out (Err (faults.Event f))
-ReplaysTexts manifest script schedule last out (Err f) = IsReplayUnread manifest script schedule f × TookNothing out
+abbrev pub ReplaysTexts : ℕ → List ℕ → List ℕ → List ℕ → Taking → Result (Unit {0}) RunFault → Type 0
+ReplaysTexts last manifest script schedule out (Ok u) = ReplayedOn last manifest script schedule out (Ok u)
+ReplaysTexts last manifest script schedule out (Err faults.NoMemory) = TookNothing out
+ReplaysTexts last manifest script schedule out (Err faults.Output) = ReplayedOn last manifest script schedule out (Err faults.Output)
+ReplaysTexts last manifest script schedule out (Err (faults.Event f)) = ReplayedOn last manifest script schedule out (Err (faults.Event f))
+ReplaysTexts last manifest script schedule out (Err f) = IsReplayUnread manifest script schedule f × TookNothing out

@@ -1,14 +1,14 @@
 //! A replay, from its texts to its report.
-ghost use Rattle.std.specs.Prelude.{◌≡◌, false};
+ghost use Rattle.std.specs.Prelude.{◌≡◌, false, IfOk, IfErr};
 ghost use Rattle.pb_store.specs.Contents.{nothing};
-ghost use Rattle.pb_core.specs.Calls.{AreSeats};
 ghost use Rattle.pb_base.specs.Taking.{taking};
-ghost use Rattle.pb_driver.specs.Replays.{Replays, EventsEnd, ReplaysTexts};
+ghost use Rattle.pb_driver.specs.Texts.{IsReplayUnread};
+ghost use Rattle.pb_driver.specs.Replays.{EventsEnd, OpensReplay, ReplaysTexts};
 
 use crate::fault::RunFault;
 use crate::texts::read_replay;
-use pb_base::{Batch, MAX_ENTRIES, MAX_SEATS, Reason, Sink, Ts};
-use pb_core::{OpenRefused, Seat, Shared};
+use pb_base::{MAX_ENTRIES, MAX_SEATS, Reason, Sink, Ts};
+use pb_core::{OpenRefused, Shared};
 use pb_parse::Event;
 use pb_script::report;
 use pb_store::{Table, Tablet};
@@ -45,30 +45,47 @@ fn run<T: Tablet, S: Sink>(
     }
 }
 
-// Lets them happen in a world of this table, which is ended whatever came of it, since tablets are linear.
-fn run_on<T: Tablet, S: Sink>(
+/// The world of a manifest's observers and a script's changes, over an empty table with [`MAX_SEATS`] seats and `last` the
+/// last timestamp given out, and a schedule's events for it.
+///
+/// The first fault is told: the manifest's, the script's, the schedule's, or want of memory. The table is ended then.
+pub fn open_replay<T: Tablet>(
     alloc: Global,
-    shared: Shared<T>,
-    seats: Vec<Seat>,
-    batches: Vec<Batch>,
-    events: &[Event],
-    sink: &mut S,
-) -> Result<(), RunFault>
-    requires seated { AreSeats shared seats.items }
-    requires unfailed { S.failed sink.old ≡ false }
-    ensures { Replays shared seats.items batches.items events.now
-        (taking S.taken S.failed sink.old sink.new) result }
+    manifest: &str,
+    script: &str,
+    schedule: &str,
+    table: Table<T>,
+    last: Ts,
+) -> Result<(World<T>, Vec<Event>), RunFault>
+    requires empty { table.contents ≡ nothing }
+    ensures ok { IfOk result
+        (λ o. OpensReplay last.0 manifest.now script.now schedule.now o.0 o.1.items) }
+    ensures err { IfErr result (IsReplayUnread manifest.now script.now schedule.now) }
 {
-    match World::open(alloc, shared, seats, batches) {
-        Ok(world) => {
-            let mut world = world;
-            let outcome = run(alloc, &mut world, events, sink);
-            let (shared, _seats) = world.close();
-            shared.close();
-            outcome
+    let (observers, batches, events) = match read_replay(alloc, manifest, script, schedule) {
+        Ok(texts) => texts,
+        Err(fault) => {
+            table.close();
+            return Err(fault);
         }
-        Err((shared, _seats, _batches)) => {
-            shared.close();
+    };
+    // All seats there are, since a schedule may name each of their actors.
+    match Shared::open(alloc, table, observers, MAX_SEATS, last, MAX_ENTRIES) {
+        Ok((shared, seats)) => match World::open(alloc, shared, seats, batches) {
+            Ok(world) => Ok((world, events)),
+            Err((shared, _seats, _batches)) => {
+                shared.close();
+                Err(RunFault::NoMemory)
+            }
+        },
+        Err(
+            OpenRefused {
+                table,
+                observers: _,
+                code: _,
+            },
+        ) => {
+            table.close();
             Err(RunFault::NoMemory)
         }
     }
@@ -90,28 +107,13 @@ pub fn replay_texts<T: Tablet, S: Sink>(
 ) -> Result<(), RunFault>
     requires empty { table.contents ≡ nothing }
     requires unfailed { S.failed sink.old ≡ false }
-    ensures { ReplaysTexts manifest.now script.now schedule.now last.0
+    ensures { ReplaysTexts last.0 manifest.now script.now schedule.now
         (taking S.taken S.failed sink.old sink.new) result }
 {
-    let (observers, batches, events) = match read_replay(alloc, manifest, script, schedule) {
-        Ok(texts) => texts,
-        Err(fault) => {
-            table.close();
-            return Err(fault);
-        }
-    };
-    // All seats there are, since a schedule may name each of their actors.
-    match Shared::open(alloc, table, observers, MAX_SEATS, last, MAX_ENTRIES) {
-        Ok((shared, seats)) => run_on(alloc, shared, seats, batches, &events, sink),
-        Err(
-            OpenRefused {
-                table,
-                observers: _,
-                code: _,
-            },
-        ) => {
-            table.close();
-            Err(RunFault::NoMemory)
-        }
-    }
+    let (world, events) = open_replay(alloc, manifest, script, schedule, table, last)?;
+    let mut world = world;
+    let outcome = run(alloc, &mut world, &events, sink);
+    let (shared, _seats) = world.close();
+    shared.close();
+    outcome
 }

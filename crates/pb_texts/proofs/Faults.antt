@@ -105,10 +105,7 @@ unasked_fault words f n = refused_by_plus _ _ f (none_has_plus words f n)
 
 abbrev InRange : Request → Type 0
 InRange (Run m s workers swaps) = (1 ≤ workers) × (workers ≤ most_workers) × (swaps ≤ most_swaps)
-InRange (Replay m s e clock) = Unit {0}
-InRange (Asm i o profile) = Unit {0}
-InRange (Dis f profile) = Unit {0}
-InRange (Check f profile version) = Unit {0}
+InRange other = Unit {0}
 
 abbrev IfAsked : Option Request → Type 0
 IfAsked None = Unit {0}
@@ -172,10 +169,10 @@ command_in_range (Some p) =
 
 options_in_range : (o : Options) → InRange (request_of o) → IsInRange o
 options_in_range (options.Run m s workers swaps) h = h
-options_in_range (options.Replay m s e clock) h = tt
+options_in_range (options.Replay files) h = tt
 options_in_range (options.Asm i o profile) h = tt
 options_in_range (options.Dis f profile) h = tt
-options_in_range (options.Check f profile version) h = tt
+options_in_range (options.Check file) h = tt
 
 pub asked_in_range : (words : List Text) (o : Options) → command_of words ≡ Some (request_of o) → IsInRange o
 asked_in_range words o e = options_in_range o (subst IfAsked e (command_in_range (subcommand_of program_app words)))

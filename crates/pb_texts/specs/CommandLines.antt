@@ -16,6 +16,8 @@ use Rattle.pb_helpers.specs.declared.change.Version.{Version}
 use Rattle.pb_helpers.specs.declared.change.Version.TheVariants.{First, Second}
 use Rattle.pb_texts.specs.declared.words.choice.Options.{Options}
 use Rattle.pb_texts.specs.declared.words.choice.Options.TheVariants as options
+use Rattle.pb_texts.specs.declared.words.choice.ReplayFiles.{ReplayFiles}
+use Rattle.pb_texts.specs.declared.words.choice.ProgramFile.{ProgramFile}
 
 abbrev pub required_rule : Text → Rule
 required_rule id = record (new_rule id) { required = true }
@@ -243,12 +245,18 @@ has_plus (Some p) =
 abbrev pub words_fault : List Text → Kinds
 words_fault words = or_else (fault_of program_app words) (if has_plus (subcommand_of program_app words) then ValueValidation ∷ [] else [])
 
+abbrev pub replay_request : ReplayFiles → Request
+replay_request r = Replay r.manifest.now r.script.now r.schedule.now r.clock.0
+
+abbrev pub check_request : ProgramFile → Request
+check_request f = Check f.file.now f.profile f.version
+
 abbrev pub request_of : Options → Request
 request_of (options.Run manifest script workers swaps) = Run manifest.now script.now workers swaps
-request_of (options.Replay manifest script schedule clock) = Replay manifest.now script.now schedule.now clock.0
+request_of (options.Replay files) = replay_request files
 request_of (options.Asm input output profile) = Asm input.now output.now profile
 request_of (options.Dis file profile) = Dis file.now profile
-request_of (options.Check file profile version) = Check file.now profile version
+request_of (options.Check file) = check_request file
 
 -- a run has a worker at least, and a seat for each, and no more swaps than it may be asked for
 abbrev pub IsInRange : Options → Type 0

@@ -6,7 +6,7 @@ use Rattle.clap.specs.Kinds.{Kinds, or_else}
 use Rattle.clap.specs.declared.error.kind.ErrorKind.TheVariants.{ValueValidation}
 use Rattle.pb_texts.specs.declared.words.choice.StoryOptions.{StoryOptions}
 use Rattle.pb_texts.specs.declared.words.choice.StoryOptions.TheVariants as options
-use Rattle.pb_texts.specs.CommandLines.{required_rule, profile_rule, record_rule, needs_subcommand, replay_app, replay_in, check_in, Request, Replay, Check}
+use Rattle.pb_texts.specs.CommandLines.{required_rule, profile_rule, record_rule, needs_subcommand, replay_app, replay_in, check_in, Request, replay_request, check_request}
 
 -- `frames FILE [--profile N] [--record N]`
 abbrev pub frames_app : App
@@ -37,5 +37,5 @@ abbrev pub story_fault : List Text → Kinds
 story_fault words = or_else (fault_of story_app words) (unasked (story_of words))
 
 abbrev pub story_request : StoryOptions → Request
-story_request (options.Frames file profile version) = Check file.now profile version
-story_request (options.Replay manifest script schedule clock) = Replay manifest.now script.now schedule.now clock.0
+story_request (options.Frames file) = check_request file
+story_request (options.Replay files) = replay_request files

@@ -5,4 +5,6 @@
 
 mod words;
 
-pub use words::{Options, StoryOptions, options, plain_words_are_taken, story_options};
+pub use words::{
+    Options, ProgramFile, ReplayFiles, StoryOptions, options, plain_words_are_taken, story_options,
+};

@@ -3,6 +3,6 @@ mod choice;
 mod parse;
 mod story;
 
-pub use choice::{Options, StoryOptions};
+pub use choice::{Options, ProgramFile, ReplayFiles, StoryOptions};
 pub use parse::{options, plain_words_are_taken};
 pub use story::story_options;

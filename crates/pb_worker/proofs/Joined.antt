@@ -11,7 +11,7 @@ use Rattle.pb_core.specs.Calls.{SeatOf, AreSeatsFrom}
 use Rattle.pb_worker.specs.declared.worker.Worker.{Worker}
 use Rattle.pb_worker.specs.Gains.{Gains}
 use Rattle.pb_worker.specs.Swaps.{Spare}
-use Rattle.pb_worker.specs.Work.{IsWork, IsLastDrain, AllWork, WorkedOn, AreFilled, seats_in, refusals_in, done_in, flags_in, is_done, undone_below}
+use Rattle.pb_worker.specs.Work.{share_of, IsWork, IsLastDrain, AllWork, WorkedOn, AreFilled, seats_in, refusals_in, done_in, flags_in, is_done, undone_below}
 
 -- all seats of a table, in order, have their places as numbers
 pub numbered : (from : ℕ) (journal : List Entry) (seats : List SeatOf) → AreSeatsFrom from journal seats → (k : ℕ) (d : SeatOf) → k < length seats → (slice_index_or seats k d).number ≡ from + k
@@ -54,18 +54,18 @@ module _ (observers : List ObserverOf) (batches : List Writes) (spares : List Sp
       ap (λ (s : SeatOf). s.number) (old_seat k e.seat lt) ∙ numbered 0 journal (seats_in olds) are k e.seat (subst (λ n. k < n) (sym (length_map (λ (w : Worker). w.seat) olds)) lt) ∙ plain
 
   one : (w : ℕ) (d : SeatOf) → w + 1 < length olds
-      → Gains (IsWork (w + 1) observers batches (length olds - 1) w (flags_in news w) (slice_index_or (refusals_in news) (w + 1) None)) (slice_index_or (seats_in olds) (w + 1) d) (slice_index_or (seats_in news) (w + 1) d)
+      → Gains (IsWork (w + 1) observers (share_of batches (length olds - 1) w) (flags_in news w) (slice_index_or (refusals_in news) (w + 1) None)) (slice_index_or (seats_in olds) (w + 1) d) (slice_index_or (seats_in news) (w + 1) d)
   one w d lt =
       let n = length olds - 1 in
       let a = slice_index_or olds (w + 1) e in
       let b = slice_index_or news (w + 1) e in
       let k = all.workers w e lt in
       let flags : b.done.items ≡ flags_in news w = sym (ap done_in (slice_get-get_or news (w + 1) e (subst (λ m. w + 1 < m) (sym all.counted) lt))) in
-      let g1 : Gains (IsWork (w + 1) observers batches n w b.done.items b.refusal) a.seat b.seat = subst (λ m. Gains (IsWork m observers batches n w b.done.items b.refusal) a.seat b.seat) (number (w + 1) lt) k.gains in
-      let g2 : Gains (IsWork (w + 1) observers batches n w (flags_in news w) b.refusal) a.seat b.seat = subst (λ (fs : List Bool). Gains (IsWork (w + 1) observers batches n w fs b.refusal) a.seat b.seat) flags g1 in
-      let g3 = subst (λ (r : Option Refusal). Gains (IsWork (w + 1) observers batches n w (flags_in news w) r) a.seat b.seat) (refusal (w + 1) lt) g2 in
-      let g4 = subst (λ (s : SeatOf). Gains (IsWork (w + 1) observers batches n w (flags_in news w) (slice_index_or (refusals_in news) (w + 1) None)) s b.seat) (old_seat (w + 1) d lt) g3 in
-      subst (λ (s : SeatOf). Gains (IsWork (w + 1) observers batches n w (flags_in news w) (slice_index_or (refusals_in news) (w + 1) None)) (slice_index_or (seats_in olds) (w + 1) d) s) (new_seat (w + 1) d lt) g4
+      let g1 : Gains (IsWork (w + 1) observers (share_of batches n w) b.done.items b.refusal) a.seat b.seat = subst (λ m. Gains (IsWork m observers (share_of batches n w) b.done.items b.refusal) a.seat b.seat) (number (w + 1) lt) k.gains in
+      let g2 : Gains (IsWork (w + 1) observers (share_of batches n w) (flags_in news w) b.refusal) a.seat b.seat = subst (λ (fs : List Bool). Gains (IsWork (w + 1) observers (share_of batches n w) fs b.refusal) a.seat b.seat) flags g1 in
+      let g3 = subst (λ (r : Option Refusal). Gains (IsWork (w + 1) observers (share_of batches n w) (flags_in news w) r) a.seat b.seat) (refusal (w + 1) lt) g2 in
+      let g4 = subst (λ (s : SeatOf). Gains (IsWork (w + 1) observers (share_of batches n w) (flags_in news w) (slice_index_or (refusals_in news) (w + 1) None)) s b.seat) (old_seat (w + 1) d lt) g3 in
+      subst (λ (s : SeatOf). Gains (IsWork (w + 1) observers (share_of batches n w) (flags_in news w) (slice_index_or (refusals_in news) (w + 1) None)) (slice_index_or (seats_in olds) (w + 1) d) s) (new_seat (w + 1) d lt) g4
 
   first : (d : SeatOf) → Gains (IsLastDrain spares 0 observers (slice_index_or (refusals_in news) 0 None)) (slice_index_or (seats_in olds) 0 d) (slice_index_or (seats_in news) 0 d)
   first d =
@@ -86,7 +86,7 @@ module _ (observers : List ObserverOf) (batches : List Writes) (spares : List Sp
     seats = length_map (λ (w : Worker). w.seat) news ∙ all.counted ∙ sym many;
     refused = length_map refusal_of news ∙ all.counted ∙ sym many;
     done = flags_in news;
-    workers = λ w d lt. subst (λ n. Gains (IsWork (w + 1) observers batches (n - 1) w (flags_in news w) (slice_index_or (refusals_in news) (w + 1) None)) (slice_index_or (seats_in olds) (w + 1) d) (slice_index_or (seats_in news) (w + 1) d)) (sym many) (one w d (subst (λ n. w + 1 < n) many lt));
+    workers = λ w d lt. subst (λ n. Gains (IsWork (w + 1) observers (share_of batches (n - 1) w) (flags_in news w) (slice_index_or (refusals_in news) (w + 1) None)) (slice_index_or (seats_in olds) (w + 1) d) (slice_index_or (seats_in news) (w + 1) d)) (sym many) (one w d (subst (λ n. w + 1 < n) many lt));
     main = first;
     unfinished_are = ap (λ n. undone_below (is_done (flags_in news) (n - 1)) (length batches)) (all.counted ∙ sym many);
   }

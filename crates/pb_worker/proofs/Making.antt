@@ -26,7 +26,7 @@ use Rattle.pb_core.specs.Histories.{IsLegalTable}
 use Rattle.pb_txn.specs.Conversations.{told}
 use Rattle.pb_worker.specs.Gains.{Gains}
 use Rattle.pb_worker.specs.Swaps.{Spare}
-use Rattle.pb_worker.specs.Work.{IsWork, IsLastDrain, WorkedOn, is_done, undone_below}
+use Rattle.pb_worker.specs.Work.{share_of, IsWork, IsLastDrain, WorkedOn, is_done, undone_below}
 use Rattle.pb_worker.specs.Agrees.{Agree}
 use Rattle.pb_worker.specs.Laws.{IsMade, IsFinished, ChangesAreMade}
 use Rattle.pb_worker.proofs.Joined.{numbered}
@@ -127,7 +127,7 @@ module _ (observers : List ObserverOf) (batches : List Writes) (spares : List Sp
     | inl lt ↦
         let within : wk + 1 < length olds = omega (arith, lt, some) in
         let refusal = slice_index_or refusals (wk + 1) None in
-        let work : IsWork (wk + 1) observers batches n wk (w.done wk) refusal (list_of (wk + 1)) = gained (IsWork (wk + 1) observers batches n wk (w.done wk) refusal) (wk + 1) within (w.workers wk nobody within) in
+        let work : IsWork (wk + 1) observers (share_of batches n wk) (w.done wk) refusal (list_of (wk + 1)) = gained (IsWork (wk + 1) observers (share_of batches n wk) (w.done wk) refusal) (wk + 1) within (w.workers wk nobody within) in
         let s = of_work batches n wk w.filled (wk + 1) observers (w.done wk) refusal (list_of (wk + 1)) work in
         (s.0, λ less. s.1)
     | inr ge ↦ (λ j. ts 0, λ less. absurd (omega (arith, less, ge)))

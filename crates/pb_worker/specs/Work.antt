@@ -15,23 +15,32 @@ use Rattle.pb_worker.specs.Passes.{IsDrain}
 use Rattle.pb_worker.specs.Stops.{ChangesStop, DrainStops}
 use Rattle.pb_worker.specs.Swaps.{Spare, AreSwapped}
 
+-- of all changes those of one of so many workers: its first at this number, and each later one so many further
+pub record Share : Type 0 where
+  pub batches : List Writes
+  pub workers : ℕ
+  pub first : ℕ
+
+abbrev pub share_of : List Writes → ℕ → ℕ → Share
+share_of batches workers first = record { batches = batches; workers = workers; first = first }
+
 -- all changes, and then passes up to one without a mark, or so many as may be made
-pub record IsWhole (observers : List ObserverOf) (batches : List Writes) (n first : ℕ) (done : List Bool) (said : List Received) : Type 0 where
+pub record IsWhole (observers : List ObserverOf) (share : Share) (done : List Bool) (said : List Received) : Type 0 where
   pub changes : List Received
-  pub tried : AreAllTried batches n first done changes
+  pub tried : AreAllTried share.batches share.workers share.first done changes
   pub passes : List Received
   pub drained : IsDrain observers passes
   pub said_is : said ≡ changes ++ passes
 
 -- just a beginning of that
-pub data IsPart (seat : ℕ) (observers : List ObserverOf) (batches : List Writes) (n first : ℕ) (done : List Bool) (r : Refusal) : List Received → Type 0 where
-  in_changes : (said : List Received) → ChangesStop seat batches n first done r said → IsPart seat observers batches n first done r said
-  in_passes : (said part : List Received) → AreAllTried batches n first done said → DrainStops seat observers r part → IsPart seat observers batches n first done r (said ++ part)
+pub data IsPart (seat : ℕ) (observers : List ObserverOf) (share : Share) (done : List Bool) (r : Refusal) : List Received → Type 0 where
+  in_changes : (said : List Received) → ChangesStop seat share.batches share.workers share.first done r said → IsPart seat observers share done r said
+  in_passes : (said part : List Received) → AreAllTried share.batches share.workers share.first done said → DrainStops seat observers r part → IsPart seat observers share done r (said ++ part)
 
 -- what a worker's seat gained: only with a refusal just a beginning
-abbrev pub IsWork : ℕ → List ObserverOf → List Writes → ℕ → ℕ → List Bool → Option Refusal → List Received → Type 0
-IsWork seat observers batches n first done None said = IsWhole observers batches n first done said
-IsWork seat observers batches n first done (Some r) said = IsPart seat observers batches n first done r said
+abbrev pub IsWork : ℕ → List ObserverOf → Share → List Bool → Option Refusal → List Received → Type 0
+IsWork seat observers share done None said = IsWhole observers share done said
+IsWork seat observers share done (Some r) said = IsPart seat observers share done r said
 
 -- passes alone: only with a refusal just a beginning
 abbrev pub IsDrainTo : ℕ → List ObserverOf → Option Refusal → List Received → Type 0
@@ -49,7 +58,7 @@ pub record IsLastDrain (spares : List Spare) (seat : ℕ) (observers : List Obse
 
 -- what one worker did
 pub record Works (observers : List ObserverOf) (batches : List Writes) (n first : ℕ) (old new : Worker) : Type 0 where
-  pub gains : Gains (IsWork old.seat.number observers batches n first new.done.items new.refusal) old.seat new.seat
+  pub gains : Gains (IsWork old.seat.number observers (share_of batches n first) new.done.items new.refusal) old.seat new.seat
 
 -- what the main seat did, beside and after the workers
 pub record Drains (spares : List Spare) (observers : List ObserverOf) (old new : Worker) : Type 0 where
@@ -123,7 +132,7 @@ pub record WorkedOn (observers : List ObserverOf) (batches : List Writes) (spare
   -- of each worker, from 0, whether each of its changes committed
   pub done : ℕ → List Bool
   pub workers : (w : ℕ) (d : SeatOf) → w + 1 < length olds
-      → Gains (IsWork (w + 1) observers batches (length olds - 1) w (done w) (slice_index_or refusals (w + 1) None)) (slice_index_or olds (w + 1) d) (slice_index_or news (w + 1) d)
+      → Gains (IsWork (w + 1) observers (share_of batches (length olds - 1) w) (done w) (slice_index_or refusals (w + 1) None)) (slice_index_or olds (w + 1) d) (slice_index_or news (w + 1) d)
   pub main : (d : SeatOf) → Gains (IsLastDrain spares 0 observers (slice_index_or refusals 0 None)) (slice_index_or olds 0 d) (slice_index_or news 0 d)
   pub unfinished_are : unfinished ≡ undone_below (is_done done (length olds - 1)) (length batches)
 

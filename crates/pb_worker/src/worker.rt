@@ -3,7 +3,7 @@ ghost use Rattle.std.specs.Prelude.{◌≡◌, ◌<◌, ◌≤◌, [], List, len
 ghost use Rattle.pb_base.specs.declared.limits.TheConstants.{MAX_SEATS, MAX_OBSERVERS};
 ghost use Rattle.pb_worker.specs.Gains.{Gains};
 ghost use Rattle.pb_worker.specs.Swaps.{Spare, AreSwapped};
-ghost use Rattle.pb_worker.specs.Work.{IsWhole, IsPart, Works, Drains};
+ghost use Rattle.pb_worker.specs.Work.{share_of, IsWhole, IsPart, Works, Drains};
 
 use crate::desk::Callee;
 use crate::gate::Gate;
@@ -41,9 +41,10 @@ fn work_on<R: Wait, C: Callee, G: Gate>(
     requires numbered { length observers.now ≤ MAX_OBSERVERS }
     requires none { done.old.items ≡ [] }
     ensures ok { OnOk result
-        (Gains (IsWhole observers.now batches.now count first done.new.items) seat.old seat.new) }
+        (Gains (IsWhole observers.now (share_of batches.now count first) done.new.items)
+        seat.old seat.new) }
     ensures err { IfErr result (λ r. Gains
-        (IsPart seat.old.number observers.now batches.now count first done.new.items r)
+        (IsPart seat.old.number observers.now (share_of batches.now count first) done.new.items r)
         seat.old seat.new) }
 {
     change_all(rt, alloc, shared, seat, batches, count, first, done, gate)?;

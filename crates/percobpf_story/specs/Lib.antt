@@ -1,3 +1,2 @@
-pub mod Frames
 pub mod Replays
 pub mod Commands

@@ -4,55 +4,42 @@ ghost use Rattle.std.specs.Prelude.{◌≡◌, false};
 ghost use Rattle.pb_store.specs.Contents.{nothing};
 ghost use Rattle.pb_base.specs.Taking.{taking};
 ghost use Rattle.pb_command.specs.Files.{filing};
-ghost use Rattle.percobpf_story.specs.Commands.{TellLeaves, StoryCommands};
+ghost use Rattle.pb_command.specs.Commands.{ReplayLeaves};
+ghost use Rattle.percobpf_story.specs.Replays.{TellsTexts};
+ghost use Rattle.percobpf_story.specs.Commands.{StoryCommands};
 
-use crate::frames::frames_file;
+use crate::frames::Frames;
 use crate::replay::tell_texts;
-use pb_base::{Sink, Ts};
-use pb_command::{Fault, Paths, Verdict, status_of, three_texts_at};
+use pb_base::Sink;
+use pb_command::{Fault, Paths, Verdict, status_of, tell_file, three_texts_at};
 use pb_store::{Table, Tablet};
-use pb_texts::StoryOptions;
+use pb_texts::{ReplayFiles, StoryOptions};
 use std::alloc::Global;
 
-// Tells the story of three files on the table, from this clock, and ends it.
+// Tells the story of three files on the table, and ends it.
 fn tell_files<'a, T: Tablet, P: Paths, O: Sink>(
     alloc: Global,
-    manifest: &'a str,
-    script: &'a str,
-    schedule: &'a str,
-    clock: Ts,
+    files: &ReplayFiles<'a>,
     paths: &mut P,
     table: Table<T>,
     out: &mut O,
 ) -> Result<Verdict, Fault<'a>>
     requires empty { table.contents ≡ nothing }
     requires unfailed { O.failed out.old ≡ false }
-    ensures told { TellLeaves (P.held paths.old) manifest.now script.now schedule.now clock.0
+    ensures told { ReplayLeaves TellsTexts (P.held paths.old) files.now
         (taking O.taken O.failed out.old out.new) result }
     ensures same { P.held paths.new ≡ P.held paths.old }
     ensures quiet { P.failed paths.new ≡ P.failed paths.old }
 {
-    match three_texts_at(paths, manifest, script, schedule) {
-        Ok((manifest, script, schedule)) => {
-            let outcome = tell_texts(
-                alloc,
-                manifest.as_str(),
-                script.as_str(),
-                schedule.as_str(),
-                table,
-                clock,
-                out,
-            );
-            match outcome {
-                Ok(()) => Ok(Verdict::Accepted),
-                Err(fault) => Err(Fault::Run(fault)),
-            }
-        }
+    let (manifest, script, events) = match three_texts_at(paths, files) {
+        Ok(texts) => texts,
         Err(fault) => {
             table.close();
-            Err(fault)
+            return Err(fault);
         }
-    }
+    };
+    tell_texts(alloc, &manifest, &script, &events, table, files.clock, out)?;
+    Ok(Verdict::Accepted)
 }
 
 /// Does what a command line of the story program asked for, on an empty table, and answers the status: 0, or 1 where what it
@@ -77,20 +64,11 @@ pub fn story_command<T: Tablet, P: Paths, O: Sink, E: Sink>(
 {
     let outcome = match options {
         // The version isn't asked, since what is known before a slot is the same for records of each.
-        StoryOptions::Frames {
-            file,
-            profile,
-            version: _,
-        } => {
+        StoryOptions::Frames(program) => {
             table.close();
-            frames_file(alloc, *profile, file, paths, out)
+            tell_file::<Frames, P, O>(alloc, program.profile, program.file, paths, out)
         }
-        StoryOptions::Replay {
-            manifest,
-            script,
-            schedule,
-            clock,
-        } => tell_files(alloc, manifest, script, schedule, *clock, paths, table, out),
+        StoryOptions::Replay(files) => tell_files(alloc, files, paths, table, out),
     };
     status_of(alloc, &outcome, err)
 }

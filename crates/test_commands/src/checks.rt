@@ -4,14 +4,14 @@ use crate::programs::{holding, is_cut_anywhere};
 use pb_command::PathFault;
 use pb_helpers::Version;
 use pb_isa::Profile;
-use pb_texts::Options;
+use pb_texts::{Options, ProgramFile};
 use std::rt::HostRuntime;
 
-const CHECK: Options = Options::Check {
+const CHECK: Options = Options::Check(ProgramFile {
     file: "i",
     profile: Profile::One,
     version: Version::First,
-};
+});
 
 #[test]
 fn memory_for_a_program_is_refused(rt: HostRuntime) {

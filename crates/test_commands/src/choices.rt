@@ -166,12 +166,12 @@ pub const REPLAYED: [Replayed<'static>; 10] = [
 fn replays_print_the_same(rt: HostRuntime) -> Result<(), NoMemory> {
     let alloc = rt.alloc();
     for case in REPLAYED {
-        let options = Options::Replay {
+        let options = Options::Replay(ReplayFiles {
             manifest: "m",
             script: "s",
             schedule: "e",
             clock: Ts(case.clock),
-        };
+        });
         for slabs in CHOICES {
             let outcome = left(&rt, alloc, &options, case.files(alloc), slabs)?;
             assert!(rt;

@@ -3,7 +3,7 @@ use crate::carried::{File, Files, Outcome, carry, has_told, is_cut};
 use crate::choices::REPLAYED;
 use pb_base::{NoMemory, Ts};
 use pb_command::PathFault;
-use pb_texts::Options;
+use pb_texts::{Options, ReplayFiles};
 use std::alloc::Global;
 use std::rt::HostRuntime;
 
@@ -16,12 +16,12 @@ fn replay(
     fails: bool,
 ) -> Result<Outcome, NoMemory> {
     let mut files = files;
-    let options = Options::Replay {
+    let options = Options::Replay(ReplayFiles {
         manifest: "m",
         script: "s",
         schedule: "e",
         clock: Ts(clock),
-    };
+    });
     carry(rt, &options, &mut files, left, fails)
 }
 

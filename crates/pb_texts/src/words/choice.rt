@@ -6,6 +6,23 @@ use pb_base::Ts;
 use pb_helpers::Version;
 use pb_isa::Profile;
 
+/// The files of a replay, and the last timestamp given out before its events.
+#[derive(Clone, Copy, Debug)]
+pub struct ReplayFiles<'a> {
+    pub manifest: &'a str,
+    pub script: &'a str,
+    pub schedule: &'a str,
+    pub clock: Ts,
+}
+
+/// A file with the bytes of a program of this profile, for change records of this version.
+#[derive(Clone, Copy, Debug)]
+pub struct ProgramFile<'a> {
+    pub file: &'a str,
+    pub profile: Profile,
+    pub version: Version,
+}
+
 /// What the program is to do.
 #[derive(Clone, Copy, Debug)]
 pub enum Options<'a> {
@@ -17,14 +34,8 @@ pub enum Options<'a> {
         workers: u32,
         swaps: u32,
     },
-    /// Reads a manifest, a script and a schedule, does the schedule's events with this as the last timestamp given out
-    /// before them, and tells what is newest then.
-    Replay {
-        manifest: &'a str,
-        script: &'a str,
-        schedule: &'a str,
-        clock: Ts,
-    },
+    /// Reads a manifest, a script and a schedule, does the schedule's events, and tells what is newest then.
+    Replay(ReplayFiles<'a>),
     /// Reads the text of a program of this profile, and writes its bytes.
     Asm {
         input: &'a str,
@@ -36,32 +47,18 @@ pub enum Options<'a> {
         file: &'a str,
         profile: Profile,
     },
-    /// Reads the bytes of a program of this profile, and tells whether it is accepted for change records of this version.
-    Check {
-        file: &'a str,
-        profile: Profile,
-        version: Version,
-    },
+    /// Reads the bytes of a program, and tells whether it is accepted.
+    Check(ProgramFile<'a>),
 }
 
 /// What the story program is to do.
 #[derive(Clone, Copy, Debug)]
 pub enum StoryOptions<'a> {
-    /// Reads the bytes of a program of this profile, and tells what is known before each of its slots. That is the same for
-    /// change records of either version.
-    Frames {
-        file: &'a str,
-        profile: Profile,
-        version: Version,
-    },
-    /// Reads a manifest, a script and a schedule, does the schedule's events with this as the last timestamp given out
-    /// before them, tells what each did, and then what is newest.
-    Replay {
-        manifest: &'a str,
-        script: &'a str,
-        schedule: &'a str,
-        clock: Ts,
-    },
+    /// Reads the bytes of a program, and tells what is known before each of its slots. That is the same for change records of
+    /// either version.
+    Frames(ProgramFile<'a>),
+    /// Reads a manifest, a script and a schedule, does the schedule's events, tells what each did, and then what is newest.
+    Replay(ReplayFiles<'a>),
 }
 
 impl Options<'_> {

@@ -2,12 +2,12 @@
 ghost use Rattle.std.specs.Prelude.{◌≡◌, ℕ, List, true, IfOk, Some, [], false, option_map, codes};
 ghost use Rattle.clap.specs.Words.{FailsBy, app_of, new_app, fault_of, first_of, found_of, kind_of, one_of, rows_of, rule_of, subcommand_of, subcommand_rows_of};
 ghost use Rattle.pb_reading.specs.Reading.{texts_of};
-ghost use Rattle.pb_texts.specs.CommandLines.{required_rule, number_rule, run_app, clock_rule, profile_rule, profile_numbered, profile_of, record_rule, version_numbered, version_of, replay_app, asm_app, dis_app, check_app, texts_app, program_app, is_within, count_of, workers_of, run_in, clock_of, replay_in, asm_in, dis_in, check_in, command_in, command_of, words_fault, request_of, IsInRange, is_plain_word, is_workers, is_swaps, count_number, is_clock, clock_number, run_words, workers_words, swaps_words, replay_words, clock_words, asm_words, dis_words, check_words, Run, Replay, Asm, Dis, Check, AskFor, HaveBadValue, TakeProfiles, RefuseOtherProfiles, TakeVersions, RefuseOtherVersions};
+ghost use Rattle.pb_texts.specs.CommandLines.{required_rule, number_rule, run_app, clock_rule, profile_rule, profile_numbered, profile_of, record_rule, version_numbered, version_of, replay_app, asm_app, dis_app, check_app, texts_app, program_app, is_within, count_of, workers_of, run_in, clock_of, replay_in, asm_in, dis_in, check_in, command_in, command_of, words_fault, request_of, replay_request, check_request, IsInRange, is_plain_word, is_workers, is_swaps, count_number, is_clock, clock_number, run_words, workers_words, swaps_words, replay_words, clock_words, asm_words, dis_words, check_words, Run, Replay, Asm, Dis, Check, AskFor, HaveBadValue, TakeProfiles, RefuseOtherProfiles, TakeVersions, RefuseOtherVersions};
 ghost use Rattle.pb_isa.specs.declared.profile.Profile.TheVariants.{One};
 ghost use Rattle.pb_helpers.specs.declared.change.Version.TheVariants.{First};
 ghost use Rattle.clap.specs.declared.builder.command.Command.TheViews.{out-Command as fields_of};
 
-use crate::words::choice::Options;
+use crate::words::choice::{Options, ProgramFile, ReplayFiles};
 use clap::builder::ValueParser;
 use clap::error::ErrorKind;
 use clap::{Arg, ArgMatches, Command, Error, value_parser};
@@ -208,7 +208,7 @@ fn matches_of<'a>(alloc: Global, words: &'a [&'a str]) -> Result<ArgMatches<'a>,
     command.try_get_matches_from(words)
 }
 
-pub fn value_in<'a>(run: &ArgMatches<'a>, id: &str) -> Option<&'a str>
+fn value_in<'a>(run: &ArgMatches<'a>, id: &str) -> Option<&'a str>
     ensures { option_map (λ s. s.now) result ≡ first_of id.now (rows_of (found_of run.now)) }
 {
     run.get_str(id)
@@ -263,7 +263,7 @@ fn run_in<'a>(run: &ArgMatches<'a>) -> Option<Options<'a>>
 }
 
 // The clock that the matches of `replay` name.
-pub fn clock_in(replay: &ArgMatches) -> Option<Ts>
+fn clock_in(replay: &ArgMatches) -> Option<Ts>
     ensures { option_map (λ t. t.0) result ≡ clock_of
         (one_of (codes "clock") (rows_of (found_of replay.now))) }
 {
@@ -274,10 +274,10 @@ pub fn clock_in(replay: &ArgMatches) -> Option<Ts>
 }
 
 // What the matches of `replay` name.
-fn replay_in<'a>(replay: &ArgMatches<'a>) -> Option<Options<'a>>
-    ensures { option_map request_of result ≡ replay_in (rows_of (found_of replay.now)) }
+pub fn replay_in<'a>(replay: &ArgMatches<'a>) -> Option<ReplayFiles<'a>>
+    ensures { option_map replay_request result ≡ replay_in (rows_of (found_of replay.now)) }
 {
-    Some(Options::Replay {
+    Some(ReplayFiles {
         clock: clock_in(replay)?,
         manifest: value_in(replay, "MANIFEST")?,
         script: value_in(replay, "SCRIPT")?,
@@ -312,7 +312,7 @@ fn version_numbered(number: u32) -> Version
 }
 
 // The version of the change record that the matches of `check` name.
-pub fn version_in(check: &ArgMatches) -> Option<Version>
+fn version_in(check: &ArgMatches) -> Option<Version>
     ensures { result ≡ version_of (first_of (codes "record") (rows_of (found_of check.now))) }
 {
     let number = count_in(check, "record", 1, LAST_VERSION)?;
@@ -341,10 +341,10 @@ fn dis_in<'a>(dis: &ArgMatches<'a>) -> Option<Options<'a>>
 }
 
 // What the matches of `check` name.
-fn check_in<'a>(check: &ArgMatches<'a>) -> Option<Options<'a>>
-    ensures { option_map request_of result ≡ check_in (rows_of (found_of check.now)) }
+pub fn check_in<'a>(check: &ArgMatches<'a>) -> Option<ProgramFile<'a>>
+    ensures { option_map check_request result ≡ check_in (rows_of (found_of check.now)) }
 {
-    Some(Options::Check {
+    Some(ProgramFile {
         profile: profile_in(check)?,
         version: version_in(check)?,
         file: value_in(check, "FILE")?,
@@ -357,10 +357,10 @@ fn command_in<'a>(matches: &ArgMatches<'a>) -> Option<Options<'a>>
 {
     match matches.subcommand() {
         Some(("run", run)) => run_in(run),
-        Some(("replay", replay)) => replay_in(replay),
+        Some(("replay", replay)) => Some(Options::Replay(replay_in(replay)?)),
         Some(("asm", asm)) => asm_in(asm),
         Some(("dis", dis)) => dis_in(dis),
-        Some(("check", check)) => check_in(check),
+        Some(("check", check)) => Some(Options::Check(check_in(check)?)),
         _ => None,
     }
 }

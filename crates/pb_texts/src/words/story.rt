@@ -1,15 +1,15 @@
 //! A command line of the story program, read with `clap`.
 ghost use Rattle.std.specs.Prelude.{◌≡◌, IfOk, Some, false, option_map};
-ghost use Rattle.clap.specs.Words.{FailsBy, app_of, fault_of, found_of, kind_of, rows_of, subcommand_of, subcommand_rows_of};
+ghost use Rattle.clap.specs.Words.{FailsBy, app_of, fault_of, kind_of, subcommand_of, subcommand_rows_of};
 ghost use Rattle.clap.specs.declared.builder.command.Command.TheViews.{out-Command as fields_of};
 ghost use Rattle.pb_reading.specs.Reading.{texts_of};
-ghost use Rattle.pb_texts.specs.CommandLines.{replay_app, replay_in, check_in};
+ghost use Rattle.pb_texts.specs.CommandLines.{replay_app};
 ghost use Rattle.pb_texts.specs.StoryLines.{frames_app, story_app, story_in, story_of, story_fault, story_request};
 
 use crate::words::choice::StoryOptions;
 use crate::words::parse::{
-    clock_in, file_operand, plus_told, profile_in, profile_option, record_option, replay_command,
-    value_in, version_in,
+    check_in, file_operand, plus_told, profile_in, profile_option, record_option, replay_command,
+    replay_in,
 };
 use clap::error::ErrorKind;
 use clap::{ArgMatches, Command, Error};
@@ -56,36 +56,13 @@ fn story_matches<'a>(alloc: Global, words: &'a [&'a str]) -> Result<ArgMatches<'
     command.try_get_matches_from(words)
 }
 
-// What the matches of `frames` name.
-fn frames_in<'a>(frames: &ArgMatches<'a>) -> Option<StoryOptions<'a>>
-    ensures { option_map story_request result ≡ check_in (rows_of (found_of frames.now)) }
-{
-    Some(StoryOptions::Frames {
-        profile: profile_in(frames)?,
-        version: version_in(frames)?,
-        file: value_in(frames, "FILE")?,
-    })
-}
-
-// What the matches of `replay` name.
-fn replay_in<'a>(replay: &ArgMatches<'a>) -> Option<StoryOptions<'a>>
-    ensures { option_map story_request result ≡ replay_in (rows_of (found_of replay.now)) }
-{
-    Some(StoryOptions::Replay {
-        clock: clock_in(replay)?,
-        manifest: value_in(replay, "MANIFEST")?,
-        script: value_in(replay, "SCRIPT")?,
-        schedule: value_in(replay, "SCHEDULE")?,
-    })
-}
-
 // What the matches of a command line name.
 fn story_in<'a>(matches: &ArgMatches<'a>) -> Option<StoryOptions<'a>>
     ensures { option_map story_request result ≡ story_in (subcommand_rows_of matches.now) }
 {
     match matches.subcommand() {
-        Some(("frames", frames)) => frames_in(frames),
-        Some(("replay", replay)) => replay_in(replay),
+        Some(("frames", frames)) => Some(StoryOptions::Frames(check_in(frames)?)),
+        Some(("replay", replay)) => Some(StoryOptions::Replay(replay_in(replay)?)),
         _ => None,
     }
 }

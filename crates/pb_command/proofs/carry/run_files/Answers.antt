@@ -5,17 +5,17 @@ use Rattle.pb_command.proofs.carry.run_files.Goals as goal
 
 pub returns-then-is_all_done-clause-ran : goal.returns-then-is_all_done-clause-ran
 returns-then-is_all_done-clause-ran g c =
-    let manifest : IsKnownAs (g.P.Paths.held c.args.paths.now c.args.manifest.now) (Ok c.as_str.result.now) = search rules in
-    let script : IsKnownAs (g.P.Paths.held c.args.paths.now c.args.script.now) (Ok c.as_str-in-Ok.result.now) = search rules in
-    let done : IsAllDone c.in-Ok-outcome.ran = c.if-is_all_done.ensures.0 (search rules) in
+    let manifest : IsKnownAs (g.P.Paths.held c.args.paths.now c.args.manifest.now) (Ok c.deref.result.now) = search rules in
+    let script : IsKnownAs (g.P.Paths.held c.args.paths.now c.args.script.now) (Ok c.deref-2.result.now) = search rules in
+    let done : IsAllDone c.in_ok-ran.ran = c.if-is_all_done.ensures.0 (search rules) in
     record {
-      left = c.in-Ok-outcome.ran;
+      left = c.in_ok-ran.ran;
       all_done = done;
       ran = record {
-        manifest_text = c.as_str.result.now;
-        script_text = c.as_str-in-Ok.result.now;
+        manifest_text = c.deref.result.now;
+        script_text = c.deref-2.result.now;
         manifest_held = manifest;
         script_held = script;
-        ran = c.in-Ok-outcome.ensures;
+        ran = c.in_ok-ran.ensures;
       };
     }
