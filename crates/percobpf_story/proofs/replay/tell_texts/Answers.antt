@@ -1,0 +1,32 @@
+use Rattle.std.proofs.Common.{rules, ◌≡◌, ℕ, List, Ok, Err, inl, subst}
+use Rattle.pb_base.specs.Taking.{Taking, taking}
+use Rattle.pb_story.specs.declared.fault.StoryFault.{StoryFault}
+use Rattle.pb_story.specs.declared.fault.StoryFault.TheVariants as ends
+use Rattle.pb_story.specs.Stories.{StoryEnds}
+use Rattle.percobpf_story.specs.Replays.{of_story, ToldOn, TellsTexts}
+use Rattle.percobpf_story.proofs.replay.tell_texts.Goals as goal
+
+-- a story that ended with a fault did so as a replay
+ended : (last : ℕ) (m s e : List ℕ) (out : Taking) (f : StoryFault) → ToldOn last m s e out (Err f) → TellsTexts last m s e out (Err (of_story f))
+ended last m s e out (ends.Event f) t = t
+ended last m s e out ends.Output t = t
+ended last m s e out ends.NoMemory t = inl t
+
+pub returns-in-Ok : goal.returns-in-Ok
+returns-in-Ok g c =
+    let w = c.in_ok-world in
+    let v = c.tell_story-outcome.new.world in
+    let out = taking g.S.Sink.taken g.S.Sink.failed c.args.sink.now c.tell_story-outcome.new.sink in
+    let same : c.deref.result.now ≡ w.events.items = search rules in
+    record { world = w.world; events = w.events.items; opens = w.ensures.ok; after = v; ends = subst (λ es. StoryEnds w.world es v out (Ok tt)) same c.in-Ok.ensures }
+
+pub returns : goal.returns
+returns g c =
+    let a = c.args in
+    let w = c.in_ok-world in
+    let v = c.tell_story-outcome.new.world in
+    let f = c.in-Err.fault in
+    let out = taking g.S.Sink.taken g.S.Sink.failed a.sink.now c.tell_story-outcome.new.sink in
+    let same : c.deref.result.now ≡ w.events.items = search rules in
+    let told : ToldOn a.last.0 a.manifest.now a.script.now a.schedule.now out (Err f) = record { world = w.world; events = w.events.items; opens = w.ensures.ok; after = v; ends = subst (λ es. StoryEnds w.world es v out (Err f)) same c.in-Err.ensures } in
+    rw c.of_story.ensures (ended a.last.0 a.manifest.now a.script.now a.schedule.now out f told)
