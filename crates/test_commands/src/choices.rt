@@ -4,7 +4,7 @@ ghost use Rattle.pb_texts.specs.CommandLines.{IsInRange, swaps_asked};
 
 use crate::carried::{Files, Outcome, carry_over};
 use pb_base::{NoMemory, Ts};
-use pb_texts::Options;
+use pb_texts::{Options, ReplayFiles};
 use std::alloc::Global;
 use std::process::Abort;
 use std::rt::HostRuntime;
