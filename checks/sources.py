@@ -129,10 +129,11 @@ def edits_of(crate):
     return sorted(it for place in PLACES for it in (TOP / "crates" / crate / place).glob("*.edit"))
 
 
-def sum_of(crate):
-    """A sum of what a crate's wrong bodies and their refusals are made of: its code, its definitions, and the edits."""
+def sum_of(crate, *parts):
+    """A sum of what stands in these parts of a crate, or in all that its wrong bodies and their refusals are made of: its code, its
+    definitions, and the edits."""
     folder = TOP / "crates" / crate
-    files = sorted(it for part in ("src", "specs", *PLACES) for it in (folder / part).rglob("*") if it.is_file())
+    files = sorted(it for part in parts or ("src", "specs", *PLACES) for it in (folder / part).rglob("*") if it.is_file())
     made = hashlib.sha256()
     for it in files:
         made.update(f"{it.relative_to(folder)} {len(it.read_bytes())}\n".encode() + it.read_bytes())
